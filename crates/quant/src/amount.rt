@@ -1,0 +1,36 @@
+//! Amounts of CPU, memory and time, and the sums of them that nodes and pods carry.
+ghost use Rattle.std.specs.Prelude.{◌^◌, ◌≤◌};
+
+/// An amount of CPU, in thousandths of a core.
+#[derive(Clone, Copy, Debug, Default, PartialEq, Eq, PartialOrd, Ord, Hash)]
+pub struct Cpu(pub u64);
+
+/// An amount of memory, in bytes.
+#[derive(Clone, Copy, Debug, Default, PartialEq, Eq, PartialOrd, Ord, Hash)]
+pub struct Bytes(pub u64);
+
+/// A point of the scheduler's own clock, in milliseconds.
+#[derive(Clone, Copy, Debug, Default, PartialEq, Eq, PartialOrd, Ord, Hash)]
+pub struct Moment(pub u64);
+
+/// What a node allocates, or what the pods on it use together.
+#[derive(Clone, Copy, Debug, Default, PartialEq, Eq, Hash)]
+pub struct Res {
+    /// Thousandths of a core.
+    pub cpu: Cpu,
+    /// Bytes.
+    pub mem: Bytes,
+    /// How many pods.
+    pub pods: u32,
+}
+
+/// What one pod asks of a node, beside its one place among the node's pods.
+#[derive(Clone, Copy, Debug, PartialEq, Eq, Hash)]
+pub struct Request {
+    /// Thousandths of a core.
+    pub cpu: Cpu,
+    /// Bytes.
+    pub mem: Bytes,
+    pub ghost within_cpu: { cpu.0 ≤ 2 ^ 30 },
+    pub ghost within_mem: { mem.0 ≤ 2 ^ 44 },
+}

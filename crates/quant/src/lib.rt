@@ -1,0 +1,20 @@
+//! The quantities, names and objects of the scheduler: what a node offers, what a pod asks,
+//! and how both are spelled. Nothing here allocates.
+#![tactic(auto)]
+
+mod amount;
+mod fault;
+mod limits;
+mod name;
+mod objects;
+mod taint;
+
+pub use amount::{Bytes, Cpu, Moment, Request, Res};
+pub use fault::QuantFault;
+pub use limits::{
+    MAX_CONTAINERS, MAX_CPU, MAX_INIT_CONTAINERS, MAX_LABELS, MAX_MEM, MAX_NAME, MAX_TAINTS,
+    MAX_TOLERATIONS,
+};
+pub use name::{Name, Text};
+pub use objects::{Label, Node, Pod};
+pub use taint::{Effect, Operator, Taint, Toleration};

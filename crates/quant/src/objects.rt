@@ -1,0 +1,46 @@
+//! Nodes and pods. A row is immutable once made and is some kilobytes large, so it travels as an
+//! `Arc<Node>` or an `Arc<Pod>` and is never copied by content.
+use crate::amount::{Request, Res};
+use crate::limits::{MAX_LABELS, MAX_TAINTS, MAX_TOLERATIONS};
+use crate::name::{Name, Text};
+use crate::taint::{Taint, Toleration};
+use arrayvec::ArrayVec;
+
+/// A label of a node or a pod.
+#[derive(Debug, Default, Drop, Clone, PartialEq, Eq, Hash)]
+pub struct Label {
+    /// The label's key.
+    pub key: Name,
+    /// The value under the key, which may be empty.
+    pub value: Text,
+}
+
+/// A node, as the last watch event tells it.
+#[derive(Debug, Drop, PartialEq, Eq)]
+pub struct Node {
+    /// The node's name.
+    pub name: Name,
+    /// What the node has for pods.
+    pub allocatable: Res,
+    /// At most 32 labels.
+    pub labels: ArrayVec<Label, MAX_LABELS>,
+    /// At most 8 taints.
+    pub taints: ArrayVec<Taint, MAX_TAINTS>,
+    /// Whether the node takes no new pods, but for those that tolerate this mark.
+    pub unschedulable: bool,
+}
+
+/// A pod that waits for a place.
+#[derive(Debug, Drop, PartialEq, Eq)]
+pub struct Pod {
+    /// What tells the pod from every other, at all times.
+    pub uid: Name,
+    /// Greater comes first. Any number may be given.
+    pub priority: i32,
+    /// What the pod asks of a node.
+    pub request: Request,
+    /// At most 32 labels.
+    pub labels: ArrayVec<Label, MAX_LABELS>,
+    /// At most 16 tolerations.
+    pub tolerations: ArrayVec<Toleration, MAX_TOLERATIONS>,
+}
