@@ -1,0 +1,111 @@
+// Why bytes are refused.
+
+use thiserror::Error;
+
+/// What is wrong with bytes that spell nothing.
+#[derive(Clone, Copy, PartialEq, Eq, Debug)]
+pub enum Kind {
+    /// The bytes end where more are wanted.
+    Truncated,
+    /// The first four bytes aren't those of a module.
+    BadMagic,
+    /// The next four bytes aren't the version.
+    BadVersion,
+    /// A section's number or order, or contents that don't fill its size.
+    BadSection,
+    /// A number that is too long or too large.
+    BadNumber,
+    /// A type, or a byte that stands for a kind of thing.
+    BadType,
+    /// A byte that is no instruction.
+    BadOpcode,
+    /// A name that isn't UTF-8.
+    BadName,
+    /// As many functions as bodies are wanted.
+    CountMismatch,
+    /// Blocks nested more than 256 deep.
+    TooDeep,
+    /// More than 1,048,576 bytes.
+    TooLong,
+}
+
+impl Kind {
+    /// The number that is printed.
+    pub fn number(self) -> u8 {
+        match self {
+            Kind::Truncated => 1,
+            Kind::BadMagic => 2,
+            Kind::BadVersion => 3,
+            Kind::BadSection => 4,
+            Kind::BadNumber => 5,
+            Kind::BadType => 6,
+            Kind::BadOpcode => 7,
+            Kind::BadName => 8,
+            Kind::CountMismatch => 9,
+            Kind::TooDeep => 10,
+            Kind::TooLong => 11,
+        }
+    }
+
+    /// The name that is printed.
+    pub fn name(self) -> &'static str {
+        match self {
+            Kind::Truncated => "Truncated",
+            Kind::BadMagic => "BadMagic",
+            Kind::BadVersion => "BadVersion",
+            Kind::BadSection => "BadSection",
+            Kind::BadNumber => "BadNumber",
+            Kind::BadType => "BadType",
+            Kind::BadOpcode => "BadOpcode",
+            Kind::BadName => "BadName",
+            Kind::CountMismatch => "CountMismatch",
+            Kind::TooDeep => "TooDeep",
+            Kind::TooLong => "TooLong",
+        }
+    }
+}
+
+/// Why one instruction isn't read. No memory is taken, so none is wanting.
+#[derive(Clone, Copy, PartialEq, Eq, Debug, Error)]
+pub enum OpFault {
+    /// What is wrong, and the offset in the bytes of what can't be read.
+    #[error("Malformed {} {} at {place}", kind.number(), kind.name())]
+    Malformed { kind: Kind, place: usize },
+    /// A float instruction or type, which isn't in the profile.
+    #[error("Float")]
+    Float,
+}
+
+/// Why bytes aren't read.
+#[derive(Clone, Copy, PartialEq, Eq, Debug, Error)]
+pub enum BinFault {
+    /// What is wrong, and the offset in the bytes of what can't be read.
+    #[error("{} {} {} {} at {place}", self.number(), self.name(), kind.number(), kind.name())]
+    Malformed { kind: Kind, place: usize },
+    /// A float instruction or type, which isn't in the profile.
+    #[error("{} {}", self.number(), self.name())]
+    Float,
+    /// Memory ran out.
+    #[error("{} {}", self.number(), self.name())]
+    NoMemory,
+}
+
+impl BinFault {
+    /// The number that is printed.
+    pub fn number(&self) -> u8 {
+        match self {
+            BinFault::Malformed { .. } => 1,
+            BinFault::Float => 2,
+            BinFault::NoMemory => 3,
+        }
+    }
+
+    /// The name that is printed.
+    pub fn name(&self) -> &'static str {
+        match self {
+            BinFault::Malformed { .. } => "Malformed",
+            BinFault::Float => "Float",
+            BinFault::NoMemory => "NoMemory",
+        }
+    }
+}

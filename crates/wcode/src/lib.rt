@@ -1,0 +1,13 @@
+//! WebAssembly's instructions in the integer part of the standard, and their decoder
+//! (WebAssembly Core 1.0, 2.4 and 5.4).
+#![tactic(auto)]
+
+pub mod fault;
+pub mod instruction;
+pub mod operator;
+pub mod value;
+
+pub use fault::{BinFault, Kind, OpFault};
+pub use instruction::{Instr, MemArg, Op, Plain};
+pub use operator::{BinOp, CvtOp, LoadOp, RelOp, Sign, StoreOp, TestOp, UnOp};
+pub use value::{BlockType, Value, ValueType};
