@@ -7,6 +7,7 @@ mod fault;
 mod limits;
 mod name;
 mod objects;
+mod spelling;
 mod taint;
 
 pub use amount::{Bytes, Cpu, Moment, Request, Res};
@@ -17,4 +18,5 @@ pub use limits::{
 };
 pub use name::{Name, Text};
 pub use objects::{Label, Node, Pod};
+pub use spelling::{read_bytes, read_cpu};
 pub use taint::{Effect, Operator, Taint, Toleration};

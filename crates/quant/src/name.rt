@@ -1,9 +1,6 @@
 //! Names of objects and of keys, and the texts that stand beside them.
-ghost use Rattle.std.specs.Prelude.{◌≡◌, ◌↔◌, ◌∷◌, [], IsTrue, IsOk, IfOk, IfErr, Some, refl};
-ghost use Rattle.std.specs.Cmp.{on_equiv, on_total, on_po, on_per, partial_equiv_from_equiv};
-ghost use Rattle.std.specs.Cmp.Lexicographic.{nat_list_eq_equiv, nat_list_cmp_total, texts_ties, texts_po, slice_cmp};
-ghost use Rattle.std.specs.Str.{bytes_eq};
-ghost use Rattle.std.specs.Ordering.{nat_cmp};
+ghost use Rattle.std.specs.Prelude.{◌≡◌, ◌↔◌, ◌∷◌, [], IsTrue, IsOk, IfOk, IfErr, OnErr, false, Ok, Err, if◌then◌else◌};
+ghost use Rattle.std.specs.List.{list_all};
 ghost use Rattle.quant.specs.Name.{is_name_byte, is_name, is_text};
 
 use crate::fault::QuantFault;
@@ -51,6 +48,28 @@ impl Model for Text {
 }
 
 impl Name {
+    /// The name of these bytes.
+    ///
+    /// Errors: `BadName` where the bytes are no name.
+    pub fn new(bytes: &[u8]) -> Result<Name, QuantFault>
+        ensures { result ≡ (if is_name bytes.now then Ok bytes.now else Err QuantFault.BadName) }
+    {
+        if bytes.is_empty() {
+            return Err(QuantFault::BadName);
+        }
+        let bytes = allowed(bytes)?;
+        Ok(Name { bytes })
+    }
+
+    /// Another name of the same bytes. Unlike `clone`, it has no error.
+    pub fn copied(&self) -> Name
+        ensures { result ≡ self.now }
+    {
+        Name {
+            bytes: self.bytes.clone().unwrap(),
+        }
+    }
+
     /// The bytes.
     pub fn as_bytes(&self) -> &[u8]
         ensures bytes { result.now ≡ self.now }
@@ -61,6 +80,25 @@ impl Name {
 }
 
 impl Text {
+    /// The text of these bytes.
+    ///
+    /// Errors: `BadName` where the bytes are no text.
+    pub fn new(bytes: &[u8]) -> Result<Text, QuantFault>
+        ensures { result ≡ (if is_text bytes.now then Ok bytes.now else Err QuantFault.BadName) }
+    {
+        let bytes = allowed(bytes)?;
+        Ok(Text { bytes })
+    }
+
+    /// Another text of the same bytes. Unlike `clone`, it has no error.
+    pub fn copied(&self) -> Text
+        ensures { result ≡ self.now }
+    {
+        Text {
+            bytes: self.bytes.clone().unwrap(),
+        }
+    }
+
     /// The bytes.
     pub fn as_bytes(&self) -> &[u8]
         ensures bytes { result.now ≡ self.now }
@@ -90,4 +128,35 @@ impl Default for Text {
             bytes: ArrayVec::new(),
         }
     }
+}
+
+// The bytes, where there are at most 63 and a name may have each of them.
+fn allowed(bytes: &[u8]) -> Result<ArrayVec<u8, MAX_NAME>, QuantFault>
+    ensures kept { IfOk result (λ kept. kept.items ≡ bytes.now) }
+    ensures accepted { IsOk result → IsTrue (is_text bytes.now) }
+    ensures refused { OnErr result (is_text bytes.now ≡ false) }
+    ensures fault { IfErr result (λ fault. fault ≡ QuantFault.BadName) }
+{
+    if !are_allowed(bytes) {
+        return Err(QuantFault::BadName);
+    }
+    let mut kept = ArrayVec::new();
+    match kept.try_extend_from_slice(bytes) {
+        Ok(()) => Ok(kept),
+        Err(_) => Err(QuantFault::BadName),
+    }
+}
+
+// Whether a name may have each of these bytes.
+fn are_allowed(bytes: &[u8]) -> bool
+    ensures { result ≡ list_all is_name_byte bytes.now }
+{
+    bytes.iter().all(|b| is_allowed(*b))
+}
+
+// Whether a name may have this byte.
+fn is_allowed(byte: u8) -> bool
+    ensures { result ≡ is_name_byte byte }
+{
+    matches!(byte, b'0'..=b'9' | b'A'..=b'Z' | b'a'..=b'z' | b'-' | b'.' | b'/' | b'_')
 }
