@@ -73,9 +73,9 @@ at_most amount most None = Err BadQuantity
 at_most amount most (Some n) = if nat_le n most then Ok (amount n) else Err TooLarge
 
 -- the amount of CPU that a text spells, up to 2^30 thousandths of a core
-abbrev pub cpu_read : List ℕ → Result Cpu QuantFault
+unfoldable pub cpu_read : List ℕ → Result Cpu QuantFault
 cpu_read text = at_most (λ n. record { 0 = n }) (2 ^ 30) (cpu_spelled text)
 
 -- the amount of memory that a text spells, up to 2^44 bytes
-abbrev pub bytes_read : List ℕ → Result Bytes QuantFault
+unfoldable pub bytes_read : List ℕ → Result Bytes QuantFault
 bytes_read text = at_most (λ n. record { 0 = n }) (2 ^ 44) (bytes_spelled text)

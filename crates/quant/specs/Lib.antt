@@ -1,3 +1,4 @@
 pub mod Fault
 pub mod Name
 pub mod Amount
+pub mod Request

@@ -13,9 +13,9 @@ is_name_byte b =
     || (b == 45) || (b == 46) || (b == 47) || (b == 95)
 
 -- a text: at most 63 such bytes
-abbrev pub is_text : List ℕ → Bool
+unfoldable pub is_text : List ℕ → Bool
 is_text bytes = nat_le (length bytes) 63 && list_all is_name_byte bytes
 
 -- a name: a text that has a byte
-abbrev pub is_name : List ℕ → Bool
+unfoldable pub is_name : List ℕ → Bool
 is_name bytes = nat_le 1 (length bytes) && is_text bytes

@@ -24,7 +24,8 @@ pub struct Res {
     pub pods: u32,
 }
 
-/// What one pod asks of a node, beside its one place among the node's pods.
+/// What one container asks, or one pod of a node beside its one place among the node's pods: at
+/// most 2^30 thousandths of a core and 2^44 bytes, as the ghost fields say.
 #[derive(Clone, Copy, Debug, PartialEq, Eq, Hash)]
 pub struct Request {
     /// Thousandths of a core.

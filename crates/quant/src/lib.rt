@@ -7,6 +7,7 @@ mod fault;
 mod limits;
 mod name;
 mod objects;
+mod pod_request;
 mod spelling;
 mod taint;
 
@@ -18,5 +19,6 @@ pub use limits::{
 };
 pub use name::{Name, Text};
 pub use objects::{Label, Node, Pod};
+pub use pod_request::request;
 pub use spelling::{read_bytes, read_cpu};
 pub use taint::{Effect, Operator, Taint, Toleration};

@@ -1,5 +1,5 @@
 //! Names of objects and of keys, and the texts that stand beside them.
-ghost use Rattle.std.specs.Prelude.{◌≡◌, ◌↔◌, ◌∷◌, [], IsTrue, IsOk, IfOk, IfErr, OnErr, false, Ok, Err, if◌then◌else◌};
+ghost use Rattle.std.specs.Prelude.{◌≡◌, ◌≤◌, length, ◌↔◌, ◌∷◌, [], IsTrue, IsOk, IfOk, IfErr, OnErr, false, Ok, Err, if◌then◌else◌};
 ghost use Rattle.std.specs.List.{list_all};
 ghost use Rattle.quant.specs.Name.{is_name_byte, is_name, is_text};
 
@@ -51,6 +51,7 @@ impl Name {
     /// The name of these bytes.
     ///
     /// Errors: `BadName` where the bytes are no name.
+    #[tactic(auto, unfolding(crate::specs::Name::is_name, crate::specs::Name::is_text))]
     pub fn new(bytes: &[u8]) -> Result<Name, QuantFault>
         ensures { result ≡ (if is_name bytes.now then Ok bytes.now else Err QuantFault.BadName) }
     {
@@ -71,9 +72,12 @@ impl Name {
     }
 
     /// The bytes.
+    #[tactic(auto, unfolding(crate::specs::Name::is_name, crate::specs::Name::is_text))]
     pub fn as_bytes(&self) -> &[u8]
         ensures bytes { result.now ≡ self.now }
         ensures valid { IsTrue (is_name self.now) }
+        ensures least { 1 ≤ length result.now }
+        ensures most { length result.now ≤ 63 }
     {
         self.bytes.as_slice()
     }
@@ -100,9 +104,11 @@ impl Text {
     }
 
     /// The bytes.
+    #[tactic(auto, unfolding(crate::specs::Name::is_name, crate::specs::Name::is_text))]
     pub fn as_bytes(&self) -> &[u8]
         ensures bytes { result.now ≡ self.now }
         ensures valid { IsTrue (is_text self.now) }
+        ensures most { length result.now ≤ 63 }
     {
         self.bytes.as_slice()
     }
@@ -112,6 +118,7 @@ impl Text {
 impl Default for Name {
     ghost is_default = { λ name. name ≡ 45 ∷ [] };
 
+    #[tactic(auto, unfolding(crate::specs::Name::is_name, crate::specs::Name::is_text))]
     fn default() -> Self {
         let mut bytes = ArrayVec::new();
         bytes.push(b'-');
@@ -123,6 +130,7 @@ impl Default for Name {
 impl Default for Text {
     ghost is_default = { λ text. text ≡ [] };
 
+    #[tactic(auto, unfolding(crate::specs::Name::is_text))]
     fn default() -> Self {
         Text {
             bytes: ArrayVec::new(),
@@ -131,6 +139,7 @@ impl Default for Text {
 }
 
 // The bytes, where there are at most 63 and a name may have each of them.
+#[tactic(auto, unfolding(crate::specs::Name::is_text))]
 fn allowed(bytes: &[u8]) -> Result<ArrayVec<u8, MAX_NAME>, QuantFault>
     ensures kept { IfOk result (λ kept. kept.items ≡ bytes.now) }
     ensures accepted { IsOk result → IsTrue (is_text bytes.now) }

@@ -18,6 +18,7 @@ const MAX_FRACTION: usize = 3;
 ///
 /// Errors: `BadQuantity` where the text is none of these, and else `TooLarge` where the amount is
 /// above 2^30 thousandths of a core.
+#[tactic(auto, unfolding(crate::specs::Amount::cpu_read))]
 pub fn read_cpu(text: &[u8]) -> Result<Cpu, QuantFault>
     ensures value { result ≡ cpu_read text.now }
     ensures bounded { IfOk result (λ cpu. cpu.0 ≤ 2 ^ 30) }
@@ -41,6 +42,7 @@ pub fn read_cpu(text: &[u8]) -> Result<Cpu, QuantFault>
 ///
 /// Errors: `BadQuantity` where the text is none of these, and else `TooLarge` where the amount is
 /// above 2^44 bytes.
+#[tactic(auto, unfolding(crate::specs::Amount::bytes_read))]
 pub fn read_bytes(text: &[u8]) -> Result<Bytes, QuantFault>
     ensures value { result ≡ bytes_read text.now }
     ensures bounded { IfOk result (λ mem. mem.0 ≤ 2 ^ 44) }
