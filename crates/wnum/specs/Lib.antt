@@ -1,0 +1,4 @@
+pub mod Representation
+pub mod Integer
+pub mod Conversion
+pub mod Trap
