@@ -1,0 +1,114 @@
+-- Facts about buffers of bytes that are zero from a place on, and about writes within them.
+use Rattle.std.proofs.Common.{◌≡◌, ℕ, zero, suc, ◌+◌, ◌-◌, ◌*◌, ◌/◌, ◌≤◌, ◌<◌, List, [], ◌∷◌, ◌++◌, length, take, drop, slice_range, replicate, refl, ap, sym, ◌∙◌, arith, length-append, length-drop, append_assoc, add-one, set}
+use Rattle.std.proofs.lemmas.List.{length-replicate, drop-replicate, take-replicate, replicate-append-replicate, drop-drop, drop-take, length-take-le, drop-append-le, take-append-le, take-append-drop, take_at, take-take, set_split}
+use Rattle.std.proofs.lemmas.Slice.{drop-append-drop}
+use Rattle.std.proofs.Math.Seq.{take-add}
+use Rattle.std.proofs.lemmas.Grind.{common_steps}
+use Rattle.wmem.specs.Access.{Reading, extended, value_read, overwritten}
+use Rattle.wmem.specs.Bytes.{bytes_of, number_in}
+use Rattle.wmem.specs.Memory.{zeros}
+use Rattle.wmem.specs.Inside.{IsClear}
+
+-- zeros are as many as they are asked for
+pub length-zeros : (count : ℕ) → length (zeros count) ≡ count
+unfolding zeros
+length-zeros count = length-replicate count 0
+
+-- what is left of zeros are zeros
+pub drop-zeros : (place count : ℕ) → drop place (zeros count) ≡ zeros (count - place)
+unfolding zeros
+drop-zeros place count = drop-replicate place count 0
+
+-- a front of zeros are zeros
+pub take-zeros : (place count : ℕ) → place ≤ count → take place (zeros count) ≡ zeros place
+unfolding zeros
+take-zeros place count h = take-replicate place count 0 h
+
+-- a number has as many bytes as it is asked for
+pub length-bytes_of : (count number : ℕ) → length (bytes_of count number) ≡ count
+length-bytes_of zero number = refl
+length-bytes_of (suc count) number = grind (arith, length-bytes_of count (number / 256))
+
+-- a buffer of zeros is zero from any place on
+pub clear_zeros : (buffer : List ℕ) (from count : ℕ) → buffer ≡ zeros count → IsClear buffer from
+clear_zeros buffer from count is = record {
+  rest_is = ap (drop from) is ∙ drop-zeros from count ∙ ap (λ (n : ℕ). zeros (n - from)) (sym (ap length is ∙ length-zeros count));
+}
+
+-- a buffer that is zero from a place on is so from each later one on
+pub clear_later : (buffer : List ℕ) (from later : ℕ) → IsClear buffer from → from ≤ later → IsClear buffer later
+clear_later buffer from later clear h = record {
+  rest_is =
+      let split : from + (later - from) ≡ later = omega arith in
+      let there : drop (later - from) (drop from buffer) ≡ drop later buffer = drop-drop (later - from) from buffer ∙ ap (λ (k : ℕ). drop k buffer) split in
+      let left : length buffer - from - (later - from) ≡ length buffer - later = omega arith in
+      sym there ∙ ap (drop (later - from)) clear.rest_is ∙ drop-zeros (later - from) (length buffer - from) ∙ ap zeros left;
+}
+
+-- a buffer of the same length with the same rest is as clear
+pub clear_same : (old new : List ℕ) (from : ℕ) → IsClear old from → length new ≡ length old → drop from new ≡ drop from old → IsClear new from
+clear_same old new from clear same_length same_rest = record {
+  rest_is = same_rest ∙ clear.rest_is ∙ ap (λ (n : ℕ). zeros (n - from)) (sym same_length);
+}
+
+-- the part in use grows by zeros
+pub take-clear : (buffer : List ℕ) (from more : ℕ) → IsClear buffer from → from + more ≤ length buffer
+    → take (from + more) buffer ≡ take from buffer ++ zeros more
+take-clear buffer from more clear h =
+    take-add from more buffer
+    ∙ ap (λ (rest : List ℕ). take from buffer ++ rest) (ap (take more) clear.rest_is ∙ take-zeros more (length buffer - from) (omega arith))
+
+-- a write changes no length
+pub length-overwritten : (buffer : List ℕ) (at : ℕ) (new : List ℕ) → at + length new ≤ length buffer
+    → length (overwritten buffer at new) ≡ length buffer
+length-overwritten buffer at new h = grind (arith, common_steps)
+
+-- a write leaves what is past it
+pub drop-overwritten : (buffer : List ℕ) (at : ℕ) (new : List ℕ) (place : ℕ) → at + length new ≤ place → place ≤ length buffer
+    → drop place (overwritten buffer at new) ≡ drop place buffer
+drop-overwritten buffer at new place h g =
+    let length_front : length (take at buffer ++ new) ≡ at + length new = grind (arith, common_steps) in
+    drop-append-drop (at + length new) buffer (take at buffer ++ new) place h length_front
+
+-- a write in a front of a list leaves what is behind it
+pub overwritten-append : (front back : List ℕ) (at : ℕ) (new : List ℕ) → at + length new ≤ length front
+    → overwritten (front ++ back) at new ≡ overwritten front at new ++ back
+overwritten-append front back at new h =
+    let low : at ≤ length front = omega arith in
+    rw (take-append-le at front back low, drop-append-le (at + length new) front back h)
+    (sym (append_assoc (take at front ++ new) (drop (at + length new) front) back))
+
+-- a write within a front is a write in that front
+pub take-overwritten : (buffer : List ℕ) (at : ℕ) (new : List ℕ) (place : ℕ) → at + length new ≤ place → place ≤ length buffer
+    → take place (overwritten buffer at new) ≡ overwritten (take place buffer) at new
+take-overwritten buffer at new place h g =
+    let length_front : length (take place buffer) ≡ place = length-take-le place buffer g in
+    let within : at + length new ≤ length (take place buffer) = omega arith in
+    let split : overwritten buffer at new ≡ overwritten (take place buffer) at new ++ drop place buffer =
+    ap (λ (xs : List ℕ). overwritten xs at new) (sym (take-append-drop place buffer))
+    ∙ overwritten-append (take place buffer) (drop place buffer) at new within in
+    ap (take place) split
+    ∙ take_at (overwritten (take place buffer) at new) (drop place buffer) place
+    (length-overwritten (take place buffer) at new within ∙ length_front)
+
+-- what is read within a front is read in the whole
+pub slice_range-take : (buffer : List ℕ) (place from to : ℕ) → from ≤ to → to ≤ place
+    → slice_range (take place buffer) from to ≡ slice_range buffer from to
+slice_range-take buffer place from to low high =
+    let split : from + (place - from) ≡ place = omega arith in
+    let there : drop from (take place buffer) ≡ take (place - from) (drop from buffer) =
+    ap (λ (k : ℕ). drop from (take k buffer)) (sym split) ∙ drop-take from (place - from) buffer in
+    let fits : to - from ≤ place - from = omega arith in
+    ap (take (to - from)) there ∙ take-take (to - from) (place - from) (drop from buffer) fits
+
+-- what a load reads within a front it reads in the whole
+pub value_read-take : (reading : Reading) (buffer : List ℕ) (place address : ℕ) → address + reading.bytes ≤ place
+    → value_read reading (take place buffer) address ≡ value_read reading buffer address
+value_read-take reading buffer place address within =
+    let value_of : List ℕ → ℕ = λ bytes. extended reading.signed (8 * reading.bytes) reading.bits (number_in bytes) in
+    ap value_of (slice_range-take buffer place address (address + reading.bytes) (omega arith) within)
+
+-- a byte set in a buffer is a write of one byte
+pub set-overwritten : (buffer : List ℕ) (at byte : ℕ) → at < length buffer → set buffer at byte ≡ overwritten buffer at (byte ∷ [])
+set-overwritten buffer at byte within =
+    set_split buffer at byte within ∙ rw add-one (sym (append_assoc (take at buffer) (byte ∷ []) (drop (suc at) buffer)))

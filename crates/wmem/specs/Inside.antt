@@ -1,0 +1,29 @@
+-- What a memory's fields mean.
+use Rattle.std.specs.Prelude.{◌≡◌, ℕ, ◌-◌, ◌*◌, ◌%◌, ◌≤◌, List, length, take, drop}
+use Rattle.wmem.specs.declared.memory.TheConstants.{PAGE_SIZE, MAX_PAGES}
+use Rattle.wmem.specs.declared.memory.Memory.TheInside.{Inside}
+use Rattle.wmem.specs.Memory.{Instance, zeros}
+
+-- the bytes and the image are the parts of the buffers that are in use
+abbrev pub instance_of : Inside → Instance
+instance_of memory = record {
+  bytes = take memory.len memory.bytes.items;
+  cap = memory.cap;
+  image = take memory.image_len memory.image.items;
+}
+
+-- a buffer is zero from a place on
+pub record IsClear (buffer : List ℕ) (from : ℕ) : Type 0 where
+  pub rest_is : drop from buffer ≡ zeros (length buffer - from)
+
+-- both buffers have the whole cap, and are zero past what is in use, which is whole pages
+pub record IsSound (memory : Inside) : Type 0 where
+  pub limited : memory.cap ≤ MAX_PAGES
+  pub room : length memory.bytes.items ≡ PAGE_SIZE * memory.cap
+  pub image_room : length memory.image.items ≡ PAGE_SIZE * memory.cap
+  pub whole_pages : memory.len % PAGE_SIZE ≡ 0
+  pub whole_image : memory.image_len % PAGE_SIZE ≡ 0
+  pub within : memory.len ≤ PAGE_SIZE * memory.cap
+  pub grown : memory.image_len ≤ memory.len
+  pub clear : IsClear memory.bytes.items memory.len
+  pub image_clear : IsClear memory.image.items memory.image_len

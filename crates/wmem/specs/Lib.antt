@@ -1,0 +1,5 @@
+pub mod Trap
+pub mod Bytes
+pub mod Access
+pub mod Memory
+pub mod Inside

@@ -1,0 +1,16 @@
+//! The linear memory of WebAssembly Core 1.0 (4.2.8 and 4.4.4), with an image that it can be brought back to.
+//!
+//! A memory takes all its room when it is made. After that no call allocates, and none fails but by a trap.
+#![tactic(auto)]
+
+mod access;
+mod buffer;
+mod memory;
+mod trap;
+
+pub use access::{Load, Width};
+pub use memory::{MAX_PAGES, Memory, PAGE_SIZE};
+pub use trap::Trap;
+
+#[cfg(test)]
+mod tests;

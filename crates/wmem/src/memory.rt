@@ -1,0 +1,152 @@
+//! The memory itself.
+ghost use Rattle.std.specs.Prelude.{◌≡◌, ◌+◌, ◌*◌, ◌^◌, ◌<◌, ◌≤◌, length, IfOk};
+ghost use Rattle.wmem.specs.declared.trap.Trap.TheVariants.{MemoryOutOfBounds, HostOutOfBounds};
+
+use crate::access::{Load, Width};
+use crate::buffer;
+use crate::trap::Trap;
+use std::alloc::{AllocError, Global};
+use std::marker::Model;
+
+/// How many bytes a page has (WebAssembly Core 1.0, 4.2.8).
+pub const PAGE_SIZE: usize = 65_536;
+
+/// The most pages that a memory may have.
+pub const MAX_PAGES: u32 = 32;
+
+/// A linear memory, with an image that it can be brought back to.
+///
+/// Both buffers have room for the whole cap from the start, and are zero past what is in use.
+#[derive(Drop)]
+pub struct Memory {
+    bytes: Vec<u8>,
+    /// How many of `bytes` are in use.
+    len: usize,
+    image: Vec<u8>,
+    /// How many of `image` are in use.
+    image_len: usize,
+    cap: u32,
+}
+
+impl Model for Memory {
+    ghost use Rattle.wmem.specs.Memory.{Instance};
+
+    ghost Value = { Instance };
+
+    ghost use Rattle.wmem.specs.Inside.{instance_of, IsSound};
+
+    ghost view = { instance_of };
+
+    ghost invariant = { IsSound };
+}
+
+impl Memory {
+    ghost use Rattle.wmem.specs.Access.{LoadGives, bytes_written, reading_of};
+    ghost use Rattle.wmem.specs.Bytes.{bytes_of};
+    ghost use Rattle.wmem.specs.Memory.{made, pages_in, IsMemory, WriteGives, GrowGives};
+
+    /// A memory of `min` pages of zeros, which is also its image. It takes the room for `cap` pages of each, and nothing
+    /// later takes more.
+    pub fn new(alloc: Global, min: u32, cap: u32) -> Result<Memory, AllocError>
+        requires within { min ≤ cap }
+        requires limited { cap ≤ MAX_PAGES }
+        ensures { IfOk result (λ memory. memory ≡ made min cap) }
+    {
+        let room = cap as usize * PAGE_SIZE;
+        let len = min as usize * PAGE_SIZE;
+        Ok(Memory {
+            bytes: vec![in alloc; 0u8; room]?,
+            len,
+            image: vec![in alloc; 0u8; room]?,
+            image_len: len,
+            cap,
+        })
+    }
+
+    /// The size in pages (`memory.size`).
+    pub fn size(&self) -> u32
+        ensures pages { result ≡ pages_in self.now.bytes }
+        ensures shape { IsMemory self.now }
+    {
+        (self.len / PAGE_SIZE) as u32
+    }
+
+    /// Loads from the address `base + offset`, which doesn't wrap. An i32 is below 2^32.
+    ///
+    /// # Errors
+    ///
+    /// [`Trap::MemoryOutOfBounds`] where one of the bytes lies past the end.
+    #[inline(always)]
+    pub fn load(&self, base: u32, offset: u32, load: Load) -> Result<u64, Trap>
+        ensures value { LoadGives load self.now.bytes (base + offset) result }
+        ensures fits { IfOk result (λ value. value < 2 ^ (reading_of load).bits) }
+    {
+        let address = base as usize + offset as usize;
+        if address + load.bytes() > self.len {
+            return Err(Trap::MemoryOutOfBounds);
+        }
+        Ok(buffer::read(&self.bytes, address, load))
+    }
+
+    /// Stores the low bytes of `value` at the address `base + offset`, which doesn't wrap.
+    ///
+    /// # Errors
+    ///
+    /// [`Trap::MemoryOutOfBounds`] where one of the bytes lies past the end: nothing is written then.
+    #[inline(always)]
+    pub fn store(&mut self, base: u32, offset: u32, width: Width, value: u64) -> Result<(), Trap>
+        ensures { WriteGives MemoryOutOfBounds self.old (base + offset) (bytes_of (bytes_written width) value) result self.new }
+    {
+        let address = base as usize + offset as usize;
+        if address + width.bytes() > self.len {
+            return Err(Trap::MemoryOutOfBounds);
+        }
+        buffer::write(&mut self.bytes, address, width, value);
+        Ok(())
+    }
+
+    /// Writes the host's bytes at `at`, all of them.
+    ///
+    /// # Errors
+    ///
+    /// [`Trap::HostOutOfBounds`] where one of the bytes would lie past the end: nothing is written then.
+    pub fn copy_in(&mut self, at: u32, bytes: &[u8]) -> Result<(), Trap>
+        ensures { WriteGives HostOutOfBounds self.old at bytes.now result self.new }
+    {
+        let at = at as usize;
+        if at + bytes.len() > self.len {
+            return Err(Trap::HostOutOfBounds);
+        }
+        buffer::copy_at(&mut self.bytes, at, bytes);
+        Ok(())
+    }
+
+    /// Grows by `delta` pages and answers the old size in pages (`memory.grow`). Where that would pass the cap it answers
+    /// `None`, which the instruction gives as -1.
+    pub fn grow(&mut self, delta: u32) -> Option<u32>
+        ensures { GrowGives self.old delta result self.new }
+    {
+        let pages = self.size();
+        if delta > self.cap - pages {
+            return None;
+        }
+        self.len += delta as usize * PAGE_SIZE;
+        Some(pages)
+    }
+
+    /// Makes the bytes the image.
+    pub fn keep(&mut self)
+        ensures { self.new ≡ record self.old { image = self.old.bytes } }
+    {
+        buffer::copy_front(&mut self.image, &self.bytes, self.len);
+        self.image_len = self.len;
+    }
+
+    /// Brings the image back, its size too.
+    pub fn reset(&mut self)
+        ensures { self.new ≡ record self.old { bytes = self.old.image } }
+    {
+        buffer::copy_front(&mut self.bytes, &self.image, self.len);
+        self.len = self.image_len;
+    }
+}
