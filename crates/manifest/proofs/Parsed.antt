@@ -1,0 +1,23 @@
+-- The JSON value of a line, by what the reader of JSON says of the line.
+use Rattle.std.proofs.Common.{◌≡◌, ℕ, List, Bool, true, false, Option, Some, None, Result, Ok, Err, cond, refl, sym, ◌∙◌, ap}
+use Rattle.std.proofs.lemmas.Str.{IsUtf8-from_is_utf8, is_utf8-from_IsUtf8}
+use Rattle.std.specs.Option.{ok_or}
+use Rattle.std.specs.Str.{is_utf8, IsUtf8}
+use Rattle.serde_json.specs.Data.{Data}
+use Rattle.serde_json.specs.Read.{read}
+use Rattle.manifest.specs.declared.fault.LineFault.TheVariants.{NotJson}
+use Rattle.manifest.specs.Reading.{parsed}
+
+-- a text that is read is the value that was read
+pub parsed_read : (line : List ℕ) (d : Data) → IsUtf8 line × (read line ≡ Some d) → parsed line ≡ Ok d
+unfolding parsed
+parsed_read line d h = rw (is_utf8-from_IsUtf8 line h.0, h.1) refl
+
+-- what is no text, or a text that is not read, is not JSON
+pub parsed_refused : (line : List ℕ) → (IsUtf8 line → read line ≡ None) → parsed line ≡ Err NotJson
+unfolding parsed
+parsed_refused line h =
+    elim (is_utf8 line) as (λ b. is_utf8 line ≡ b → cond b (ok_or (read line) NotJson) (Err NotJson) ≡ Err NotJson) [
+      | true ↦ λ e. rw (h (IsUtf8-from_is_utf8 line e)) refl
+      | false ↦ λ e. refl
+    ] refl

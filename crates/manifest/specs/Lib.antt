@@ -1,0 +1,4 @@
+pub mod Field
+pub mod Fault
+pub mod Reading
+pub mod Line
