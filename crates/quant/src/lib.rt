@@ -22,3 +22,6 @@ pub use objects::{Label, Node, Pod};
 pub use pod_request::request;
 pub use spelling::{read_bytes, read_cpu};
 pub use taint::{Effect, Operator, Taint, Toleration};
+
+#[cfg(test)]
+mod tests;

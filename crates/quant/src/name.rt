@@ -67,7 +67,7 @@ impl Name {
         ensures { result ≡ self.now }
     {
         Name {
-            bytes: self.bytes.clone().unwrap(),
+            bytes: copy_of(&self.bytes),
         }
     }
 
@@ -99,7 +99,7 @@ impl Text {
         ensures { result ≡ self.now }
     {
         Text {
-            bytes: self.bytes.clone().unwrap(),
+            bytes: copy_of(&self.bytes),
         }
     }
 
@@ -110,7 +110,7 @@ impl Text {
         ensures valid { IsTrue (is_text self.now) }
         ensures most { length result.now ≤ 63 }
     {
-        self.bytes.as_slice()
+        &self.bytes
     }
 }
 
@@ -136,6 +136,13 @@ impl Default for Text {
             bytes: ArrayVec::new(),
         }
     }
+}
+
+// The same bytes once more.
+fn copy_of(bytes: &ArrayVec<u8, MAX_NAME>) -> ArrayVec<u8, MAX_NAME>
+    ensures { result.items ≡ bytes.now.items }
+{
+    bytes.clone().unwrap()
 }
 
 // The bytes, where there are at most 63 and a name may have each of them.
