@@ -1,0 +1,5 @@
+pub mod Digits
+pub mod Grammar
+pub mod Faults
+pub mod Range
+pub mod Clauses
