@@ -4,4 +4,5 @@ pub mod Bitwise
 pub mod Counts
 pub mod Signs
 pub mod Quotients
+pub mod Arithmetic
 pub mod Operations

@@ -1,8 +1,7 @@
--- What the functions of `int32` and `int64` cite: each operation as std's contracts give it.
-use Rattle.wnum.proofs.Shifts.{ishl_is, ishr_u_is, irotl_is, irotr_is}
+-- What the functions of `int32`, `int64` and `convert` cite without a proof file: each operation as std's contracts give it.
+use Rattle.wnum.proofs.Arithmetic.{iadd_is, isub_is, imul_is, idiv_u_is, idiv_u_by_zero, irem_u_is, irem_u_by_zero, ieqz_is, ieq_is, ine_is, ilt_u_is, igt_u_is, ile_u_is, ige_u_is, wrap_is, extend_u_is}
+use Rattle.wnum.proofs.Shifts.{ishl_is, ishr_u_is}
 use Rattle.wnum.proofs.Bitwise.{iand_is, ior_is, ixor_is}
 use Rattle.wnum.proofs.Counts.{iclz_is, ictz_is, ipopcnt_is}
-use Rattle.wnum.proofs.Signs.{ilt_s_is, igt_s_is, ile_s_is, ige_s_is, ishr_s_is, extend_s_is}
-use Rattle.wnum.proofs.Quotients.{idiv_s_is, irem_s_is, idiv_s_overflows, irem_s_by_minus_one}
 
-pub ruleset bit_operations = (ishl_is, ishr_u_is, iand_is, ior_is, ixor_is, iclz_is, ictz_is, ipopcnt_is)
+pub ruleset operations = (iadd_is, isub_is, imul_is, idiv_u_is, idiv_u_by_zero, irem_u_is, irem_u_by_zero, ieqz_is, ieq_is, ine_is, ilt_u_is, igt_u_is, ile_u_is, ige_u_is, wrap_is, extend_u_is, ishl_is, ishr_u_is, iand_is, ior_is, ixor_is, iclz_is, ictz_is, ipopcnt_is)

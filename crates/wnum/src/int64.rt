@@ -1,5 +1,5 @@
 //! The operations on i64 (WebAssembly Core 1.0, 4.3.2).
-#![tactic(auto, using(crate::proofs::Operations::bit_operations), unfolding(crate::specs::Integer::iadd, crate::specs::Integer::isub, crate::specs::Integer::imul, crate::specs::Integer::idiv_u, crate::specs::Integer::irem_u, crate::specs::Integer::ieqz, crate::specs::Integer::ieq, crate::specs::Integer::ine, crate::specs::Integer::ilt_u, crate::specs::Integer::igt_u, crate::specs::Integer::ile_u, crate::specs::Integer::ige_u))]
+#![tactic(auto, using(crate::proofs::Operations::operations))]
 
 ghost use Rattle.std.specs.Prelude.{◌≡◌};
 ghost use Rattle.wnum.specs.Integer.{iadd, isub, imul, idiv_u, idiv_s, irem_u, irem_s, iand, ior, ixor, ishl, ishr_u, ishr_s, irotl, irotr, iclz, ictz, ipopcnt, ieqz, ieq, ine, ilt_u, igt_u, ile_u, ige_u, ilt_s, igt_s, ile_s, ige_s};
