@@ -1,0 +1,3 @@
+pub mod Context
+pub mod Typing
+pub mod Heights

@@ -1,0 +1,7 @@
+pub mod Configuration
+pub mod Operands
+pub mod Plain
+pub mod Reduction
+pub mod Fits
+pub mod Outcome
+pub mod Call
