@@ -1,0 +1,11 @@
+//! Whether a pod fits on a node, and how much of the node it would leave free.
+#![tactic(auto)]
+
+mod room;
+mod score;
+
+pub use room::{Shortage, fits};
+pub use score::least_allocated;
+
+#[cfg(test)]
+mod tests;
