@@ -114,3 +114,7 @@ spelled s bits (b ∷ bytes) v rest fits e = elim (cases_lt b 128) [
     | inr k ↦ cc (sym (too_long s bits b bytes h k) ∙ e)
   ]
 ]
+
+-- bytes begin with one number at most, which ends at one place
+pub one_spelling : (s : Sign) (bits : ℕ) (bytes : List ℕ) (v w : ℤ) (rest more : List ℕ) → Spells s bits bytes v rest → Spells s bits bytes w more → (v ≡ w) × (rest ≡ more)
+one_spelling s bits bytes v w rest more h k = ok_parts _ (reads s bits bytes v rest h) (reads s bits bytes w more k)

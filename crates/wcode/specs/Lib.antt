@@ -1,2 +1,5 @@
 pub mod Operators
 pub mod Syntax
+pub mod Opcodes
+pub mod Grammar
+pub mod Shown

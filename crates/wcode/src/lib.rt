@@ -4,6 +4,7 @@
 
 pub mod fault;
 pub mod instruction;
+pub mod opcode;
 pub mod operator;
 pub mod value;
 

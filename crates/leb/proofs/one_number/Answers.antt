@@ -1,6 +1,5 @@
-use Rattle.leb.proofs.Grammar.{reads, ok_parts}
+use Rattle.leb.proofs.Grammar.{one_spelling}
 use Rattle.leb.proofs.one_number.Goals as goal
 
 pub returns : goal.returns
-returns c s bits bytes v w rest more h k =
-    ok_parts _ (reads s bits bytes v rest h) (reads s bits bytes w more k)
+returns c s bits bytes v w rest more h k = one_spelling s bits bytes v w rest more h k
