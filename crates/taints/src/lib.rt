@@ -6,3 +6,6 @@ mod tolerance;
 
 pub use score::normalize;
 pub use tolerance::{Rejection, UNSCHEDULABLE, prefer_count, rejected_by, tolerates};
+
+#[cfg(test)]
+mod tests;

@@ -70,7 +70,8 @@ pub fn prefer_count(node: &Node, pod: &Pod) -> u8
 // Whether one of the taints keeps off the pods that do not tolerate it, and none of the tolerations
 // tolerates it.
 fn is_kept_off(taints: &[Taint], tolerations: &[Toleration]) -> bool
-    ensures { result ≡ list_any (λ taint. keeps_off taint.effect && not (tolerated tolerations.now taint)) taints.now }
+    ensures { result ≡ list_any
+        (λ taint. keeps_off taint.effect && not (tolerated tolerations.now taint)) taints.now }
 {
     taints.iter().any(|taint| keeps_off(taint.effect) && !tolerate(tolerations, taint))
 }
