@@ -2,3 +2,4 @@ pub mod Fault
 pub mod Name
 pub mod Amount
 pub mod Request
+pub mod Grammar

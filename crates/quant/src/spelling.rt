@@ -1,7 +1,8 @@
 //! How amounts are spelled, after the Kubernetes page "Quantity": decimal digits, with a
 //! fraction or a suffix behind them.
-ghost use Rattle.std.specs.Prelude.{◌≡◌, ◌+◌, ◌*◌, ◌^◌, ◌<◌, ◌≤◌, nat_le, if◌then◌else◌, length, take_while, IfOk, IfErr, MatchResult, IsTrue, Ok, Err, Some, None, Option, option_map};
+ghost use Rattle.std.specs.Prelude.{◌≡◌, ℕ, ◌↔◌, ◌+◌, ◌*◌, ◌^◌, ◌<◌, ◌≤◌, nat_le, if◌then◌else◌, length, take_while, IfOk, IfErr, MatchResult, IsTrue, Ok, Err, Some, None, Option, option_map};
 ghost use Rattle.std.specs.List.{list_all, prefix_len};
+ghost use Rattle.quant.specs.Grammar.{SpellsCpu, SpellsBytes};
 ghost use Rattle.quant.specs.Amount.{is_digit, is_digits, number, leading_digits, after_digits, thousandths, cpu_with, cpu_spelled, unit_of, bytes_spelled, cpu_read, bytes_read};
 
 use crate::amount::{Bytes, Cpu};
@@ -18,9 +19,10 @@ const MAX_FRACTION: usize = 3;
 ///
 /// Errors: `BadQuantity` where the text is none of these, and else `TooLarge` where the amount is
 /// above 2^30 thousandths of a core.
-#[tactic(auto, unfolding(crate::specs::Amount::cpu_read))]
+#[tactic(auto, using(crate::proofs::GrammarLemmas::cpu_grammar), unfolding(crate::specs::Amount::cpu_read))]
 pub fn read_cpu(text: &[u8]) -> Result<Cpu, QuantFault>
     ensures value { result ≡ cpu_read text.now }
+    ensures grammar { (n : ℕ) → (SpellsCpu text.now n ↔ (cpu_spelled text.now ≡ Some n)) }
     ensures bounded { IfOk result (λ cpu. cpu.0 ≤ 2 ^ 30) }
 {
     let (digits, rest) = split_digits(text);
@@ -42,9 +44,10 @@ pub fn read_cpu(text: &[u8]) -> Result<Cpu, QuantFault>
 ///
 /// Errors: `BadQuantity` where the text is none of these, and else `TooLarge` where the amount is
 /// above 2^44 bytes.
-#[tactic(auto, unfolding(crate::specs::Amount::bytes_read))]
+#[tactic(auto, using(crate::proofs::GrammarLemmas::bytes_grammar), unfolding(crate::specs::Amount::bytes_read))]
 pub fn read_bytes(text: &[u8]) -> Result<Bytes, QuantFault>
     ensures value { result ≡ bytes_read text.now }
+    ensures grammar { (n : ℕ) → (SpellsBytes text.now n ↔ (bytes_spelled text.now ≡ Some n)) }
     ensures bounded { IfOk result (λ mem. mem.0 ≤ 2 ^ 44) }
 {
     let (digits, suffix) = split_digits(text);
