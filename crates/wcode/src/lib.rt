@@ -6,6 +6,7 @@ pub mod fault;
 pub mod instruction;
 pub mod opcode;
 pub mod operator;
+pub mod reading;
 pub mod value;
 
 pub use fault::{BinFault, Kind, OpFault};

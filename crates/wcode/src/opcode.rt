@@ -1,11 +1,13 @@
 // What each opcode stands for (WebAssembly Core 1.0, 5.4).
 
-ghost use Rattle.std.specs.Prelude.{◌≡◌};
+ghost use Rattle.std.specs.Prelude.{◌≡◌, ℕ, List};
+ghost use Rattle.wcode.specs.Grammar.{opens};
+ghost use Rattle.wcode.specs.Shown.{Shows};
 ghost use Rattle.wcode.specs.Opcodes.{form, indexed_plain};
 
-use crate::instruction::Plain;
+use crate::instruction::{Op, Plain};
 use crate::operator::{BinOp, CvtOp, LoadOp, RelOp, Sign, StoreOp, TestOp, UnOp};
-use crate::value::ValueType;
+use crate::value::{BlockType, ValueType};
 
 /// An opcode, and what follows it.
 #[derive(Clone, Copy)]
@@ -57,6 +59,19 @@ pub enum Indexed {
     LocalTee,
     GlobalGet,
     GlobalSet,
+}
+
+impl Opening {
+    /// The instruction, for a block of this type.
+    pub fn op(self, t: BlockType) -> Op
+        ensures { (bytes : List ℕ) → Shows bytes result (opens self t) }
+    {
+        match self {
+            Opening::Block => Op::Block(t),
+            Opening::Loop => Op::Loop(t),
+            Opening::If => Op::If(t),
+        }
+    }
 }
 
 impl Indexed {
