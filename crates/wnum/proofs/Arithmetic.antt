@@ -1,8 +1,7 @@
 -- The operations that are a line of arithmetic, opened: elsewhere each stays as it is written.
-use Rattle.std.proofs.Common.{◌≡◌, ℕ, ◌+◌, ◌-◌, ◌*◌, ◌/◌, ◌%◌, ◌^◌, not, ◌==◌, nat_lt, nat_le, Result, Ok, Err, refl, ◌≢◌, arith}
+use Rattle.std.proofs.Common.{◌≡◌, ℕ, ◌+◌, ◌-◌, ◌*◌, ◌/◌, ◌%◌, ◌^◌, not, ◌==◌, nat_lt, nat_le, Ok, Err, refl, ◌≢◌, arith}
 use Rattle.std.proofs.lemmas.Bool.Decides.{nat_tests}
 use Rattle.std.specs.Int.{from_bool}
-use Rattle.wnum.specs.declared.trap.Trap.{Trap}
 use Rattle.wnum.specs.declared.trap.Trap.TheVariants.{DivideByZero}
 use Rattle.wnum.specs.Integer.{iadd, isub, imul, idiv_u, irem_u, ieqz, ieq, ine, ilt_u, igt_u, ile_u, ige_u}
 use Rattle.wnum.specs.Conversion.{wrap, extend_u}

@@ -1,5 +1,5 @@
 -- The operations on pairs of digits are std's on the numbers.
-use Rattle.std.proofs.Common.{◌≡◌, ℕ, zero, suc, ◌+◌, ◌-◌, ◌*◌, ◌/◌, ◌%◌, ◌^◌, ◌<◌, ◌≤◌, min, max, List, [], ◌∷◌, ◌++◌, length, bit_and, bit_or, bit_xor, refl, sym, ap, ap₂, ◌∙◌, subst, arith, suc-ne-zero, mod-lt}
+use Rattle.std.proofs.Common.{◌≡◌, ℕ, zero, suc, ◌+◌, ◌*◌, ◌/◌, ◌%◌, ◌^◌, ◌<◌, min, max, List, [], ◌∷◌, ◌++◌, length, bit_and, bit_or, bit_xor, refl, sym, ap, ap₂, ◌∙◌, arith}
 use lib.Bits.{differ, and_step, or_step, xor_step}
 use Rattle.wnum.specs.Representation.{ibits, from_ibits}
 use Rattle.wnum.specs.Integer.{bitwise, iand, ior, ixor}

@@ -1,8 +1,7 @@
 -- Laws of a number's binary digits, highest first: what the parts of `ibits` spell.
-use Rattle.std.proofs.Common.{◌≡◌, ℕ, zero, suc, ◌+◌, ◌-◌, ◌*◌, ◌/◌, ◌%◌, ◌^◌, ◌<◌, ◌≤◌, List, [], ◌∷◌, ◌++◌, length, take, drop, replicate, refl, sym, ap, ◌∙◌, subst, arith, length-append, pow-add, pow_pos, pow-suc, add-mul, mul-add, mul_assoc, mul-zero, add_assoc, add-one, one-add, not-suc-le-zero, le_of_suc-le-suc, shr-shr, div-one, zero-mul, zero-add, mul-one, shl_lt, shr_lt}
-use Rattle.std.proofs.lemmas.Nat.{mod-pow-add, shl-shr, mod_low}
+use Rattle.std.proofs.Common.{◌≡◌, ℕ, zero, suc, ◌+◌, ◌-◌, ◌*◌, ◌/◌, ◌%◌, ◌^◌, ◌<◌, ◌≤◌, List, [], ◌∷◌, ◌++◌, length, take, drop, replicate, refl, sym, ap, ◌∙◌, subst, arith, length-append, pow-add, pow_pos, pow-suc, add-mul, mul-add, mul_assoc, mul-zero, add-one, one-add, not-suc-le-zero, le_of_suc-le-suc, shr-shr, div-one, zero-mul, shr_lt}
+use Rattle.std.proofs.lemmas.Nat.{mod-pow-add}
 use lib.ListN.{length-replicate}
-use lib.Pow.{mod-mod-pow, shr_mod}
 use Rattle.wnum.specs.Representation.{ibits, from_ibits}
 
 -- there are as many digits as asked for

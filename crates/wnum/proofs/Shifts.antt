@@ -1,6 +1,6 @@
 -- Shifts and rotations of digits, as products and quotients by powers of two.
-use Rattle.std.proofs.Common.{◌≡◌, ℕ, zero, suc, ◌+◌, ◌-◌, ◌*◌, ◌/◌, ◌%◌, ◌^◌, ◌<◌, ◌≤◌, ◌⊎◌, inl, inr, List, [], ◌∷◌, ◌++◌, length, take, drop, replicate, bit_or, refl, sym, ap, ◌∙◌, subst, arith, length-take, pow-add, pow_pos, div-one, mul-one, mod-lt, mod-eq_of_lt, eq-zero-or-pos, lt_of_lt_of_le}
-use Rattle.std.proofs.lemmas.Nat.{mod-pow-add, shl-shr, mod_low, shr_high, or_shifted, or_comm}
+use Rattle.std.proofs.Common.{◌≡◌, ℕ, zero, suc, ◌+◌, ◌-◌, ◌*◌, ◌/◌, ◌%◌, ◌^◌, ◌<◌, ◌≤◌, ◌++◌, length, take, drop, replicate, bit_or, refl, sym, ap, ◌∙◌, subst, arith, pow_pos, div-one, mul-one, mod-eq_of_lt}
+use Rattle.std.proofs.lemmas.Nat.{mod-pow-add, shl-shr, mod_low, or_shifted}
 use native.Mathlib.Nat.{mod_self, div-eq_of_lt, mul-mod_left}
 use lib.ListN.{length-replicate}
 use lib.Pow.{shr_mod, shr_lt}

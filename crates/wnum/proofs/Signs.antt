@@ -1,7 +1,6 @@
 -- The signed interpretation is std's reading of a signed type, and so are the relations, the shift and the extension that rest on it.
-use Rattle.std.proofs.Common.{◌≡◌, ℕ, zero, suc, ◌+◌, ◌-◌, ◌*◌, ◌/◌, ◌%◌, ◌^◌, ◌<◌, ◌≤◌, ◌⊎◌, inl, inr, ℤ, pos, negsuc, ◌-ℤ◌, cond, nat_lt, replicate, take, ◌++◌, refl, sym, ap, ap₂, ◌∙◌, subst, arith, add-one, add-mul, suc-mul, pow_pos, pow-suc, pow-add, mod-eq_of_lt, mod-lt, lt_of_le_of_lt, Fits}
-use Rattle.std.proofs.lemmas.Int.{ints, to_z_pos, of_z-to_z, to_z-of_z}
-use Rattle.std.proofs.Math.Facts.{Fits-of_z, sfits_to_z}
+use Rattle.std.proofs.Common.{◌≡◌, ℕ, suc, ◌+◌, ◌-◌, ◌*◌, ◌/◌, ◌%◌, ◌^◌, ◌<◌, ◌≤◌, ◌⊎◌, inl, inr, ℤ, pos, negsuc, ◌-ℤ◌, cond, nat_lt, refl, ap, ap₂, ◌∙◌, subst, arith, add-one, add-mul, suc-mul, pow_pos, pow-add, mod-lt}
+use Rattle.std.proofs.lemmas.Int.{ints, to_z_pos, of_z-to_z}
 use native.Mathlib.Nat.{div-eq_of_lt}
 use lib.Pow.{shr_lt}
 use Rattle.wnum.proofs.Counts.{top_one}
@@ -9,13 +8,12 @@ use Rattle.std.proofs.lemmas.Nat.{shr_high, shr_split}
 use Rattle.std.proofs.lemmas.Bool.{cases_lt}
 use Rattle.std.proofs.lemmas.Bool.Decides.{nat_tests}
 use Rattle.std.specs.Int.{from_bool}
-use lib.Signed.{lt_z, le_z, shr_z, mag_shr}
+use lib.Signed.{lt_z, le_z, shr_z}
 use mir.Syntax.{Width, w8, w16, w32, w64, w128}
-use mir.Val.{bits, hbits, to_z, of_z, SFits}
-use Rattle.wnum.specs.Representation.{signed, from_signed, ibits, from_ibits}
+use mir.Val.{bits, hbits, to_z, of_z}
+use Rattle.wnum.specs.Representation.{signed, from_signed}
 use Rattle.wnum.specs.Integer.{ilt_s, igt_s, ile_s, ige_s, ishr_s, top_bit}
 use Rattle.wnum.specs.Conversion.{extend_s}
-use Rattle.wnum.proofs.Digits.{length-ibits}
 use Rattle.wnum.proofs.Shifts.{shifted_right}
 
 -- a type has one bit more than its non-negative half
@@ -128,14 +126,3 @@ ishr_s_is w a b p = shifted_right (top_bit (bits w) a) (b % bits w) (bits w) a s
 -- a number of std's signed type, which went to its bits and back
 pub read_back : (w : Width) (z : ℤ) (a : ℕ) → a < 2 ^ bits w → z ≡ to_z w a → to_z w (of_z w z) ≡ to_z w a
 read_back w z a h e = ap (λ (x : ℤ). to_z w (of_z w x)) e ∙ ap (to_z w) (of_z-to_z w a h)
-
--- the bits of a number of the signed type
-pub from_signed_lt : (w : Width) (z : ℤ) → SFits w z → of_z w z < 2 ^ bits w
-from_signed_lt w z f = (Fits-of_z f).fits
-
--- the code's shift of a number of the signed type
-pub shifted_back : (w : Width) (z : ℤ) (a k : ℕ) → a < 2 ^ bits w → z ≡ to_z w a → of_z w (to_z w (of_z w (shr_z (to_z w (of_z w z)) (2 ^ k)))) ≡ of_z w (shr_z (to_z w a) (2 ^ k))
-shifted_back w z a k h e =
-    let fits : SFits w (to_z w a) = sfits_to_z (record { fits = h }) in
-    let shifted : SFits w (shr_z (to_z w a) (2 ^ k)) = record { sfits = lt_of_le_of_lt (mag_shr (to_z w a) (2 ^ k)) fits.sfits } in
-    ap (λ (x : ℤ). of_z w (to_z w (of_z w (shr_z x (2 ^ k))))) (read_back w z a h e) ∙ ap (of_z w) (to_z-of_z w (shr_z (to_z w a) (2 ^ k)) shifted)

@@ -1,6 +1,6 @@
 -- The integer operations (WebAssembly Core 1.0, 4.3.2), under the standard's names, each over the width N.
 -- The operands are natural numbers below 2 ^ N, and so are the results.
-use Rattle.std.specs.Prelude.{ℕ, ◌+◌, ◌-◌, ◌*◌, ◌/◌, ◌%◌, ◌^◌, min, max, Bool, not, List, [], ◌∷◌, ◌++◌, take, drop, replicate, ℤ, pos, int_div, int_rem, int_lt, int_le, nat_lt, nat_le, ◌==◌, if◌then◌else◌, count_by, Result, Ok, Err}
+use Rattle.std.specs.Prelude.{ℕ, ◌+◌, ◌-◌, ◌*◌, ◌/◌, ◌%◌, ◌^◌, min, max, not, List, [], ◌∷◌, ◌++◌, take, drop, replicate, ℤ, pos, int_div, int_rem, int_lt, int_le, nat_lt, nat_le, ◌==◌, if◌then◌else◌, count_by, Result, Ok, Err}
 use Rattle.std.specs.List.{prefix_len, suffix_len}
 use Rattle.std.specs.Int.{from_bool}
 use Rattle.wnum.specs.declared.trap.Trap.{Trap}

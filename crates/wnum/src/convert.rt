@@ -1,5 +1,5 @@
 //! The conversions between i32 and i64 (WebAssembly Core 1.0, 4.3.4).
-#![tactic(auto, using(crate::proofs::Operations::operations))]
+#![tactic(auto, using(crate::proofs::Operations::conversions))]
 
 ghost use Rattle.std.specs.Prelude.{◌≡◌};
 ghost use Rattle.wnum.specs.Conversion.{wrap, extend_u, extend_s};

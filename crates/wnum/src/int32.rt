@@ -1,15 +1,10 @@
 //! The operations on i32 (WebAssembly Core 1.0, 4.3.2).
-#![tactic(auto, using(crate::proofs::Operations::operations))]
+#![tactic(auto, using(crate::proofs::Operations::operations_32))]
 
 ghost use Rattle.std.specs.Prelude.{◌≡◌};
 ghost use Rattle.wnum.specs.Integer.{iadd, isub, imul, idiv_u, idiv_s, irem_u, irem_s, iand, ior, ixor, ishl, ishr_u, ishr_s, irotl, irotr, iclz, ictz, ipopcnt, ieqz, ieq, ine, ilt_u, igt_u, ile_u, ige_u, ilt_s, igt_s, ile_s, ige_s};
 
 use crate::trap::Trap;
-
-// The least signed number, and -1, as bits.
-const LEAST: u32 = 0x8000_0000;
-
-const MINUS_ONE: u32 = 0xFFFF_FFFF;
 
 /// `i32.clz`: how many zero bits stand above the highest set one; 32 at 0.
 pub fn clz(value: u32) -> u32
@@ -57,23 +52,18 @@ pub fn mul(left: u32, right: u32) -> u32
 pub fn div_s(dividend: u32, divisor: u32) -> Result<u32, Trap>
     ensures { result ≡ idiv_s 32 dividend divisor }
 {
-    if divisor == 0 {
-        return Err(Trap::DivideByZero);
+    match dividend.cast_signed().checked_div(divisor.cast_signed()) {
+        Some(quotient) => Ok(quotient.cast_unsigned()),
+        None if divisor == 0 => Err(Trap::DivideByZero),
+        None => Err(Trap::IntegerOverflow),
     }
-    if dividend == LEAST && divisor == MINUS_ONE {
-        return Err(Trap::IntegerOverflow);
-    }
-    Ok((dividend.cast_signed() / divisor.cast_signed()).cast_unsigned())
 }
 
 /// `i32.div_u`, rounded down. `DivideByZero` at a divisor of 0.
 pub fn div_u(dividend: u32, divisor: u32) -> Result<u32, Trap>
     ensures { result ≡ idiv_u 32 dividend divisor }
 {
-    if divisor == 0 {
-        return Err(Trap::DivideByZero);
-    }
-    Ok(dividend / divisor)
+    dividend.checked_div(divisor).ok_or(Trap::DivideByZero)
 }
 
 /// `i32.rem_s`, with the sign of the dividend. `DivideByZero` at a divisor of 0; 0 at the least number by -1.
@@ -83,20 +73,19 @@ pub fn rem_s(dividend: u32, divisor: u32) -> Result<u32, Trap>
     if divisor == 0 {
         return Err(Trap::DivideByZero);
     }
-    if divisor == MINUS_ONE {
-        return Ok(0);
-    }
-    Ok((dividend.cast_signed() % divisor.cast_signed()).cast_unsigned())
+    Ok(
+        dividend
+            .cast_signed()
+            .wrapping_rem(divisor.cast_signed())
+            .cast_unsigned(),
+    )
 }
 
 /// `i32.rem_u`. `DivideByZero` at a divisor of 0.
 pub fn rem_u(dividend: u32, divisor: u32) -> Result<u32, Trap>
     ensures { result ≡ irem_u 32 dividend divisor }
 {
-    if divisor == 0 {
-        return Err(Trap::DivideByZero);
-    }
-    Ok(dividend % divisor)
+    dividend.checked_rem(divisor).ok_or(Trap::DivideByZero)
 }
 
 /// `i32.and`, bit by bit.

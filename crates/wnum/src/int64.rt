@@ -1,15 +1,10 @@
 //! The operations on i64 (WebAssembly Core 1.0, 4.3.2).
-#![tactic(auto, using(crate::proofs::Operations::operations))]
+#![tactic(auto, using(crate::proofs::Operations::operations_64))]
 
 ghost use Rattle.std.specs.Prelude.{◌≡◌};
 ghost use Rattle.wnum.specs.Integer.{iadd, isub, imul, idiv_u, idiv_s, irem_u, irem_s, iand, ior, ixor, ishl, ishr_u, ishr_s, irotl, irotr, iclz, ictz, ipopcnt, ieqz, ieq, ine, ilt_u, igt_u, ile_u, ige_u, ilt_s, igt_s, ile_s, ige_s};
 
 use crate::trap::Trap;
-
-// The least signed number, and -1, as bits.
-const LEAST: u64 = 0x8000_0000_0000_0000;
-
-const MINUS_ONE: u64 = 0xFFFF_FFFF_FFFF_FFFF;
 
 /// `i64.clz`: how many zero bits stand above the highest set one; 64 at 0.
 pub fn clz(value: u64) -> u64
@@ -57,23 +52,18 @@ pub fn mul(left: u64, right: u64) -> u64
 pub fn div_s(dividend: u64, divisor: u64) -> Result<u64, Trap>
     ensures { result ≡ idiv_s 64 dividend divisor }
 {
-    if divisor == 0 {
-        return Err(Trap::DivideByZero);
+    match dividend.cast_signed().checked_div(divisor.cast_signed()) {
+        Some(quotient) => Ok(quotient.cast_unsigned()),
+        None if divisor == 0 => Err(Trap::DivideByZero),
+        None => Err(Trap::IntegerOverflow),
     }
-    if dividend == LEAST && divisor == MINUS_ONE {
-        return Err(Trap::IntegerOverflow);
-    }
-    Ok((dividend.cast_signed() / divisor.cast_signed()).cast_unsigned())
 }
 
 /// `i64.div_u`, rounded down. `DivideByZero` at a divisor of 0.
 pub fn div_u(dividend: u64, divisor: u64) -> Result<u64, Trap>
     ensures { result ≡ idiv_u 64 dividend divisor }
 {
-    if divisor == 0 {
-        return Err(Trap::DivideByZero);
-    }
-    Ok(dividend / divisor)
+    dividend.checked_div(divisor).ok_or(Trap::DivideByZero)
 }
 
 /// `i64.rem_s`, with the sign of the dividend. `DivideByZero` at a divisor of 0; 0 at the least number by -1.
@@ -83,20 +73,19 @@ pub fn rem_s(dividend: u64, divisor: u64) -> Result<u64, Trap>
     if divisor == 0 {
         return Err(Trap::DivideByZero);
     }
-    if divisor == MINUS_ONE {
-        return Ok(0);
-    }
-    Ok((dividend.cast_signed() % divisor.cast_signed()).cast_unsigned())
+    Ok(
+        dividend
+            .cast_signed()
+            .wrapping_rem(divisor.cast_signed())
+            .cast_unsigned(),
+    )
 }
 
 /// `i64.rem_u`. `DivideByZero` at a divisor of 0.
 pub fn rem_u(dividend: u64, divisor: u64) -> Result<u64, Trap>
     ensures { result ≡ irem_u 64 dividend divisor }
 {
-    if divisor == 0 {
-        return Err(Trap::DivideByZero);
-    }
-    Ok(dividend % divisor)
+    dividend.checked_rem(divisor).ok_or(Trap::DivideByZero)
 }
 
 /// `i64.and`, bit by bit.

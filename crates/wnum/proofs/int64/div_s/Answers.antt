@@ -1,18 +1,13 @@
-use Rattle.std.proofs.Common.{◌≡◌, Ok, ap, sym, ◌∙◌, SFits, to_z, int_div, w64}
-use Rattle.wnum.proofs.Quotients.{idiv_s_is, idiv_s_traps, idiv_s_by_zero, division_fits, quotient_back}
-use Rattle.wnum.proofs.int64.div_s.Goals.{else-dividend-eq-LEAST-via-then-dividend-eq-LEAST+else-divisor-eq-MINUS_ONE, else-dividend-eq-LEAST-via-else-dividend-eq-LEAST}
+use Rattle.std.proofs.Common.{Ok, ap, ◌∙◌, w64}
+use Rattle.wnum.proofs.Quotients.{checked_quotient, idiv_s_some, idiv_s_none}
 use Rattle.wnum.proofs.int64.div_s.Goals as goal
 
-pub returns-then-divisor-eq0 : goal.returns-then-divisor-eq0
-returns-then-divisor-eq0 c = idiv_s_by_zero 64 c.args.dividend c.args.divisor c.if-divisor-eq0.true
+pub returns-in-Some : goal.returns-in-Some
+returns-in-Some c =
+    let told = rw c.in-Some.is at (checked_quotient w64 c.args.dividend c.args.divisor c.cast_signed.result c.cast_signed-2.result c.checked_div.result c.ranges.dividend.fits c.ranges.divisor.fits c.cast_signed.ensures c.cast_signed-2.ensures c.checked_div.ensures) in
+    ap Ok c.cast_unsigned.ensures ∙ idiv_s_some w64 c.args.dividend c.args.divisor c.in-Some.quotient c.ranges.dividend.fits c.ranges.divisor.fits told
 
-pub returns-then-divisor-eq-MINUS_ONE : goal.returns-then-divisor-eq-MINUS_ONE
-returns-then-divisor-eq-MINUS_ONE c = idiv_s_traps w64 c.args.dividend c.args.divisor c.if-dividend-eq-LEAST.true c.if-divisor-eq-MINUS_ONE.true
-
-pub returns : goal.returns
-returns c =
-    let fits : SFits w64 (int_div (to_z w64 c.args.dividend) (to_z w64 c.args.divisor)) =
-    division_fits w64 c.args.dividend c.args.divisor c.ranges.dividend.fits c.ranges.divisor.fits
-    (λ e d. elim c.else-dividend-eq-LEAST.branch [ else-dividend-eq-LEAST-via-then-dividend-eq-LEAST+else-divisor-eq-MINUS_ONE w ↦ w.if-divisor-eq-MINUS_ONE.false e | else-dividend-eq-LEAST-via-else-dividend-eq-LEAST w ↦ w.if-dividend-eq-LEAST.false d ]) in
-    let code = c.cast_unsigned.ensures ∙ quotient_back w64 c.cast_signed.result c.cast_signed-2.result c.args.dividend c.args.divisor c.ranges.dividend.fits c.ranges.divisor.fits c.cast_signed.ensures c.cast_signed-2.ensures fits in
-    ap Ok code ∙ sym (idiv_s_is w64 c.args.dividend c.args.divisor c.ranges.dividend.fits c.ranges.divisor.fits c.if-divisor-eq0.false fits)
+pub returns-in-None-2 : goal.returns-in-None-2
+returns-in-None-2 c =
+    let told = rw c.in-None-2.is at (checked_quotient w64 c.args.dividend c.args.divisor c.cast_signed.result c.cast_signed-2.result c.checked_div.result c.ranges.dividend.fits c.ranges.divisor.fits c.cast_signed.ensures c.cast_signed-2.ensures c.checked_div.ensures) in
+    idiv_s_none w64 c.args.dividend c.args.divisor c.ranges.dividend.fits c.ranges.divisor.fits c.if-divisor-eq0.false told

@@ -1,6 +1,0 @@
-use Rattle.std.proofs.Common.{sym, ◌∙◌, lit<, w64}
-use Rattle.wnum.proofs.Shifts.{irotl_is}
-use Rattle.wnum.proofs.int64.rotl.Goals as goal
-
-pub returns : goal.returns
-returns c = c.rotate_left.ensures ∙ sym (irotl_is w64 c.args.value c.args.count (lit< tt) c.ranges.value.fits)
