@@ -1,8 +1,6 @@
 -- Division and remainder of signed numbers are std's at a signed type, where the quotient fits it.
-use Rattle.std.proofs.Common.{◌≡◌, ℕ, zero, suc, ◌-◌, ◌/◌, ◌^◌, ◌<◌, ℤ, pos, negsuc, neg_ℤ, true, false, ◌==◌, int_lt, int_div, int_rem, Ok, Err, refl, sym, ap, ap₂, ◌∙◌, subst, arith, lt-ltb, ◌⊎◌, ◌≢◌, inl, inr, Option, Some, None, SomeIff, subst₂, pos_of_ne-zero}
+use Rattle.std.proofs.Common.{◌≡◌, ℕ, zero, suc, ◌-◌, ◌/◌, ◌^◌, ◌<◌, ℤ, pos, negsuc, neg_ℤ, true, false, ◌==◌, int_lt, int_div, int_rem, Ok, Err, refl, sym, ap, ap₂, ◌∙◌, arith, lt-ltb}
 use Rattle.std.proofs.lemmas.Int.{to_z-of_z, of_z-to_z}
-use Rattle.std.proofs.lemmas.Bool.{cases_eq}
-use Rattle.std.specs.Int.{CanDivide}
 use Rattle.std.proofs.lemmas.Bool.Decides.{nat_tests}
 use native.Mathlib.Nat.{div-one, div-le_self, div-lt_self}
 use lib.Signed.{mag}
@@ -13,7 +11,7 @@ use mir.Val.{bits, hbits, to_z, of_z, SFits}
 use Rattle.wnum.specs.declared.trap.Trap.TheVariants.{DivideByZero, IntegerOverflow}
 use Rattle.wnum.specs.Representation.{signed}
 use Rattle.wnum.specs.Integer.{idiv_s, irem_s, from_quotient}
-use Rattle.wnum.proofs.Signs.{signed_is, from_signed_is, hbits_is, read_back}
+use Rattle.wnum.proofs.Signs.{signed_is, from_signed_is, hbits_is}
 
 negated : (n : ℕ) → mag (neg_ℤ (pos n)) ≡ n - 1
 negated zero = refl
@@ -70,32 +68,12 @@ pub irem_s_by_zero : (N a b : ℕ) → b ≡ 0 → irem_s N a b ≡ Err DivideBy
 unfolding irem_s
 irem_s_by_zero N a b e = rw e refl
 
-idiv_s_traps : (w : Width) (a b : ℕ) → a ≡ 2 ^ hbits w → b ≡ 2 ^ bits w - 1 → idiv_s (bits w) a b ≡ Err IntegerOverflow
+pub idiv_s_traps : (w : Width) (a b : ℕ) → a ≡ 2 ^ hbits w → b ≡ 2 ^ bits w - 1 → idiv_s (bits w) a b ≡ Err IntegerOverflow
 idiv_s_traps w a b d e = ap₂ (idiv_s (bits w)) d e ∙ idiv_s_overflows w
 
--- where the quotient doesn't fit, the operands are those
-idiv_s_unfit : (w : Width) (a b : ℕ) → a < 2 ^ bits w → b < 2 ^ bits w → (SFits w (int_div (to_z w a) (to_z w b)) → ⊥) → idiv_s (bits w) a b ≡ Err IntegerOverflow
-idiv_s_unfit w a b p q h = go (cases_eq a (2 ^ hbits w)) (cases_eq b (2 ^ bits w - 1))
-  where
-    go : (a ≡ 2 ^ hbits w) ⊎ (a ≢ 2 ^ hbits w) → (b ≡ 2 ^ bits w - 1) ⊎ (b ≢ 2 ^ bits w - 1) → idiv_s (bits w) a b ≡ Err IntegerOverflow
-    go (inl d) (inl e) = idiv_s_traps w a b d e
-    go (inl d) (inr e) = absurd (h (division_fits w a b p q (λ f g. e f)))
-    go (inr d) e = absurd (h (division_fits w a b p q (λ f g. d g)))
-
--- what `checked_div` of the code's signed type tells of the quotient
-pub checked_quotient : (w : Width) (a b : ℕ) (x y : ℤ) (r : Option ℤ) → a < 2 ^ bits w → b < 2 ^ bits w → x ≡ to_z w a → y ≡ to_z w b
-    → SomeIff r (CanDivide w (to_z w (of_z w x)) (to_z w (of_z w y))) (int_div (to_z w (of_z w x)) (to_z w (of_z w y)))
-    → SomeIff r (CanDivide w (to_z w a) (to_z w b)) (int_div (to_z w a) (to_z w b))
-checked_quotient w a b x y r p q d e = subst₂ (λ (m n : ℤ). SomeIff r (CanDivide w m n) (int_div m n)) (read_back w x a p d) (read_back w y b q e)
-
-pub idiv_s_some : (w : Width) (a b : ℕ) (q : ℤ) → a < 2 ^ bits w → b < 2 ^ bits w → SomeIff (Some q) (CanDivide w (to_z w a) (to_z w b)) (int_div (to_z w a) (to_z w b))
-    → Ok (of_z w (to_z w (of_z w q))) ≡ idiv_s (bits w) a b
-idiv_s_some w a b q p s ((n, f), e) =
-    let positive : 0 < b = subst (λ (x : ℕ). 0 < x) (of_z-to_z w b s) n in
-    ap (λ (z : ℤ). Ok (of_z w (to_z w (of_z w z)))) e
-    ∙ ap (λ (z : ℤ). Ok (of_z w z)) (to_z-of_z w (int_div (to_z w a) (to_z w b)) f)
-    ∙ sym (idiv_s_is w a b p s (λ (z : b ≡ 0). omega arith) f)
-
-pub idiv_s_none : (w : Width) (a b : ℕ) → a < 2 ^ bits w → b < 2 ^ bits w → (b ≡ 0 → ⊥) → SomeIff None (CanDivide w (to_z w a) (to_z w b)) (int_div (to_z w a) (to_z w b))
-    → Err IntegerOverflow ≡ idiv_s (bits w) a b
-idiv_s_none w a b p q h n = sym (idiv_s_unfit w a b p q (λ f. n (subst (λ (x : ℕ). 0 < x) (sym (of_z-to_z w b q)) (pos_of_ne-zero h), f)))
+-- what the code computes of any other operands
+pub idiv_s_code : (w : Width) (a b : ℕ) → a < 2 ^ bits w → b < 2 ^ bits w → (b ≡ 0 → ⊥) → (b ≡ 2 ^ bits w - 1 → a ≡ 2 ^ hbits w → ⊥)
+    → idiv_s (bits w) a b ≡ Ok (of_z w (to_z w (of_z w (int_div (to_z w a) (to_z w b)))))
+idiv_s_code w a b p q h k =
+    let fits : SFits w (int_div (to_z w a) (to_z w b)) = division_fits w a b p q k in
+    idiv_s_is w a b p q h fits ∙ ap (λ (z : ℤ). Ok (of_z w z)) (sym (to_z-of_z w (int_div (to_z w a) (to_z w b)) fits))

@@ -6,6 +6,11 @@ ghost use Rattle.wnum.specs.Integer.{iadd, isub, imul, idiv_u, idiv_s, irem_u, i
 
 use crate::trap::Trap;
 
+// The least signed number, and -1, as bits.
+const LEAST: u32 = 0x8000_0000;
+
+const MINUS_ONE: u32 = 0xFFFF_FFFF;
+
 /// `i32.clz`: how many zero bits stand above the highest set one; 32 at 0.
 pub fn clz(value: u32) -> u32
     ensures { result ≡ iclz 32 value }
@@ -52,10 +57,10 @@ pub fn mul(left: u32, right: u32) -> u32
 pub fn div_s(dividend: u32, divisor: u32) -> Result<u32, Trap>
     ensures { result ≡ idiv_s 32 dividend divisor }
 {
-    match dividend.cast_signed().checked_div(divisor.cast_signed()) {
-        Some(quotient) => Ok(quotient.cast_unsigned()),
-        None if divisor == 0 => Err(Trap::DivideByZero),
-        None => Err(Trap::IntegerOverflow),
+    match (dividend, divisor) {
+        (_, 0) => Err(Trap::DivideByZero),
+        (LEAST, MINUS_ONE) => Err(Trap::IntegerOverflow),
+        _ => Ok((dividend.cast_signed() / divisor.cast_signed()).cast_unsigned()),
     }
 }
 

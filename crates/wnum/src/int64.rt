@@ -6,6 +6,11 @@ ghost use Rattle.wnum.specs.Integer.{iadd, isub, imul, idiv_u, idiv_s, irem_u, i
 
 use crate::trap::Trap;
 
+// The least signed number, and -1, as bits.
+const LEAST: u64 = 0x8000_0000_0000_0000;
+
+const MINUS_ONE: u64 = 0xFFFF_FFFF_FFFF_FFFF;
+
 /// `i64.clz`: how many zero bits stand above the highest set one; 64 at 0.
 pub fn clz(value: u64) -> u64
     ensures { result ≡ iclz 64 value }
@@ -52,10 +57,10 @@ pub fn mul(left: u64, right: u64) -> u64
 pub fn div_s(dividend: u64, divisor: u64) -> Result<u64, Trap>
     ensures { result ≡ idiv_s 64 dividend divisor }
 {
-    match dividend.cast_signed().checked_div(divisor.cast_signed()) {
-        Some(quotient) => Ok(quotient.cast_unsigned()),
-        None if divisor == 0 => Err(Trap::DivideByZero),
-        None => Err(Trap::IntegerOverflow),
+    match (dividend, divisor) {
+        (_, 0) => Err(Trap::DivideByZero),
+        (LEAST, MINUS_ONE) => Err(Trap::IntegerOverflow),
+        _ => Ok((dividend.cast_signed() / divisor.cast_signed()).cast_unsigned()),
     }
 }
 
