@@ -1,0 +1,5 @@
+pub mod Put
+pub mod RowLemmas
+pub mod TableLemmas
+pub mod SumLemmas
+pub mod TotalLemmas

@@ -1,0 +1,95 @@
+-- What a search among rows in order finds, and what an edit there does to the map that they stand for.
+use Rattle.std.proofs.Common.{◌≡◌, ℕ, ◌≤◌, ◌&&◌, Bool, true, false, not, List, [], length, get_or, set, is_some, Result, Ok, Err, IfOk, IfErr, refl, sym, ap, subst, ◌∙◌, inl, inr, arith}
+use Rattle.std.specs.declared.cmp.Ordering.TheVariants.{Equal}
+use Rattle.std.specs.declared.sync.Arc.{Arc}
+use Rattle.std.specs.declared.alloc.Global.{Global}
+use Rattle.std.specs.Ordering.{is_eq, ordering_index, ordering_reverse}
+use Rattle.std.specs.Cmp.Lexicographic.{nat_list_cmp_total}
+use Rattle.std.specs.List.{insert}
+use Rattle.std.specs.List.Sorted.{IsSearchInRange, IsBinarySearchResult, IsNonDecreasingBy}
+use Rattle.std.specs.FinMap.{from_sorted, entries, put, contains_key, len, get-from_sorted, entries-from_sorted, entries-insert, same_entries_map, len-entries, is_sorted, entries_sorted, slice_cmp-IsAntisymmetric, nat_cmp-IsAntisymmetric}
+use Rattle.std.specs.FinMap as fin
+use Rattle.std.specs.Prelude.{T}
+use Rattle.std.proofs.lemmas.List.{length-map}
+use Rattle.std.proofs.lemmas.Bool.{cases_lt}
+use Rattle.quant.specs.declared.objects.Node.{Node}
+use Rattle.book.specs.Cluster.{name_cmp, Nodes}
+use Rattle.book.specs.Rows.{Rows, named_row, named, IsInOrder, compared, IsRowOf, IsGapFor}
+use Rattle.book.specs.Tables.{Held}
+use Rattle.book.proofs.Put.{index_rises, earlier_less, put_gap, put_here, find_absent, find_here}
+
+-- names in the order of their bytes are in one order, and only equal ones tie
+
+pub same_name : (a b : List ℕ) → name_cmp a b ≡ Equal → a ≡ b
+same_name a b e = slice_cmp-IsAntisymmetric nat_cmp-IsAntisymmetric a b e
+
+pub true_of : (b : Bool) → T b → b ≡ true
+true_of true h = refl
+true_of false h = absurd h
+
+module _ (rows : Rows) (sorted : IsInOrder rows) (name : List ℕ) where
+  -- the comparisons with a name rise along the rows, as a binary search asks
+  comparisons_rise : IsNonDecreasingBy (λ row. ordering_index (compared name row)) rows
+  comparisons_rise i j d le in_range = elim (cases_lt i j) [
+    | inl lt ↦ index_rises nat_list_cmp_total _ _ name (earlier_less nat_list_cmp_total named_row rows sorted i j d lt in_range)
+    | inr ge ↦ let e : i ≡ j = omega arith in rw e (omega arith)
+  ]
+
+  -- the finite map that the rows stand for has them as its entries
+  pub entries_rows : entries (from_sorted {R = name_cmp} (named rows)) ≡ named rows
+  entries_rows = entries-from_sorted name_cmp (named rows) (subst T (sym sorted) tt)
+
+  -- and is as large
+  pub len_rows : len (from_sorted {R = name_cmp} (named rows)) ≡ length rows
+  len_rows = len-entries _ ∙ ap length entries_rows ∙ length-map rows named_row
+
+  -- it has a name where a row has it
+  pub has_row : (at : ℕ) → IsRowOf rows name at → contains_key (from_sorted {R = name_cmp} (named rows)) name ≡ true
+  has_row at is = ap is_some (get-from_sorted name_cmp (named rows) name (subst T (sym sorted) tt)) ∙ find_here nat_list_cmp_total named_row rows at name is.in_range (λ d. same_name _ _ (is.same d))
+
+  -- and not where there is a gap for it
+  pub has_no_row : (at : ℕ) → IsGapFor rows name at → contains_key (from_sorted {R = name_cmp} (named rows)) name ≡ false
+  has_no_row at gap = ap is_some (get-from_sorted name_cmp (named rows) name (subst T (sym sorted) tt)) ∙ find_absent nat_list_cmp_total named_row rows name (λ j d lt. elim (cases_lt j at) [
+    | inl low ↦ ap is_eq (nat_list_cmp_total.antisymm name (get_or rows j d).value.name ∙ ap ordering_reverse (gap.0 j d (omega arith) low))
+    | inr high ↦ ap is_eq (nat_list_cmp_total.antisymm name (get_or rows j d).value.name ∙ ap ordering_reverse (gap.1 j d high lt))
+  ])
+
+  -- a binary search by name ends at the row, or at the gap for it
+  pub searched : (r : Result ℕ ℕ) → IsSearchInRange r (length rows) → IsBinarySearchResult (compared name) rows r → record { found : IfOk r (IsRowOf rows name); absent : IfErr r (IsGapFor rows name) }
+  searched (Ok at) in_range equal = record { found = record { in_range = in_range; same = equal }; absent = tt }
+  searched (Err at) in_range parted = record { found = tt; absent = parted comparisons_rise }
+
+module _ (rows : Rows) (sorted : IsInOrder rows) where
+  -- rows that list what a put leaves are in order, and stand for the map with it
+  put_rows : (new : Rows) (k : List ℕ) (v : Node) → put name_cmp k v (named rows) ≡ named new → IsInOrder new × (from_sorted {R = name_cmp} (named new) ≡ fin.insert (from_sorted (named rows)) k v)
+  put_rows new k v e =
+      let all : entries (fin.insert (from_sorted {R = name_cmp} (named rows)) k v) ≡ named new = entries-insert nat_list_cmp_total _ k v ∙ ap (put name_cmp k v) (entries_rows rows sorted k) ∙ e in
+      let order : T (is_sorted name_cmp (named new)) = subst (λ es. T (is_sorted name_cmp es)) all (entries_sorted (fin.insert (from_sorted {R = name_cmp} (named rows)) k v)) in
+      (true_of _ order, same_entries_map _ _ (entries-from_sorted name_cmp (named new) order ∙ sym all))
+
+  -- a row in place of one of its name
+  pub set_row : (at : ℕ) (row : Arc Node Global) → IsRowOf rows row.value.name at → IsInOrder (set rows at row) × (from_sorted {R = name_cmp} (named (set rows at row)) ≡ fin.insert (from_sorted (named rows)) row.value.name row.value)
+  set_row at row is = put_rows _ _ _ (put_here nat_list_cmp_total named_row rows at row sorted is.in_range (λ d. same_name _ _ (is.same d)))
+
+  -- a row in the gap for its name
+  pub insert_row : (at : ℕ) (row : Arc Node Global) → at ≤ length rows → IsGapFor rows row.value.name at → IsInOrder (insert rows at row) × (from_sorted {R = name_cmp} (named (insert rows at row)) ≡ fin.insert (from_sorted (named rows)) row.value.name row.value)
+  insert_row at row le gap = put_rows _ _ _ (put_gap nat_list_cmp_total named_row rows at row le (λ j d low lt. gap.0 j d low lt) (λ j d low lt. gap.1 j d low lt))
+
+-- a table with other nodes
+abbrev pub with_nodes : Nodes → ℕ → Held Node
+with_nodes nodes room = record { map = nodes; room = room }
+
+-- a table after a row is put
+abbrev pub after_put : Arc Node Global → Held Node → Held Node
+after_put row t = record t { map = fin.insert t.map row.value.name row.value }
+
+-- no rows stand for the empty map
+pub no_rows : from_sorted {R = name_cmp} (named []) ≡ fin.empty
+no_rows = fin.empty_of_len _ (len-entries _ ∙ ap length (entries-from_sorted name_cmp [] tt))
+
+-- what tells whether there is room, where the name is there, and where it isn't
+pub no_gap : (has : Bool) (full : Bool) → has ≡ true → (not has && full) ≡ false
+no_gap has full e = rw e refl
+
+pub in_gap : (has : Bool) (full : Bool) (b : Bool) → has ≡ false → full ≡ b → (not has && full) ≡ b
+in_gap has full b e f = rw (e, f) refl

@@ -1,0 +1,40 @@
+-- The rows of the node table, as the code keeps them.
+use Rattle.std.specs.Prelude.{◌≡◌, ℕ, ◌<◌, List, map, length, IsTrue}
+use Rattle.std.specs.declared.cmp.Ordering.{Ordering}
+use Rattle.std.specs.declared.cmp.Ordering.TheVariants.{Less, Equal, Greater}
+use Rattle.std.specs.declared.sync.Arc.{Arc}
+use Rattle.std.specs.declared.alloc.Global.{Global}
+use Rattle.std.specs.List.{HoldsAt}
+use Rattle.std.specs.List.Sorted.{IsPartitionPoint}
+use Rattle.std.specs.FinMap.{is_sorted}
+use Rattle.quant.specs.declared.objects.Node.{Node}
+use Rattle.book.specs.Cluster.{name_cmp}
+
+-- rows that are shared
+abbrev pub Rows : Type 0
+Rows = List (Arc Node Global)
+
+-- a row with its name
+abbrev pub named_row : Arc Node Global → List ℕ × Node
+named_row row = (row.value.name, row.value)
+
+-- the rows with their names
+abbrev pub named : Rows → List (List ℕ × Node)
+named rows = map named_row rows
+
+-- the names strictly rise
+abbrev pub IsInOrder : Rows → Type 0
+IsInOrder rows = IsTrue (is_sorted name_cmp (named rows))
+
+-- how a row's name compares with a name
+abbrev pub compared : List ℕ → Arc Node Global → Ordering
+compared name row = name_cmp row.value.name name
+
+-- the row at this place has the name
+pub record IsRowOf (rows : Rows) (name : List ℕ) (at : ℕ) : Type 0 where
+  pub in_range : at < length rows
+  pub same : HoldsAt (λ row. compared name row ≡ Equal) rows at
+
+-- no row has the name, and it would go to this place
+abbrev pub IsGapFor : Rows → List ℕ → ℕ → Type 0
+IsGapFor rows name at = IsPartitionPoint (λ row. compared name row ≡ Less) (λ row. compared name row ≡ Greater) rows at

@@ -1,0 +1,34 @@
+//! The book of a cluster: its nodes, where its pods are placed, and what the pods on each node use.
+//!
+//! All room is made by `Book::new`; a step takes no memory.
+#![tactic(auto)]
+
+mod book;
+mod limits;
+mod nodes;
+mod place;
+mod places;
+mod refusal;
+mod step;
+mod table;
+mod version;
+
+pub use book::Book;
+pub use limits::{Limits, MAX_NODES, MAX_PLACED, MAX_QUEUED};
+pub use place::{Place, Status};
+pub use refusal::Refusal;
+use std::alloc::AllocError;
+pub use step::{ClusterStep, Reply};
+use thiserror::Error;
+pub use version::{Ticket, Version};
+
+/// Memory was asked for and refused.
+#[derive(Clone, Copy, Debug, PartialEq, Eq, Error)]
+#[error("no memory")]
+pub struct NoMemory;
+
+impl From<AllocError> for NoMemory {
+    fn from(_refused: AllocError) -> Self {
+        NoMemory
+    }
+}

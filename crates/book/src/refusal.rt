@@ -1,0 +1,70 @@
+//! Why a step is refused.
+ghost use Rattle.std.specs.Prelude.{◌≡◌};
+ghost use Rattle.book.specs.Refusal.{number_of, name_of};
+
+/// A refusal of a step. It changes nothing but the caller's count of calls.
+#[derive(Clone, Copy, Debug, PartialEq, Eq)]
+pub enum Refusal {
+    /// The event's version is at or below that of the last accepted event.
+    Old,
+    /// The table that the step adds to is full, or the last ticket was given.
+    Full,
+    /// The pod is in the queue, and the caller doesn't have it in flight.
+    NotInFlight,
+    /// The pod has a place.
+    Placed,
+    /// The node isn't there.
+    NoNode,
+    /// The pod doesn't fit on the node now.
+    NoRoom,
+    /// The place was assumed with another ticket, or isn't assumed.
+    StaleTicket,
+    /// The pod is neither in the queue nor placed.
+    Gone,
+    /// The moment is before the clock.
+    ClockBack,
+    /// The pod is in the queue or placed already.
+    Known,
+    /// The place is bound, or its bind has been reported done.
+    Confirmed,
+}
+
+impl Refusal {
+    /// The refusal's number, as output lines tell it.
+    pub fn number(self) -> u8
+        ensures { result ≡ number_of self }
+    {
+        match self {
+            Refusal::Old => 1,
+            Refusal::Full => 2,
+            Refusal::NotInFlight => 3,
+            Refusal::Placed => 4,
+            Refusal::NoNode => 5,
+            Refusal::NoRoom => 6,
+            Refusal::StaleTicket => 7,
+            Refusal::Gone => 8,
+            Refusal::ClockBack => 9,
+            Refusal::Known => 10,
+            Refusal::Confirmed => 11,
+        }
+    }
+
+    /// The refusal's name, as output lines tell it.
+    pub fn name(self) -> &'static str
+        ensures { result.now ≡ name_of self }
+    {
+        match self {
+            Refusal::Old => "Old",
+            Refusal::Full => "Full",
+            Refusal::NotInFlight => "NotInFlight",
+            Refusal::Placed => "Placed",
+            Refusal::NoNode => "NoNode",
+            Refusal::NoRoom => "NoRoom",
+            Refusal::StaleTicket => "StaleTicket",
+            Refusal::Gone => "Gone",
+            Refusal::ClockBack => "ClockBack",
+            Refusal::Known => "Known",
+            Refusal::Confirmed => "Confirmed",
+        }
+    }
+}

@@ -1,0 +1,9 @@
+//! The numbers that order what happens to a cluster.
+
+/// A version of the watch: the events of a cluster carry rising versions, 1 to 10^18.
+#[derive(Clone, Copy, Debug, PartialEq, Eq, PartialOrd, Ord, Hash)]
+pub struct Version(pub u64);
+
+/// A ticket of an assumed place, 1 to 10^18. No two assumed places are given the same.
+#[derive(Clone, Copy, Debug, PartialEq, Eq, PartialOrd, Ord, Hash)]
+pub struct Ticket(pub u64);
