@@ -1,10 +1,10 @@
 -- Facts about buffers of bytes that are zero from a place on, and about writes within them.
-use Rattle.std.proofs.Common.{◌≡◌, ℕ, zero, suc, ◌+◌, ◌-◌, ◌*◌, ◌/◌, ◌≤◌, ◌<◌, List, [], ◌∷◌, ◌++◌, length, take, drop, slice_range, replicate, refl, ap, sym, ◌∙◌, arith, length-append, length-drop, append_assoc, add-one, set}
-use Rattle.std.proofs.lemmas.List.{length-replicate, drop-replicate, take-replicate, replicate-append-replicate, drop-drop, drop-take, length-take-le, drop-append-le, take-append-le, take-append-drop, take_at, take-take, set_split}
+use Rattle.std.proofs.Common.{◌≡◌, ℕ, zero, suc, ◌+◌, ◌-◌, ◌*◌, ◌/◌, ◌≤◌, ◌<◌, List, [], ◌∷◌, ◌++◌, length, take, drop, slice_range, refl, ap, sym, ◌∙◌, arith, append_assoc, add-one, set}
+use Rattle.std.proofs.lemmas.List.{length-replicate, drop-replicate, take-replicate, drop-drop, drop-take, length-take-le, drop-append-le, take-append-le, take-append-drop, take_at, take-take, set_split}
 use Rattle.std.proofs.lemmas.Slice.{drop-append-drop}
 use Rattle.std.proofs.Math.Seq.{take-add}
 use Rattle.std.proofs.lemmas.Grind.{common_steps}
-use Rattle.wmem.specs.Access.{Reading, extended, value_read, overwritten}
+use Rattle.wmem.specs.Access.{Reading, extend, value_read, with_bytes}
 use Rattle.wmem.specs.Bytes.{bytes_of, number_in}
 use Rattle.wmem.specs.Memory.{zeros}
 use Rattle.wmem.specs.Inside.{IsClear}
@@ -59,37 +59,37 @@ take-clear buffer from more clear h =
     ∙ ap (λ (rest : List ℕ). take from buffer ++ rest) (ap (take more) clear.rest_is ∙ take-zeros more (length buffer - from) (omega arith))
 
 -- a write changes no length
-pub length-overwritten : (buffer : List ℕ) (at : ℕ) (new : List ℕ) → at + length new ≤ length buffer
-    → length (overwritten buffer at new) ≡ length buffer
-length-overwritten buffer at new h = grind (arith, common_steps)
+pub length-with_bytes : (buffer : List ℕ) (at : ℕ) (new : List ℕ) → at + length new ≤ length buffer
+    → length (with_bytes buffer at new) ≡ length buffer
+length-with_bytes buffer at new h = grind (arith, common_steps)
 
 -- a write leaves what is past it
-pub drop-overwritten : (buffer : List ℕ) (at : ℕ) (new : List ℕ) (place : ℕ) → at + length new ≤ place → place ≤ length buffer
-    → drop place (overwritten buffer at new) ≡ drop place buffer
-drop-overwritten buffer at new place h g =
+pub drop-with_bytes : (buffer : List ℕ) (at : ℕ) (new : List ℕ) (place : ℕ) → at + length new ≤ place → place ≤ length buffer
+    → drop place (with_bytes buffer at new) ≡ drop place buffer
+drop-with_bytes buffer at new place h g =
     let length_front : length (take at buffer ++ new) ≡ at + length new = grind (arith, common_steps) in
     drop-append-drop (at + length new) buffer (take at buffer ++ new) place h length_front
 
 -- a write in a front of a list leaves what is behind it
-pub overwritten-append : (front back : List ℕ) (at : ℕ) (new : List ℕ) → at + length new ≤ length front
-    → overwritten (front ++ back) at new ≡ overwritten front at new ++ back
-overwritten-append front back at new h =
+pub with_bytes-append : (front back : List ℕ) (at : ℕ) (new : List ℕ) → at + length new ≤ length front
+    → with_bytes (front ++ back) at new ≡ with_bytes front at new ++ back
+with_bytes-append front back at new h =
     let low : at ≤ length front = omega arith in
     rw (take-append-le at front back low, drop-append-le (at + length new) front back h)
     (sym (append_assoc (take at front ++ new) (drop (at + length new) front) back))
 
 -- a write within a front is a write in that front
-pub take-overwritten : (buffer : List ℕ) (at : ℕ) (new : List ℕ) (place : ℕ) → at + length new ≤ place → place ≤ length buffer
-    → take place (overwritten buffer at new) ≡ overwritten (take place buffer) at new
-take-overwritten buffer at new place h g =
+pub take-with_bytes : (buffer : List ℕ) (at : ℕ) (new : List ℕ) (place : ℕ) → at + length new ≤ place → place ≤ length buffer
+    → take place (with_bytes buffer at new) ≡ with_bytes (take place buffer) at new
+take-with_bytes buffer at new place h g =
     let length_front : length (take place buffer) ≡ place = length-take-le place buffer g in
     let within : at + length new ≤ length (take place buffer) = omega arith in
-    let split : overwritten buffer at new ≡ overwritten (take place buffer) at new ++ drop place buffer =
-    ap (λ (xs : List ℕ). overwritten xs at new) (sym (take-append-drop place buffer))
-    ∙ overwritten-append (take place buffer) (drop place buffer) at new within in
+    let split : with_bytes buffer at new ≡ with_bytes (take place buffer) at new ++ drop place buffer =
+    ap (λ (xs : List ℕ). with_bytes xs at new) (sym (take-append-drop place buffer))
+    ∙ with_bytes-append (take place buffer) (drop place buffer) at new within in
     ap (take place) split
-    ∙ take_at (overwritten (take place buffer) at new) (drop place buffer) place
-    (length-overwritten (take place buffer) at new within ∙ length_front)
+    ∙ take_at (with_bytes (take place buffer) at new) (drop place buffer) place
+    (length-with_bytes (take place buffer) at new within ∙ length_front)
 
 -- what is read within a front is read in the whole
 pub slice_range-take : (buffer : List ℕ) (place from to : ℕ) → from ≤ to → to ≤ place
@@ -105,10 +105,10 @@ slice_range-take buffer place from to low high =
 pub value_read-take : (reading : Reading) (buffer : List ℕ) (place address : ℕ) → address + reading.bytes ≤ place
     → value_read reading (take place buffer) address ≡ value_read reading buffer address
 value_read-take reading buffer place address within =
-    let value_of : List ℕ → ℕ = λ bytes. extended reading.signed (8 * reading.bytes) reading.bits (number_in bytes) in
+    let value_of : List ℕ → ℕ = λ bytes. extend reading.signed (8 * reading.bytes) reading.bits (number_in bytes) in
     ap value_of (slice_range-take buffer place address (address + reading.bytes) (omega arith) within)
 
 -- a byte set in a buffer is a write of one byte
-pub set-overwritten : (buffer : List ℕ) (at byte : ℕ) → at < length buffer → set buffer at byte ≡ overwritten buffer at (byte ∷ [])
-set-overwritten buffer at byte within =
+pub set-with_bytes : (buffer : List ℕ) (at byte : ℕ) → at < length buffer → set buffer at byte ≡ with_bytes buffer at (byte ∷ [])
+set-with_bytes buffer at byte within =
     set_split buffer at byte within ∙ rw add-one (sym (append_assoc (take at buffer) (byte ∷ []) (drop (suc at) buffer)))

@@ -1,14 +1,13 @@
 -- What each change of a memory's fields does to what they mean, and that it keeps them sound.
-use Rattle.std.proofs.Common.{◌≡◌, ℕ, ◌+◌, ◌-◌, ◌*◌, ◌/◌, ◌%◌, ◌≤◌, ◌<◌, List, ◌++◌, length, take, drop, refl, ap, sym, ◌∙◌, arith, length-append, length-drop, Vec, Global}
-use Rattle.std.proofs.lemmas.List.{length-take-le, take-append-le, take-append-drop, take-take, take_at, drop_at, with_items_is}
+use Rattle.std.proofs.Common.{◌≡◌, ℕ, ◌+◌, ◌-◌, ◌*◌, ◌%◌, ◌≤◌, List, ◌++◌, length, take, drop, ap, sym, ◌∙◌, arith, length-append, length-drop, Vec, Global}
+use Rattle.std.proofs.lemmas.List.{length-take-le, take-append-drop, drop_at, with_items_is}
 use Rattle.std.specs.Vec.{with_items}
-use Rattle.std.proofs.lemmas.Grind.{common_steps}
 use Rattle.wmem.specs.declared.memory.Memory.TheInside.{Inside}
 use Rattle.wmem.specs.declared.memory.TheConstants.{PAGE_SIZE, MAX_PAGES}
-use Rattle.wmem.specs.Access.{overwritten}
-use Rattle.wmem.specs.Memory.{Instance, zeros, made, pages_in, IsMemory}
+use Rattle.wmem.specs.Access.{with_bytes}
+use Rattle.wmem.specs.Memory.{MemoryInstance, zeros, new_memory}
 use Rattle.wmem.specs.Inside.{instance_of, IsClear, IsSound}
-use Rattle.wmem.proofs.Buffers.{length-zeros, drop-zeros, take-zeros, clear_zeros, clear_later, clear_same, take-clear, length-overwritten, drop-overwritten, take-overwritten}
+use Rattle.wmem.proofs.Buffers.{length-zeros, take-zeros, clear_zeros, clear_later, clear_same, take-clear, length-with_bytes, drop-with_bytes, take-with_bytes}
 
 -- as many bytes are seen as are in use
 pub length-bytes : (memory : Inside) → IsSound memory → length (take memory.len memory.bytes.items) ≡ memory.len
@@ -21,11 +20,11 @@ length-image memory sound =
 
 -- a buffer written through a slice of all of it holds what was written
 pub written_items : (buffer : Vec ℕ Global) (slice written : List ℕ) (at : ℕ) (new : List ℕ) → slice ≡ buffer.items
-    → at + length new ≤ length buffer.items → written ≡ overwritten slice at new
-    → (with_items buffer written).items ≡ overwritten buffer.items at new
+    → at + length new ≤ length buffer.items → written ≡ with_bytes slice at new
+    → (with_items buffer written).items ≡ with_bytes buffer.items at new
 written_items buffer slice written at new whole within is =
-    let there : written ≡ overwritten buffer.items at new = is ∙ ap (λ (xs : List ℕ). overwritten xs at new) whole in
-    let fits : length written ≡ buffer.len = ap length there ∙ length-overwritten buffer.items at new within ∙ sym buffer.ok.0 in
+    let there : written ≡ with_bytes buffer.items at new = is ∙ ap (λ (xs : List ℕ). with_bytes xs at new) whole in
+    let fits : length written ≡ buffer.len = ap length there ∙ length-with_bytes buffer.items at new within ∙ sym buffer.ok.0 in
     with_items_is buffer written fits ∙ there
 
 -- and so does one whose front was copied over
@@ -44,13 +43,13 @@ copied_items buffer source slice given written count whole same room enough is =
 
 -- a write within the part in use keeps the fields sound
 pub write_sound : (memory : Inside) (buffer : Vec ℕ Global) (at : ℕ) (new : List ℕ) → IsSound memory → at + length new ≤ memory.len
-    → buffer.items ≡ overwritten memory.bytes.items at new → IsSound (record memory { bytes = buffer })
+    → buffer.items ≡ with_bytes memory.bytes.items at new → IsSound (record memory { bytes = buffer })
 write_sound memory buffer at new sound within is =
     let fits : memory.len ≤ length memory.bytes.items = omega (arith, sound.room, sound.within) in
     let same_length : length buffer.items ≡ length memory.bytes.items =
-    ap length is ∙ length-overwritten memory.bytes.items at new (omega arith) in
+    ap length is ∙ length-with_bytes memory.bytes.items at new (omega arith) in
     let same_rest : drop memory.len buffer.items ≡ drop memory.len memory.bytes.items =
-    ap (drop memory.len) is ∙ drop-overwritten memory.bytes.items at new memory.len within fits in
+    ap (drop memory.len) is ∙ drop-with_bytes memory.bytes.items at new memory.len within fits in
     record {
       limited = sound.limited;
       room = same_length ∙ sound.room;
@@ -65,12 +64,12 @@ write_sound memory buffer at new sound within is =
 
 -- and is the same write in what they mean
 pub write_view : (memory : Inside) (buffer : Vec ℕ Global) (at : ℕ) (new : List ℕ) → IsSound memory → at + length new ≤ memory.len
-    → buffer.items ≡ overwritten memory.bytes.items at new
-    → instance_of (record memory { bytes = buffer }) ≡ record (instance_of memory) { bytes = overwritten (instance_of memory).bytes at new }
+    → buffer.items ≡ with_bytes memory.bytes.items at new
+    → instance_of (record memory { bytes = buffer }) ≡ record (instance_of memory) { bytes = with_bytes (instance_of memory).bytes at new }
 write_view memory buffer at new sound within is =
     let fits : memory.len ≤ length memory.bytes.items = omega (arith, sound.room, sound.within) in
-    let seen : List ℕ → Instance = λ bytes. record { bytes = bytes; cap = memory.cap; image = take memory.image_len memory.image.items } in
-    ap seen (ap (take memory.len) is ∙ take-overwritten memory.bytes.items at new memory.len within fits)
+    let seen : List ℕ → MemoryInstance = λ bytes. record { bytes = bytes; cap = memory.cap; image = take memory.image_len memory.image.items } in
+    ap seen (ap (take memory.len) is ∙ take-with_bytes memory.bytes.items at new memory.len within fits)
 
 -- more of the zeros in use: the fields are still sound
 pub grow_sound : (memory : Inside) (more : ℕ) → IsSound memory → more % PAGE_SIZE ≡ 0 → memory.len + more ≤ PAGE_SIZE * memory.cap
@@ -91,7 +90,7 @@ grow_sound memory more sound whole within = record {
 pub grow_view : (memory : Inside) (more : ℕ) → IsSound memory → memory.len + more ≤ PAGE_SIZE * memory.cap
     → instance_of (record memory { len = memory.len + more }) ≡ record (instance_of memory) { bytes = (instance_of memory).bytes ++ zeros more }
 grow_view memory more sound within =
-    let seen : List ℕ → Instance = λ bytes. record { bytes = bytes; cap = memory.cap; image = take memory.image_len memory.image.items } in
+    let seen : List ℕ → MemoryInstance = λ bytes. record { bytes = bytes; cap = memory.cap; image = take memory.image_len memory.image.items } in
     ap seen (take-clear memory.bytes.items memory.len more sound.clear (omega (arith, sound.room)))
 
 -- the bytes in use copied over the image
@@ -149,10 +148,10 @@ reset_sound memory buffer sound is =
     }
 
 -- two buffers of zeros
-pub made_sound : (memory : Inside) (pages : ℕ) → pages ≤ memory.cap → memory.cap ≤ MAX_PAGES
+pub new_sound : (memory : Inside) (pages : ℕ) → pages ≤ memory.cap → memory.cap ≤ MAX_PAGES
     → memory.bytes.items ≡ zeros (PAGE_SIZE * memory.cap) → memory.image.items ≡ zeros (PAGE_SIZE * memory.cap)
     → memory.len ≡ PAGE_SIZE * pages → memory.image_len ≡ PAGE_SIZE * pages → IsSound memory
-made_sound memory pages within limited is image_is len_is image_len_is =
+new_sound memory pages within limited is image_is len_is image_len_is =
     let room : length memory.bytes.items ≡ PAGE_SIZE * memory.cap = ap length is ∙ length-zeros (PAGE_SIZE * memory.cap) in
     let image_room : length memory.image.items ≡ PAGE_SIZE * memory.cap = ap length image_is ∙ length-zeros (PAGE_SIZE * memory.cap) in
     record {
@@ -168,16 +167,16 @@ made_sound memory pages within limited is image_is len_is image_len_is =
     }
 
 -- what two buffers of zeros mean
-pub made_view : (memory : Inside) (pages : ℕ) → pages ≤ memory.cap
+pub new_view : (memory : Inside) (pages : ℕ) → pages ≤ memory.cap
     → memory.bytes.items ≡ zeros (PAGE_SIZE * memory.cap) → memory.image.items ≡ zeros (PAGE_SIZE * memory.cap)
-    → memory.len ≡ PAGE_SIZE * pages → memory.image_len ≡ PAGE_SIZE * pages → instance_of memory ≡ made pages memory.cap
-made_view memory pages within is image_is len_is image_len_is =
+    → memory.len ≡ PAGE_SIZE * pages → memory.image_len ≡ PAGE_SIZE * pages → instance_of memory ≡ new_memory pages memory.cap
+new_view memory pages within is image_is len_is image_len_is =
     let front : take (PAGE_SIZE * pages) (zeros (PAGE_SIZE * memory.cap)) ≡ zeros (PAGE_SIZE * pages) =
     take-zeros (PAGE_SIZE * pages) (PAGE_SIZE * memory.cap) (omega arith) in
     let bytes_are : take memory.len memory.bytes.items ≡ zeros (PAGE_SIZE * pages) =
     ap (take memory.len) is ∙ ap (λ (n : ℕ). take n (zeros (PAGE_SIZE * memory.cap))) len_is ∙ front in
     let image_bytes_are : take memory.image_len memory.image.items ≡ zeros (PAGE_SIZE * pages) =
     ap (take memory.image_len) image_is ∙ ap (λ (n : ℕ). take n (zeros (PAGE_SIZE * memory.cap))) image_len_is ∙ front in
-    let with_bytes : List ℕ → Instance = λ bytes. record { bytes = bytes; cap = memory.cap; image = take memory.image_len memory.image.items } in
-    let with_image : List ℕ → Instance = λ image. record { bytes = zeros (PAGE_SIZE * pages); cap = memory.cap; image = image } in
+    let with_bytes : List ℕ → MemoryInstance = λ bytes. record { bytes = bytes; cap = memory.cap; image = take memory.image_len memory.image.items } in
+    let with_image : List ℕ → MemoryInstance = λ image. record { bytes = zeros (PAGE_SIZE * pages); cap = memory.cap; image = image } in
     ap with_bytes bytes_are ∙ ap with_image image_bytes_are

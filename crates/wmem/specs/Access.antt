@@ -30,25 +30,25 @@ reading_of I64Signed32 = record { bytes = 4; signed = true; bits = 64 }
 reading_of I64Unsigned32 = record { bytes = 4; signed = false; bits = 64 }
 
 -- how many bytes a store writes
-abbrev pub bytes_written : Width → ℕ
-bytes_written One = 1
-bytes_written Two = 2
-bytes_written Four = 4
-bytes_written Eight = 8
+abbrev pub byte_count : Width → ℕ
+byte_count One = 1
+byte_count Two = 2
+byte_count Four = 4
+byte_count Eight = 8
 
 -- a number of `from` bits as one of `to` bits, with its sign kept (4.3.2, `extend_s`)
-abbrev pub sign_extended : ℕ → ℕ → ℕ → ℕ
-sign_extended from to number = if nat_lt number (2 ^ (from - 1)) then number else (number + (2 ^ to - 2 ^ from))
+abbrev pub extend_s : ℕ → ℕ → ℕ → ℕ
+extend_s from to number = if nat_lt number (2 ^ (from - 1)) then number else (number + (2 ^ to - 2 ^ from))
 
 -- the same, or with zeros above it (4.3.2, `extend_u`)
-abbrev pub extended : Bool → ℕ → ℕ → ℕ → ℕ
-extended true from to number = sign_extended from to number
-extended false from to number = number
+abbrev pub extend : Bool → ℕ → ℕ → ℕ → ℕ
+extend true from to number = extend_s from to number
+extend false from to number = number
 
 -- what a reading gives at an address within the bytes
 abbrev pub value_read : Reading → List ℕ → ℕ → ℕ
 value_read reading bytes address =
-    extended reading.signed (8 * reading.bytes) reading.bits
+    extend reading.signed (8 * reading.bytes) reading.bits
     (number_in (slice_range bytes address (address + reading.bytes)))
 
 -- a load's outcome: the value if all its bytes lie within the memory, else the trap
@@ -59,5 +59,5 @@ LoadGives load bytes address (Err trap) =
     (length bytes < address + (reading_of load).bytes) × (trap ≡ MemoryOutOfBounds)
 
 -- a list with new bytes in place of those from an address on
-abbrev pub overwritten : List ℕ → ℕ → List ℕ → List ℕ
-overwritten bytes address new = take address bytes ++ new ++ drop (address + length new) bytes
+abbrev pub with_bytes : List ℕ → ℕ → List ℕ → List ℕ
+with_bytes bytes address new = take address bytes ++ new ++ drop (address + length new) bytes

@@ -2,10 +2,10 @@
 use Rattle.std.specs.Prelude.{◌≡◌, ℕ, ◌-◌, ◌*◌, ◌%◌, ◌≤◌, List, length, take, drop}
 use Rattle.wmem.specs.declared.memory.TheConstants.{PAGE_SIZE, MAX_PAGES}
 use Rattle.wmem.specs.declared.memory.Memory.TheInside.{Inside}
-use Rattle.wmem.specs.Memory.{Instance, zeros}
+use Rattle.wmem.specs.Memory.{MemoryInstance, zeros}
 
 -- the bytes and the image are the parts of the buffers that are in use
-abbrev pub instance_of : Inside → Instance
+abbrev pub instance_of : Inside → MemoryInstance
 instance_of memory = record {
   bytes = take memory.len memory.bytes.items;
   cap = memory.cap;

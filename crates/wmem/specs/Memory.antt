@@ -2,10 +2,10 @@
 use Rattle.std.specs.Prelude.{◌≡◌, ℕ, ◌+◌, ◌*◌, ◌/◌, ◌%◌, ◌<◌, ◌≤◌, List, ◌++◌, length, replicate, Option, Some, None, Result, Ok, Err}
 use Rattle.wmem.specs.declared.memory.TheConstants.{PAGE_SIZE, MAX_PAGES}
 use Rattle.wmem.specs.declared.trap.Trap.{Trap}
-use Rattle.wmem.specs.Access.{overwritten}
+use Rattle.wmem.specs.Access.{with_bytes}
 
 -- what a memory is: its bytes, the greatest size in pages that it may grow to, and the bytes to go back to
-pub record Instance : Type 0 where
+pub record MemoryInstance : Type 0 where
   pub bytes : List ℕ
   pub cap : ℕ
   pub image : List ℕ
@@ -19,7 +19,7 @@ abbrev pub pages_in : List ℕ → ℕ
 pages_in bytes = length bytes / PAGE_SIZE
 
 -- what is so of every memory: sizes are whole numbers of pages, and none passes the cap
-pub record IsMemory (memory : Instance) : Type 0 where
+pub record IsMemory (memory : MemoryInstance) : Type 0 where
   pub whole_pages : length memory.bytes % PAGE_SIZE ≡ 0
   pub within_cap : length memory.bytes ≤ PAGE_SIZE * memory.cap
   pub whole_image : length memory.image % PAGE_SIZE ≡ 0
@@ -27,18 +27,18 @@ pub record IsMemory (memory : Instance) : Type 0 where
   pub limited : memory.cap ≤ MAX_PAGES
 
 -- a new memory of so many pages of zeros, whose image is itself
-abbrev pub made : ℕ → ℕ → Instance
-made pages cap = record { bytes = zeros (PAGE_SIZE * pages); cap = cap; image = zeros (PAGE_SIZE * pages) }
+abbrev pub new_memory : ℕ → ℕ → MemoryInstance
+new_memory pages cap = record { bytes = zeros (PAGE_SIZE * pages); cap = cap; image = zeros (PAGE_SIZE * pages) }
 
 -- a write's outcome: all the bytes stand at the address, or, where they would pass the memory's end, nothing is written
-abbrev pub WriteGives : Trap → Instance → ℕ → List ℕ → Result (Unit {0}) Trap → Instance → Type 0
+abbrev pub WriteGives : Trap → MemoryInstance → ℕ → List ℕ → Result (Unit {0}) Trap → MemoryInstance → Type 0
 WriteGives out_of_bounds old address new_bytes (Ok done) new =
-    (address + length new_bytes ≤ length old.bytes) × (new ≡ record old { bytes = overwritten old.bytes address new_bytes })
+    (address + length new_bytes ≤ length old.bytes) × (new ≡ record old { bytes = with_bytes old.bytes address new_bytes })
 WriteGives out_of_bounds old address new_bytes (Err trap) new =
     (length old.bytes < address + length new_bytes) × (trap ≡ out_of_bounds) × (new ≡ old)
 
 -- a growth's outcome: the old size and that many more pages of zeros, or, where the cap is less, no change
-abbrev pub GrowGives : Instance → ℕ → Option ℕ → Instance → Type 0
+abbrev pub GrowGives : MemoryInstance → ℕ → Option ℕ → MemoryInstance → Type 0
 GrowGives old delta (Some pages) new =
     (pages_in old.bytes + delta ≤ old.cap) × (pages ≡ pages_in old.bytes)
     × (new ≡ record old { bytes = old.bytes ++ zeros (PAGE_SIZE * delta) })

@@ -61,12 +61,12 @@ pub enum Width {
 }
 
 impl Width {
-    ghost use Rattle.wmem.specs.Access.{bytes_written};
+    ghost use Rattle.wmem.specs.Access.{byte_count};
 
     /// The number of bytes: 1, 2, 4 or 8.
     #[inline(always)]
     pub fn bytes(self) -> usize
-        ensures { result ≡ bytes_written self }
+        ensures { result ≡ byte_count self }
     {
         match self {
             Width::One => 1,

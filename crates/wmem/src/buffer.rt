@@ -1,6 +1,6 @@
 //! Reads and writes within a slice of bytes: the places are the caller's condition.
 ghost use Rattle.std.specs.Prelude.{◌≡◌, ◌+◌, ◌*◌, ◌^◌, ◌<◌, ◌≤◌, ◌++◌, length, take, drop};
-ghost use Rattle.wmem.specs.Access.{bytes_written, overwritten, reading_of, value_read};
+ghost use Rattle.wmem.specs.Access.{byte_count, with_bytes, reading_of, value_read};
 ghost use Rattle.wmem.specs.Bytes.{bytes_of, number_in};
 
 use crate::access::{Load, Width};
@@ -54,8 +54,8 @@ fn eight_at(bytes: &[u8], at: usize) -> u64
 #[inline(always)]
 #[tactic(auto, using(std::proofs::lemmas::List::set_split))]
 pub fn write(bytes: &mut [u8], at: usize, width: Width, value: u64)
-    requires { at + bytes_written width ≤ length bytes.old }
-    ensures { bytes.new ≡ overwritten bytes.old at (bytes_of (bytes_written width) value) }
+    requires { at + byte_count width ≤ length bytes.old }
+    ensures { bytes.new ≡ with_bytes bytes.old at (bytes_of (byte_count width) value) }
 {
     match width {
         Width::One => bytes[at] = (value & 0xff) as u8,
@@ -71,7 +71,7 @@ pub fn write(bytes: &mut [u8], at: usize, width: Width, value: u64)
 /// Copies all of `new` to a place.
 pub fn copy_at(bytes: &mut [u8], at: usize, new: &[u8])
     requires { at + length new.now ≤ length bytes.old }
-    ensures { bytes.new ≡ overwritten bytes.old at new.now }
+    ensures { bytes.new ≡ with_bytes bytes.old at new.now }
 {
     bytes[at..at + new.len()].copy_from_slice(new);
 }

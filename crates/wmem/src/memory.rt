@@ -29,9 +29,9 @@ pub struct Memory {
 }
 
 impl Model for Memory {
-    ghost use Rattle.wmem.specs.Memory.{Instance};
+    ghost use Rattle.wmem.specs.Memory.{MemoryInstance};
 
-    ghost Value = { Instance };
+    ghost Value = { MemoryInstance };
 
     ghost use Rattle.wmem.specs.Inside.{instance_of, IsSound};
 
@@ -40,17 +40,25 @@ impl Model for Memory {
     ghost invariant = { IsSound };
 }
 
+// The sum has up to 33 bits.
+#[inline(always)]
+fn effective_address(base: u32, offset: u32) -> usize
+    ensures { result ≡ base + offset }
+{
+    base as usize + offset as usize
+}
+
 impl Memory {
-    ghost use Rattle.wmem.specs.Access.{LoadGives, bytes_written, reading_of};
+    ghost use Rattle.wmem.specs.Access.{LoadGives, byte_count, reading_of, value_read, with_bytes};
     ghost use Rattle.wmem.specs.Bytes.{bytes_of};
-    ghost use Rattle.wmem.specs.Memory.{made, pages_in, IsMemory, WriteGives, GrowGives};
+    ghost use Rattle.wmem.specs.Memory.{new_memory, pages_in, IsMemory, WriteGives, GrowGives};
 
     /// A memory of `min` pages of zeros, which is also its image. It takes the room for `cap` pages of each, and nothing
     /// later takes more.
     pub fn new(alloc: Global, min: u32, cap: u32) -> Result<Memory, AllocError>
         requires within { min ≤ cap }
         requires limited { cap ≤ MAX_PAGES }
-        ensures { IfOk result (λ memory. memory ≡ made min cap) }
+        ensures { IfOk result (λ memory. memory ≡ new_memory min cap) }
     {
         let room = cap as usize * PAGE_SIZE;
         let len = min as usize * PAGE_SIZE;
@@ -81,11 +89,11 @@ impl Memory {
         ensures value { LoadGives load self.now.bytes (base + offset) result }
         ensures fits { IfOk result (λ value. value < 2 ^ (reading_of load).bits) }
     {
-        let address = base as usize + offset as usize;
-        if address + load.bytes() > self.len {
+        let address = effective_address(base, offset);
+        if address + load.bytes() > self.byte_size() {
             return Err(Trap::MemoryOutOfBounds);
         }
-        Ok(buffer::read(&self.bytes, address, load))
+        Ok(self.read_at(address, load))
     }
 
     /// Stores the low bytes of `value` at the address `base + offset`, which doesn't wrap.
@@ -95,13 +103,13 @@ impl Memory {
     /// [`Trap::MemoryOutOfBounds`] where one of the bytes lies past the end: nothing is written then.
     #[inline(always)]
     pub fn store(&mut self, base: u32, offset: u32, width: Width, value: u64) -> Result<(), Trap>
-        ensures { WriteGives MemoryOutOfBounds self.old (base + offset) (bytes_of (bytes_written width) value) result self.new }
+        ensures { WriteGives MemoryOutOfBounds self.old (base + offset) (bytes_of (byte_count width) value) result self.new }
     {
-        let address = base as usize + offset as usize;
-        if address + width.bytes() > self.len {
+        let address = effective_address(base, offset);
+        if address + width.bytes() > self.byte_size() {
             return Err(Trap::MemoryOutOfBounds);
         }
-        buffer::write(&mut self.bytes, address, width, value);
+        self.write_at(address, width, value);
         Ok(())
     }
 
@@ -114,10 +122,10 @@ impl Memory {
         ensures { WriteGives HostOutOfBounds self.old at bytes.now result self.new }
     {
         let at = at as usize;
-        if at + bytes.len() > self.len {
+        if at + bytes.len() > self.byte_size() {
             return Err(Trap::HostOutOfBounds);
         }
-        buffer::copy_at(&mut self.bytes, at, bytes);
+        self.copy_at(at, bytes);
         Ok(())
     }
 
@@ -148,5 +156,36 @@ impl Memory {
     {
         buffer::copy_front(&mut self.bytes, &self.image, self.len);
         self.len = self.image_len;
+    }
+
+    #[inline(always)]
+    fn byte_size(&self) -> usize
+        ensures { result ≡ length self.now.bytes }
+    {
+        self.len
+    }
+
+    #[inline(always)]
+    fn read_at(&self, address: usize, load: Load) -> u64
+        requires { address + (reading_of load).bytes ≤ length self.now.bytes }
+        ensures value { result ≡ value_read (reading_of load) self.now.bytes address }
+        ensures fits { result < 2 ^ (reading_of load).bits }
+    {
+        buffer::read(&self.bytes, address, load)
+    }
+
+    #[inline(always)]
+    fn write_at(&mut self, address: usize, width: Width, value: u64)
+        requires { address + byte_count width ≤ length self.old.bytes }
+        ensures { self.new ≡ record self.old { bytes = with_bytes self.old.bytes address (bytes_of (byte_count width) value) } }
+    {
+        buffer::write(&mut self.bytes, address, width, value);
+    }
+
+    fn copy_at(&mut self, at: usize, bytes: &[u8])
+        requires { at + length bytes.now ≤ length self.old.bytes }
+        ensures { self.new ≡ record self.old { bytes = with_bytes self.old.bytes at bytes.now } }
+    {
+        buffer::copy_at(&mut self.bytes, at, bytes);
     }
 }

@@ -1,6 +1,4 @@
-use Rattle.std.proofs.Common.{◌≡◌, ◌+◌, ◌*◌, ◌/◌, ◌%◌, ◌≤◌, ℕ, length, arith, ap, ◌∙◌}
-use Rattle.wmem.specs.Memory.{zeros, pages_in, Instance}
-use Rattle.wmem.specs.Inside.{instance_of}
+use Rattle.std.proofs.Common.{◌≡◌, ◌*◌, ◌/◌, arith}
 use Rattle.wmem.proofs.Changes.{length-bytes, grow_sound, grow_view}
 use Rattle.wmem.proofs.memory.Memory.grow.Goals as goal
 
