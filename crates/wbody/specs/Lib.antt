@@ -1,3 +1,5 @@
 pub mod Context
 pub mod Typing
 pub mod Heights
+pub mod BodyTyped
+pub mod Walk

@@ -1,2 +1,10 @@
 //! The typing of function bodies (WebAssembly Core 1.0, 3.3 and 3.4.1).
 #![tactic(auto)]
+
+pub mod fault;
+pub mod notes;
+mod typing;
+
+pub use fault::TypeFault;
+pub use notes::{BranchNote, Notes};
+pub use typing::type_body;
