@@ -8,13 +8,13 @@ use thiserror::Error;
 #[derive(Clone, Copy, Debug, PartialEq, Eq, Error)]
 pub enum QuantFault {
     /// The bytes spell no amount.
-    #[error("BadQuantity")]
+    #[error("not an amount")]
     BadQuantity,
     /// The amount, or the whole of a pod's request, is above its limit.
-    #[error("TooLarge")]
+    #[error("an amount above its limit")]
     TooLarge,
     /// The bytes are no name, or no text where a text is asked for.
-    #[error("BadName")]
+    #[error("not a name")]
     BadName,
 }
 

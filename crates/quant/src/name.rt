@@ -1,6 +1,7 @@
 //! Names of objects and of keys, and the texts that stand beside them.
 ghost use Rattle.std.specs.Prelude.{◌≡◌, ◌≤◌, length, ◌↔◌, ◌∷◌, [], IsTrue, IsOk, IfOk, IfErr, OnErr, false, Ok, Err, if◌then◌else◌};
 ghost use Rattle.std.specs.List.{list_all};
+ghost use Rattle.std.specs.Str.{IsAscii};
 ghost use Rattle.quant.specs.Name.{is_name_byte, is_name, is_text};
 
 use crate::fault::QuantFault;
@@ -8,6 +9,7 @@ use crate::limits::MAX_NAME;
 use arrayvec::ArrayVec;
 use std::cmp::Ordering;
 use std::marker::Model;
+use std::str;
 
 /// A name of an object or of a key: 1 to 63 bytes, each an ASCII letter or digit or one of `-._/`.
 #[derive(Debug, Drop, Clone, PartialEq, Eq, PartialOrd, Ord, Hash)]
@@ -71,6 +73,14 @@ impl Name {
         }
     }
 
+    /// The bytes as text, which they always are.
+    #[tactic(auto, using(crate::proofs::NameLemmas::name_is_ascii))]
+    pub fn as_str(&self) -> &str
+        ensures { result.now ≡ self.now }
+    {
+        ascii_text(self.as_bytes())
+    }
+
     /// The bytes.
     #[tactic(auto, unfolding(crate::specs::Name::is_name, crate::specs::Name::is_text))]
     pub fn as_bytes(&self) -> &[u8]
@@ -101,6 +111,14 @@ impl Text {
         Text {
             bytes: copy_of(&self.bytes),
         }
+    }
+
+    /// The bytes as text, which they always are.
+    #[tactic(auto, using(crate::proofs::NameLemmas::text_is_ascii))]
+    pub fn as_str(&self) -> &str
+        ensures { result.now ≡ self.now }
+    {
+        ascii_text(self.as_bytes())
     }
 
     /// The bytes.
@@ -136,6 +154,14 @@ impl Default for Text {
             bytes: ArrayVec::new(),
         }
     }
+}
+
+// ASCII bytes as text.
+fn ascii_text(bytes: &[u8]) -> &str
+    requires { IsAscii bytes.now }
+    ensures { result.now ≡ bytes.now }
+{
+    str::from_utf8(bytes).unwrap()
 }
 
 // The same bytes once more.

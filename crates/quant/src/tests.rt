@@ -58,6 +58,7 @@ fn names_and_texts(rt: HostRuntime) -> Result<(), Fail> {
     assert_eq!(rt; Text::new(&too_long), Err(QuantFault::BadName));
     let key = Name::new(b"node.kubernetes.io/unschedulable")?;
     assert_eq!(rt; key.copied(), key.clone()?);
+    assert_eq!(rt; key.as_str(), "node.kubernetes.io/unschedulable");
     assert!(rt; Name::new(b"a")? < Name::new(b"a.b")?);
     Ok(())
 }
