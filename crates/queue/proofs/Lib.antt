@@ -1,0 +1,12 @@
+pub mod BackoffLemmas
+pub mod Uids
+pub mod Lookups
+pub mod Apart
+pub mod Tables
+pub mod Tallies
+pub mod Ranks
+pub mod Members
+pub mod Next
+pub mod FirstPlaces
+pub mod States
+pub mod Runs

@@ -1,0 +1,5 @@
+pub mod Entry
+pub mod Order
+pub mod Queue
+pub mod Slots
+pub mod Calls

@@ -1,0 +1,192 @@
+//! The queue: its entries, each under its pod's uid, and the calls that change them.
+ghost use Rattle.std.specs.Prelude.{◌≡◌, ◌≤◌, IfOk, is_some, option_map, option_copied};
+ghost use Rattle.std.specs.Arc.{arc_value};
+ghost use Rattle.std.specs.Result.{result_err};
+ghost use Rattle.queue.specs.Queue.{no_entries, entry_of, has_entry, is_full_queue, holds_in_flight, next_of, counts_of, refusal_to_add, refusal_to_fail, refusal_to_forget, after_add, after_pop, after_fail, after_forget, after_tick, after_move, after_remove};
+
+use crate::counts::Counts;
+use crate::refusal::Refusal;
+use crate::slot::{LATEST_MOMENT, Slot};
+use crate::slots::{count_each, move_each, next_place, place_of, tick_each};
+use crate::state::{Failure, PassNumber};
+use quant::{Moment, Name, Pod};
+use std::alloc::{AllocError, Global};
+use std::marker::Model;
+use std::sync::Arc;
+
+/// The most entries of a queue.
+pub const MAX_QUEUED: usize = 10_000;
+
+/// The scheduling queue.
+#[derive(Drop)]
+pub struct Queue {
+    slots: Vec<Slot>,
+    limit: usize,
+}
+
+impl Model for Queue {
+    ghost use Rattle.std.specs.Prelude.{ℕ, refl};
+    ghost use Rattle.std.specs.Coded.{code_by, coded×, coded_ℕ, coded_list};
+    ghost use Rattle.std.specs.FinMap as table;
+    ghost use Rattle.queue.specs.contracts.slot.Slot as slot;
+    ghost use Rattle.queue.specs.Queue.{QueueState, Entries};
+    ghost use Rattle.queue.specs.Slots.{state_of, IsKept};
+
+    ghost Value = { QueueState };
+
+    ghost coded = { code_by (ℕ × Entries) (coded× coded_ℕ (table.code (coded_list coded_ℕ) slot.the_row.coded)) (λ q. (q.limit, q.entries)) (λ p. record { limit = p.0; entries = p.1 }) (λ _. refl) };
+
+    ghost view = { λ q. state_of q.limit q.slots.items };
+
+    ghost invariant = { λ q. IsKept q.slots q.limit };
+}
+
+impl Queue {
+    /// A queue with no entry, and with room for `limit` of them.
+    pub fn new(alloc: Global, limit: usize) -> Result<Queue, AllocError>
+        requires { limit ≤ MAX_QUEUED }
+        ensures { IfOk result (λ queue. queue ≡ no_entries limit) }
+    {
+        let slots = Vec::with_capacity(alloc, limit)?;
+        Ok(Queue { slots, limit })
+    }
+
+    /// Whether there is an entry of this uid.
+    pub fn has(&self, uid: &Name) -> bool
+        ensures { result ≡ has_entry self.now uid.now }
+    {
+        place_of(&self.slots, uid).is_some()
+    }
+
+    /// Whether there is no room for one more entry.
+    pub fn is_full(&self) -> bool
+        ensures { result ≡ is_full_queue self.now }
+    {
+        self.slots.len() >= self.limit
+    }
+
+    /// The pod of this uid, if there is an entry of it.
+    pub fn pod_of(&self, uid: &Name) -> Option<&Arc<Pod>>
+        ensures { option_map arc_value (option_copied result) ≡ option_map (λ entry. entry.pod) (entry_of self.now uid.now) }
+    {
+        let place = place_of(&self.slots, uid)?;
+        Some(self.slots[place].pod())
+    }
+
+    /// Whether this pass has popped the pod of this uid and not given it back.
+    pub fn is_in_flight(&self, uid: &Name, pass: PassNumber) -> bool
+        ensures { result ≡ holds_in_flight self.now pass uid.now }
+    {
+        match place_of(&self.slots, uid) {
+            Some(place) => self.slots[place].is_in_flight_for(pass),
+            None => false,
+        }
+    }
+
+    /// How many entries stand where.
+    pub fn counts(&self) -> Counts
+        ensures { result ≡ counts_of self.now }
+    {
+        count_each(&self.slots)
+    }
+
+    /// The pod that `pop` pops next, if any is active.
+    pub fn peek(&self) -> Option<&Arc<Pod>>
+        ensures { option_map arc_value (option_copied result) ≡ option_map (λ item. item.1.pod) (next_of self.now) }
+    {
+        let place = next_place(&self.slots)?;
+        Some(self.slots[place].pod())
+    }
+
+    /// A pod comes. It is active, and came now.
+    pub fn add(&mut self, pod: Arc<Pod>, now: Moment) -> Result<(), Refusal>
+        ensures answer { result_err result ≡ refusal_to_add self.old (arc_value pod).uid }
+        ensures after { self.new ≡ after_add self.old (arc_value pod) now }
+    {
+        if self.has(&pod.uid) {
+            return Err(Refusal::Known);
+        }
+        if self.is_full() {
+            return Err(Refusal::Full);
+        }
+        match self.slots.push(Slot::new(pod, now)) {
+            Ok(()) => Ok(()),
+            Err(_) => unreachable!(),
+        }
+    }
+
+    /// A pass pops the active pod that goes first, and tells whether there was one.
+    /// `peek` shows which it is.
+    pub fn pop(&mut self, pass: PassNumber) -> bool
+        ensures answer { result ≡ is_some (next_of self.old) }
+        ensures after { self.new ≡ after_pop self.old pass }
+    {
+        match next_place(&self.slots) {
+            Some(place) => {
+                self.slots[place].pop(pass);
+                true
+            }
+            None => false,
+        }
+    }
+
+    /// A pass gives a pod back that it popped, since its attempt failed now.
+    pub fn fail(
+        &mut self,
+        uid: &Name,
+        pass: PassNumber,
+        how: Failure,
+        now: Moment,
+    ) -> Result<(), Refusal>
+        requires { now.0 ≤ LATEST_MOMENT }
+        ensures answer { result_err result ≡ refusal_to_fail self.old uid.now pass }
+        ensures after { self.new ≡ after_fail self.old uid.now pass how now }
+    {
+        match place_of(&self.slots, uid) {
+            Some(place) if self.slots[place].is_in_flight_for(pass) => {
+                self.slots[place].fail(how, now);
+                Ok(())
+            }
+            _ => Err(Refusal::NotInFlight),
+        }
+    }
+
+    /// A pod in flight comes back to back off from now on, whichever pass popped it.
+    pub fn forget_back(&mut self, uid: &Name, now: Moment) -> Result<(), Refusal>
+        requires { now.0 ≤ LATEST_MOMENT }
+        ensures answer { result_err result ≡ refusal_to_forget self.old uid.now }
+        ensures after { self.new ≡ after_forget self.old uid.now now }
+    {
+        match place_of(&self.slots, uid) {
+            Some(place) if self.slots[place].is_in_flight() => {
+                self.slots[place].send_back(now);
+                Ok(())
+            }
+            _ => Err(Refusal::NotInFlight),
+        }
+    }
+
+    /// Time goes on to this moment: what has backed off, or was unschedulable for long enough, is
+    /// active again.
+    pub fn tick(&mut self, now: Moment)
+        ensures { self.new ≡ after_tick self.old now }
+    {
+        tick_each(&mut self.slots, now);
+    }
+
+    /// Something moved that may let unschedulable pods in.
+    pub fn move_all(&mut self, now: Moment)
+        ensures { self.new ≡ after_move self.old now }
+    {
+        move_each(&mut self.slots, now);
+    }
+
+    /// The pod of this uid goes, if there is an entry of it, and is handed out.
+    pub fn remove(&mut self, uid: &Name) -> Option<Arc<Pod>>
+        ensures answer { option_map arc_value result ≡ option_map (λ entry. entry.pod) (entry_of self.old uid.now) }
+        ensures after { self.new ≡ after_remove self.old uid.now }
+    {
+        let place = place_of(&self.slots, uid)?;
+        Some(self.slots.remove(place).into_pod())
+    }
+}

@@ -1,0 +1,201 @@
+//! One entry of the queue.
+ghost use Rattle.std.specs.Prelude.{◌≡◌, ◌≤◌};
+ghost use Rattle.std.specs.Arc.{arc_value};
+ghost use Rattle.std.specs.Ordering.{nat_cmp, eq_by_cmp};
+ghost use Rattle.std.specs.Cmp.Lexicographic.{slice_cmp};
+ghost use Rattle.queue.specs.Entry.{new_entry, backoff, backed_off, is_active, is_in_flight, is_in_flight_for, popped, sent_back, failed, ticked, moved_on};
+ghost use Rattle.queue.specs.Order.{item_of, comes_before};
+
+use crate::state::{Failure, PassNumber, State};
+use quant::{Moment, Name, Pod};
+use std::marker::Model;
+use std::sync::Arc;
+
+/// The latest moment of a clock, in milliseconds.
+pub const LATEST_MOMENT: u64 = 1_000_000_000_000_000;
+
+/// How long a pod backs off after its first attempt, in milliseconds.
+const FIRST_BACKOFF: u64 = 1_000;
+
+/// The longest that a pod backs off, in milliseconds.
+const LONGEST_BACKOFF: u64 = 10_000;
+
+/// After how many doublings a pod backs off for the longest time.
+const MOST_DOUBLINGS: u32 = 4;
+
+/// How long after its failure an unschedulable pod is released, in milliseconds.
+const UNSCHEDULABLE_FOR: u64 = 300_000;
+
+/// How far attempts are counted.
+const MOST_ATTEMPTS: u32 = 1_000_000;
+
+/// A pod that waits, with what the queue knows of it.
+#[derive(Drop)]
+pub struct Slot {
+    pod: Arc<Pod>,
+    arrival: Moment,
+    attempts: u32,
+    state: State,
+}
+
+impl Model for Slot {
+    ghost use Rattle.std.specs.Arc.{arc_value};
+    ghost use Rattle.queue.specs.Entry.{Entry, IsTimely};
+
+    ghost Value = { Entry };
+
+    ghost view = { λ s. record { pod = arc_value s.pod; arrival = s.arrival; attempts = s.attempts; state = s.state } };
+
+    ghost invariant = { λ s. IsTimely s.state };
+}
+
+/// How long a pod backs off after so many attempts, in milliseconds.
+fn backoff_after(attempts: u32) -> u64
+    ensures length { result ≡ backoff attempts }
+    ensures bound { result ≤ 10000 }
+{
+    let doublings = attempts.saturating_sub(1).min(MOST_DOUBLINGS);
+    (FIRST_BACKOFF << doublings).min(LONGEST_BACKOFF)
+}
+
+/// When a pod has backed off that failed at this moment, after so many attempts.
+fn end_of_backoff(failed: Moment, attempts: u32) -> Moment
+    requires { failed.0 ≤ LATEST_MOMENT }
+    ensures { result ≡ backed_off failed attempts }
+{
+    Moment(failed.0 + backoff_after(attempts))
+}
+
+impl Slot {
+    /// A pod that comes now.
+    pub fn new(pod: Arc<Pod>, now: Moment) -> Slot
+        ensures { result ≡ new_entry (arc_value pod) now }
+    {
+        Slot {
+            pod,
+            arrival: now,
+            attempts: 0,
+            state: State::Active,
+        }
+    }
+
+    /// The pod.
+    pub fn pod(&self) -> &Arc<Pod>
+        ensures { arc_value result.now ≡ self.now.pod }
+    {
+        &self.pod
+    }
+
+    /// The pod, out of its entry.
+    pub fn into_pod(self) -> Arc<Pod>
+        ensures { arc_value result ≡ self.pod }
+    {
+        self.pod
+    }
+
+    /// Where the pod stands.
+    pub fn state(&self) -> State
+        ensures { result ≡ self.now.state }
+    {
+        self.state
+    }
+
+    /// Whether the pod waits to be popped.
+    pub fn is_active(&self) -> bool
+        ensures { result ≡ is_active self.now.state }
+    {
+        self.state.is_active()
+    }
+
+    /// Whether some pass has popped the pod.
+    pub fn is_in_flight(&self) -> bool
+        ensures { result ≡ is_in_flight self.now.state }
+    {
+        self.state.is_in_flight()
+    }
+
+    /// Whether this pass has popped the pod.
+    pub fn is_in_flight_for(&self, pass: PassNumber) -> bool
+        ensures { result ≡ is_in_flight_for pass self.now.state }
+    {
+        self.state.is_in_flight_for(pass)
+    }
+
+    /// Whether this is the pod's uid.
+    pub fn has_uid(&self, uid: &Name) -> bool
+        ensures { result ≡ eq_by_cmp (slice_cmp nat_cmp) uid.now self.now.pod.uid }
+    {
+        uid.cmp(&self.pod.uid).is_eq()
+    }
+
+    /// Whether this entry goes first of the two.
+    pub fn comes_before(&self, other: &Slot) -> bool
+        ensures { result ≡ comes_before (item_of self.now) (item_of other.now) }
+    {
+        let by_priority = other.pod.priority.cmp(&self.pod.priority);
+        let by_arrival = self.arrival.0.cmp(&other.arrival.0);
+        let by_uid = self.pod.uid.cmp(&other.pod.uid);
+        by_priority.then(by_arrival.then(by_uid)).is_lt()
+    }
+
+    /// A pass pops the pod.
+    pub fn pop(&mut self, pass: PassNumber)
+        ensures { self.new ≡ popped pass self.old }
+    {
+        self.attempts = self.attempts.saturating_add(1).min(MOST_ATTEMPTS);
+        self.state = State::InFlight { pass, moved: false };
+    }
+
+    /// The pod comes back to back off from now on.
+    pub fn send_back(&mut self, now: Moment)
+        requires { now.0 ≤ LATEST_MOMENT }
+        ensures { self.new ≡ sent_back now self.old }
+    {
+        self.state = State::Backoff(end_of_backoff(now, self.attempts));
+    }
+
+    /// The pod's attempt has failed.
+    pub fn fail(&mut self, how: Failure, now: Moment)
+        requires { now.0 ≤ LATEST_MOMENT }
+        ensures { self.new ≡ failed how now self.old }
+    {
+        let moved = matches!(self.state, State::InFlight { moved: true, .. });
+        self.state = if how == Failure::Unschedulable && !moved {
+            State::Unschedulable(now)
+        } else {
+            State::Backoff(end_of_backoff(now, self.attempts))
+        };
+    }
+
+    /// Time goes on to this moment.
+    pub fn tick(&mut self, now: Moment)
+        ensures { self.new ≡ ticked now self.old }
+    {
+        let over = match self.state {
+            State::Backoff(until) => until.0 <= now.0,
+            State::Unschedulable(since) => now.0.saturating_sub(since.0) >= UNSCHEDULABLE_FOR,
+            State::Active | State::InFlight { .. } => false,
+        };
+        if over {
+            self.state = State::Active;
+        }
+    }
+
+    /// Something moved that may let an unschedulable pod in.
+    pub fn move_on(&mut self, now: Moment)
+        ensures { self.new ≡ moved_on now self.old }
+    {
+        match self.state {
+            State::Unschedulable(since) => {
+                let over = end_of_backoff(since, self.attempts);
+                self.state = if over.0 <= now.0 {
+                    State::Active
+                } else {
+                    State::Backoff(over)
+                };
+            }
+            State::InFlight { pass, .. } => self.state = State::InFlight { pass, moved: true },
+            State::Active | State::Backoff(_) => {}
+        }
+    }
+}
