@@ -1,4 +1,4 @@
--- How much of a node would be left with a pod on it (Kubernetes, "Scheduling Policies", the score plugin
+-- How much of a node would be left with a pod on it (Kubernetes, "Scheduler Configuration", "Scheduling plugins":
 -- NodeResourcesFit with the strategy LeastAllocated).
 use Rattle.std.specs.Prelude.{ℕ, ◌+◌, ◌-◌, ◌*◌, ◌/◌, ◌||◌, ◌==◌, nat_lt, if◌then◌else◌}
 use Rattle.quant.specs.declared.amount.Res.{Res}

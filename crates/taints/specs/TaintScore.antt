@@ -1,5 +1,5 @@
--- The score by which nodes with fewer untolerated taints come first (Kubernetes, "Scheduling Policies", the score
--- plugin TaintToleration).
+-- The score by which nodes with fewer untolerated taints come first (Kubernetes, "Scheduler Configuration",
+-- "Scheduling plugins": TaintToleration).
 use Rattle.std.specs.Prelude.{ℕ, ◌-◌, ◌*◌, ◌/◌, ◌==◌, if◌then◌else◌}
 
 -- a node with `count` such taints, where the most that a node has is `most`: 100 where no node has any, and else

@@ -5,8 +5,8 @@ ghost use Rattle.taints.specs.Tolerance.{same_effect, takes_every_value, takes_e
 
 use quant::{Effect, Node, Operator, Pod, Taint, Toleration};
 
-/// The key of the taint that stands for a node's mark as unschedulable. Its value is empty and its
-/// effect is `NoSchedule`.
+/// The key of the taint that stands for a node's mark as unschedulable (the Kubernetes page "Taints
+/// and Tolerations"). Its value is empty and its effect is `NoSchedule`.
 pub const UNSCHEDULABLE: &str = "node.kubernetes.io/unschedulable";
 
 /// Why a node's marks keep off a pod.
