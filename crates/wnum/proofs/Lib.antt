@@ -6,3 +6,4 @@ pub mod Signs
 pub mod Quotients
 pub mod Arithmetic
 pub mod Operations
+pub mod Bounds

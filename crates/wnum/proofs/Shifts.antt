@@ -1,5 +1,5 @@
 -- Shifts and rotations of digits, as products and quotients by powers of two.
-use Rattle.std.proofs.Common.{◌≡◌, ℕ, zero, suc, ◌+◌, ◌-◌, ◌*◌, ◌/◌, ◌%◌, ◌^◌, ◌<◌, ◌≤◌, ◌++◌, length, take, drop, replicate, bit_or, refl, sym, ap, ◌∙◌, subst, arith, pow_pos, div-one, mul-one, mod-eq_of_lt}
+use Rattle.std.proofs.Common.{mul-le-mul_right, suc-mul, pow-add, mod-lt, ◌≡◌, ℕ, zero, suc, ◌+◌, ◌-◌, ◌*◌, ◌/◌, ◌%◌, ◌^◌, ◌<◌, ◌≤◌, ◌++◌, length, take, drop, replicate, bit_or, refl, sym, ap, ◌∙◌, subst, arith, pow_pos, div-one, mul-one, mod-eq_of_lt}
 use Rattle.std.proofs.lemmas.Nat.{mod-pow-add, shl-shr, mod_low, or_shifted}
 use native.Mathlib.Nat.{mod_self, div-eq_of_lt, mul-mod_left}
 use lib.ListN.{length-replicate}
@@ -102,3 +102,14 @@ irotr_is w a b p q =
     let back : bits w - (bits w - b % bits w) ≡ b % bits w = omega arith in
     let left : from_ibits (drop (bits w - b % bits w) (ibits (bits w) a) ++ take (bits w - b % bits w) (ibits (bits w) a)) ≡ (a * 2 ^ (bits w - b % bits w)) % 2 ^ bits w + a / 2 ^ (b % bits w) = rw back at (turned (bits w - b % bits w) (bits w) a (omega arith) q) in
     rw again (left ∙ sym (joined_right (b % bits w) (bits w) a (omega arith) q))
+
+-- a rotation has as many digits as before
+pub turned_lt : (k N a : ℕ) → k ≤ N → a < 2 ^ N → from_ibits (drop k (ibits N a) ++ take k (ibits N a)) < 2 ^ N
+turned_lt k N a h p =
+    let parts : N ≡ k + (N - k) = omega arith in
+    let halves : N ≡ (N - k) + k = omega arith in
+    let power : 2 ^ N ≡ 2 ^ (N - k) * 2 ^ k = ap (λ (x : ℕ). 2 ^ x) halves ∙ pow-add 2 (N - k) k in
+    let first : a / 2 ^ (N - k) < 2 ^ k = shr_lt k (N - k) (subst (λ (x : ℕ). a < 2 ^ x) parts p) in
+    let low : a % 2 ^ (N - k) < 2 ^ (N - k) = mod-lt a (pow_pos (N - k)) in
+    let whole : suc (a % 2 ^ (N - k)) * 2 ^ k ≤ 2 ^ (N - k) * 2 ^ k = mul-le-mul_right (2 ^ k) low in
+    rw (turned k N a h p, low_digits_up k N a h) (omega (arith, whole, power, suc-mul (a % 2 ^ (N - k)) (2 ^ k)))

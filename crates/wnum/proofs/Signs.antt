@@ -1,5 +1,5 @@
 -- The signed interpretation is std's reading of a signed type, and so are the relations, the shift and the extension that rest on it.
-use Rattle.std.proofs.Common.{◌≡◌, ℕ, suc, ◌+◌, ◌-◌, ◌*◌, ◌/◌, ◌%◌, ◌^◌, ◌<◌, ◌≤◌, ◌⊎◌, inl, inr, ℤ, pos, negsuc, ◌-ℤ◌, cond, nat_lt, refl, ap, ap₂, ◌∙◌, subst, arith, add-one, add-mul, suc-mul, pow_pos, pow-add, mod-lt}
+use Rattle.std.proofs.Common.{lt-ltb, le-ltb, ◌≡◌, ℕ, suc, ◌+◌, ◌-◌, ◌*◌, ◌/◌, ◌%◌, ◌^◌, ◌<◌, ◌≤◌, ◌⊎◌, inl, inr, ℤ, pos, negsuc, ◌-ℤ◌, cond, nat_lt, refl, ap, ap₂, ◌∙◌, subst, arith, add-one, add-mul, suc-mul, pow_pos, pow-add, mod-lt}
 use Rattle.std.proofs.lemmas.Int.{ints, to_z_pos, of_z-to_z}
 use native.Mathlib.Nat.{div-eq_of_lt}
 use lib.Pow.{shr_lt}
@@ -126,3 +126,12 @@ ishr_s_is w a b p = shifted_right (top_bit (bits w) a) (b % bits w) (bits w) a s
 -- a number of std's signed type, which went to its bits and back
 pub read_back : (w : Width) (z : ℤ) (a : ℕ) → a < 2 ^ bits w → z ≡ to_z w a → to_z w (of_z w z) ≡ to_z w a
 read_back w z a h e = ap (λ (x : ℤ). to_z w (of_z w x)) e ∙ ap (to_z w) (of_z-to_z w a h)
+
+-- `from_signed` is the inverse of `signed`
+pub from_signed-signed : (N i : ℕ) → i < 2 ^ N → from_signed N (signed N i) ≡ i
+unfolding from_signed signed
+from_signed-signed N i h = rw (upper N i h) (go (cases_lt i (2 ^ (N - 1))))
+  where
+    go : (i < 2 ^ (N - 1)) ⊎ (2 ^ (N - 1) ≤ i) → from_signed N (cond (nat_lt i (2 ^ (N - 1))) (pos i) (negsuc (2 ^ N - suc i))) ≡ i
+    go (inl l) = rw (lt-ltb i (2 ^ (N - 1)) l) refl
+    go (inr l) = rw (le-ltb i (2 ^ (N - 1)) l) (omega arith)

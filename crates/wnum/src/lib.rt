@@ -9,6 +9,7 @@
 pub mod convert;
 pub mod int32;
 pub mod int64;
+pub mod laws;
 mod trap;
 
 pub use trap::Trap;

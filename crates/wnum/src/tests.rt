@@ -6,6 +6,7 @@ use edge_values::{
     EXTEND, PARTIAL_32, PARTIAL_64, RELATION_32, RELATION_64, TOTAL_32, TOTAL_64, UNARY_32,
     UNARY_64, WRAP,
 };
+use std::test::Fail;
 
 #[test]
 fn examples(rt: HostRuntime) {
@@ -58,14 +59,16 @@ fn conversions(rt: HostRuntime) {
 }
 
 #[test]
-fn traps(rt: HostRuntime) {
+fn traps(rt: HostRuntime) -> Result<(), Fail> {
     for (trap, number, name) in [
         (Trap::DivideByZero, 2, "DivideByZero"),
         (Trap::IntegerOverflow, 3, "IntegerOverflow"),
     ] {
         assert_eq!(rt; trap.number(), number);
         assert_eq!(rt; trap.name(), name);
+        assert_eq!(rt; format!(in rt.alloc(); "{trap}")?.as_str(), name);
     }
+    Ok(())
 }
 
 #[test]

@@ -7,11 +7,11 @@ use thiserror::Error;
 #[derive(Clone, Copy, Debug, PartialEq, Eq, Hash, Error)]
 pub enum Trap {
     /// A division or a remainder by zero.
-    #[error("DivideByZero")]
+    #[error("{}", Trap::DivideByZero.name())]
     DivideByZero = 2,
 
     /// A signed quotient of 2^(N-1), the one quotient that N bits do not hold.
-    #[error("IntegerOverflow")]
+    #[error("{}", Trap::IntegerOverflow.name())]
     IntegerOverflow = 3,
 }
 
