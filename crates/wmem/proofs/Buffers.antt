@@ -1,8 +1,10 @@
 -- Facts about buffers of bytes that are zero from a place on, and about writes within them.
-use Rattle.std.proofs.Common.{◌≡◌, ℕ, zero, suc, ◌+◌, ◌-◌, ◌*◌, ◌/◌, ◌≤◌, ◌<◌, List, [], ◌∷◌, ◌++◌, length, take, drop, slice_range, refl, ap, sym, ◌∙◌, arith, append_assoc, add-one, set}
-use Rattle.std.proofs.lemmas.List.{length-replicate, drop-replicate, take-replicate, drop-drop, drop-take, length-take-le, drop-append-le, take-append-le, take-append-drop, take_at, take-take, set_split}
+use Rattle.std.proofs.Common.{◌≡◌, ℕ, zero, suc, ◌+◌, ◌-◌, ◌*◌, ◌/◌, ◌%◌, ◌^◌, ◌≤◌, ◌<◌, List, [], ◌∷◌, ◌++◌, length, take, drop, slice_range, refl, ap, sym, ◌∙◌, arith, append_assoc, add-one, set}
+use Rattle.std.proofs.lemmas.List.{length-replicate, drop-replicate, take-replicate, drop-drop, drop-take, length-take-le, drop-append-le, take-append-le, take-append-drop, take_at, drop_at, take-take, set_split}
 use Rattle.std.proofs.lemmas.Slice.{drop-append-drop}
 use Rattle.std.proofs.Math.Seq.{take-add}
+use Rattle.std.proofs.Math.Nat.{mod-one}
+use Rattle.std.proofs.lemmas.Nat.{mod-pow-add}
 use Rattle.std.proofs.lemmas.Grind.{common_steps}
 use Rattle.wmem.specs.Access.{Reading, extend, value_read, with_bytes}
 use Rattle.wmem.specs.Bytes.{bytes_of, number_in}
@@ -64,7 +66,7 @@ pub length-with_bytes : (buffer : List ℕ) (at : ℕ) (new : List ℕ) → at +
 length-with_bytes buffer at new h = grind (arith, common_steps)
 
 -- a write leaves what is past it
-pub drop-with_bytes : (buffer : List ℕ) (at : ℕ) (new : List ℕ) (place : ℕ) → at + length new ≤ place → place ≤ length buffer
+pub drop-with_bytes : (buffer : List ℕ) (at : ℕ) (new : List ℕ) (place : ℕ) → at + length new ≤ place → at + length new ≤ length buffer
     → drop place (with_bytes buffer at new) ≡ drop place buffer
 drop-with_bytes buffer at new place h g =
     let length_front : length (take at buffer ++ new) ≡ at + length new = grind (arith, common_steps) in
@@ -112,3 +114,33 @@ value_read-take reading buffer place address within =
 pub set-with_bytes : (buffer : List ℕ) (at byte : ℕ) → at < length buffer → set buffer at byte ≡ with_bytes buffer at (byte ∷ [])
 set-with_bytes buffer at byte within =
     set_split buffer at byte within ∙ rw add-one (sym (append_assoc (take at buffer) (byte ∷ []) (drop (suc at) buffer)))
+
+-- a number's bytes stand for it, as far as they go
+pub number_in-bytes_of : (count number : ℕ) → number_in (bytes_of count number) ≡ number % 2 ^ (8 * count)
+number_in-bytes_of zero number = sym (mod-one number)
+number_in-bytes_of (suc count) number =
+    let rest : number_in (bytes_of count (number / 256)) ≡ number / 256 % 2 ^ (8 * count) = number_in-bytes_of count (number / 256) in
+    let more : 8 * suc count ≡ 8 * count + 8 = omega arith in
+    let split : number % 2 ^ (8 * count + 8) ≡ (number / 256 % 2 ^ (8 * count)) * 256 + number % 256 = mod-pow-add number (8 * count) 8 in
+    rw more (omega (arith, rest, split))
+
+-- what was written is read where it was written
+pub slice_range-with_bytes : (buffer : List ℕ) (at : ℕ) (new : List ℕ) → at + length new ≤ length buffer
+    → slice_range (with_bytes buffer at new) at (at + length new) ≡ new
+slice_range-with_bytes buffer at new within =
+    let rest : List ℕ = drop (at + length new) buffer in
+    let length_front : length (take at buffer) ≡ at = length-take-le at buffer (omega arith) in
+    let there : drop at (with_bytes buffer at new) ≡ new ++ rest =
+    ap (drop at) (append_assoc (take at buffer) new rest) ∙ drop_at (take at buffer) (new ++ rest) at length_front in
+    let count : at + length new - at ≡ length new = omega arith in
+    ap (λ (n : ℕ). take n (drop at (with_bytes buffer at new))) count ∙ ap (take (length new)) there ∙ take_at new rest (length new) refl
+
+-- what lies before a write is left
+pub take-with_bytes_before : (buffer : List ℕ) (at : ℕ) (new : List ℕ) (place : ℕ) → at ≤ length buffer → place ≤ at
+    → take place (with_bytes buffer at new) ≡ take place buffer
+take-with_bytes_before buffer at new place within before =
+    let rest : List ℕ = drop (at + length new) buffer in
+    let length_front : length (take at buffer) ≡ at = length-take-le at buffer within in
+    ap (take place) (append_assoc (take at buffer) new rest)
+    ∙ take-append-le place (take at buffer) (new ++ rest) (omega arith)
+    ∙ take-take place at buffer before

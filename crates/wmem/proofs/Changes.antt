@@ -49,7 +49,7 @@ write_sound memory buffer at new sound within is =
     let same_length : length buffer.items ≡ length memory.bytes.items =
     ap length is ∙ length-with_bytes memory.bytes.items at new (omega arith) in
     let same_rest : drop memory.len buffer.items ≡ drop memory.len memory.bytes.items =
-    ap (drop memory.len) is ∙ drop-with_bytes memory.bytes.items at new memory.len within fits in
+    ap (drop memory.len) is ∙ drop-with_bytes memory.bytes.items at new memory.len within (omega arith) in
     record {
       limited = sound.limited;
       room = same_length ∙ sound.room;

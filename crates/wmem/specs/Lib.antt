@@ -3,3 +3,4 @@ pub mod Bytes
 pub mod Access
 pub mod Memory
 pub mod Inside
+pub mod Laws

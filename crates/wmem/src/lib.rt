@@ -5,10 +5,12 @@
 
 mod access;
 mod buffer;
+mod laws;
 mod memory;
 mod trap;
 
 pub use access::{Load, Width};
+pub use laws::{stores_are_loaded, writes_stay_in_place};
 pub use memory::{MAX_PAGES, Memory, PAGE_SIZE};
 pub use trap::Trap;
 
