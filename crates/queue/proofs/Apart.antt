@@ -1,10 +1,10 @@
 -- Uids stay apart through each change of a list of entries.
-use Rattle.std.proofs.Common.{◌≡◌, ℕ, zero, suc, ◌+◌, ◌<◌, Bool, true, false, cond, not, ◌&&◌, List, [], ◌∷◌, ◌++◌, length, get_or, set, map, arith, refl, sym, ap, ◌∙◌}
-use Rattle.std.specs.Prelude.{Option, Some, None, is_none, is_some, find, option_map, remove}
+use Rattle.std.proofs.Common.{◌≡◌, ℕ, zero, suc, ◌<◌, Bool, true, false, cond, List, [], ◌∷◌, ◌++◌, length, get_or, set, map, arith, refl, ap, ◌∙◌}
+use Rattle.std.specs.Prelude.{Option, Some, None, is_none, find, option_map, remove}
 use Rattle.quant.specs.declared.name.Name.{Name}
 use Rattle.queue.specs.Entry.{Entry}
 use Rattle.queue.specs.Slots.{has_uid, are_apart}
-use Rattle.queue.proofs.Uids.{same, same_laws, same_is, left_part, right_part, both_parts}
+use Rattle.queue.proofs.Uids.{same, same_laws, left_part, right_part, both_parts}
 use Rattle.queue.proofs.Lookups.{none_passes, none-push, find-set, find-remove, find-map}
 
 -- after a write of an entry of the same uid

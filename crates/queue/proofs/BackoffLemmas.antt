@@ -1,5 +1,5 @@
 -- How far the doublings of a backoff count.
-use Rattle.std.proofs.Common.{◌≡◌, ℕ, ◌<◌, ◌≤◌, ◌*◌, ◌^◌, ◌%◌, ◌-◌, min, lit<, ⊎_elim, arith, refl, sym, ap, ◌∙◌}
+use Rattle.std.proofs.Common.{◌≡◌, ℕ, ◌<◌, ◌≤◌, ◌*◌, ◌^◌, ◌%◌, min, lit<, ⊎_elim, arith, sym, ap, ◌∙◌}
 use Rattle.std.proofs.Math.Nat.{pow-le-pow_right, min-eq_left, min-eq_right, min_comm}
 use Rattle.std.proofs.lemmas.Bool.{cases_lt}
 

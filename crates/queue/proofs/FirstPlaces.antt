@@ -1,11 +1,10 @@
 -- The place of the entry that goes first, once one more entry is looked at.
-use Rattle.std.proofs.Common.{◌≡◌, ℕ, ◌+◌, ◌<◌, ◌≤◌, Bool, true, false, List, length, get_or, arith, ⊎_elim, refl, sym, ap, ◌∙◌, subst, below_more}
-use Rattle.std.specs.Prelude.{Option, Some, None}
+use Rattle.std.proofs.Common.{◌≡◌, ℕ, ◌+◌, ◌<◌, ◌≤◌, Bool, true, false, List, length, get_or, arith, ⊎_elim, refl, sym, ap, ◌∙◌}
 use Rattle.std.proofs.lemmas.List.{get_or_default}
 use Rattle.std.proofs.lemmas.Bool.{cases_lt}
 use Rattle.queue.specs.Entry.{Entry, is_active}
 use Rattle.queue.specs.Order.{item_of, comes_before}
-use Rattle.queue.specs.Slots.{IsFirstBelow, IsNextBelow}
+use Rattle.queue.specs.Slots.{IsFirstBelow}
 use Rattle.queue.proofs.Members.{differ}
 use Rattle.queue.proofs.Ranks.{not_before_itself, before_trans}
 

@@ -1,10 +1,10 @@
 -- What is found under a uid in a list of entries, after each change of the list.
-use Rattle.std.proofs.Common.{◌≡◌, ℕ, zero, suc, ◌+◌, ◌<◌, Bool, true, false, cond, not, ◌&&◌, List, [], ◌∷◌, ◌++◌, length, get_or, set, map, arith, refl, sym, ap, ◌∙◌}
+use Rattle.std.proofs.Common.{◌≡◌, ℕ, zero, suc, ◌<◌, Bool, true, false, cond, List, [], ◌∷◌, ◌++◌, length, get_or, set, map, arith, refl, sym, ap, ◌∙◌}
 use Rattle.std.specs.Prelude.{Option, Some, None, is_none, find, option_map, remove}
 use Rattle.quant.specs.declared.name.Name.{Name}
 use Rattle.queue.specs.Entry.{Entry}
 use Rattle.queue.specs.Slots.{has_uid, are_apart}
-use Rattle.queue.proofs.Uids.{same, same_laws, same_is, left_part, right_part, both_parts, shadowed, swapped}
+use Rattle.queue.proofs.Uids.{same, same_laws, same_is, left_part, right_part, shadowed, swapped}
 
 -- where nothing is found, no element passes the test
 pub none_passes : (p : Entry → Bool) (es : List Entry) (i : ℕ) (d : Entry) → is_none (find p es) ≡ true → i < length es → p (get_or es i d) ≡ false

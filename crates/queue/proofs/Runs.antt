@@ -1,6 +1,6 @@
 -- What holds through every run of calls.
-use Rattle.std.proofs.Common.{◌≡◌, ℕ, zero, suc, ◌+◌, ◌<◌, leb, Bool, true, false, cond, not, ◌&&◌, ◌⊎◌, ⊎_elim, List, [], ◌∷◌, ◌++◌, arith, refl, sym, ap, ◌∙◌, subst}
-use Rattle.std.specs.Prelude.{◌==◌, Option, Some, None, is_some, option_map, option_to_list, MatchOption, Contains, IsTrue}
+use Rattle.std.proofs.Common.{◌≡◌, ℕ, zero, suc, ◌+◌, leb, Bool, true, false, cond, not, ◌&&◌, ⊎_elim, List, [], ◌∷◌, arith, refl, sym, ap, ◌∙◌, subst}
+use Rattle.std.specs.Prelude.{◌==◌, Option, Some, None, is_some, option_map, option_to_list, MatchOption, Contains}
 use Rattle.std.specs.List.{list_all}
 use Rattle.std.specs.FinMap as table
 use Rattle.std.specs.Cmp.Lexicographic.{nat_list_cmp_total}
@@ -12,13 +12,13 @@ use Rattle.queue.specs.declared.state.PassNumber.{PassNumber}
 use Rattle.queue.specs.declared.state.State.{State}
 use Rattle.queue.specs.declared.state.State.TheVariants.{Active, Backoff, Unschedulable, InFlight}
 use Rattle.queue.specs.declared.refusal.Refusal.{Refusal}
-use Rattle.queue.specs.declared.refusal.Refusal.TheVariants.{Known, Full, NotInFlight}
-use Rattle.queue.specs.Entry.{Entry, new_entry, is_active, is_in_flight, is_in_flight_for, popped, sent_back, failed, ticked, moved_on, state_after_tick, state_after_move, state_when_woken, backed_off}
+use Rattle.queue.specs.declared.refusal.Refusal.TheVariants.{Known, NotInFlight}
+use Rattle.queue.specs.Entry.{Entry, new_entry, is_active, is_in_flight_for, popped, sent_back, failed, ticked, moved_on, state_after_tick, state_after_move}
 use Rattle.queue.specs.Order.{Item}
-use Rattle.queue.specs.Queue.{QueueState, Entries, entry_of, has_entry, is_full_queue, stands, holds_in_flight, next_of, with_entry, with_change, changed_at, with_popped, all_changed, unless_refused, refusal_to_add, refusal_to_fail, refusal_to_forget, after_remove}
+use Rattle.queue.specs.Queue.{QueueState, Entries, entry_of, has_entry, stands, holds_in_flight, next_of, with_entry, with_change, changed_at, with_popped, all_changed, unless_refused, refusal_to_add, refusal_to_fail, refusal_to_forget, after_remove}
 use Rattle.queue.specs.Calls.{Call, Add, Pop, Fail, ForgetBack, Tick, MoveAll, Remove, after, after_all, popped_by, all_popped, gives_back, takes_out, NoneActive, IsNext, PopsOnce, TicksOnce, LosesNone}
 use Rattle.queue.proofs.Uids.{same, same_laws, same_is, left_part, right_part}
-use Rattle.queue.proofs.Members.{differ, nothing}
+use Rattle.queue.proofs.Members.{differ}
 use Rattle.queue.proofs.Tables.{same_entries, get-each_changed}
 use Rattle.queue.proofs.States.{known_to_add}
 use Rattle.queue.proofs.Next.{pops_the_first}

@@ -1,8 +1,7 @@
 -- What each call does to the list of entries is what it is to do to the queue.
-use Rattle.std.proofs.Common.{◌≡◌, ℕ, suc, ◌+◌, ◌<◌, ◌≤◌, Bool, true, false, cond, not, ltb, leb, List, [], ◌∷◌, ◌++◌, length, get_or, set, take, drop, map, arith, ⊎_elim, refl, sym, ap, ◌∙◌, subst}
-use Rattle.std.specs.Prelude.{Option, Some, None, MatchOption, is_none, is_some, find, position, option_map, remove, slice_get, nat_le, nat_lt}
+use Rattle.std.proofs.Common.{◌≡◌, ℕ, suc, ◌<◌, ◌≤◌, Bool, true, false, cond, List, [], ◌∷◌, ◌++◌, length, get_or, set, take, drop, map, arith, ⊎_elim, refl, sym, ap, ◌∙◌}
+use Rattle.std.specs.Prelude.{Option, Some, None, MatchOption, is_none, is_some, find, position, remove, nat_le, nat_lt}
 use Rattle.std.specs.List.{position_or_len}
-use Rattle.std.specs.FinMap as table
 use Rattle.std.proofs.lemmas.List.Folds.{find_at}
 use Rattle.std.proofs.lemmas.List.Quantifiers.{position-Some}
 use Rattle.std.proofs.lemmas.Option.{slice_get_past}
@@ -14,16 +13,14 @@ use Rattle.quant.specs.declared.amount.Moment.{Moment}
 use Rattle.quant.specs.declared.name.Name.{Name}
 use Rattle.quant.specs.declared.objects.Pod.{Pod}
 use Rattle.queue.specs.declared.state.PassNumber.{PassNumber}
-use Rattle.queue.specs.declared.state.Failure.{Failure}
 use Rattle.queue.specs.declared.refusal.Refusal.{Refusal}
 use Rattle.queue.specs.declared.refusal.Refusal.TheVariants.{Known, Full, NotInFlight}
-use Rattle.queue.specs.Entry.{Entry, new_entry, is_active, is_backoff, is_unschedulable, is_in_flight, is_in_flight_for, popped, sent_back, failed, ticked, moved_on}
+use Rattle.queue.specs.Entry.{Entry, new_entry, is_active, is_backoff, is_unschedulable, is_in_flight, popped}
 use Rattle.queue.specs.Order.{Item, item_of, comes_before}
-use Rattle.queue.specs.Queue.{Entries, QueueState, entry_of, has_entry, is_full_queue, stands, has_in_flight, holds_in_flight, next_of, counts_in, counts_of, with_entry, with_change, changed_at, with_popped, all_changed, unless_refused, refusal_to_add, refusal_to_fail, refusal_to_forget, after_add, after_pop, after_fail, after_forget, after_tick, after_move, after_remove}
-use Rattle.queue.specs.Slots.{has_uid, by_uid, state_of, are_apart, IsFirstBelow, IsNextBelow}
-use Rattle.queue.specs.Calls.{IsNext, NoneActive}
+use Rattle.queue.specs.Queue.{Entries, QueueState, entry_of, has_entry, is_full_queue, stands, next_of, counts_in, counts_of, with_entry, with_change, changed_at, with_popped, all_changed, unless_refused, refusal_to_add, after_add, after_pop, after_remove}
+use Rattle.queue.specs.Slots.{has_uid, state_of, are_apart, IsFirstBelow, IsNextBelow}
 use Rattle.queue.proofs.Uids.{same, same_laws, same_is}
-use Rattle.queue.proofs.Members.{differ, nothing, same_some}
+use Rattle.queue.proofs.Members.{nothing, same_some}
 use Rattle.queue.proofs.Lookups.{find_at_place}
 use Rattle.queue.proofs.Apart.{apart-push, apart-map}
 use Rattle.queue.proofs.Tables.{get-by_uid, by_uid-set, by_uid-remove, by_uid-push, by_uid-map, remove_absent, len-by_uid}

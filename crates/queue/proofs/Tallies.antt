@@ -1,6 +1,6 @@
 -- How many entries pass a test, in a list and in what it stands for.
-use Rattle.std.proofs.Common.{◌≡◌, ℕ, zero, suc, ◌+◌, Bool, true, false, cond, List, [], ◌∷◌, map, length, arith, refl, sym, ap, ◌∙◌}
-use Rattle.std.specs.Prelude.{Option, Some, None, is_none, is_some, find, count_by}
+use Rattle.std.proofs.Common.{◌≡◌, ℕ, ◌+◌, Bool, true, cond, List, [], ◌∷◌, map, length, arith, refl, sym, ap, ◌∙◌}
+use Rattle.std.specs.Prelude.{Some, is_none, count_by}
 use Rattle.std.specs.FinMap as table
 use Rattle.std.proofs.lemmas.List.Sums.{sum_by-cons}
 use Rattle.std.specs.FinMap.Entries.{by_order}
@@ -11,7 +11,7 @@ use Rattle.std.specs.Cmp.Lexicographic.{slice_cmp, nat_list_cmp_total}
 use Rattle.quant.specs.declared.name.Name.{Name}
 use Rattle.queue.specs.Entry.{Entry}
 use Rattle.queue.specs.Order.{Item}
-use Rattle.queue.specs.Slots.{by_uid, are_apart, has_uid}
+use Rattle.queue.specs.Slots.{by_uid, are_apart}
 use Rattle.queue.proofs.Uids.{left_part, right_part}
 use Rattle.queue.proofs.Tables.{get-by_uid}
 

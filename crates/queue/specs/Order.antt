@@ -1,5 +1,5 @@
 -- Which of the pods that wait is popped first.
-use Rattle.std.specs.Prelude.{ℕ, Bool, not, ◌&&◌, List, Option, find}
+use Rattle.std.specs.Prelude.{Bool, not, ◌&&◌, List, Option, find}
 use Rattle.std.specs.List.{list_all}
 use Rattle.std.specs.Ordering.{nat_cmp, int_cmp, is_lt, ordering_then}
 use Rattle.std.specs.declared.cmp.Ordering.{Ordering}

@@ -1,5 +1,5 @@
 //! The queue: its entries, each under its pod's uid, and the calls that change them.
-ghost use Rattle.std.specs.Prelude.{◌≡◌, ◌≤◌, IfOk, is_some, option_map, option_copied};
+ghost use Rattle.std.specs.Prelude.{◌≡◌, ◌≤◌, IfOk, option_map, option_copied};
 ghost use Rattle.std.specs.Arc.{arc_value};
 ghost use Rattle.std.specs.Result.{result_err};
 ghost use Rattle.queue.specs.Queue.{no_entries, entry_of, has_entry, is_full_queue, holds_in_flight, next_of, counts_of, refusal_to_add, refusal_to_fail, refusal_to_forget, after_add, after_pop, after_fail, after_forget, after_tick, after_move, after_remove};
@@ -94,8 +94,8 @@ impl Queue {
     pub fn peek(&self) -> Option<&Arc<Pod>>
         ensures { option_map arc_value (option_copied result) ≡ option_map (λ item. item.1.pod) (next_of self.now) }
     {
-        let place = next_place(&self.slots)?;
-        Some(self.slots[place].pod())
+        let first = next_place(&self.slots)?;
+        Some(self.slots[first].pod())
     }
 
     /// A pod comes. It is active, and came now.
@@ -115,19 +115,16 @@ impl Queue {
         }
     }
 
-    /// A pass pops the active pod that goes first, and tells whether there was one.
-    /// `peek` shows which it is.
-    pub fn pop(&mut self, pass: PassNumber) -> bool
-        ensures answer { result ≡ is_some (next_of self.old) }
+    /// A pass pops the active pod that goes first, if any is active, and is told its uid.
+    /// `peek` lends the pod beforehand.
+    pub fn pop(&mut self, pass: PassNumber) -> Option<Name>
+        ensures answer { result ≡ option_map (λ item. item.0) (next_of self.old) }
         ensures after { self.new ≡ after_pop self.old pass }
     {
-        match next_place(&self.slots) {
-            Some(place) => {
-                self.slots[place].pop(pass);
-                true
-            }
-            None => false,
-        }
+        let place = next_place(&self.slots)?;
+        let uid = self.slots[place].uid().copied();
+        self.slots[place].pop(pass);
+        Some(uid)
     }
 
     /// A pass gives a pod back that it popped, since its attempt failed now.

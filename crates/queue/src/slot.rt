@@ -86,6 +86,13 @@ impl Slot {
         &self.pod
     }
 
+    /// The pod's uid.
+    pub fn uid(&self) -> &Name
+        ensures { result.now ≡ self.now.pod.uid }
+    {
+        &self.pod.uid
+    }
+
     /// The pod, out of its entry.
     pub fn into_pod(self) -> Arc<Pod>
         ensures { arc_value result ≡ self.pod }

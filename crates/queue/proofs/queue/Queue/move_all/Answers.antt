@@ -1,4 +1,4 @@
-use Rattle.std.proofs.Common.{map, length, refl, sym, ap, ◌∙◌}
+use Rattle.std.proofs.Common.{map, length, refl, ap, ◌∙◌}
 use Rattle.std.proofs.lemmas.List.{length-map}
 use Rattle.queue.specs.Entry.{moved_on}
 use Rattle.queue.specs.Queue.{after_move}
