@@ -1,9 +1,10 @@
 //! How amounts are spelled, after the Kubernetes page "Quantity": decimal digits, with a
 //! fraction or a suffix behind them.
-ghost use Rattle.std.specs.Prelude.{◌≡◌, ℕ, ◌↔◌, ◌+◌, ◌*◌, ◌^◌, ◌<◌, ◌≤◌, nat_le, if◌then◌else◌, length, take_while, IfOk, IfErr, MatchResult, IsTrue, Ok, Err, Some, None, Option, option_map};
+ghost use Rattle.std.specs.Prelude.{◌≡◌, ℕ, ◌↔◌, ◌^◌, ◌<◌, ◌≤◌, length, if◌then◌else◌, IfOk, IsTrue, Ok, Err, Some};
 ghost use Rattle.std.specs.List.{list_all, prefix_len};
 ghost use Rattle.quant.specs.Grammar.{SpellsCpu, SpellsBytes};
-ghost use Rattle.quant.specs.Amount.{is_digit, is_digits, number, leading_digits, after_digits, thousandths, cpu_with, cpu_spelled, unit_of, bytes_spelled, cpu_read, bytes_read};
+ghost use Rattle.quant.specs.Amount.{is_digit, is_digits, number, leading_digits, after_digits, thousandths};
+ghost use Rattle.quant.specs.Amount.{cpu_spelled, cpu_read, unit_of, bytes_spelled, bytes_read};
 
 use crate::amount::{Bytes, Cpu};
 use crate::fault::QuantFault;
@@ -83,7 +84,8 @@ fn unit(suffix: &[u8]) -> Option<u64>
 fn read_fraction(text: &[u8]) -> Result<u64, QuantFault>
     ensures value { IfOk result (λ n. n ≡ thousandths text.now) }
     ensures bounded { IfOk result (λ n. n < 1000) }
-    ensures digits { result ≡ (if is_digits 3 text.now then Ok (thousandths text.now) else Err QuantFault.BadQuantity) }
+    ensures digits { result ≡
+        (if is_digits 3 text.now then Ok (thousandths text.now) else Err QuantFault.BadQuantity) }
 {
     if !are_digits(text) {
         return Err(QuantFault::BadQuantity);
@@ -130,7 +132,8 @@ fn is_digit(byte: u8) -> bool
 fn read_number(digits: &[u8], most: usize) -> Result<u64, QuantFault>
     requires digits { IsTrue (list_all is_digit digits.now) }
     requires few { most ≤ 15 }
-    ensures value { result ≡ (if is_digits most digits.now then Ok (number digits.now) else Err QuantFault.BadQuantity) }
+    ensures value { result ≡
+        (if is_digits most digits.now then Ok (number digits.now) else Err QuantFault.BadQuantity) }
     ensures bounded { IfOk result (λ n. n < 10 ^ length digits.now) }
     ensures most { IfOk result (λ n. n < 10 ^ 15) }
 {
