@@ -1,6 +1,6 @@
 // Prints the table of crates/wmem/src/tests/accesses.rt: what an independent engine (node's WebAssembly) stores and loads.
 //
-//     node bench/wmem/accesses.mjs > crates/wmem/src/tests/accesses.rt
+//     node bench/wmem/accesses.mjs > crates/wmem/src/tests/accesses.rt, and then rt fmt in crates/wmem
 //
 // Each row stores one value with one width at address 8 of a memory filled with 0x55, and then loads from address 8
 // with each load instruction.
