@@ -1,5 +1,5 @@
 -- The grammar, and reading as a function.
-use Rattle.std.proofs.Common.{◌≡◌, ℕ, suc, ◌+◌, ◌-◌, ◌*◌, ◌^◌, ◌<◌, ◌≤◌, ◌⊎◌, inl, inr, min, List, [], ◌∷◌, get_or, ℤ, pos, negsuc, Ok, Err, Result, refl, ap, sym, ◌∙◌, arith}
+use Rattle.std.proofs.Common.{◌≡◌, ℕ, suc, ◌+◌, ◌-◌, ◌*◌, ◌^◌, ◌<◌, ◌≤◌, ◌⊎◌, inl, inr, min, List, [], ◌∷◌, get_or, length, ℤ, pos, negsuc, Ok, Err, Result, refl, ap, sym, ◌∙◌, arith}
 use Rattle.std.proofs.Math.IntN.{◌+ℤ◌, ◌*ℤ◌, ◌-ℤ◌}
 use Rattle.std.proofs.Math.Pow.{pow_mono}
 use Rattle.std.proofs.Math.Nat.{min-eq_left, min-eq_right, min-le_left, min-le_right}
@@ -118,3 +118,10 @@ spelled s bits (b ∷ bytes) v rest fits e = elim (cases_lt b 128) [
 -- bytes begin with one number at most, which ends at one place
 pub one_spelling : (s : Sign) (bits : ℕ) (bytes : List ℕ) (v w : ℤ) (rest more : List ℕ) → Spells s bits bytes v rest → Spells s bits bytes w more → (v ≡ w) × (rest ≡ more)
 one_spelling s bits bytes v w rest more h k = ok_parts _ (reads s bits bytes v rest h) (reads s bits bytes w more k)
+
+-- a number has a byte at least
+pub spelling_shorter : (s : Sign) (bits : ℕ) (bytes : List ℕ) (v : ℤ) (rest : List ℕ) → Spells s bits bytes v rest → length rest < length bytes
+unfolding Spells
+spelling_shorter s bits [] v rest h = absurd h
+spelling_shorter s bits (b ∷ bytes) v rest (inl h) = let e : length bytes ≡ length rest = ap length h.1 in omega arith
+spelling_shorter s bits (b ∷ bytes) v rest (inr h) = omega (arith, spelling_shorter s (bits - 7) bytes h.3 rest h.5)

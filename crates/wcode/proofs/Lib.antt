@@ -1,2 +1,8 @@
 pub mod Table
 pub mod Words
+pub mod Unique
+pub mod Items
+pub mod Bodies
+pub mod Shorter
+pub mod Lists
+pub mod Readers

@@ -109,11 +109,6 @@ unfolding Reads
 word_found bytes at (Ok x) h k = (k.1, k.2, word_of bytes at k.1 (drop x.1 bytes) h k.3)
 word_found bytes at (Err e) h k = tt
 
-pub word_end : (bytes : List ℕ) (f : Form) (at : ℕ) (r : Result (Op × ℕ) OpFault) → Reads bytes f at r → IfOk r (λ x. x.1 ≤ length bytes)
-unfolding Reads
-word_end bytes f at (Ok x) k = k.0
-word_end bytes f at (Err e) k = tt
-
 pub word_none : (bytes : List ℕ) (at : ℕ) (r : Result (Op × ℕ) OpFault) → at < length bytes → Reads bytes (form (get_or bytes at 0)) (at + 1) r
     → OnErr r ((w : Word) (rest : List ℕ) → SpellsWord (drop at bytes) w rest → ⊥)
 unfolding Reads
@@ -121,8 +116,8 @@ word_none bytes at (Ok x) h k = tt
 word_none bytes at (Err e) h k = λ w rest s. k w rest (form_of_word bytes at w rest h s)
 
 -- a call through the table: an index, and the byte 0
-pub call_indirect_reads : (bytes : List ℕ) (at zero n : ℕ) (r : Result (Op × ℕ) OpFault) → SpellsIndex (drop at bytes) n (drop zero bytes)
-    → Reads bytes (forms.ZeroByte (plains.CallIndirect n)) zero r → Reads bytes forms.CallIndirect at r
+pub call_indirect_reads : (bytes : List ℕ) (at start n : ℕ) (r : Result (Op × ℕ) OpFault) → SpellsIndex (drop at bytes) n (drop start bytes)
+    → Reads bytes (forms.ZeroByte (plains.CallIndirect n)) start r → Reads bytes forms.CallIndirect at r
 unfolding Reads
 call_indirect_reads bytes at start n (Ok x) h k =
     (k.0, k.1, k.2, (n, k.3.0, subst (λ l. SpellsIndex (drop at bytes) n l) k.3.1 h))

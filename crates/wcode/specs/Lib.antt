@@ -3,3 +3,4 @@ pub mod Syntax
 pub mod Opcodes
 pub mod Grammar
 pub mod Shown
+pub mod Ended

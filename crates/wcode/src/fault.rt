@@ -109,3 +109,12 @@ impl BinFault {
         }
     }
 }
+
+impl From<OpFault> for BinFault {
+    fn from(fault: OpFault) -> BinFault {
+        match fault {
+            OpFault::Malformed { kind, place } => BinFault::Malformed { kind, place },
+            OpFault::Float => BinFault::Float,
+        }
+    }
+}

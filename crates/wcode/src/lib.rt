@@ -2,6 +2,7 @@
 //! (WebAssembly Core 1.0, 2.4 and 5.4).
 #![tactic(auto)]
 
+pub mod expression;
 pub mod fault;
 pub mod instruction;
 pub mod opcode;

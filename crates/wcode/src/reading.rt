@@ -18,7 +18,7 @@ use leb::{LebFault, read_i32, read_i64, read_u32};
 pub fn read_op(bytes: &[u8], at: usize) -> Result<(Op, usize), OpFault>
     requires { at ≤ length bytes.now }
     ensures found { IfOk result (λ x. (w : Word) × Shows bytes.now x.0 w × SpellsWord (drop at bytes.now) w (drop x.1 bytes.now)) }
-    ensures end { IfOk result (λ x. x.1 ≤ length bytes.now) }
+    ensures end { IfOk result (λ x. (at < x.1) × (x.1 ≤ length bytes.now)) }
     ensures none { OnErr result ((w : Word) (rest : List ℕ) → SpellsWord (drop at bytes.now) w rest → ⊥) }
 {
     if at == bytes.len() {
@@ -230,3 +230,9 @@ fn bad_number(bytes: &[u8], at: usize, fault: LebFault) -> OpFault {
 fn malformed(kind: Kind, place: usize) -> OpFault {
     OpFault::Malformed { kind, place }
 }
+
+/// Bytes begin with one instruction at most, which ends at one place.
+pub fn one_word()
+    ensures { (bytes : List ℕ) (v w : Word) (rest more : List ℕ) →
+        SpellsWord bytes v rest → SpellsWord bytes w more → (v ≡ w) × (rest ≡ more) }
+{}

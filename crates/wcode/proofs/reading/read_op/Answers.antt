@@ -1,6 +1,7 @@
 use Rattle.std.proofs.Common.{arith, ◌<◌, ◌+◌, ◌≤◌, length, subst}
 use Rattle.wcode.specs.Shown.{Reads}
-use Rattle.wcode.proofs.Words.{word_found, word_end, word_none, no_word}
+use Rattle.wcode.proofs.Words.{word_found, word_none, no_word}
+use Rattle.wcode.proofs.Shorter.{word_end}
 use Rattle.wcode.proofs.reading.read_op.Goals as goal
 
 pub returns-then-at-bytes-clause-none : goal.returns-then-at-bytes-clause-none
@@ -13,7 +14,9 @@ returns-clause-found c =
     (subst (λ f. Reads c.args.bytes.now f (c.args.at + 1) c.read_form.result) c.form_of.ensures c.read_form.ensures)
 
 pub returns-clause-end : goal.returns-clause-end
-returns-clause-end c = word_end c.args.bytes.now c.form_of.result (c.args.at + 1) c.read_form.result c.read_form.ensures
+returns-clause-end c =
+    word_end c.args.bytes.now c.args.at c.read_form.result (omega arith)
+    (subst (λ f. Reads c.args.bytes.now f (c.args.at + 1) c.read_form.result) c.form_of.ensures c.read_form.ensures)
 
 pub returns-clause-none : goal.returns-clause-none
 returns-clause-none c =

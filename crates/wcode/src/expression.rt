@@ -1,0 +1,265 @@
+// A list of instructions from bytes, up to its `end`.
+
+ghost use Rattle.std.specs.Prelude.{◌≡◌, ◌≢◌, ℕ, ◌+◌, ◌-◌, ◌<◌, ◌≤◌, List, [], ◌∷◌, ◌++◌, length, drop, IsTrue, IfOk, IfErr};
+ghost use Rattle.wcode.specs.declared.fault.BinFault.TheVariants.{NoMemory};
+ghost use Rattle.wcode.specs.Syntax.{Body, plain, block, loop, if_else, br_table, with_instr, body_of};
+ghost use Rattle.wcode.specs.Grammar.{SpellsIndex, SpellsIndices, SpellsBody, SpellsExpr, end};
+ghost use Rattle.wcode.specs.Ended.{closing, SpellsArms, GivesBody, GivesItem};
+
+use crate::fault::{BinFault, Kind};
+use crate::instruction::{Instr, Op, Plain};
+use crate::reading::{read_label, read_op};
+use crate::value::BlockType;
+use std::alloc::{AllocError, Global};
+
+/// How deep blocks nest at most in an expression, which isn't counted itself.
+pub const NESTING: u32 = 256;
+
+/// Reads instructions from `at` on, with the bodies in them, up to the `end` that closes them. Gives them, and the
+/// place after that `end`.
+#[tactic(auto, unfolding(crate::specs::Ended::GivesBody))]
+pub fn read_expr(alloc: Global, bytes: &[u8], at: usize) -> Result<(Vec<Instr>, usize), BinFault>
+    requires { at ≤ length bytes.now }
+    ensures found { IfOk result (λ x. SpellsExpr (drop at bytes.now) (body_of x.0.items) (drop x.1 bytes.now)) }
+    ensures end { IfOk result (λ x. x.1 ≤ length bytes.now) }
+    ensures none { IfErr result (λ e. e ≢ NoMemory → (body : Body) (rest : List ℕ) → SpellsExpr (drop at bytes.now) body rest → ⊥) }
+{
+    match read_body(alloc, bytes, at, NESTING) {
+        Ok(ended) => {
+            if ended.by_else {
+                Err(bad_opcode(ended.last))
+            } else {
+                Ok((ended.body, ended.next))
+            }
+        }
+        Err(fault) => Err(fault),
+    }
+}
+
+/// Bytes begin with one expression at most, which ends at one place.
+pub fn one_expression()
+    ensures { (bytes : List ℕ) (body other : Body) (rest more : List ℕ) →
+        SpellsExpr bytes body rest → SpellsExpr bytes other more → (body ≡ other) × (rest ≡ more) }
+{}
+
+// Instructions up to the `else` or `end` at `last`.
+#[derive(Drop)]
+pub struct Ended {
+    pub body: Vec<Instr>,
+    pub by_else: bool,
+    pub last: usize,
+    pub next: usize,
+}
+
+// One instruction of a body, or what ends it, and the place after it.
+#[derive(Drop)]
+pub enum Item {
+    One(Instr, usize),
+    Ends(bool, usize),
+}
+
+// Instructions from `at` on, in which blocks nest as deep as there is room.
+#[cycle(body)]
+#[tactic(auto, unfolding(crate::specs::Ended::GivesBody, crate::specs::Ended::GivesItem))]
+fn read_body(alloc: Global, bytes: &[u8], at: usize, room: u32) -> Result<Ended, BinFault>
+    requires { at ≤ length bytes.now }
+    ensures { GivesBody bytes.now room at result }
+{
+    let mut body = Vec::new(alloc);
+    let mut place = at;
+    'items: loop {
+        match read_item(alloc, bytes, place, room) {
+            Ok(Item::One(instr, next)) => {
+                if !add(&mut body, instr) {
+                    return Err(BinFault::NoMemory);
+                }
+                place = next;
+            }
+            Ok(Item::Ends(by_else, next)) => {
+                return Ok(Ended {
+                    body,
+                    by_else,
+                    last: place,
+                    next,
+                });
+            }
+            Err(fault) => return Err(fault),
+        }
+    }
+}
+
+// The instruction at `at`, with the bodies in it, or the word that ends a body.
+#[cycle(body)]
+#[tactic(auto, unfolding(crate::specs::Ended::GivesItem))]
+fn read_item(alloc: Global, bytes: &[u8], at: usize, room: u32) -> Result<Item, BinFault>
+    requires { at ≤ length bytes.now }
+    ensures { GivesItem bytes.now room at result }
+{
+    match read_op(bytes, at) {
+        Ok((Op::Plain(p), next)) => Ok(Item::One(plain_of(p), next)),
+        Ok((Op::Else, next)) => Ok(Item::Ends(true, next)),
+        Ok((Op::End, next)) => Ok(Item::Ends(false, next)),
+        Ok((Op::Block(t), next)) => match read_nested(alloc, bytes, at, next, room) {
+            Ok((inner, end)) => Ok(Item::One(block_of(t, inner), end)),
+            Err(fault) => Err(fault),
+        },
+        Ok((Op::Loop(t), next)) => match read_nested(alloc, bytes, at, next, room) {
+            Ok((inner, end)) => Ok(Item::One(loop_of(t, inner), end)),
+            Err(fault) => Err(fault),
+        },
+        Ok((Op::If(t), next)) => match read_arms(alloc, bytes, at, next, room) {
+            Ok((yes_arm, no_arm, end)) => Ok(Item::One(if_of(t, yes_arm, no_arm), end)),
+            Err(fault) => Err(fault),
+        },
+        Ok((Op::BrTable { count, labels_at }, next)) => {
+            match read_labels(alloc, bytes, labels_at, count) {
+                Ok((labels, default)) => Ok(Item::One(table_of(labels, default), next)),
+                Err(_) => Err(BinFault::NoMemory),
+            }
+        }
+        Err(fault) => Err(BinFault::from(fault)),
+    }
+}
+
+// The body inside the block or loop at `at`, from `next` on, and the place after it.
+#[cycle(body)]
+#[tactic(auto, unfolding(crate::specs::Ended::GivesBody))]
+fn read_nested(
+    alloc: Global,
+    bytes: &[u8],
+    at: usize,
+    next: usize,
+    room: u32,
+) -> Result<(Vec<Instr>, usize), BinFault>
+    requires { next ≤ length bytes.now }
+    ensures found { IfOk result (λ x. (0 < room) × SpellsBody (room - 1) end (drop next bytes.now) (body_of x.0.items) (drop x.1 bytes.now)) }
+    ensures end { IfOk result (λ x. x.1 ≤ length bytes.now) }
+    ensures none { IfErr result (λ e. e ≢ NoMemory → 0 < room → (body : Body) (rest : List ℕ) → SpellsBody (room - 1) end (drop next bytes.now) body rest → ⊥) }
+{
+    if room == 0 {
+        return Err(too_deep(at));
+    }
+    match read_body(alloc, bytes, next, room - 1) {
+        Ok(ended) => {
+            if ended.by_else {
+                Err(bad_opcode(ended.last))
+            } else {
+                Ok((ended.body, ended.next))
+            }
+        }
+        Err(fault) => Err(fault),
+    }
+}
+
+// The bodies of the `if` at `at`, from `next` on, and the place after them.
+#[cycle(body)]
+#[tactic(auto, unfolding(crate::specs::Ended::GivesBody))]
+fn read_arms(
+    alloc: Global,
+    bytes: &[u8],
+    at: usize,
+    next: usize,
+    room: u32,
+) -> Result<(Vec<Instr>, Vec<Instr>, usize), BinFault>
+    requires { next ≤ length bytes.now }
+    ensures found { IfOk result (λ x. (0 < room) × SpellsArms (room - 1) (drop next bytes.now) (body_of x.0.items) (body_of x.1.items) (drop x.2 bytes.now)) }
+    ensures end { IfOk result (λ x. x.2 ≤ length bytes.now) }
+    ensures none { IfErr result (λ e. e ≢ NoMemory → 0 < room → (a b : Body) (rest : List ℕ) → SpellsArms (room - 1) (drop next bytes.now) a b rest → ⊥) }
+{
+    if room == 0 {
+        return Err(too_deep(at));
+    }
+    match read_body(alloc, bytes, next, room - 1) {
+        Ok(first) => {
+            if !first.by_else {
+                return Ok((first.body, Vec::new(alloc), first.next));
+            }
+            match read_nested(alloc, bytes, at, first.next, room) {
+                Ok((second, end)) => Ok((first.body, second, end)),
+                Err(fault) => Err(fault),
+            }
+        }
+        Err(fault) => Err(fault),
+    }
+}
+
+// So many labels that stand at `at`, and the default label behind them.
+fn read_labels(
+    alloc: Global,
+    bytes: &[u8],
+    at: usize,
+    count: u32,
+) -> Result<(Vec<u32>, u32), AllocError>
+    requires place { at ≤ length bytes.now }
+    requires stands { (labels : List ℕ) × (default : ℕ) × (last rest : List ℕ) × (count ≡ length labels)
+        × SpellsIndices (drop at bytes.now) labels last × SpellsIndex last default rest }
+    ensures { IfOk result (λ x. (last rest : List ℕ) × (count ≡ length x.0.items)
+        × SpellsIndices (drop at bytes.now) x.0.items last × SpellsIndex last x.1 rest) }
+{
+    let mut labels = Vec::new(alloc);
+    let mut place = at;
+    for _i in 0..count {
+        let (label, next) = read_label(bytes, place);
+        labels.push(label)?;
+        place = next;
+    }
+    let (default, _) = read_label(bytes, place);
+    Ok((labels, default))
+}
+
+// One instruction more; false where there is no memory for it.
+fn add(body: &mut Vec<Instr>, instr: Instr) -> bool
+    ensures { IsTrue result → body.new.items ≡ body.old.items ++ instr ∷ [] }
+{
+    body.push(instr).is_ok()
+}
+
+fn plain_of(p: Plain) -> Instr
+    ensures { (next : Body) → plain p next ≡ with_instr result next }
+{
+    Instr::Plain(p)
+}
+
+fn block_of(t: BlockType, inner: Vec<Instr>) -> Instr
+    ensures { (next : Body) → block t (body_of inner.items) next ≡ with_instr result next }
+{
+    Instr::Block(t, inner)
+}
+
+fn loop_of(t: BlockType, inner: Vec<Instr>) -> Instr
+    ensures { (next : Body) → loop t (body_of inner.items) next ≡ with_instr result next }
+{
+    Instr::Loop(t, inner)
+}
+
+fn if_of(t: BlockType, yes_arm: Vec<Instr>, no_arm: Vec<Instr>) -> Instr
+    ensures { (next : Body) → if_else t (body_of yes_arm.items) (body_of no_arm.items) next ≡ with_instr result next }
+{
+    Instr::If(t, yes_arm, no_arm)
+}
+
+fn table_of(labels: Vec<u32>, default: u32) -> Instr
+    ensures { (next : Body) → br_table labels.items default next ≡ with_instr result next }
+{
+    Instr::BrTable(labels, default)
+}
+
+#[cold]
+fn bad_opcode(place: usize) -> BinFault
+    ensures { result ≢ NoMemory }
+{
+    BinFault::Malformed {
+        kind: Kind::BadOpcode,
+        place,
+    }
+}
+
+#[cold]
+fn too_deep(place: usize) -> BinFault
+    ensures { result ≢ NoMemory }
+{
+    BinFault::Malformed {
+        kind: Kind::TooDeep,
+        place,
+    }
+}
