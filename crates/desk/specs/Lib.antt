@@ -1,0 +1,5 @@
+pub mod Caller
+pub mod Shown
+pub mod Machine
+pub mod History
+pub mod Codes

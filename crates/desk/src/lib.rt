@@ -1,0 +1,13 @@
+//! The desk: every step of the scheduler goes through it, in one history that all callers share.
+#![tactic(auto)]
+
+mod desk;
+mod pass;
+mod snapshot;
+mod step;
+
+pub use book::{Limits, NoMemory, Refusal, Ticket, Version};
+pub use desk::{Desk, history_tells_the_state};
+pub use pass::{MAX_CALLS, MAX_PASSES, NoPlace, Pass};
+pub use snapshot::{Row, Snapshot};
+pub use step::{Counts, Reply, Step};

@@ -1,0 +1,60 @@
+//! Leave to use a desk.
+ghost use Rattle.std.specs.Prelude.{◌≡◌, ◌<◌, ◌+◌};
+
+use std::marker::Model;
+use thiserror::Error;
+
+/// How many passes a desk hands out.
+pub const MAX_PASSES: usize = 1;
+
+/// How many calls of one pass are answered.
+pub const MAX_CALLS: u64 = 1_000_000_000_000_000_000;
+
+/// All passes were handed out.
+#[derive(Clone, Copy, Debug, PartialEq, Eq, Error)]
+#[error("no place")]
+pub struct NoPlace;
+
+/// A caller's leave to use a desk: its number among the desk's passes, and how many of its calls were answered.
+#[derive(Debug, Drop)]
+pub struct Pass {
+    number: usize,
+    calls: u64,
+}
+
+impl Model for Pass {
+    ghost use Rattle.desk.specs.Caller.{Caller};
+
+    ghost Value = { Caller };
+
+    ghost view = { λ p. record { number = p.number; calls = p.calls } };
+}
+
+impl Pass {
+    pub(crate) fn new(number: usize) -> Self
+        ensures { result ≡ record { number = number; calls = 0 } }
+    {
+        Pass { number, calls: 0 }
+    }
+
+    /// The pass's number among those of its desk, from 0.
+    pub fn number(&self) -> usize
+        ensures { result ≡ self.now.number }
+    {
+        self.number
+    }
+
+    /// How many of its calls were answered.
+    pub fn calls(&self) -> u64
+        ensures { result ≡ self.now.calls }
+    {
+        self.calls
+    }
+
+    pub(crate) fn count(&mut self)
+        requires { self.old.calls < MAX_CALLS }
+        ensures { self.new ≡ record self.old { calls = self.old.calls + 1 } }
+    {
+        self.calls += 1;
+    }
+}
