@@ -1,12 +1,20 @@
--- What is called of a module, and the law that it never gets stuck.
-use Rattle.std.specs.Prelude.{◌≡◌, ℕ, Option, Some, option_map}
-use Rattle.wbin.specs.Syntax.{ModuleSyntax}
+-- What is called of a module, the law that it never gets stuck, and what a machine is seen as.
+use Rattle.std.specs.Prelude.{◌≡◌, ◌≢◌, ℕ, ◌*◌, List, [], ◌∷◌, Option, Some, None, option_map, map, replicate}
+use Rattle.wcode.specs.declared.value.ValueType.{ValueType}
+use Rattle.wcode.specs.declared.value.Value.{Value}
+use Rattle.wcode.specs.declared.instruction.Plain.TheVariants.{Const}
+use Rattle.wcode.specs.Syntax.{Body, done, plain}
+use Rattle.wbin.specs.declared.module.Limits.{Limits}
+use Rattle.wbin.specs.declared.module.Module.{Module}
+use Rattle.wbin.specs.Syntax.{GlobalSyntax, ModuleSyntax, module_of}
 use Rattle.wtype.specs.Accepted.{Accepted, export_named, filter_name, score_name}
 use Rattle.wmach.specs.declared.export.Export.{Export}
 use Rattle.wmach.specs.declared.export.Export.TheVariants.{Filter, Score, Start}
+use Rattle.wmach.specs.declared.outcome.Outcome.{Outcome}
 use Rattle.wmach.specs.Configuration.{Store, Setting, Configuration}
-use Rattle.wmach.specs.Fits.{StoreFits}
-use Rattle.wmach.specs.Outcome.{Chain, Stuck, call_of}
+use Rattle.wmach.specs.Operands.{value_of}
+use Rattle.wmach.specs.Fits.{StoreFits, page_size}
+use Rattle.wmach.specs.Outcome.{Chain, Stuck, call_of, HasOutcome}
 
 -- the function that is called, by its index, if it is there
 abbrev pub called_function : ModuleSyntax → Export → Option ℕ
@@ -22,3 +30,43 @@ NeverStuck =
     Accepted (setting.module_syntax) → StoreFits (setting.module_syntax) store →
     called_function (setting.module_syntax) export ≡ Some function →
     (n cost : ℕ) (c : Configuration) → Chain setting n (call_of store function) cost c → ¬ (Stuck setting c)
+
+-- no records are given to a start function
+abbrev pub records_for : Export → (ℕ → Option (List ℕ)) → ℕ → Option (List ℕ)
+records_for Filter records = records
+records_for Score records = records
+records_for Start records = λ import. None
+
+-- what a machine is seen as: its module, and its store
+pub record MachineState : Type 0 where
+  pub content : Module
+  pub store : Store
+
+-- a call of a machine, and the machine after it: the module stays, and the outcome and the store are the call's
+pub record Calls (before : MachineState) (export : Export) (records : ℕ → Option (List ℕ)) (fuel : ℕ) (outcome : Outcome) (after : MachineState) : Type 0 where
+  pub content : after.content ≡ before.content
+  pub function : ℕ
+  pub function_is : called_function (module_of before.content) export ≡ Some function
+  pub ends : HasOutcome (record { module_syntax = module_of before.content; records = records_for export records }) before.store function fuel outcome after.store
+
+-- the value of a constant expression, and else zero
+abbrev pub constant_of : Body → ValueType → Value
+constant_of (plain (Const v) done) t = v
+constant_of _ t = value_of t 0
+
+-- bytes of a memory of so many pages at first, if there is one
+abbrev pub first_memory : List Limits → List ℕ
+first_memory [] = []
+first_memory (l ∷ ls) = replicate (l.least * page_size) 0
+
+abbrev pub first_table : List Limits → List (Option ℕ)
+first_table [] = []
+first_table (l ∷ ls) = replicate l.least None
+
+-- The store of a module at first: a memory of zeros, the globals at their constants, an empty table (4.5.3).
+abbrev pub first_store : ModuleSyntax → Store
+first_store m = record {
+  memory = first_memory m.memories;
+  globals = map (λ (g : GlobalSyntax). constant_of g.first g.kind.value) m.globals;
+  table = first_table m.tables;
+}

@@ -3,6 +3,7 @@
 use Rattle.std.specs.Prelude.{◌≡◌, ◌≢◌, ℕ, ◌+◌, ◌<◌, ◌≤◌, List, [], ◌∷◌, ◌⊎◌, Option, Some, None, IfSome, IsSome, length, slice_get, if◌then◌else◌, codes}
 use Rattle.std.specs.List.{AllByRecursion}
 use Rattle.std.specs.Str.{bytes_eq}
+use Rattle.wcode.specs.declared.value.ValueType.{ValueType}
 use Rattle.wcode.specs.declared.value.ValueType.TheVariants.{I32, I64}
 use Rattle.wbin.specs.declared.module.ExportKind.{ExportKind}
 use Rattle.wbin.specs.declared.module.ExportKind.TheVariants as exported
@@ -27,6 +28,15 @@ pub record FunctionAccepted (m : ModuleSyntax) (f : FunctionSyntax) : Type 0 whe
   pub body : Typed (body_context m type f.locals) f.body [] (at_most_one type.result)
   pub small : slots_of m type f ≤ most_slots
 
+-- The function at this place has a type, and no more parameters, locals and operands than there may be, where its
+-- body has so many operands at most.
+pub record FunctionFits (m : ModuleSyntax) (place greatest : ℕ) : Type 0 where
+  pub function : FunctionSyntax
+  pub function_is : slice_get m.functions place ≡ Some function
+  pub type : Signature
+  pub type_is : slice_get m.types (function.signature) ≡ Some type
+  pub small : length type.parameters + length function.locals + greatest ≤ most_slots
+
 -- the export names something that is there (3.4.8)
 abbrev pub NamesSomething : ModuleSyntax → ExportKind → ℕ → Type 0
 NamesSomething m exported.Function index = index < length (function_types m)
@@ -46,12 +56,16 @@ filter_name = codes "filter"
 abbrev pub score_name : List ℕ
 score_name = codes "score"
 
+-- without parameters, and with this result
+abbrev pub gives : ValueType → Signature
+gives t = record { parameters = []; result = Some t }
+
 -- the types of the exports that are called: a filter gives an i32, a score an i64
 abbrev pub filter_type : Signature
-filter_type = record { parameters = []; result = Some I32 }
+filter_type = gives I32
 
 abbrev pub score_type : Signature
-score_type = record { parameters = []; result = Some I64 }
+score_type = gives I64
 
 -- an export that is a function of this type
 abbrev pub IsFunctionOf : ModuleSyntax → Signature → ExportSyntax → Type 0
@@ -62,18 +76,30 @@ abbrev pub export_named : List ℕ → List ExportSyntax → Option ExportSyntax
 export_named name [] = None
 export_named name (e ∷ es) = if bytes_eq e.name name then Some e else export_named name es
 
--- An accepted module. Imports, tables, memories, globals, a start function and segments have no rules yet.
-pub record Accepted (m : ModuleSyntax) : Type 0 where
-  pub no_imports : m.imports ≡ []
+-- The exports that are called: one of that name is a function of its type, and one of the two is there.
+pub record ExportsRight (m : ModuleSyntax) : Type 0 where
+  pub filter : IfSome (export_named filter_name m.exports) (IsFunctionOf m filter_type)
+  pub score : IfSome (export_named score_name m.exports) (IsFunctionOf m score_type)
+  pub called : IsSome (export_named filter_name m.exports) ⊎ IsSome (export_named score_name m.exports)
+
+-- Every export names something, and no two have one name (3.4.10).
+pub record ExportsNamed (m : ModuleSyntax) : Type 0 where
+  pub named : AllByRecursion (λ e. NamesSomething m e.kind e.index) m.exports
+  pub distinct : DistinctNames m.exports
+
+-- none of the parts that have no rules yet
+pub record HasNoMore (m : ModuleSyntax) : Type 0 where
   pub no_tables : m.tables ≡ []
   pub no_memories : m.memories ≡ []
   pub no_globals : m.globals ≡ []
   pub no_start : m.start ≡ None
   pub no_elements : m.element_segments ≡ []
   pub no_data : m.data_segments ≡ []
+
+-- An accepted module. Imports have no rules yet either.
+pub record Accepted (m : ModuleSyntax) : Type 0 where
+  pub no_imports : m.imports ≡ []
+  pub no_more : HasNoMore m
   pub functions : AllByRecursion (FunctionAccepted m) m.functions
-  pub exports : AllByRecursion (λ e. NamesSomething m e.kind e.index) m.exports
-  pub distinct : DistinctNames m.exports
-  pub filter : IfSome (export_named filter_name m.exports) (IsFunctionOf m filter_type)
-  pub score : IfSome (export_named score_name m.exports) (IsFunctionOf m score_type)
-  pub called : IsSome (export_named filter_name m.exports) ⊎ IsSome (export_named score_name m.exports)
+  pub named : ExportsNamed m
+  pub right : ExportsRight m

@@ -1,2 +1,9 @@
 //! What makes a module acceptable (WebAssembly Core 1.0, 3.4).
 #![tactic(auto)]
+
+pub mod checked;
+mod exports;
+mod functions;
+
+pub use checked::{Checked, validate};
+pub use wbody::TypeFault;

@@ -1,0 +1,94 @@
+// The exports of a module.
+
+ghost use Rattle.std.specs.Prelude.{◌≡◌, ℕ, [], ◌<◌, IfSome, map, option_map, vec_len};
+ghost use Rattle.std.specs.Bool.{OnTrue};
+ghost use Rattle.wbin.specs.Syntax.{module_of, export_of};
+ghost use Rattle.wtype.specs.Accepted.{NamesSomething, export_named, gives, IsFunctionOf, ExportsRight, ExportsNamed};
+
+use wbin::{Export, ExportKind, Module};
+use wcode::ValueType;
+
+// The first export of this name.
+fn find_export<'a>(exports: &'a [Export], name: &[u8]) -> Option<&'a Export>
+    ensures { export_named name.now (map export_of exports.now) ≡ option_map (λ e. export_of e.now) result }
+{
+    for export in exports {
+        if export.name.as_slice() == name {
+            return Some(export);
+        }
+    }
+    None
+}
+
+// The export names something of a module without imports.
+fn is_there(module: &Module, export: &Export) -> bool
+    requires { module.now.imports.items ≡ [] }
+    ensures { OnTrue result (NamesSomething (module_of module.now) export.now.kind export.now.index) }
+{
+    let count = match export.kind {
+        ExportKind::Function => module.functions.len(),
+        ExportKind::Table => module.tables.len(),
+        ExportKind::Memory => module.memories.len(),
+        ExportKind::Global => module.globals.len(),
+    };
+    (export.index as usize) < count
+}
+
+// Each export names something, and no two have one name.
+pub fn name_something(module: &Module) -> bool
+    requires { module.now.imports.items ≡ [] }
+    ensures { OnTrue result (ExportsNamed (module_of module.now)) }
+{
+    for (i, export) in module.exports.iter().enumerate() {
+        if !is_there(module, export)
+            || find_export(&module.exports[i + 1..], &export.name).is_some()
+        {
+            return false;
+        }
+    }
+    true
+}
+
+// The export is a function without parameters that gives this, in a module without imports.
+fn is_function(module: &Module, export: &Export, wanted: ValueType) -> bool
+    requires { module.now.imports.items ≡ [] }
+    ensures { OnTrue result (IsFunctionOf (module_of module.now) (gives wanted) (export_of export.now)) }
+{
+    match export.kind {
+        ExportKind::Function => {}
+        _ => return false,
+    }
+    let Some(function) = module.functions.get(export.index as usize) else {
+        return false;
+    };
+    let Some(signature) = module.types.get(function.signature as usize) else {
+        return false;
+    };
+    match signature.result {
+        Some(given) => signature.parameters.is_empty() && given == wanted,
+        None => false,
+    }
+}
+
+// Where there is such an export, it is a function that gives this.
+fn is_right(module: &Module, export: Option<&Export>, wanted: ValueType) -> bool
+    requires { module.now.imports.items ≡ [] }
+    ensures { OnTrue result (IfSome (option_map (λ e. export_of e.now) export.entry) (IsFunctionOf (module_of module.now) (gives wanted))) }
+{
+    match export {
+        None => true,
+        Some(export) => is_function(module, export, wanted),
+    }
+}
+
+// The exports that are called are right, and one of them is there.
+pub fn are_right(module: &Module) -> bool
+    requires { module.now.imports.items ≡ [] }
+    ensures { OnTrue result (ExportsRight (module_of module.now)) }
+{
+    let filter = find_export(&module.exports, b"filter");
+    let score = find_export(&module.exports, b"score");
+    (filter.is_some() || score.is_some())
+        && is_right(module, filter, ValueType::I32)
+        && is_right(module, score, ValueType::I64)
+}
