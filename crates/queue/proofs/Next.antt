@@ -161,12 +161,15 @@ items_idle q none x is =
     (table.get-entries q.entries x.0 ∙ found_member (table.entries q.entries) x (table.entries_sorted q.entries) is) (none x.0)
 
 pub only_one_is_next : OnlyOneIsNext
+unfolding next_of
 only_one_is_next q item n = next_first (table.entries q.entries) item (table.entries_sorted q.entries) (items_first q item n)
 
 pub none_is_next : (q : QueueState) → NoneActive q → next_of q ≡ None
+unfolding next_of
 none_is_next q none = next_none (table.entries q.entries) (items_idle q none)
 
 either : (q : QueueState) → NoneIsActive (table.entries q.entries) ⊎ ((x : Item) × IsFirst (table.entries q.entries) x) → MatchOption (next_of q) (NoneActive q) (IsNext q)
+unfolding next_of
 either q (inl none) = subst (λ o. MatchOption o (NoneActive q) (IsNext q)) (sym (next_none (table.entries q.entries) none)) (none_active q none)
 either q (inr (x, f)) = subst (λ o. MatchOption o (NoneActive q) (IsNext q)) (sym (next_first (table.entries q.entries) x (table.entries_sorted q.entries) f)) (queue_first q x f)
 

@@ -15,7 +15,7 @@ use Rattle.queue.specs.declared.refusal.Refusal.{Refusal}
 use Rattle.queue.specs.declared.refusal.Refusal.TheVariants.{Known, NotInFlight}
 use Rattle.queue.specs.Entry.{Entry, new_entry, is_active, is_in_flight_for, popped, sent_back, failed, ticked, moved_on, state_after_tick, state_after_move}
 use Rattle.queue.specs.Order.{Item}
-use Rattle.queue.specs.Queue.{QueueState, Entries, entry_of, has_entry, stands, holds_in_flight, next_of, with_entry, with_change, changed_at, with_popped, all_changed, unless_refused, refusal_to_add, refusal_to_fail, refusal_to_forget, after_remove}
+use Rattle.queue.specs.Queue.{after_move, after_tick, after_forget, after_fail, after_pop, after_add, QueueState, Entries, entry_of, has_entry, stands, holds_in_flight, next_of, with_entry, with_change, changed_at, with_popped, all_changed, unless_refused, refusal_to_add, refusal_to_fail, refusal_to_forget, after_remove}
 use Rattle.queue.specs.Calls.{Call, Add, Pop, Fail, ForgetBack, Tick, MoveAll, Remove, after, after_all, popped_by, all_popped, gives_back, takes_out, NoneActive, IsNext, PopsOnce, TicksOnce, LosesNone}
 use Rattle.queue.proofs.Uids.{same, same_laws, same_is, left_part, right_part}
 use Rattle.queue.proofs.Members.{differ}
@@ -29,6 +29,7 @@ get-with q u e uid = table.get-insert nat_list_cmp_total q.entries u e uid
 
 -- and without one
 get-without : (q : QueueState) (u uid : Name) → entry_of (after_remove q u) uid ≡ cond (same uid u) None (entry_of q uid)
+unfolding after_remove
 get-without q u uid = table.get-remove nat_list_cmp_total q.entries u uid
 
 -- and with each one changed
@@ -65,6 +66,7 @@ has-all q f uid h = ap is_some (get-all q f uid) ∙ is_some-map f (entry_of q u
 
 -- one call
 has-after : (q : QueueState) (call : Call) (uid : Name) → has_entry q uid ≡ true → takes_out uid call ≡ false → has_entry (after q call) uid ≡ true
+unfolding after_add after_pop after_fail after_forget after_tick after_move after_remove
 has-after q (Add pod now) uid h kept = has-unless (refusal_to_add q pod.uid) q (with_entry q pod.uid (new_entry pod now)) uid h (has-with q pod.uid (new_entry pod now) uid h)
 has-after q (Pop pass) uid h kept = has-popped q pass (next_of q) uid h
 has-after q (Fail u pass how now) uid h kept = has-unless (refusal_to_fail q u pass) q (changed_at q u (failed how now)) uid h (has-change q u (failed how now) (entry_of q u) uid h)
@@ -108,7 +110,7 @@ with_entries : ℕ → Entries → QueueState
 with_entries limit entries = record { limit = limit; entries = entries }
 
 pub ticks_once : TicksOnce
-unfolding with_entries
+unfolding with_entries after_tick
 ticks_once q now = ap (with_entries q.limit) (same_entries _ _ (λ uid.
     get-all (all_changed q (ticked now)) (ticked now) uid
     ∙ ap (option_map (ticked now)) (get-all q (ticked now) uid)
@@ -203,6 +205,7 @@ holds-add q u new pass uid kept h =
     ] refl
 
 holds-fail : (q : QueueState) (u : Name) (by : PassNumber) (f : Entry → Entry) (pass : PassNumber) (uid : Name) → (same uid u && (by.0 == pass.0)) ≡ false → holds_in_flight q pass uid ≡ true → holds_in_flight (unless_refused (refusal_to_fail q u by) q (changed_at q u f)) pass uid ≡ true
+unfolding refusal_to_fail
 holds-fail q u by f pass uid kept h =
     elim (same uid u) as (λ b. same uid u ≡ b → (b && (by.0 == pass.0)) ≡ false → holds_in_flight (unless_refused (refusal_to_fail q u by) q (changed_at q u f)) pass uid ≡ true) [
       | true ↦ λ is other.
@@ -214,6 +217,7 @@ holds-fail q u by f pass uid kept h =
 
 -- one call
 holds-after : (q : QueueState) (call : Call) (pass : PassNumber) (uid : Name) → holds_in_flight q pass uid ≡ true → gives_back pass uid call ≡ false → holds_in_flight (after q call) pass uid ≡ true
+unfolding after_add after_pop after_fail after_forget after_tick after_move after_remove
 holds-after q (Add pod now) pass uid h kept = holds-add q pod.uid (with_entry q pod.uid (new_entry pod now)) pass uid (λ other. holds-with q pod.uid (new_entry pod now) pass uid other h) h
 holds-after q (Pop by) pass uid h kept = holds-popped q by pass (next_of q) uid refl h
 holds-after q (Fail u by how now) pass uid h kept = holds-fail q u by (failed how now) pass uid kept h
@@ -270,4 +274,5 @@ held_once_popped q pass uid (Some x) is =
     ∙ equal_numbers pass.0
 
 pub pops_once : PopsOnce
+unfolding after_pop
 pops_once q pass uid calls is kept there = never_popped (after q (Pop pass)) calls pass uid (held_once_popped q pass uid (next_of q) is) kept there

@@ -80,6 +80,7 @@ full-state limit es apart = ap (nat_le limit) (sym (len-by_uid es apart))
 
 -- how many stand where
 pub counts-state : (limit : ℕ) (es : List Entry) → are_apart es ≡ true → counts_in es ≡ counts_of (state_of limit es)
+unfolding counts_of
 counts-state limit es apart i = record {
   active = sym (count-by_uid (λ entry. is_active entry.state) es apart) i;
   backoff = sym (count-by_uid (λ entry. is_backoff entry.state) es apart) i;
@@ -137,6 +138,7 @@ changed_place limit es i x y uid apart within is key keeps =
 
 -- a pop of the entry that goes first
 pub pop_at_place : (limit : ℕ) (es : List Entry) (i : ℕ) (x y : Entry) (pass : PassNumber) → are_apart es ≡ true → IsFirstBelow es (length es) i → x ≡ get_or es i x → y ≡ popped pass x → state_of limit (set es i y) ≡ after_pop (state_of limit es) pass
+unfolding after_pop
 pop_at_place limit es i x y pass apart f is new =
     ap (λ (e : Entry). state_of limit (set es i e)) new
     ∙ changed_place limit es i x (popped pass x) x.pod.uid apart f.inside is refl refl
@@ -144,6 +146,7 @@ pop_at_place limit es i x y pass apart f is new =
 
 -- a pop where none is active
 pub pop_nowhere : (limit : ℕ) (es : List Entry) (pass : PassNumber) → IsNextBelow es (length es) None → state_of limit es ≡ after_pop (state_of limit es) pass
+unfolding after_pop
 pop_nowhere limit es pass none = sym (ap (with_popped (state_of limit es) pass) (next_nowhere limit es none))
 
 -- a call that is refused where the entry does not pass a test
@@ -185,20 +188,24 @@ none_of_test (Some e) h = cc
 
 -- a pod that is not known may be added where there is room
 pub may_add : (q : QueueState) (uid : Name) → has_entry q uid ≡ false → is_full_queue q ≡ false → refusal_to_add q uid ≡ None
+unfolding refusal_to_add
 may_add q uid absent room =
     ap (λ b. cond b (Some Known) (cond (is_full_queue q) (Some Full) None)) absent ∙ ap (λ b. cond b (Some Full) None) room
 
 -- one that is known is refused as such
 pub known_to_add : (q : QueueState) (uid : Name) → has_entry q uid ≡ true → refusal_to_add q uid ≡ Some Known
+unfolding refusal_to_add
 known_to_add q uid there = ap (λ b. cond b (Some Known) (cond (is_full_queue q) (Some Full) None)) there
 
 -- and any other where there is no room
 pub full_to_add : (q : QueueState) (uid : Name) → has_entry q uid ≡ false → is_full_queue q ≡ true → refusal_to_add q uid ≡ Some Full
+unfolding refusal_to_add
 full_to_add q uid absent full =
     ap (λ b. cond b (Some Known) (cond (is_full_queue q) (Some Full) None)) absent ∙ ap (λ b. cond b (Some Full) None) full
 
 -- a pod comes that is not known, where there is room
 pub added_at_end : (limit : ℕ) (es : List Entry) (pod : Pod) (now : Moment) (y : Entry) → are_apart es ≡ true → has_entry (state_of limit es) pod.uid ≡ false → is_full_queue (state_of limit es) ≡ false → y ≡ new_entry pod now → state_of limit (es ++ y ∷ []) ≡ after_add (state_of limit es) pod now
+unfolding after_add
 added_at_end limit es pod now y apart absent room new =
     let q : QueueState = state_of limit es in
     ap (λ (e : Entry). state_of limit (es ++ e ∷ [])) new
@@ -207,11 +214,13 @@ added_at_end limit es pod now y apart absent room new =
 
 -- the pod of a uid goes
 pub removed_at_place : (limit : ℕ) (es : List Entry) (uid : Name) (i : ℕ) (x : Entry) → are_apart es ≡ true → position (has_uid uid) es ≡ Some i → x ≡ get_or es i x → state_of limit (remove es i) ≡ after_remove (state_of limit es) uid
+unfolding after_remove
 removed_at_place limit es uid i x apart at is =
     ap (with_limit limit) (by_uid-remove es i x uid apart (position-Some (has_uid uid) es i x at).0 (uid_at_place es uid i x at is ∙ ap (λ (e : Entry). e.pod.uid) is))
 
 -- nothing goes where there is no entry of the uid
 pub removed_nowhere : (limit : ℕ) (es : List Entry) (uid : Name) → position (has_uid uid) es ≡ None → state_of limit es ≡ after_remove (state_of limit es) uid
+unfolding after_remove
 removed_nowhere limit es uid none = ap (with_limit limit) (sym (remove_absent es uid (missing (has_uid uid) es none)))
 
 -- each entry is changed

@@ -41,7 +41,7 @@ has_entry q uid = is_some (entry_of q uid)
 abbrev pub is_full_queue : QueueState → Bool
 is_full_queue q = nat_le q.limit (table.len q.entries)
 
--- a state that an entry has, at no entry false
+-- whether there is an entry, and it passes a test
 abbrev pub stands : (Entry → Bool) → Option Entry → Bool
 stands test None = false
 stands test (Some entry) = test entry
@@ -55,7 +55,7 @@ abbrev pub holds_in_flight : QueueState → PassNumber → Name → Bool
 holds_in_flight q pass uid = stands (λ entry. is_in_flight_for pass entry.state) (entry_of q uid)
 
 -- what is popped next, under its uid: the active entry before which no other active entry comes
-abbrev pub next_of : QueueState → Option Item
+unfoldable pub next_of : QueueState → Option Item
 next_of q = next_item (table.entries q.entries)
 
 -- how many of these entries stand where
@@ -68,7 +68,7 @@ counts_in entries = record {
 }
 
 -- how many entries of the queue stand where
-abbrev pub counts_of : QueueState → Counts
+unfoldable pub counts_of : QueueState → Counts
 counts_of q = counts_in (table.values q.entries)
 
 -- with one more entry, in this state
@@ -109,19 +109,19 @@ unless_refused None old new = new
 unless_refused (Some why) old new = old
 
 -- why a pod of this uid is not added: there is an entry of this uid, or else there is no room
-abbrev pub refusal_to_add : QueueState → Name → Option Refusal
+unfoldable pub refusal_to_add : QueueState → Name → Option Refusal
 refusal_to_add q uid = if has_entry q uid then Some Known else (if is_full_queue q then Some Full else None)
 
 -- why this pass does not fail the pod of this uid: it does not hold it in flight
-abbrev pub refusal_to_fail : QueueState → Name → PassNumber → Option Refusal
+unfoldable pub refusal_to_fail : QueueState → Name → PassNumber → Option Refusal
 refusal_to_fail q uid pass = if holds_in_flight q pass uid then None else Some NotInFlight
 
 -- why the pod of this uid is not sent back: no pass holds it in flight
-abbrev pub refusal_to_forget : QueueState → Name → Option Refusal
+unfoldable pub refusal_to_forget : QueueState → Name → Option Refusal
 refusal_to_forget q uid = if has_in_flight q uid then None else Some NotInFlight
 
 -- a pod comes
-abbrev pub after_add : QueueState → Pod → Moment → QueueState
+unfoldable pub after_add : QueueState → Pod → Moment → QueueState
 after_add q pod now = unless_refused (refusal_to_add q pod.uid) q (with_entry q pod.uid (new_entry pod now))
 
 -- an item is popped, if there is one
@@ -130,25 +130,25 @@ with_popped q pass None = q
 with_popped q pass (Some item) = with_entry q item.0 (popped pass item.1)
 
 -- a pass pops what is next
-abbrev pub after_pop : QueueState → PassNumber → QueueState
+unfoldable pub after_pop : QueueState → PassNumber → QueueState
 after_pop q pass = with_popped q pass (next_of q)
 
 -- a pass gives a pod back that failed
-abbrev pub after_fail : QueueState → Name → PassNumber → Failure → Moment → QueueState
+unfoldable pub after_fail : QueueState → Name → PassNumber → Failure → Moment → QueueState
 after_fail q uid pass how now = unless_refused (refusal_to_fail q uid pass) q (changed_at q uid (failed how now))
 
 -- a pod in flight is sent back, whichever pass holds it
-abbrev pub after_forget : QueueState → Name → Moment → QueueState
+unfoldable pub after_forget : QueueState → Name → Moment → QueueState
 after_forget q uid now = unless_refused (refusal_to_forget q uid) q (changed_at q uid (sent_back now))
 
 -- time goes on to this moment
-abbrev pub after_tick : QueueState → Moment → QueueState
+unfoldable pub after_tick : QueueState → Moment → QueueState
 after_tick q now = all_changed q (ticked now)
 
 -- something moved that may let unschedulable pods in
-abbrev pub after_move : QueueState → Moment → QueueState
+unfoldable pub after_move : QueueState → Moment → QueueState
 after_move q now = all_changed q (moved_on now)
 
 -- the pod of this uid goes
-abbrev pub after_remove : QueueState → Name → QueueState
+unfoldable pub after_remove : QueueState → Name → QueueState
 after_remove q uid = record q { entries = table.remove q.entries uid }

@@ -14,10 +14,11 @@ use std::alloc::{AllocError, Global};
 use std::marker::Model;
 use std::sync::Arc;
 
-/// The most entries of a queue.
+/// The most entries that a queue may be made for.
 pub const MAX_QUEUED: usize = 10_000;
 
-/// The scheduling queue.
+/// The scheduling queue: entries under their pods' uids, at most as many as it was made for.
+/// Contracts see it as a plain set of entries, however it keeps them.
 #[derive(Drop)]
 pub struct Queue {
     slots: Vec<Slot>,
@@ -42,7 +43,8 @@ impl Model for Queue {
 }
 
 impl Queue {
-    /// A queue with no entry, and with room for `limit` of them.
+    /// A queue with no entry, and with room for `limit` of them. The only call that may find no
+    /// memory.
     pub fn new(alloc: Global, limit: usize) -> Result<Queue, AllocError>
         requires { limit ≤ MAX_QUEUED }
         ensures { IfOk result (λ queue. queue ≡ no_entries limit) }
@@ -58,7 +60,7 @@ impl Queue {
         place_of(&self.slots, uid).is_some()
     }
 
-    /// Whether there is no room for one more entry.
+    /// Whether there are as many entries as there may be, those in flight among them.
     pub fn is_full(&self) -> bool
         ensures { result ≡ is_full_queue self.now }
     {
@@ -73,7 +75,8 @@ impl Queue {
         Some(self.slots[place].pod())
     }
 
-    /// Whether this pass has popped the pod of this uid and not given it back.
+    /// Whether this pass has popped the pod of this uid and not given it back. `fail` by this pass
+    /// is accepted exactly then.
     pub fn is_in_flight(&self, uid: &Name, pass: PassNumber) -> bool
         ensures { result ≡ holds_in_flight self.now pass uid.now }
     {
@@ -90,7 +93,8 @@ impl Queue {
         count_each(&self.slots)
     }
 
-    /// The pod that `pop` pops next, if any is active.
+    /// The pod that `pop` pops next, if any is active. A pop hands out no pod, since another owner
+    /// of it may not be had: take one from here first.
     pub fn peek(&self) -> Option<&Arc<Pod>>
         ensures { option_map arc_value (option_copied result) ≡ option_map (λ item. item.1.pod) (next_of self.now) }
     {
@@ -98,7 +102,7 @@ impl Queue {
         Some(self.slots[first].pod())
     }
 
-    /// A pod comes. It is active, and came now.
+    /// A pod comes. It is active, and came now. `Known` is told before `Full`.
     pub fn add(&mut self, pod: Arc<Pod>, now: Moment) -> Result<(), Refusal>
         ensures answer { result_err result ≡ refusal_to_add self.old (arc_value pod).uid }
         ensures after { self.new ≡ after_add self.old (arc_value pod) now }
@@ -127,7 +131,8 @@ impl Queue {
         Some(uid)
     }
 
-    /// A pass gives a pod back that it popped, since its attempt failed now.
+    /// A pass gives a pod back that it popped, since its attempt failed now. It is `NotInFlight`
+    /// where there is no such entry, where the pod is not in flight, and where another pass popped it.
     pub fn fail(
         &mut self,
         uid: &Name,
@@ -148,7 +153,8 @@ impl Queue {
         }
     }
 
-    /// A pod in flight comes back to back off from now on, whichever pass popped it.
+    /// A pod in flight comes back to back off from now on, whichever pass popped it. Any other, and
+    /// one that is not there, is `NotInFlight`.
     pub fn forget_back(&mut self, uid: &Name, now: Moment) -> Result<(), Refusal>
         requires { now.0 ≤ LATEST_MOMENT }
         ensures answer { result_err result ≡ refusal_to_forget self.old uid.now }
@@ -163,15 +169,16 @@ impl Queue {
         }
     }
 
-    /// Time goes on to this moment: what has backed off, or was unschedulable for long enough, is
-    /// active again.
+    /// Time goes on to this moment: what has backed off, and what was unschedulable for 300,000 ms,
+    /// is active again.
     pub fn tick(&mut self, now: Moment)
         ensures { self.new ≡ after_tick self.old now }
     {
         tick_each(&mut self.slots, now);
     }
 
-    /// Something moved that may let unschedulable pods in.
+    /// Something moved that may let unschedulable pods in: each is active if it has backed off since
+    /// its failure, and else backs off until then. Pods in flight keep in mind that there was a move.
     pub fn move_all(&mut self, now: Moment)
         ensures { self.new ≡ after_move self.old now }
     {

@@ -1,9 +1,11 @@
 use Rattle.std.proofs.Common.{◌≡◌, false, arith, length, ◌<◌, sym, ap, ◌∙◌}
 use Rattle.std.specs.Arc.{arc_value}
 use Rattle.quant.specs.declared.objects.Pod.{Pod}
-use Rattle.queue.specs.Queue.{has_entry, is_full_queue, after_add}
+use Rattle.queue.specs.Queue.{has_entry, is_full_queue, with_entry, after_add}
 use Rattle.queue.specs.Slots.{state_of, are_apart}
-use Rattle.queue.proofs.States.{added_at_end, added_apart, room_left}
+use Rattle.queue.specs.declared.refusal.Refusal.TheVariants.{Known, Full}
+use Rattle.queue.specs.Entry.{new_entry}
+use Rattle.queue.proofs.States.{added_at_end, added_apart, room_left, refused, known_to_add, full_to_add, may_add}
 use Rattle.queue.proofs.queue.Queue.add.Goals as goal
 
 pub unreachable-requires : goal.unreachable-requires
@@ -32,3 +34,27 @@ returns-clause-after c =
     ap (state_of c.self.inside.limit) c.in-Ok.ensures.items
     ∙ added_at_end c.self.inside.limit c.self.inside.slots.items (arc_value c.args.pod) c.args.now c.new.result c.self.invariant.apart absent room c.new.ensures
     ∙ ap (λ q. after_add q (arc_value c.args.pod) c.args.now) c.self.view_is
+
+pub returns-then-has-clause-answer : goal.returns-then-has-clause-answer
+returns-then-has-clause-answer c =
+    sym (known_to_add c.args.self.now (arc_value c.args.pod).uid (ap (λ (p : Pod). has_entry c.args.self.now p.uid) (sym c.deref.ensures) ∙ sym c.has.ensures ∙ c.if-has.true))
+
+pub returns-then-has-clause-after : goal.returns-then-has-clause-after
+unfolding after_add
+returns-then-has-clause-after c =
+    refused _ Known c.args.self.now (with_entry c.args.self.now (arc_value c.args.pod).uid (new_entry (arc_value c.args.pod) c.args.now))
+    (known_to_add c.args.self.now (arc_value c.args.pod).uid (ap (λ (p : Pod). has_entry c.args.self.now p.uid) (sym c.deref.ensures) ∙ sym c.has.ensures ∙ c.if-has.true))
+
+pub returns-then-is_full-clause-answer : goal.returns-then-is_full-clause-answer
+returns-then-is_full-clause-answer c =
+    sym (full_to_add c.args.self.now (arc_value c.args.pod).uid (ap (λ (p : Pod). has_entry c.args.self.now p.uid) (sym c.deref.ensures) ∙ sym c.has.ensures ∙ c.if-has.false) (sym c.is_full.ensures ∙ c.if-is_full.true))
+
+pub returns-then-is_full-clause-after : goal.returns-then-is_full-clause-after
+unfolding after_add
+returns-then-is_full-clause-after c =
+    refused _ Full c.args.self.now (with_entry c.args.self.now (arc_value c.args.pod).uid (new_entry (arc_value c.args.pod) c.args.now))
+    (full_to_add c.args.self.now (arc_value c.args.pod).uid (ap (λ (p : Pod). has_entry c.args.self.now p.uid) (sym c.deref.ensures) ∙ sym c.has.ensures ∙ c.if-has.false) (sym c.is_full.ensures ∙ c.if-is_full.true))
+
+pub returns-clause-answer : goal.returns-clause-answer
+returns-clause-answer c =
+    sym (may_add c.args.self.now (arc_value c.args.pod).uid (ap (λ (p : Pod). has_entry c.args.self.now p.uid) (sym c.deref.ensures) ∙ sym c.has.ensures ∙ c.if-has.false) (sym c.is_full.ensures ∙ c.if-is_full.false))

@@ -21,12 +21,14 @@ invariant_of-self c =
     }
 
 pub returns-in-Some-clause-answer : goal.returns-in-Some-clause-answer
+unfolding after_forget refusal_to_forget
 returns-in-Some-clause-answer c =
     let at = sym (ap (position (has_uid c.args.uid.now)) c.deref.ensures.value) ∙ sym c.place_of.ensures ∙ c.in-Some.is in
     sym (accepted_at_place c.self.inside.limit c.self.inside.slots.items c.args.uid.now c.in-Some.place c.index.result.now (λ (e : Entry). is_in_flight e.state) c.self.invariant.apart at c.index.ensures (sym c.is_in_flight.ensures ∙ c.if-is_in_flight.true))
     ∙ ap (λ q. refusal_to_forget q c.args.uid.now) c.self.view_is
 
 pub returns-in-Some-clause-after : goal.returns-in-Some-clause-after
+unfolding after_forget refusal_to_forget
 returns-in-Some-clause-after c =
     let at = sym (ap (position (has_uid c.args.uid.now)) c.deref.ensures.value) ∙ sym c.place_of.ensures ∙ c.in-Some.is in
     changed_at_place c.self.inside.limit c.self.inside.slots.items c.args.uid.now c.in-Some.place c.index_mut.result.now c.send_back.new.self (λ (e : Entry). is_in_flight e.state) (sent_back c.args.now) (λ e. refl) c.self.invariant.apart at c.index_mut.ensures.value
@@ -35,12 +37,14 @@ returns-in-Some-clause-after c =
     ∙ ap (λ q. after_forget q c.args.uid.now c.args.now) c.self.view_is
 
 pub returns-in_default-clause-answer : goal.returns-in_default-clause-answer
+unfolding after_forget refusal_to_forget
 returns-in_default-clause-answer c =
     let at = sym (ap (position (has_uid c.args.uid.now)) c.deref.ensures.value) ∙ sym c.place_of.ensures ∙ c.in-Some.is in
     sym (refused_at_place c.self.inside.limit c.self.inside.slots.items c.args.uid.now c.in-Some.place c.index.result.now (λ (e : Entry). is_in_flight e.state) c.self.invariant.apart at c.index.ensures (sym c.is_in_flight.ensures ∙ c.if-is_in_flight.false))
     ∙ ap (λ q. refusal_to_forget q c.args.uid.now) c.self.view_is
 
 pub returns-in_default-clause-after : goal.returns-in_default-clause-after
+unfolding after_forget refusal_to_forget
 returns-in_default-clause-after c =
     let at = sym (ap (position (has_uid c.args.uid.now)) c.deref.ensures.value) ∙ sym c.place_of.ensures ∙ c.in-Some.is in
     let q = state_of c.self.inside.limit c.self.inside.slots.items in
@@ -49,12 +53,14 @@ returns-in_default-clause-after c =
     ∙ ap (λ q. after_forget q c.args.uid.now c.args.now) c.self.view_is
 
 pub returns-in_default-2-clause-answer : goal.returns-in_default-2-clause-answer
+unfolding after_forget refusal_to_forget
 returns-in_default-2-clause-answer c =
     let at = sym (ap (position (has_uid c.args.uid.now)) c.deref.ensures.value) ∙ sym c.place_of.ensures ∙ c.in_default.is in
     sym (refused_nowhere c.self.inside.limit c.self.inside.slots.items c.args.uid.now (λ (e : Entry). is_in_flight e.state) at)
     ∙ ap (λ q. refusal_to_forget q c.args.uid.now) c.self.view_is
 
 pub returns-in_default-2-clause-after : goal.returns-in_default-2-clause-after
+unfolding after_forget refusal_to_forget
 returns-in_default-2-clause-after c =
     let at = sym (ap (position (has_uid c.args.uid.now)) c.deref.ensures.value) ∙ sym c.place_of.ensures ∙ c.in_default.is in
     let q = state_of c.self.inside.limit c.self.inside.slots.items in

@@ -13,6 +13,7 @@ invariant_of-self c = record {
 }
 
 pub returns : goal.returns
+unfolding after_move
 returns c =
     let new = c.move_each.ensures ∙ ap (map (moved_on c.args.now)) c.deref_mut.ensures.value in
     all_changed-state c.self.inside.limit c.self.inside.slots.items _ (moved_on c.args.now) (λ e. refl)

@@ -13,6 +13,7 @@ invariant_of-self c = record {
 }
 
 pub returns : goal.returns
+unfolding after_tick
 returns c =
     let new = c.tick_each.ensures ∙ ap (map (ticked c.args.now)) c.deref_mut.ensures.value in
     all_changed-state c.self.inside.limit c.self.inside.slots.items _ (ticked c.args.now) (λ e. refl)
