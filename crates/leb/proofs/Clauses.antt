@@ -1,5 +1,5 @@
 -- What the reader's clauses say, from what it gives.
-use Rattle.std.proofs.Common.{◌≡◌, ℕ, ◌+◌, ◌<◌, ◌≤◌, List, get_or, drop, ℤ, Bool, Ok, Err, Result, arith, get_or-drop}
+use Rattle.std.proofs.Common.{ℕ, ◌+◌, ◌<◌, ◌≤◌, List, get_or, drop, ℤ, Ok, Err, Result, get_or-drop}
 use Rattle.std.specs.Prelude.{◌↔◌, IfOk, OnErr, IsErrOf}
 use Rattle.leb.specs.Number.{Sign, Spells, InRange}
 use Rattle.leb.specs.Reading.{reading, value_of, Gives}

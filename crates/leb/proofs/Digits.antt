@@ -1,5 +1,5 @@
 -- Digits put together.
-use Rattle.std.proofs.Common.{◌≡◌, [], ◌∷◌, get_or, add-one, true, false, cond, ℕ, zero, suc, ◌+◌, ◌-◌, ◌*◌, ◌^◌, ◌<◌, ◌≤◌, ℤ, pos, negsuc, Ok, Err, Result, Bool, List, drop, length, refl, ap, sym, ◌∙◌, arith}
+use Rattle.std.proofs.Common.{◌≡◌, ◌∷◌, get_or, add-one, true, false, cond, ℕ, suc, ◌+◌, ◌-◌, ◌*◌, ◌^◌, ◌<◌, ◌≤◌, ℤ, pos, negsuc, Ok, Err, Result, Bool, List, drop, length, refl, ap, ◌∙◌, arith}
 use Rattle.std.proofs.Math.IntN.{◌+ℤ◌, ◌*ℤ◌}
 use Rattle.std.proofs.lemmas.Int.{ints}
 use Rattle.std.proofs.lemmas.Bool.{lt-ltb, le-ltb, le-leb, lt-leb}

@@ -1,6 +1,5 @@
 -- The grammar, and reading as a function.
-use Rattle.std.proofs.Common.{◌≡◌, ℕ, suc, ◌+◌, ◌-◌, ◌*◌, ◌^◌, ◌<◌, ◌≤◌, ◌⊎◌, inl, inr, min, List, [], ◌∷◌, get_or, length, ℤ, pos, negsuc, Ok, Err, Result, refl, ap, sym, ◌∙◌, arith}
-use Rattle.std.proofs.Math.IntN.{◌+ℤ◌, ◌*ℤ◌, ◌-ℤ◌}
+use Rattle.std.proofs.Common.{◌≡◌, ℕ, suc, ◌+◌, ◌-◌, ◌^◌, ◌<◌, ◌≤◌, inl, inr, min, List, [], ◌∷◌, get_or, length, ℤ, pos, negsuc, Ok, Err, Result, refl, ap, sym, ◌∙◌, arith}
 use Rattle.std.proofs.Math.Pow.{pow_mono}
 use Rattle.std.proofs.Math.Nat.{min-eq_left, min-eq_right, min-le_left, min-le_right}
 use Rattle.std.proofs.lemmas.Int.{ints}
@@ -8,7 +7,6 @@ use Rattle.std.proofs.lemmas.Bool.{lt-ltb, le-ltb, le-leb, lt-leb, cases_lt}
 use Rattle.leb.specs.Number.{Sign, unsigned, signed, IsLast, Spells}
 use Rattle.leb.specs.Reading.{join, onto, before, reading, last_at, Found}
 use Rattle.leb.specs.declared.LebFault.{LebFault}
-use Rattle.leb.specs.declared.LebFault.TheVariants.{Truncated, TooLong, BadLastByte}
 use Rattle.leb.proofs.Digits.{join_is, ends, too_long, goes_on}
 
 -- below both of two ends, where each is a power of 2

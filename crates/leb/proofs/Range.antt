@@ -1,6 +1,5 @@
 -- A number that is spelled is one of its bits.
-use Rattle.std.proofs.Common.{◌≡◌, ℕ, suc, ◌+◌, ◌-◌, ◌*◌, ◌^◌, ◌<◌, ◌≤◌, inl, inr, List, [], ◌∷◌, ℤ, pos, negsuc, ap, sym, subst, ◌∙◌, arith}
-use Rattle.std.proofs.Math.IntN.{◌-ℤ◌}
+use Rattle.std.proofs.Common.{◌≡◌, ℕ, suc, ◌+◌, ◌-◌, ◌*◌, ◌^◌, ◌<◌, inl, inr, List, [], ◌∷◌, ℤ, pos, negsuc, ap, sym, subst, ◌∙◌, arith}
 use Rattle.std.proofs.lemmas.Int.{ints}
 use Rattle.std.proofs.lemmas.Nat.{pow-add}
 use Rattle.leb.specs.Number.{Sign, unsigned, signed, Spells, InRange}

@@ -1,9 +1,9 @@
 -- A body that ends in `end` or `else` is the only one that stands there.
-use Rattle.std.proofs.Common.{◌≡◌, ℕ, ◌+◌, ◌-◌, ◌<◌, ◌≤◌, ◌⊎◌, inl, inr, Bool, true, false, List, [], ◌∷◌, ◌++◌, length, drop, refl, ap, sym, subst, ◌∙◌, arith}
+use Rattle.std.proofs.Common.{◌≡◌, ℕ, ◌-◌, ◌<◌, inl, inr, Bool, true, false, List, refl, ap, sym, subst, ◌∙◌}
 use Rattle.wcode.specs.declared.value.BlockType.{BlockType}
 use Rattle.wcode.specs.declared.opcode.Opening.TheVariants as openings
 use Rattle.wcode.specs.Syntax.{Body, done, plain, block, loop, if_else, br_table}
-use Rattle.wcode.specs.Grammar.{Word, one, opens, otherwise, end, table, SpellsWord, SpellsBody}
+use Rattle.wcode.specs.Grammar.{opens, end, SpellsWord, SpellsBody}
 use Rattle.wcode.specs.Ended.{closing, SpellsArms, NoBody, StandsFirst}
 use Rattle.wcode.proofs.Unique.{word_once}
 use Rattle.wcode.proofs.Items.{first, first_is, OnlyBody, item_plain, item_table, block_parts, loop_parts, if_parts}

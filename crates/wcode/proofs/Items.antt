@@ -1,11 +1,10 @@
 -- Instructions at the front of a body.
-use Rattle.std.proofs.Common.{◌≡◌, ℕ, ◌+◌, ◌-◌, ◌<◌, ◌≤◌, ◌⊎◌, inl, inr, Bool, true, false, List, [], ◌∷◌, ◌++◌, length, drop, refl, ap, sym, subst, ◌∙◌, arith}
+use Rattle.std.proofs.Common.{◌≡◌, ℕ, ◌-◌, ◌<◌, Bool, true, false, List, refl, ap, sym, subst, ◌∙◌}
 use Rattle.wcode.specs.declared.value.BlockType.{BlockType}
 use Rattle.wcode.specs.declared.instruction.Plain.{Plain}
-use Rattle.wcode.specs.declared.opcode.Opening.{Opening}
 use Rattle.wcode.specs.declared.opcode.Opening.TheVariants as openings
 use Rattle.wcode.specs.Syntax.{Body, done, plain, block, loop, if_else, br_table}
-use Rattle.wcode.specs.Grammar.{Word, one, opens, otherwise, end, table, SpellsWord, SpellsBody}
+use Rattle.wcode.specs.Grammar.{Word, one, opens, end, table, SpellsWord, SpellsBody}
 use Rattle.wcode.specs.Ended.{closing, SpellsArms, NoBody, StandsFirst}
 use Rattle.wcode.proofs.Unique.{word_once}
 

@@ -1,8 +1,8 @@
 -- What a reader has so far.
-use Rattle.std.proofs.Common.{◌≡◌, ℕ, suc, ◌+◌, ◌-◌, ◌<◌, ◌≤◌, Bool, true, false, List, [], ◌∷◌, ◌++◌, map, length, drop, refl, ap, sym, subst, ◌∙◌, arith, length-append}
+use Rattle.std.proofs.Common.{◌≡◌, ℕ, ◌+◌, ◌<◌, ◌≤◌, Bool, List, [], ◌∷◌, ◌++◌, length, drop, refl, ap, sym, subst, ◌∙◌, arith, length-append}
 use Rattle.wcode.specs.declared.instruction.Instr.{Instr}
-use Rattle.wcode.specs.Syntax.{Body, done, sequence, with_instr, body_of}
-use Rattle.wcode.specs.Grammar.{Word, SpellsIndex, SpellsIndices, SpellsWord, SpellsBody}
+use Rattle.wcode.specs.Syntax.{Body, done, with_instr, body_of}
+use Rattle.wcode.specs.Grammar.{SpellsIndex, SpellsIndices, SpellsWord, SpellsBody}
 use Rattle.wcode.specs.Ended.{closing, NoBody, StandsFirst}
 use Rattle.wcode.proofs.Words.{indices_push, indices_once, indices_next}
 use Rattle.wcode.proofs.Items.{item_none, item_then, item_same, item_no}

@@ -1,18 +1,17 @@
 -- What the readers of bodies give, from what they are given.
-use Rattle.std.proofs.Common.{◌≡◌, ◌≢◌, ℕ, ◌+◌, ◌-◌, ◌<◌, ◌≤◌, ◌⊎◌, inl, inr, Bool, true, false, not, List, [], ◌∷◌, ◌++◌, length, drop, Result, Ok, Err, refl, ap, sym, subst, ◌∙◌, arith}
+use Rattle.std.proofs.Common.{◌≡◌, ℕ, ◌-◌, ◌<◌, ◌≤◌, inl, inr, Bool, true, false, not, List, length, drop, refl, ap, sym, subst, ◌∙◌, arith}
 use Rattle.wcode.specs.declared.value.BlockType.{BlockType}
 use Rattle.wcode.specs.declared.instruction.Plain.{Plain}
 use Rattle.wcode.specs.declared.instruction.Op.{Op}
 use Rattle.wcode.specs.declared.instruction.Op.TheVariants as ops
-use Rattle.wcode.specs.declared.opcode.Opening.TheVariants as openings
-use Rattle.wcode.specs.Syntax.{Body, done, plain, block, loop, if_else, br_table}
-use Rattle.wcode.specs.Grammar.{Word, one, opens, otherwise, end, table, SpellsIndex, SpellsIndices, SpellsWord, SpellsBody}
+use Rattle.wcode.specs.Syntax.{Body, plain, block, loop, if_else, br_table}
+use Rattle.wcode.specs.Grammar.{Word, end, table, SpellsIndex, SpellsIndices, SpellsWord, SpellsBody}
 use Rattle.wcode.specs.Shown.{Shows}
 use Rattle.wcode.specs.Ended.{closing, SpellsArms, NoBody, StandsFirst}
 use Rattle.wcode.proofs.Words.{index_once, indices_once}
-use Rattle.wcode.proofs.Items.{item_plain, item_table, item_same, no_body}
+use Rattle.wcode.proofs.Items.{item_plain, item_table, item_same}
 use Rattle.wcode.proofs.Bodies.{body_once, item_block, item_loop, item_if, no_block, no_loop, no_if}
-use Rattle.wcode.proofs.Shorter.{place_after, word_shorter, body_shorter, arms_shorter}
+use Rattle.wcode.proofs.Shorter.{place_after, body_shorter, arms_shorter}
 
 -- a word that is shown as this
 abbrev pub Found : List ℕ → ℕ → Op → ℕ → Type 0

@@ -1,5 +1,5 @@
 -- What is spelled has a byte at least.
-use Rattle.std.proofs.Common.{◌≡◌, ℕ, suc, ◌+◌, ◌-◌, ◌<◌, ◌≤◌, ◌⊎◌, inl, inr, List, [], ◌∷◌, length, drop, get_or, Result, Ok, Err, pos, refl, ap, sym, ◌∙◌, arith, length-drop}
+use Rattle.std.proofs.Common.{◌≡◌, ℕ, suc, ◌+◌, ◌-◌, ◌<◌, ◌≤◌, inl, inr, List, [], ◌∷◌, length, drop, get_or, Result, Ok, Err, pos, ap, arith, length-drop}
 use Rattle.leb.specs.Number.{unsigned, signed}
 use Rattle.leb.proofs.Grammar.{spelling_shorter}
 use Rattle.wcode.specs.declared.value.ValueType.TheVariants.{I32, I64}

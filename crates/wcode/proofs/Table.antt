@@ -1,5 +1,5 @@
 -- The table of opcodes is that of the rows.
-use Rattle.std.proofs.Common.{◌≡◌, ℕ, zero, suc, ◌+◌, ◌<◌, List, [], ◌∷◌, map, length, get_or, refl, ap, ◌∙◌, sym, arith, add-zero, add-suc}
+use Rattle.std.proofs.Common.{◌≡◌, ℕ, zero, suc, ◌+◌, ◌<◌, List, [], ◌∷◌, map, get_or, ap, ◌∙◌, sym, arith, add-zero}
 use Rattle.wcode.specs.declared.opcode.Form.{Form}
 use Rattle.wcode.specs.Opcodes.{form, rows, form_in}
 

@@ -1,7 +1,7 @@
 -- Bytes begin with one word at most, which ends at one place.
-use Rattle.std.proofs.Common.{◌≡◌, ℕ, ◌⊎◌, inl, inr, List, [], ◌∷◌, length, pos, ℤ, refl, ap, sym, subst, ◌∙◌, arith}
+use Rattle.std.proofs.Common.{◌≡◌, ℕ, List, [], ◌∷◌, length, refl, ap, sym, subst, ◌∙◌, arith}
 use Rattle.std.specs.Int.{cast_unsigned, w32, w64}
-use Rattle.leb.specs.Number.{Spells, unsigned, signed}
+use Rattle.leb.specs.Number.{signed}
 use Rattle.leb.proofs.Grammar.{one_spelling}
 use Rattle.wcode.specs.declared.value.ValueType.TheVariants.{I32, I64}
 use Rattle.wcode.specs.declared.value.BlockType.{BlockType}
@@ -12,7 +12,7 @@ use Rattle.wcode.specs.declared.instruction.Plain.TheVariants as plains
 use Rattle.wcode.specs.declared.opcode.Form.{Form}
 use Rattle.wcode.specs.declared.opcode.Form.TheVariants as forms
 use Rattle.wcode.specs.Opcodes.{form, indexed_plain}
-use Rattle.wcode.specs.Grammar.{Word, one, opens, otherwise, end, table, SpellsIndex, SpellsIndices, SpellsBlockType, SpellsValue, SpellsMemArg, SpellsLabels, SpellsForm, SpellsWord}
+use Rattle.wcode.specs.Grammar.{Word, one, opens, table, SpellsIndex, SpellsIndices, SpellsBlockType, SpellsMemArg, SpellsLabels, SpellsForm, SpellsWord}
 use Rattle.wcode.proofs.Words.{index_once, indices_once}
 
 -- a byte and what follows it

@@ -1,6 +1,6 @@
 -- Bytes begin with one word at most.
-use Rattle.std.proofs.Common.{◌≡◌, ℕ, suc, ◌+◌, ◌<◌, ◌≤◌, List, [], ◌∷◌, ◌++◌, length, drop, get_or, Result, Ok, Err, pos, refl, ap, sym, subst, ◌∙◌, arith, length-append}
-use Rattle.leb.specs.Number.{Spells, unsigned, signed}
+use Rattle.std.proofs.Common.{◌≡◌, ℕ, ◌+◌, ◌<◌, ◌≤◌, List, [], ◌∷◌, ◌++◌, length, drop, get_or, Result, Ok, Err, pos, refl, ap, sym, subst, ◌∙◌, arith, length-append}
+use Rattle.leb.specs.Number.{unsigned}
 use Rattle.leb.proofs.Grammar.{one_spelling}
 use Rattle.wcode.specs.declared.instruction.MemArg.{MemArg}
 use Rattle.leb.proofs.Digits.{at_place}
@@ -8,7 +8,6 @@ use Rattle.std.proofs.Math.ListN.{drop_of_length-le}
 use Rattle.std.specs.Prelude.{IfOk, OnErr}
 use Rattle.wcode.specs.declared.instruction.Op.{Op}
 use Rattle.wcode.specs.declared.fault.OpFault.{OpFault}
-use Rattle.wcode.specs.declared.opcode.Form.{Form}
 use Rattle.wcode.specs.declared.opcode.Form.TheVariants as forms
 use Rattle.wcode.specs.declared.instruction.Plain.TheVariants as plains
 use Rattle.wcode.specs.Opcodes.{form}

@@ -140,11 +140,11 @@ fn read_nested(
         return Err(too_deep(at));
     }
     match read_body(alloc, bytes, next, room - 1) {
-        Ok(ended) => {
-            if ended.by_else {
-                Err(bad_opcode(ended.last))
+        Ok(inner) => {
+            if inner.by_else {
+                Err(bad_opcode(inner.last))
             } else {
-                Ok((ended.body, ended.next))
+                Ok((inner.body, inner.next))
             }
         }
         Err(fault) => Err(fault),

@@ -14,3 +14,6 @@ pub use fault::{BinFault, Kind, OpFault};
 pub use instruction::{Instr, MemArg, Op, Plain};
 pub use operator::{BinOp, CvtOp, LoadOp, RelOp, Sign, StoreOp, TestOp, UnOp};
 pub use value::{BlockType, Value, ValueType};
+
+#[cfg(test)]
+mod tests;

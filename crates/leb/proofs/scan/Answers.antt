@@ -1,7 +1,6 @@
-use Rattle.std.proofs.Common.{◌≡◌, ℕ, ◌+◌, ◌-◌, ◌^◌, ◌<◌, ◌≤◌, length, ◌*◌, Fits, w64, arith, ap, ◌∙◌, sym, refl, get_or}
+use Rattle.std.proofs.Common.{◌-◌, ◌<◌, arith, ◌∙◌, get_or}
 use Rattle.std.proofs.lemmas.Result.{err_from_is_err_and}
-use Rattle.leb.specs.Reading.{onto, before, last_at}
-use Rattle.leb.proofs.Digits.{HasRead, step_fits, add_fits, last_fits, negative_fits, last_is, negative_is, positive_is, refused_is, too_long_is, truncated_is, more}
+use Rattle.leb.proofs.Digits.{step_fits, add_fits, last_fits, negative_fits, last_is, negative_is, positive_is, refused_is, too_long_is, truncated_is, more}
 use Rattle.leb.proofs.scan.Goals as goal
 
 pub returns-in_err-negative : goal.returns-in_err-negative

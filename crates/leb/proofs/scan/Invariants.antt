@@ -1,5 +1,4 @@
-use Rattle.std.proofs.Common.{length, ◌-◌, ◌≡◌, ℕ, ◌+◌, ◌*◌, ◌^◌, ◌<◌, ◌≤◌, drop}
-use Rattle.leb.specs.Reading.{reading, sign_of}
+use Rattle.std.proofs.Common.{length, ◌-◌}
 use Rattle.leb.proofs.Digits.{HasRead}
 use Rattle.leb.proofs.scan.Given as goal
 

@@ -1,8 +1,8 @@
-use Rattle.std.proofs.Common.{◌≡◌, ◌+◌, ◌-◌, drop, subst, sym, arith, true, []}
+use Rattle.std.proofs.Common.{◌-◌, drop, subst, sym}
 use Rattle.wcode.specs.Syntax.{with_instr, body_of}
 use Rattle.wcode.specs.Ended.{GivesBody, GivesItem}
 use Rattle.wcode.proofs.Items.{no_body}
-use Rattle.wcode.proofs.Lists.{HasItems, no_items, more_items, items_end, items_no}
+use Rattle.wcode.proofs.Lists.{HasItems, more_items, items_end}
 use Rattle.wcode.proofs.Readers.{plain_stands, block_stands, loop_stands, if_stands, table_stands, block_missing, loop_missing, if_missing, nested_after, arms_after, else_is_no_end, no_end, no_first_arm, no_second_arm}
 use Rattle.wcode.proofs.expression.+body.Goals as goal
 
@@ -89,9 +89,9 @@ read_body-items-preserved t c =
     subst (λ l. HasItems c.args.bytes.now c.args.room c.args.at l a.next) (sym (c.add.ensures c.if-not-add.false))
     (more_items c.args.bytes.now c.args.room c.args.at c.items.body.items c.items.place a.instr a.next c.items.invariant g.0 g.2)
 
-pub read_nested-returns-then-ended-clause-none : goal.read_nested-returns-then-ended-clause-none
+pub read_nested-returns-then-inner-clause-none : goal.read_nested-returns-then-inner-clause-none
 unfolding GivesBody
-read_nested-returns-then-ended-clause-none t c = λ m r. else_is_no_end (c.args.room - 1) (drop c.args.next c.args.bytes.now) c.in-Ok.ended.by_else (body_of c.in-Ok.ended.body.items) (drop c.in-Ok.ended.next c.args.bytes.now) c.if-ended.true c.in-Ok.ensures.1
+read_nested-returns-then-inner-clause-none t c = λ m r. else_is_no_end (c.args.room - 1) (drop c.args.next c.args.bytes.now) c.in-Ok.inner.by_else (body_of c.in-Ok.inner.body.items) (drop c.in-Ok.inner.next c.args.bytes.now) c.if-inner.true c.in-Ok.ensures.1
 
 pub read_nested-returns-in-Err-clause-none : goal.read_nested-returns-in-Err-clause-none
 unfolding GivesBody

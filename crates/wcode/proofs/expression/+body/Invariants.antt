@@ -1,4 +1,4 @@
-use Rattle.std.proofs.Common.{ℕ, ◌+◌, ◌-◌, ◌*◌, length}
+use Rattle.std.proofs.Common.{◌+◌, ◌-◌, ◌*◌, length}
 use Rattle.wcode.proofs.Lists.{HasItems}
 use Rattle.wcode.proofs.expression.+body.Given as goal
 

@@ -1,4 +1,4 @@
-use Rattle.std.proofs.Common.{◌≡◌, ◌+◌, subst, sym, arith, []}
+use Rattle.std.proofs.Common.{◌≡◌, ◌+◌, subst, sym, arith}
 use Rattle.wcode.proofs.Lists.{HasLabels, Stands, no_labels, more_labels, label_stands, default_stands}
 use Rattle.wcode.proofs.expression.read_labels.Goals as goal
 

@@ -1,4 +1,4 @@
-use Rattle.std.proofs.Common.{arith, ◌<◌, ◌+◌, ◌≤◌, length, subst}
+use Rattle.std.proofs.Common.{arith, ◌+◌, ◌≤◌, length, subst}
 use Rattle.wcode.specs.Shown.{Reads}
 use Rattle.wcode.proofs.Words.{word_found, word_none, no_word}
 use Rattle.wcode.proofs.Shorter.{word_end}

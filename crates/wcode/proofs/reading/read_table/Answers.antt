@@ -1,4 +1,4 @@
-use Rattle.std.proofs.Common.{◌≡◌, drop, refl, subst}
+use Rattle.std.proofs.Common.{drop, refl, subst}
 use Rattle.wcode.specs.Grammar.{table, SpellsIndex}
 use Rattle.wcode.specs.Shown.{Reads}
 use Rattle.wcode.proofs.Words.{labels_none, default_none}
