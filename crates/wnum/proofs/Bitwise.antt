@@ -43,6 +43,7 @@ one_of_two (suc zero) (suc zero) p q = refl
 one_of_two (suc zero) (suc (suc e)) p q = absurd (omega arith)
 one_of_two (suc (suc d)) e p q = absurd (omega arith)
 
+-- the three operations, as `&`, `|` and `^` give them
 pub iand_is : (N a b : ℕ) → a < 2 ^ N → b < 2 ^ N → iand N a b ≡ bit_and a b
 unfolding iand
 iand_is N a b = bitwise_is (λ d e. min d e) bit_and refl and_step N a b

@@ -35,6 +35,7 @@ zeros_before (suc n) a h = go (λ l. zeros_before n a l) (cases_lt a (2 ^ n))
         let digit : a / 2 ^ n % 2 ≡ 1 = ap (λ (x : ℕ). x % 2) (top_one n a l h) in
         (suc n, rw digit (omega arith), h, omega (arith, pow-suc 2 n))
 
+-- the count of leading zeros, as std's method gives it
 pub iclz_is : (N a : ℕ) → a < 2 ^ N → iclz N a ≡ count_leading_zeros N a
 unfolding iclz
 iclz_is N a h = let z = zeros_before N a h in leading_unique N a (prefix_len (λ d. d == 0) (ibits N a)) z.0 z.1 z.2 z.3
@@ -44,6 +45,7 @@ zeros_behind : (d t : ℕ) → cond (d == 0) (1 + t) 0 ≡ under d t
 zeros_behind zero t = omega arith
 zeros_behind (suc d) t = grind (arith, nat_tests)
 
+-- the zeros at the end are counted from the last digit on
 zeros_after : (N a : ℕ) → suffix_len (λ d. d == 0) (ibits N a) ≡ count_trailing_zeros N a
 unfolding ibits count_trailing_zeros
 zeros_after zero a = refl
@@ -53,6 +55,7 @@ zeros_after (suc n) a =
     ∙ ap (λ (x : ℕ). cond (a % 2 == 0) (1 + x) 0) (zeros_after n (a / 2))
     ∙ zeros_behind (a % 2) (count_trailing_zeros n (a / 2))
 
+-- the count of trailing zeros
 pub ictz_is : (N a : ℕ) → ictz N a ≡ count_trailing_zeros N a
 unfolding ictz
 ictz_is N a = zeros_after N a
@@ -63,6 +66,7 @@ counted zero h = refl
 counted (suc zero) h = refl
 counted (suc (suc d)) h = absurd (omega arith)
 
+-- the digits that are 1, counted from the last on
 ones_among : (N a : ℕ) → a < 2 ^ N → count_by (λ d. d == 1) (ibits N a) ≡ ones a
 unfolding ibits ones ones_in
 ones_among zero a h = let a-is : a ≡ 0 = omega arith in rw a-is refl
@@ -71,6 +75,7 @@ ones_among (suc n) a h =
     ∙ sum_by-append (λ d. cond (d == 1) 1 0) (ibits n (a / 2)) (a % 2 ∷ [])
     ∙ omega (arith, counted (a % 2) (omega arith), ones_among n (a / 2) (half_lt n a h), ones_step a)
 
+-- the count of digits that are 1
 pub ipopcnt_is : (N a : ℕ) → a < 2 ^ N → ipopcnt N a ≡ ones a
 unfolding ipopcnt
 ipopcnt_is N a h = ones_among N a h

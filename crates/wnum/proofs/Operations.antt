@@ -21,6 +21,7 @@ pub ruleset unsigned_operations = (iadd_is, isub_is, imul_is, idiv_u_is, idiv_u_
 pub back_32 : (z : ℤ) → mag z < 2 ^ 31 → to_z w32 (of_z w32 z) ≡ z
 back_32 z h = to_z-of_z w32 z (record { sfits = h })
 
+-- each operation at this width, as the code's own instruction gives it
 pub irotl_32 : (a b : ℕ) → a < 2 ^ 32 → irotl 32 a b ≡ rotate_left w32 a (b % 32)
 irotl_32 a b p = irotl_is w32 a b (lit< tt) p
 
@@ -45,12 +46,15 @@ ige_s_32 a b p q = ige_s_is w32 a b p q
 pub irem_s_32 : (a b : ℕ) → a < 2 ^ 32 → b < 2 ^ 32 → b ≢ 0 → irem_s 32 a b ≡ Ok (of_z w32 (int_rem (to_z w32 a) (to_z w32 b)))
 irem_s_32 a b p q h = irem_s_is w32 a b p q h
 
+-- the least number by -1 traps
 pub idiv_s_least_32 : (a b : ℕ) → a ≡ 2147483648 → b ≡ 4294967295 → idiv_s 32 a b ≡ Err IntegerOverflow
 idiv_s_least_32 a b d e = idiv_s_traps w32 a b d e
 
+-- any other dividend has the quotient that the code computes
 pub idiv_s_other_32 : (a b : ℕ) → a < 2 ^ 32 → b < 2 ^ 32 → b ≢ 0 → a ≢ 2147483648 → idiv_s 32 a b ≡ Ok (of_z w32 (to_z w32 (of_z w32 (int_div (to_z w32 a) (to_z w32 b)))))
 idiv_s_other_32 a b p q h d = idiv_s_code w32 a b p q h (λ f e. d e)
 
+-- so has any dividend by another divisor
 pub idiv_s_by_other_32 : (a b : ℕ) → a < 2 ^ 32 → b < 2 ^ 32 → b ≢ 0 → b ≢ 4294967295 → idiv_s 32 a b ≡ Ok (of_z w32 (to_z w32 (of_z w32 (int_div (to_z w32 a) (to_z w32 b)))))
 idiv_s_by_other_32 a b p q h d = idiv_s_code w32 a b p q h (λ f e. d f)
 
@@ -62,6 +66,7 @@ pub ruleset operations_32 = (unsigned_operations, back_32, irotl_32, irotr_32, i
 pub back_64 : (z : ℤ) → mag z < 2 ^ 63 → to_z w64 (of_z w64 z) ≡ z
 back_64 z h = to_z-of_z w64 z (record { sfits = h })
 
+-- each operation at this width, as the code's own instruction gives it
 pub irotl_64 : (a b : ℕ) → a < 2 ^ 64 → irotl 64 a b ≡ rotate_left w64 a (b % 64)
 irotl_64 a b p = irotl_is w64 a b (lit< tt) p
 
@@ -86,12 +91,15 @@ ige_s_64 a b p q = ige_s_is w64 a b p q
 pub irem_s_64 : (a b : ℕ) → a < 2 ^ 64 → b < 2 ^ 64 → b ≢ 0 → irem_s 64 a b ≡ Ok (of_z w64 (int_rem (to_z w64 a) (to_z w64 b)))
 irem_s_64 a b p q h = irem_s_is w64 a b p q h
 
+-- the least number by -1 traps
 pub idiv_s_least_64 : (a b : ℕ) → a ≡ 9223372036854775808 → b ≡ 18446744073709551615 → idiv_s 64 a b ≡ Err IntegerOverflow
 idiv_s_least_64 a b d e = idiv_s_traps w64 a b d e
 
+-- any other dividend has the quotient that the code computes
 pub idiv_s_other_64 : (a b : ℕ) → a < 2 ^ 64 → b < 2 ^ 64 → b ≢ 0 → a ≢ 9223372036854775808 → idiv_s 64 a b ≡ Ok (of_z w64 (to_z w64 (of_z w64 (int_div (to_z w64 a) (to_z w64 b)))))
 idiv_s_other_64 a b p q h d = idiv_s_code w64 a b p q h (λ f e. d e)
 
+-- so has any dividend by another divisor
 pub idiv_s_by_other_64 : (a b : ℕ) → a < 2 ^ 64 → b < 2 ^ 64 → b ≢ 0 → b ≢ 18446744073709551615 → idiv_s 64 a b ≡ Ok (of_z w64 (to_z w64 (of_z w64 (int_div (to_z w64 a) (to_z w64 b)))))
 idiv_s_by_other_64 a b p q h d = idiv_s_code w64 a b p q h (λ f e. d f)
 
@@ -99,6 +107,7 @@ pub ruleset operations_64 = (unsigned_operations, back_64, irotl_64, irotr_64, i
 
 -- ---- conversions
 
+-- the conversion that keeps the sign, at its widths
 pub extend_s_32_64 : (a : ℕ) → a < 2 ^ 32 → extend_s 32 64 a ≡ of_z w64 (to_z w32 a)
 extend_s_32_64 a p = extend_s_is w32 w64 a p
 

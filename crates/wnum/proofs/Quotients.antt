@@ -13,6 +13,7 @@ use Rattle.wnum.specs.Representation.{signed}
 use Rattle.wnum.specs.Integer.{idiv_s, irem_s, from_quotient}
 use Rattle.wnum.proofs.Signs.{signed_is, from_signed_is, hbits_is}
 
+-- the size of a number that is negated, as a signed type's range counts it
 negated : (n : ℕ) → mag (neg_ℤ (pos n)) ≡ n - 1
 negated zero = refl
 negated (suc n) = omega arith
@@ -25,9 +26,11 @@ quotient_fits w (negsuc a) (pos b) fx fy h = record { sfits = omega (arith, fx.s
 quotient_fits w (negsuc a) (negsuc zero) fx fy h = let k = h refl in record { sfits = omega (arith, fx.sfits, div-one (suc a), pow-bits w) }
 quotient_fits w (negsuc a) (negsuc (suc b)) fx fy h = record { sfits = omega (arith, fx.sfits, div-lt_self {n = suc a} {k = suc (suc b)} (omega arith) (omega arith)) }
 
+-- the test for zero fails elsewhere
 not_zero : (b : ℕ) → (b ≡ 0 → ⊥) → (b == 0) ≡ false
 not_zero b h = grind (arith, nat_tests)
 
+-- a number of the signed type is below half the range
 fits_below : (w : Width) (q : ℤ) → SFits w q → int_lt q (pos (2 ^ hbits w)) ≡ true
 fits_below w (pos n) f = lt-ltb n (2 ^ hbits w) f.sfits
 fits_below w (negsuc n) f = refl
@@ -37,10 +40,12 @@ from_quotient_is : (w : Width) (q : ℤ) → SFits w q → from_quotient (bits w
 unfolding from_quotient
 from_quotient_is w q f = rw (hbits_is w, fits_below w q f, from_signed_is w q) refl
 
+-- the quotient, where it fits
 pub idiv_s_is : (w : Width) (a b : ℕ) → a < 2 ^ bits w → b < 2 ^ bits w → (b ≡ 0 → ⊥) → SFits w (int_div (to_z w a) (to_z w b)) → idiv_s (bits w) a b ≡ Ok (of_z w (int_div (to_z w a) (to_z w b)))
 unfolding idiv_s
 idiv_s_is w a b p q h f = rw (not_zero b h, signed_is w a p, signed_is w b q) (from_quotient_is w (int_div (to_z w a) (to_z w b)) f)
 
+-- the remainder
 pub irem_s_is : (w : Width) (a b : ℕ) → a < 2 ^ bits w → b < 2 ^ bits w → (b ≡ 0 → ⊥) → irem_s (bits w) a b ≡ Ok (of_z w (int_rem (to_z w a) (to_z w b)))
 unfolding irem_s
 irem_s_is w a b p q h = rw (not_zero b h, signed_is w a p, signed_is w b q, from_signed_is w (int_rem (to_z w a) (to_z w b))) refl
@@ -54,6 +59,7 @@ idiv_s_overflows w32 = refl
 idiv_s_overflows w64 = refl
 idiv_s_overflows w128 = refl
 
+-- the quotient of any other operands fits
 pub division_fits : (w : Width) (a b : ℕ) → a < 2 ^ bits w → b < 2 ^ bits w → (b ≡ 2 ^ bits w - 1 → a ≡ 2 ^ hbits w → ⊥) → SFits w (int_div (to_z w a) (to_z w b))
 division_fits w a b p q h =
     quotient_fits w (to_z w a) (to_z w b) (sfits_to_z (record { fits = p })) (sfits_to_z (record { fits = q }))

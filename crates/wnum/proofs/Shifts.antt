@@ -35,6 +35,7 @@ first_digits k N a h p =
     let below : a < 2 ^ ((N - k) + k) = subst (λ (x : ℕ). a < 2 ^ x) whole p in
     rw (take-ibits (N - k) N a (omega arith), back, from_ibits-ibits (N - k) (a / 2 ^ k)) (shr_mod (N - k) k below)
 
+-- the first k digits are k digits
 pub length_first : (k N a : ℕ) → k ≤ N → length (take k (ibits N a)) ≡ k
 length_first k N a h = ap length (take-ibits k N a h) ∙ length-ibits k (a / 2 ^ (N - k))
 
@@ -65,6 +66,7 @@ joined (suc j) N a h p =
     let below : a / 2 ^ (N - suc j) < 2 ^ suc j = shr_lt (suc j) (N - suc j) (subst (λ (x : ℕ). a < 2 ^ x) parts p) in
     rw (same, low_digits_up (suc j) N a (omega arith)) (or_shifted (a % 2 ^ (N - suc j)) (suc j) (a / 2 ^ (N - suc j)) below)
 
+-- the shifts and rotations, as `<<`, `>>` and std's rotations give them
 pub ishl_is : (N a b : ℕ) → 0 < N → ishl N a b ≡ (a * 2 ^ (b % N)) % 2 ^ N
 unfolding ishl
 ishl_is N a b p = shifted_left (b % N) N a (omega arith)

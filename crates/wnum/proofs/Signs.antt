@@ -24,6 +24,7 @@ bits_is w32 = refl
 bits_is w64 = refl
 bits_is w128 = refl
 
+-- the same, as the definitions write it
 pub hbits_is : (w : Width) → bits w - 1 ≡ hbits w
 hbits_is w8 = refl
 hbits_is w16 = refl
@@ -35,6 +36,7 @@ hbits_is w128 = refl
 upper : (N a : ℕ) → a < 2 ^ N → pos a -ℤ pos (2 ^ N) ≡ negsuc (2 ^ N - suc a)
 upper N a h = omega (arith, ints)
 
+-- the signed interpretation is the code's signed type
 pub signed_is : (w : Width) (a : ℕ) → a < 2 ^ bits w → signed (bits w) a ≡ to_z w a
 unfolding signed
 signed_is w a h = rw (hbits_is w, upper (bits w) a h) (go (cases_lt a (2 ^ hbits w)))
@@ -43,6 +45,7 @@ signed_is w a h = rw (hbits_is w, upper (bits w) a h) (go (cases_lt a (2 ^ hbits
     go (inl l) = grind (arith, nat_tests)
     go (inr l) = grind (arith, nat_tests)
 
+-- and its inverse the cast back
 pub from_signed_is : (w : Width) (z : ℤ) → from_signed (bits w) z ≡ of_z w z
 unfolding from_signed
 from_signed_is w (pos n) = refl
