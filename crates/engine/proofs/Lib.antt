@@ -1,0 +1,6 @@
+pub mod Known
+pub mod Pieces
+pub mod Progress
+pub mod Rows
+pub mod Steps
+pub mod Taking

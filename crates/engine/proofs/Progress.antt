@@ -1,0 +1,191 @@
+-- How far a run has come: what is written and what waits, followed by the answers to what is left, is the output.
+use Rattle.std.proofs.Common.{◌≡◌, ℕ, ◌+◌, ◌<◌, ◌≤◌, Bool, true, false, cond, eqb, leb, List, [], ◌∷◌, ◌++◌, length, take, Option, Some, None, Result, Ok, Err, IfSome, ◌⊎◌, ⊎_elim, refl, sym, subst, ap, ◌∙◌, arith, append_assoc}
+use Rattle.std.proofs.KnownBytes.{Appends-trans, Appends-nil}
+use Rattle.std.proofs.lemmas.Bool.{ne_eqb, lt-leb, cases_lt}
+use Rattle.std.proofs.lemmas.List.{length-take, append-nil, take_all}
+use Rattle.std.specs.Io.KnownBytes.{Appends, Consumes, IsAtEnd, prepend_known}
+use Rattle.manifest.specs.declared.fault.LineFault.{LineFault}
+use Rattle.manifest.specs.Line.{Asked, meaning}
+use Rattle.engine.specs.Device.{AppendsFront, WritesSome}
+use Rattle.engine.specs.Lines.{lines_of, kept, TakesLine}
+use Rattle.engine.specs.Answers.{State, opening, after, text_of, answers}
+use Rattle.engine.specs.Output.{asked_by, asked_then, asked_in, fault_or, fault_from, first_fault, output, IsAnswered}
+use Rattle.engine.proofs.Taking.{lines_of-nil}
+
+-- ---- a line of which the front is kept
+
+-- what a line asks for is told by what is kept of it
+pub meaning-kept : (text : List ℕ) → meaning (kept text) ≡ meaning text
+unfolding meaning
+meaning-kept text = ⊎_elim
+    (λ long.
+    let short_of : leb (length (kept text)) 65536 ≡ false = lt-leb (length (kept text)) 65536 (omega (arith, length-take 65537 text)) in
+    let too_long : leb (length text) 65536 ≡ false = lt-leb (length text) 65536 (omega arith) in
+    rw (short_of, too_long) refl)
+    (λ short. ap meaning (take_all 65537 text short))
+    (cases_lt 65537 (length text))
+
+pub asked_by-kept : (text : List ℕ) → asked_by (kept text) ≡ asked_by text
+unfolding asked_by
+asked_by-kept text = ⊎_elim
+    (λ long.
+    let some_kept : eqb (length (kept text)) 0 ≡ false = ne_eqb (length (kept text)) 0 (λ none. omega (arith, length-take 65537 text)) in
+    let some : eqb (length text) 0 ≡ false = ne_eqb (length text) 0 (λ none. omega arith) in
+    rw (some_kept, some, meaning-kept text) refl)
+    (λ short. ap asked_by (take_all 65537 text short))
+    (cases_lt 65537 (length text))
+
+-- ---- the run so far
+
+-- Of a known script this rest is left, `old` was written before the run and `now` by now, and so on.
+pub record IsAt (script rest : List ℕ) (old now : Option (List ℕ)) (pending : List ℕ) (state : State) (number : ℕ) (text : List ℕ) : Type 0 where
+  pub writes : Appends old now text
+  pub outputs : text ++ (pending ++ answers state (asked_in (lines_of rest))) ≡ output script
+  pub faults : fault_from number (lines_of rest) ≡ first_fault script
+
+abbrev pub IsRunning : Option (List ℕ) → Option (List ℕ) → Option (List ℕ) → Option (List ℕ) → List ℕ → State → ℕ → Type 0
+IsRunning None rest old now pending state number = Unit {0}
+IsRunning (Some script) None old now pending state number = ⊥
+IsRunning (Some script) (Some rest) old now pending state number = (text : List ℕ) × IsAt script rest old now pending state number text
+
+-- nothing is read yet, and nothing written
+pub IsRunning-start : (script old : Option (List ℕ)) → IsRunning script (prepend_known [] script) old old [] opening 1
+unfolding output first_fault
+IsRunning-start None old = tt
+IsRunning-start (Some script) old = ([], record { writes = Appends-nil old; outputs = refl; faults = refl })
+
+-- the same of a reader that is new, and of nothing that waits
+pub IsRunning-begin : (script old : Option (List ℕ)) (reader pending : List ℕ) (state : State) → reader ≡ [] → pending ≡ [] → state ≡ opening → IsRunning script (prepend_known reader script) old old pending state 1
+IsRunning-begin script old reader pending state none nothing opens = rw (none, nothing, opens) (IsRunning-start script old)
+
+-- a beginning of what waited is written, and the rest waits on
+pub IsRunning-partly : (script rest old was now : Option (List ℕ)) (pending later : List ℕ) (state : State) (number : ℕ) → WritesSome was now pending later → IsRunning script rest old was pending state number → IsRunning script rest old now later state number
+IsRunning-partly None rest old was now pending later state number wrote so_far = tt
+IsRunning-partly (Some script) None old was now pending later state number wrote so_far = absurd so_far
+IsRunning-partly (Some script) (Some rest) old was now pending later state number wrote so_far =
+    let left = answers state (asked_in (lines_of rest)) in (
+      so_far.0 ++ wrote.0,
+      record {
+        writes = Appends-trans old was now _ _ so_far.1.writes wrote.2;
+        outputs = append_assoc so_far.0 wrote.0 (later ++ left) ∙ ap (λ t. so_far.0 ++ t) (sym (append_assoc wrote.0 later left)) ∙ ap (λ t. so_far.0 ++ (t ++ left)) (sym wrote.1) ∙ so_far.1.outputs;
+        faults = so_far.1.faults;
+      },
+    )
+
+-- what waited is written
+pub IsRunning-flushed : (script rest old was now : Option (List ℕ)) (pending : List ℕ) (state : State) (number : ℕ) → Appends was now pending → IsRunning script rest old was pending state number → IsRunning script rest old now [] state number
+IsRunning-flushed None rest old was now pending state number wrote so_far = tt
+IsRunning-flushed (Some script) None old was now pending state number wrote so_far = absurd so_far
+IsRunning-flushed (Some script) (Some rest) old was now pending state number wrote so_far = (
+  so_far.0 ++ pending,
+  record {
+    writes = Appends-trans old was now _ _ so_far.1.writes wrote;
+    outputs = append_assoc so_far.0 pending (answers state (asked_in (lines_of rest))) ∙ so_far.1.outputs;
+    faults = so_far.1.faults;
+  },
+)
+
+-- a beginning of what waited is written
+pub front-flushed : (script rest old was now : Option (List ℕ)) (pending : List ℕ) (state : State) (number : ℕ) → AppendsFront was now pending → IsRunning script rest old was pending state number → IfSome script (λ text. AppendsFront old now (output text))
+front-flushed None rest old was now pending state number wrote so_far = tt
+front-flushed (Some script) None old was now pending state number wrote so_far = absurd so_far
+front-flushed (Some script) (Some rest) old was now pending state number wrote so_far =
+    let later = answers state (asked_in (lines_of rest)) in
+    let apart : output script ≡ (so_far.0 ++ wrote.0) ++ (wrote.1 ++ later) =
+    sym so_far.1.outputs
+    ∙ ap (λ t. so_far.0 ++ (t ++ later)) wrote.2
+    ∙ ap (λ t. so_far.0 ++ t) (append_assoc wrote.0 wrote.1 later)
+    ∙ sym (append_assoc so_far.0 wrote.0 (wrote.1 ++ later))
+    in
+    (so_far.0 ++ wrote.0, wrote.1 ++ later, apart, Appends-trans old was now _ _ so_far.1.writes wrote.3)
+
+-- a beginning of the output is written at any time
+pub front-now : (script rest old now : Option (List ℕ)) (pending : List ℕ) (state : State) (number : ℕ) → IsRunning script rest old now pending state number → IfSome script (λ text. AppendsFront old now (output text))
+front-now None rest old now pending state number so_far = tt
+front-now (Some script) None old now pending state number so_far = absurd so_far
+front-now (Some script) (Some rest) old now pending state number so_far =
+    (so_far.0, pending ++ answers state (asked_in (lines_of rest)), sym so_far.1.outputs, so_far.1.writes)
+
+-- ---- one line more
+
+-- what the line asks for is what is kept of it asks for
+says-whole : (line text : List ℕ) (says : Result (Option Asked) LineFault) → line ≡ kept text → asked_by line ≡ says → asked_by text ≡ says
+says-whole line text says stored told = sym (asked_by-kept text) ∙ ap asked_by (sym stored) ∙ told
+
+-- what is left asks for what its first line does, and then what the later lines do
+asked-first : (rest later line text : List ℕ) (says : Result (Option Asked) LineFault) → line ≡ kept text → lines_of rest ≡ text ∷ lines_of later → asked_by line ≡ says → asked_in (lines_of rest) ≡ asked_then says (asked_in (lines_of later))
+asked-first rest later line text says stored cut told =
+    ap asked_in cut ∙ ap (λ r. asked_then r (asked_in (lines_of later))) (says-whole line text says stored told)
+
+fault-first : (number : ℕ) (rest later line text : List ℕ) (says : Result (Option Asked) LineFault) → line ≡ kept text → lines_of rest ≡ text ∷ lines_of later → asked_by line ≡ says → fault_from number (lines_of rest) ≡ fault_or number says (fault_from (number + 1) (lines_of later))
+fault-first number rest later line text says stored cut told =
+    ap (fault_from number) cut ∙ ap (λ r. fault_or number r (fault_from (number + 1) (lines_of later))) (says-whole line text says stored told)
+
+-- the answer to a line waits
+pub IsRunning-asked : (script rest later old now : Option (List ℕ)) (pending new line : List ℕ) (state : State) (number : ℕ) (asked : Asked) → TakesLine rest later line → asked_by line ≡ Ok (Some asked) → new ≡ pending ++ text_of state asked → IsRunning script rest old now pending state number → IsRunning script later old now new (after state asked) (number + 1)
+IsRunning-asked None rest later old now pending new line state number asked took says waits so_far = tt
+IsRunning-asked (Some script) None later old now pending new line state number asked took says waits so_far = absurd so_far
+IsRunning-asked (Some script) (Some rest) None old now pending new line state number asked took says waits so_far = absurd took
+IsRunning-asked (Some script) (Some rest) (Some later) old now pending new line state number asked took says waits so_far =
+    let left = answers (after state asked) (asked_in (lines_of later)) in
+    let first : answers state (asked_in (lines_of rest)) ≡ text_of state asked ++ left =
+    ap (answers state) (asked-first rest later line took.0 (Ok (Some asked)) took.1 took.2 says)
+    in (
+      so_far.0,
+      record {
+        writes = so_far.1.writes;
+        outputs = ap (λ t. so_far.0 ++ t) (ap (λ t. t ++ left) waits ∙ append_assoc pending (text_of state asked) left ∙ ap (λ t. pending ++ t) (sym first)) ∙ so_far.1.outputs;
+        faults = sym (fault-first number rest later line took.0 (Ok (Some asked)) took.1 took.2 says) ∙ so_far.1.faults;
+      },
+    )
+
+-- an empty line is passed over and counted
+pub IsRunning-empty : (script rest later old now : Option (List ℕ)) (pending line : List ℕ) (state : State) (number : ℕ) → TakesLine rest later line → asked_by line ≡ Ok None → IsRunning script rest old now pending state number → IsRunning script later old now pending state (number + 1)
+IsRunning-empty None rest later old now pending line state number took says so_far = tt
+IsRunning-empty (Some script) None later old now pending line state number took says so_far = absurd so_far
+IsRunning-empty (Some script) (Some rest) None old now pending line state number took says so_far = absurd took
+IsRunning-empty (Some script) (Some rest) (Some later) old now pending line state number took says so_far = (
+  so_far.0,
+  record {
+    writes = so_far.1.writes;
+    outputs = ap (λ asked. so_far.0 ++ (pending ++ answers state asked)) (sym (asked-first rest later line took.0 (Ok None) took.1 took.2 says)) ∙ so_far.1.outputs;
+    faults = sym (fault-first number rest later line took.0 (Ok None) took.1 took.2 says) ∙ so_far.1.faults;
+  },
+)
+
+-- a line is answered
+pub IsRunning-answered : (script rest later old now : Option (List ℕ)) (pending new line : List ℕ) (state next : State) (number : ℕ) (says : Result (Option Asked) LineFault) → asked_by line ≡ says → TakesLine rest later line → IsAnswered says state next pending new → IsRunning script rest old now pending state number → IsRunning script later old now new next (number + 1)
+IsRunning-answered script rest later old now pending new line state next number (Ok None) says took done so_far =
+    rw (done.0, done.1) (IsRunning-empty script rest later old now pending line state number took says so_far)
+IsRunning-answered script rest later old now pending new line state next number (Ok (Some asked)) says took done so_far =
+    rw done.0 (IsRunning-asked script rest later old now pending new line state number asked took says done.1 so_far)
+IsRunning-answered script rest later old now pending new line state next number (Err fault) says took done so_far = absurd done
+
+-- ---- the end
+
+-- all answers up to a faulty line are written
+abbrev pub EndsAtFault : Option (List ℕ) → Option (List ℕ) → Option (List ℕ) → ℕ → LineFault → Type 0
+EndsAtFault script old now number fault = IfSome script (λ text. (first_fault text ≡ Some (number, fault)) × Appends old now (output text))
+
+pub fault-flushed : (script rest later old now : Option (List ℕ)) (line : List ℕ) (state : State) (number : ℕ) (fault : LineFault) → TakesLine rest later line → asked_by line ≡ Err fault → IsRunning script rest old now [] state number → EndsAtFault script old now number fault
+fault-flushed None rest later old now line state number fault took says so_far = tt
+fault-flushed (Some script) None later old now line state number fault took says so_far = absurd so_far
+fault-flushed (Some script) (Some rest) None old now line state number fault took says so_far = absurd took
+fault-flushed (Some script) (Some rest) (Some later) old now line state number fault took says so_far =
+    let none : answers state (asked_in (lines_of rest)) ≡ [] = ap (answers state) (asked-first rest later line took.0 (Err fault) took.1 took.2 says) in (
+      sym so_far.1.faults ∙ fault-first number rest later line took.0 (Err fault) took.1 took.2 says,
+      subst (Appends old now) (sym (append-nil so_far.0) ∙ ap (λ t. so_far.0 ++ t) (sym none) ∙ so_far.1.outputs) so_far.1.writes,
+    )
+
+-- all of the script is read, and answered
+pub end-flushed : (script rest left old now : Option (List ℕ)) (reader : List ℕ) (state : State) (number : ℕ) → (reader ≡ []) × IsAtEnd left × Consumes rest (prepend_known reader left) [] → IsRunning script rest old now [] state number → IfSome script (λ text. (first_fault text ≡ None) × Appends old now (output text) × (left ≡ Some []))
+end-flushed None rest left old now reader state number ended so_far = tt
+end-flushed (Some script) None left old now reader state number ended so_far = absurd so_far
+end-flushed (Some script) (Some rest) None old now reader state number ended so_far = absurd ended.2
+end-flushed (Some script) (Some rest) (Some left) old now reader state number ended so_far =
+    let no_byte : rest ≡ [] = ended.2 ∙ ap (λ t. t ++ left) ended.0 ∙ ended.1 in
+    let none : lines_of rest ≡ [] = ap lines_of no_byte ∙ lines_of-nil in (
+      sym so_far.1.faults ∙ ap (fault_from number) none,
+      subst (Appends old now) (sym (append-nil so_far.0) ∙ ap (λ lines. so_far.0 ++ answers state (asked_in lines)) (sym none) ∙ so_far.1.outputs) so_far.1.writes,
+      ap Some ended.1,
+    )

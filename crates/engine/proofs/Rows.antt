@@ -1,0 +1,17 @@
+-- The lines of a snapshot's rows.
+use Rattle.std.proofs.Common.{◌≡◌, List, [], ◌∷◌, ◌++◌, map, refl, ap}
+use Rattle.std.specs.List.{flat_map}
+use Rattle.std.specs.Prelude.{ℕ}
+use Rattle.desk.specs.Shown.{shown}
+use Rattle.desk.specs.declared.snapshot.Row.{Row}
+use Rattle.engine.specs.Text.{node_line}
+use Rattle.engine.specs.Answers.{snapshot_lines}
+
+-- the line of a row
+abbrev pub row_line : Row → List ℕ
+row_line row = node_line row.node.value row.used
+
+-- the lines of the rows are those of what they show
+pub flat_map-shown : (rows : List Row) → flat_map row_line rows ≡ snapshot_lines (map shown rows)
+flat_map-shown [] = refl
+flat_map-shown (row ∷ rows) = ap (λ t. row_line row ++ t) (flat_map-shown rows)

@@ -1,0 +1,6 @@
+use Rattle.std.proofs.Common.{arith, rules}
+use Rattle.engine.proofs.Pieces.{kept-push}
+use Rattle.engine.proofs.lines.keep.Goals as goal
+
+pub returns : goal.returns
+returns c = search (rules, kept-push)

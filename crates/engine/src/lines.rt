@@ -1,0 +1,170 @@
+//! The lines of a source, which is read in pieces.
+ghost use Rattle.std.specs.Prelude.{◌≡◌, ◌==◌, ◌⊎◌, ◌+◌, ◌^◌, ◌<◌, ◌≤◌, ◌++◌, [], nat_lt, true, false, Ok, IfErr, IsErrOf, ℕ, List, length, take, slice_index, vec_len, IfOk, OnOk, IfSome, IfNone};
+ghost use Rattle.std.specs.Io.KnownBytes.{Consumes, IsAtEnd, prepend_known};
+ghost use Rattle.engine.specs.Device.{CountsFailure};
+ghost use Rattle.engine.specs.Lines.{IsLine, TakesPiece, TakesLine, kept};
+
+use crate::device::{DeviceFailed, Source};
+use crate::fault::RunFault;
+use memchr::memchr;
+use std::alloc::{AllocError, Global};
+use std::marker::Model;
+
+// How many bytes are read at a time, at most.
+const PIECE: usize = 65_536;
+
+// The most bytes of a line that are kept: one more than a line may have.
+pub(crate) const MAX_KEPT: usize = 65_537;
+
+// What was read of a source and is not yet taken.
+#[derive(Drop)]
+pub(crate) struct LineReader {
+    buffer: Vec<u8>,
+    start: usize,
+    end: usize,
+}
+
+impl Model for LineReader {
+    ghost use Rattle.std.specs.Prelude.{List, ℕ, ◌≤◌, ◌<◌, slice_range, vec_len};
+
+    ghost Value = { List ℕ };
+
+    ghost view = { λ r. slice_range r.buffer.items r.start r.end };
+
+    ghost invariant = { λ r. (r.start ≤ r.end) × (r.end ≤ vec_len r.buffer) × (0 < vec_len r.buffer) };
+}
+
+impl LineReader {
+    // A reader of which nothing was read.
+    pub(crate) fn new(alloc: Global) -> Result<LineReader, AllocError>
+        ensures { IfOk result (λ reader. reader ≡ []) }
+    {
+        Ok(LineReader {
+            buffer: vec![in alloc; 0; PIECE]?,
+            start: 0,
+            end: 0,
+        })
+    }
+
+    // Whether all that was read is taken.
+    pub(crate) fn is_empty(&self) -> bool
+        ensures { result ≡ (length self.now == 0) }
+    {
+        self.start == self.end
+    }
+
+    // Whether a whole line was read and is not yet taken.
+    pub(crate) fn has_line(&self) -> bool {
+        memchr(b'\n', &self.buffer[self.start..self.end]).is_some()
+    }
+
+    // Takes the next line of a source, of which it keeps the front, and says whether there was one.
+    pub(crate) fn next_line<R: Source>(
+        &mut self,
+        source: &mut R,
+        line: &mut Vec<u8>,
+    ) -> Result<bool, RunFault>
+        requires { R.failure_count source.old < 10 ^ 18 }
+        ensures found { result ≡ Ok true → TakesLine (prepend_known self.old (R.remaining source.old))
+            (prepend_known self.new (R.remaining source.new)) line.new.items }
+        ensures ended { result ≡ Ok false → (self.new ≡ []) × IsAtEnd (R.remaining source.new)
+            × Consumes (prepend_known self.old (R.remaining source.old))
+            (prepend_known self.new (R.remaining source.new)) [] }
+        ensures less { result ≡ Ok true → R.bytes_left source.new + length self.new
+            < R.bytes_left source.old + length self.old }
+        ensures failed { IsErrOf result RunFault.Read → R.failure_count source.old < R.failure_count source.new }
+        ensures kept { OnOk result (R.failure_count source.new ≡ R.failure_count source.old) }
+        ensures faults { IfErr result (λ e. (e ≡ RunFault.Read) ⊎ (e ≡ RunFault.NoMemory)) }
+    {
+        line.clear();
+        let mut begun = false;
+        'pieces: loop {
+            if !self.has_more(source)? {
+                return Ok(begun);
+            }
+            begun = true;
+            let Ok(ended) = self.take_piece(line) else {
+                return Err(RunFault::NoMemory);
+            };
+            if ended {
+                return Ok(true);
+            }
+        }
+    }
+
+    // Whether any byte of a source is left. It reads a piece where all that was read is taken.
+    #[tactic(auto, using(crate::proofs::Taking::filled, crate::proofs::Taking::unread))]
+    fn has_more<R: Source>(&mut self, source: &mut R) -> Result<bool, RunFault>
+        requires { R.failure_count source.old < 10 ^ 18 }
+        ensures some { IfOk result (λ more. more ≡ nat_lt 0 (length self.new)) }
+        ensures read { OnOk result (Consumes (prepend_known self.old (R.remaining source.old))
+            (prepend_known self.new (R.remaining source.new)) []) }
+        ensures ended { result ≡ Ok false → (self.new ≡ []) × IsAtEnd (R.remaining source.new) }
+        ensures left { OnOk result (R.bytes_left source.new + length self.new
+            ≤ R.bytes_left source.old + length self.old) }
+        ensures failed { CountsFailure (R.failure_count source.old) (R.failure_count source.new) result }
+        ensures faults { IfErr result (λ e. e ≡ RunFault.Read) }
+    {
+        if !self.is_empty() {
+            return Ok(true);
+        }
+        match self.fill(source) {
+            Ok(()) => Ok(!self.is_empty()),
+            Err(_) => Err(RunFault::Read),
+        }
+    }
+
+    // Reads the next piece of a source, where all that was read is taken.
+    fn fill<R: Source>(&mut self, source: &mut R) -> Result<(), DeviceFailed>
+        requires empty { self.old ≡ [] }
+        requires failures { R.failure_count source.old < 10 ^ 18 }
+        ensures read { OnOk result (Consumes (R.remaining source.old) (R.remaining source.new) self.new) }
+        ensures end { OnOk result (self.new ≡ [] → IsAtEnd (R.remaining source.new)) }
+        ensures left { OnOk result (R.bytes_left source.new + length self.new ≤ R.bytes_left source.old) }
+        ensures failed { CountsFailure (R.failure_count source.old) (R.failure_count source.new) result }
+    {
+        self.start = 0;
+        self.end = 0;
+        self.end = source.read(self.buffer.as_mut_slice())?;
+        Ok(())
+    }
+
+    // Takes what there is of a line, and says whether its end was there.
+    fn take_piece(&mut self, line: &mut Vec<u8>) -> Result<bool, AllocError>
+        requires { vec_len line.old ≤ 65537 }
+        ensures { IfOk result (λ ended. (text : List ℕ) × IsLine text
+            × (line.new.items ≡ kept (line.old.items ++ text)) × TakesPiece ended self.old self.new text) }
+    {
+        let piece = &self.buffer[self.start..self.end];
+        match newline_at(piece) {
+            Some(at) => {
+                keep(line, &piece[..at])?;
+                self.start += at + 1;
+                Ok(true)
+            }
+            None => {
+                keep(line, piece)?;
+                self.start = self.end;
+                Ok(false)
+            }
+        }
+    }
+}
+
+// Where the first newline stands.
+fn newline_at(bytes: &[u8]) -> Option<usize>
+    ensures found { IfSome result (λ at. (at < length bytes.now) × (slice_index bytes.now at ≡ 10)) }
+    ensures first { IfSome result (λ at. IsLine (take at bytes.now)) }
+    ensures none { IfNone result (IsLine bytes.now) }
+{
+    memchr(b'\n', bytes)
+}
+
+// Adds a piece to what is kept of a line.
+fn keep(line: &mut Vec<u8>, piece: &[u8]) -> Result<(), AllocError>
+    requires { vec_len line.old ≤ 65537 }
+    ensures { OnOk result (line.new.items ≡ kept (line.old.items ++ piece.now)) }
+{
+    let room = MAX_KEPT - line.len();
+    line.extend_from_slice(&piece[..piece.len().min(room)])
+}

@@ -1,0 +1,134 @@
+//! A script from its first line to its last.
+ghost use Rattle.std.specs.Prelude.{◌≡◌, ℕ, ◌^◌, ◌<◌, Some, None, Ok, Err, [], option_map, IfSome, OnOk, OnErr, IfErr};
+ghost use Rattle.std.specs.Io.KnownBytes.{Appends};
+ghost use Rattle.engine.specs.Device.{AppendsFront, WritesSome, CountsFailure};
+ghost use Rattle.manifest.specs.Line.{shown};
+ghost use Rattle.manifest.specs.Reading.{Gives};
+ghost use Rattle.manifest.specs.declared.fault.LineFault.{LineFault};
+ghost use Rattle.engine.specs.Output.{asked_by, first_fault, output, IsAnswered, IsLineFault};
+ghost use Rattle.engine.specs.Session.{state_of};
+
+use crate::device::{Sink, Source, write_all};
+use crate::fault::RunFault;
+use crate::lines::{LineReader, MAX_KEPT};
+use crate::session::Session;
+use manifest::{Command, LineFault, read_line};
+use std::alloc::Global;
+
+// The output waits for so many bytes, while further lines are there to be answered.
+const MAX_PENDING: usize = 65_536;
+
+// Writes what waits to be written.
+fn flush<W: Sink>(sink: &mut W, pending: &mut Vec<u8>) -> Result<(), RunFault>
+    requires { W.failure_count sink.old < 10 ^ 18 }
+    ensures written { OnOk result (Appends (W.written sink.old) (W.written sink.new) pending.old.items) }
+    ensures empty { OnOk result (pending.new.items ≡ []) }
+    ensures front { OnErr result (AppendsFront (W.written sink.old) (W.written sink.new) pending.old.items) }
+    ensures failed { CountsFailure (W.failure_count sink.old) (W.failure_count sink.new) result }
+    ensures faults { IfErr result (λ e. e ≡ RunFault.Write) }
+{
+    let Ok(()) = write_all(sink, pending) else {
+        return Err(RunFault::Write);
+    };
+    pending.clear();
+    Ok(())
+}
+
+// Writes what waits, where it is due or has grown large.
+fn flush_if<W: Sink>(sink: &mut W, pending: &mut Vec<u8>, due: bool) -> Result<(), RunFault>
+    requires { W.failure_count sink.old < 10 ^ 18 }
+    ensures written { OnOk result (WritesSome (W.written sink.old) (W.written sink.new) pending.old.items pending.new.items) }
+    ensures front { OnErr result (AppendsFront (W.written sink.old) (W.written sink.new) pending.old.items) }
+    ensures failed { CountsFailure (W.failure_count sink.old) (W.failure_count sink.new) result }
+    ensures faults { IfErr result (λ e. e ≡ RunFault.Write) }
+{
+    if due || pending.len() >= MAX_PENDING {
+        return flush(sink, pending);
+    }
+    Ok(())
+}
+
+// What a line asks for: nothing, where it is empty.
+#[tactic(auto, unfolding(crate::specs::Output::asked_by))]
+fn command_of(alloc: Global, line: &[u8]) -> Result<Option<Command>, LineFault>
+    ensures { Gives (option_map shown) result (asked_by line.now) }
+{
+    if line.is_empty() {
+        return Ok(None);
+    }
+    let command = read_line(alloc, line)?;
+    Ok(Some(command))
+}
+
+// Does what a line asks for, and adds the answer to what waits. A faulty line changes nothing.
+fn answer_line(
+    alloc: Global,
+    session: &mut Session,
+    line: &[u8],
+    number: u64,
+    pending: &mut Vec<u8>,
+) -> Result<(), RunFault>
+    ensures answered { OnOk result (IsAnswered (asked_by line.now) (state_of session.old) (state_of session.new)
+        pending.old.items pending.new.items) }
+    ensures kept { OnErr result (pending.new.items ≡ pending.old.items) }
+    ensures faults { IfErr result (IsLineFault number (asked_by line.now)) }
+{
+    match command_of(alloc, line) {
+        Ok(None) => Ok(()),
+        Ok(Some(command)) => session.answer(command, pending),
+        Err(LineFault::NoMemory) => Err(RunFault::NoMemory),
+        Err(fault) => Err(RunFault::Line(number, fault)),
+    }
+}
+
+/// Reads a script to its end or its first faulty line, does what its lines ask of a new desk with
+/// one pass, and writes the answers. A line ends at a newline, which the last one may lack; an
+/// empty line is passed over and counted.
+///
+/// Errors: `Line` with the number of the first faulty line and its fault, when the answers to all
+/// lines before it are written; `NoMemory`, `Read` and `Write`, when a beginning of the output is
+/// written; `NoPlace`, when nothing is read or written.
+pub fn run<R: Source, W: Sink>(alloc: Global, source: &mut R, sink: &mut W) -> Result<(), RunFault>
+    requires reads { R.failure_count source.old < 10 ^ 18 }
+    requires writes { W.failure_count sink.old < 10 ^ 18 }
+    requires finite { R.bytes_left source.old < 2 ^ 64 }
+
+    // No line is faulty, the output is written whole, and everything is read.
+    ensures done { OnOk result (IfSome (R.remaining source.old) (λ script. (first_fault script ≡ None)
+        × Appends (W.written sink.old) (W.written sink.new) (output script)
+        × (R.remaining source.new ≡ Some []))) }
+
+    // The line is the first faulty one, and the output of the lines before it is written whole.
+    ensures line { (number : ℕ) (fault : LineFault) → result ≡ Err (RunFault.Line number fault)
+        → IfSome (R.remaining source.old) (λ script. (first_fault script ≡ Some (number, fault))
+        × Appends (W.written sink.old) (W.written sink.new) (output script)) }
+
+    // At any fault a beginning of the output is written, and nothing else.
+    ensures front { OnErr result (IfSome (R.remaining source.old) (λ script.
+        AppendsFront (W.written sink.old) (W.written sink.new) (output script))) }
+
+    // A failure is told only where the device failed in this call.
+    ensures read { result ≡ Err RunFault.Read → R.failure_count source.old < R.failure_count source.new }
+    ensures write { result ≡ Err RunFault.Write → W.failure_count sink.old < W.failure_count sink.new }
+
+    ensures no_place { result ≡ Err RunFault.NoPlace → (source.new ≡ source.old) × (sink.new ≡ sink.old) }
+{
+    let mut session = Session::new(alloc)?;
+    let Ok(mut reader) = LineReader::new(alloc) else {
+        return Err(RunFault::NoMemory);
+    };
+    let mut line = Vec::new(alloc);
+    let mut pending = Vec::new(alloc);
+    let mut number = 0u64;
+    'lines: loop {
+        flush_if(sink, &mut pending, !reader.has_line())?;
+        if !reader.next_line(source, &mut line)? {
+            return flush(sink, &mut pending);
+        }
+        number += 1;
+        if let Err(fault) = answer_line(alloc, &mut session, &line, number, &mut pending) {
+            flush(sink, &mut pending)?;
+            return Err(fault);
+        }
+    }
+}

@@ -1,0 +1,162 @@
+//! What a script's commands are done on.
+ghost use Rattle.std.specs.Prelude.{◌≡◌, ◌++◌, ◌⊎◌, length, slice_index, OnOk, OnErr, IfOk, IfErr};
+ghost use Rattle.desk.specs.Machine as machine;
+ghost use Rattle.manifest.specs.Line.{shown};
+ghost use Rattle.engine.specs.Answers.{after, text_of, opening, reply_lines, snapshot_lines};
+
+use crate::fault::RunFault;
+use crate::text::{push_clock, push_node, push_places, push_queue, push_refused};
+use desk::{Counts, Desk, Limits, Pass, Reply, Snapshot, Step, Version};
+use manifest::Command;
+use std::alloc::{AllocError, Global};
+
+// A desk with its one pass, and room for an answer.
+#[derive(Drop)]
+pub(crate) struct Session {
+    desk: Desk,
+    pass: Pass,
+    text: Vec<u8>,
+    ghost first: { pass.number ≡ 0 },
+    ghost only: { length desk.calls ≡ 1 },
+    ghost counted: { slice_index desk.calls 0 ≡ pass.calls },
+}
+
+impl Session {
+    ghost use Rattle.engine.specs.Session.{state_of};
+
+    // A new desk, with room for as much as the program allows.
+    #[tactic(auto, using(crate::proofs::Steps::limits_same))]
+    pub(crate) fn new(alloc: Global) -> Result<Session, RunFault>
+        ensures opening { IfOk result (λ session. state_of session ≡ opening) }
+        ensures faults { IfErr result (λ e. (e ≡ RunFault.NoMemory) ⊎ (e ≡ RunFault.NoPlace)) }
+    {
+        let limits = Limits::greatest();
+        let Ok(mut desk) = Desk::new(alloc, limits) else {
+            return Err(RunFault::NoMemory);
+        };
+        let Ok(pass) = desk.pass() else {
+            return Err(RunFault::NoPlace);
+        };
+        Ok(Session {
+            desk,
+            pass,
+            text: Vec::new(alloc),
+        })
+    }
+
+    // Does what a command asks, and adds the answer to the output.
+    #[tactic(auto, using(crate::proofs::Steps::request_of_same), unfolding(crate::specs::Answers::after, crate::specs::Answers::text_of))]
+    pub(crate) fn answer(&mut self, command: Command, out: &mut Vec<u8>) -> Result<(), RunFault>
+        ensures state { OnOk result (state_of self.new ≡ after (state_of self.old) (shown command)) }
+        ensures text { OnOk result (out.new.items ≡ out.old.items ++ text_of (state_of self.old) (shown command)) }
+        ensures kept { OnErr result (out.new.items ≡ out.old.items) }
+        ensures faults { IfErr result (λ e. e ≡ RunFault.NoMemory) }
+    {
+        self.text.clear();
+        let step = match command {
+            Command::NodeSet { version, node } => Step::NodeSet {
+                version: Version(version),
+                node,
+            },
+            Command::PodBound {
+                version,
+                uid,
+                node,
+                request,
+            } => Step::PodBound {
+                version: Version(version),
+                uid,
+                node,
+                request,
+            },
+            Command::Dump => {
+                self.show()?;
+                Step::Count
+            }
+        };
+        self.apply(step)?;
+        add(out, &self.text)
+    }
+
+    // Takes a step, and adds the lines that answer it to the text.
+    fn apply(&mut self, step: Step) -> Result<(), RunFault>
+        ensures state { OnOk result (state_of self.new ≡ machine.after (state_of self.old) 0 step) }
+        ensures text { OnOk result (self.new.text.items ≡ self.old.text.items
+            ++ reply_lines (machine.reply (state_of self.old) step)) }
+        ensures faults { IfErr result (λ e. e ≡ RunFault.NoMemory) }
+    {
+        let Ok(reply) = self.desk.apply(&mut self.pass, step) else {
+            return Err(RunFault::NoMemory);
+        };
+        let Ok(()) = push_reply(&mut self.text, reply) else {
+            return Err(RunFault::NoMemory);
+        };
+        Ok(())
+    }
+
+    // Adds the lines of the nodes to the text.
+    fn show(&mut self) -> Result<(), RunFault>
+        ensures state { state_of self.new ≡ state_of self.old }
+        ensures text { OnOk result (self.new.text.items ≡ self.old.text.items
+            ++ snapshot_lines (machine.snapshot (state_of self.old).cluster)) }
+        ensures faults { IfErr result (λ e. e ≡ RunFault.NoMemory) }
+    {
+        let Ok(snapshot) = self.desk.look(&mut self.pass) else {
+            return Err(RunFault::NoMemory);
+        };
+        let Ok(()) = push_snapshot(&mut self.text, &snapshot) else {
+            return Err(RunFault::NoMemory);
+        };
+        Ok(())
+    }
+}
+
+// Adds a text whole, or nothing of it.
+fn add(out: &mut Vec<u8>, text: &[u8]) -> Result<(), RunFault>
+    ensures text { OnOk result (out.new.items ≡ out.old.items ++ text.now) }
+    ensures kept { OnErr result (out.new.items ≡ out.old.items) }
+    ensures faults { IfErr result (λ e. e ≡ RunFault.NoMemory) }
+{
+    match out.extend_from_slice(text) {
+        Ok(()) => Ok(()),
+        Err(_) => Err(RunFault::NoMemory),
+    }
+}
+
+// Adds the lines that answer a step.
+#[tactic(auto, unfolding(crate::specs::Answers::reply_lines))]
+fn push_reply(out: &mut Vec<u8>, reply: Reply) -> Result<(), AllocError>
+    ensures { OnOk result (out.new.items ≡ out.old.items ++ reply_lines reply) }
+{
+    match reply {
+        Reply::Done => out.extend_from_slice(b"ok\n"),
+        Reply::Counts(counts) => push_numbers(out, counts),
+        Reply::Refused(why) => push_refused(out, why),
+    }
+}
+
+// Adds the lines of a desk's numbers.
+#[tactic(auto, unfolding(crate::specs::Answers::reply_lines))]
+fn push_numbers(out: &mut Vec<u8>, n: Counts) -> Result<(), AllocError>
+    ensures { OnOk result (out.new.items ≡ out.old.items ++ reply_lines (Reply.Counts n)) }
+{
+    push_places(out, n.bound as u64, n.assumed as u64)?;
+    push_queue(
+        out,
+        n.active as u64,
+        n.backoff as u64,
+        n.unschedulable as u64,
+        n.in_flight as u64,
+    )?;
+    push_clock(out, n.clock.0, n.version.0)
+}
+
+// Adds the lines of the nodes, in the order of their names.
+fn push_snapshot(out: &mut Vec<u8>, snapshot: &Snapshot) -> Result<(), AllocError>
+    ensures { OnOk result (out.new.items ≡ out.old.items ++ snapshot_lines snapshot.now) }
+{
+    for row in snapshot.rows() {
+        push_node(out, &row.node, row.used)?;
+    }
+    Ok(())
+}
