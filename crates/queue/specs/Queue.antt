@@ -1,5 +1,5 @@
 -- The queue as a plain set of entries under their uids, and what each call makes of it.
-use Rattle.std.specs.Prelude.{ℕ, ◌+◌, List, Bool, false, nat_le, if◌then◌else◌, map, count_by, Option, Some, None, is_some}
+use Rattle.std.specs.Prelude.{ℕ, List, Bool, false, nat_le, if◌then◌else◌, map, count_by, Option, Some, None, is_some}
 use Rattle.std.specs.FinMap as table
 use Rattle.std.specs.Ordering.{nat_cmp}
 use Rattle.std.specs.Cmp.Lexicographic.{slice_cmp}
@@ -11,8 +11,6 @@ use Rattle.queue.specs.declared.state.Failure.{Failure}
 use Rattle.queue.specs.declared.refusal.Refusal.{Refusal}
 use Rattle.queue.specs.declared.refusal.Refusal.TheVariants.{Known, Full, NotInFlight}
 use Rattle.queue.specs.declared.counts.Counts.{Counts}
-use Rattle.queue.specs.declared.state.State.{State}
-use Rattle.queue.specs.declared.state.State.TheVariants.{Active, Backoff, Unschedulable, InFlight}
 use Rattle.queue.specs.Entry.{Entry, new_entry, is_active, is_backoff, is_unschedulable, is_in_flight, is_in_flight_for, popped, sent_back, failed, ticked, moved_on}
 use Rattle.queue.specs.Order.{Item, next_item}
 
@@ -70,17 +68,6 @@ counts_in entries = record {
 -- how many entries of the queue stand where
 unfoldable pub counts_of : QueueState → Counts
 counts_of q = counts_in (table.values q.entries)
-
--- with one more entry, in this state
-abbrev pub counted : State → Counts → Counts
-counted Active counts = record counts { active = counts.active + 1 }
-counted (Backoff until) counts = record counts { backoff = counts.backoff + 1 }
-counted (Unschedulable since) counts = record counts { unschedulable = counts.unschedulable + 1 }
-counted (InFlight pass moved) counts = record counts { in_flight = counts.in_flight + 1 }
-
--- all that are counted
-abbrev pub total_of : Counts → ℕ
-total_of counts = counts.active + counts.backoff + counts.unschedulable + counts.in_flight
 
 -- with this entry under this uid
 abbrev pub with_entry : QueueState → Name → Entry → QueueState

@@ -1,10 +1,13 @@
 -- What a list of entries, in any order, stands for.
-use Rattle.std.specs.Prelude.{◌≡◌, ℕ, ◌<◌, ◌≤◌, Bool, true, false, ◌&&◌, List, [], ◌∷◌, map, find, is_none, Option, Some, None, slice_index_or, Vec, vec_len, vec_capacity}
+use Rattle.std.specs.Prelude.{◌≡◌, ℕ, ◌+◌, ◌<◌, ◌≤◌, Bool, true, false, ◌&&◌, List, [], ◌∷◌, map, find, is_none, Option, Some, None, slice_index_or, Vec, vec_len, vec_capacity}
 use Rattle.std.specs.FinMap as table
 use Rattle.std.specs.Global.{Global}
 use Rattle.std.specs.Ordering.{nat_cmp, eq_by_cmp}
 use Rattle.std.specs.Cmp.Lexicographic.{slice_cmp}
 use Rattle.quant.specs.declared.name.Name.{Name}
+use Rattle.queue.specs.declared.counts.Counts.{Counts}
+use Rattle.queue.specs.declared.state.State.{State}
+use Rattle.queue.specs.declared.state.State.TheVariants.{Active, Backoff, Unschedulable, InFlight}
 use Rattle.queue.specs.Entry.{Entry, is_active}
 use Rattle.queue.specs.Order.{item_of, comes_before}
 use Rattle.queue.specs.Queue.{Entries, QueueState}
@@ -42,3 +45,14 @@ pub record IsFirstBelow (slots : List Entry) (n place : ℕ) : Type 0 where
 abbrev pub IsNextBelow : List Entry → ℕ → Option ℕ → Type 0
 IsNextBelow slots n None = (k : ℕ) (d : Entry) → k < n → is_active (slice_index_or slots k d).state ≡ false
 IsNextBelow slots n (Some place) = IsFirstBelow slots n place
+
+-- with one more entry, in this state
+abbrev pub counted : State → Counts → Counts
+counted Active counts = record counts { active = counts.active + 1 }
+counted (Backoff until) counts = record counts { backoff = counts.backoff + 1 }
+counted (Unschedulable since) counts = record counts { unschedulable = counts.unschedulable + 1 }
+counted (InFlight pass moved) counts = record counts { in_flight = counts.in_flight + 1 }
+
+-- all that are counted
+abbrev pub total_of : Counts → ℕ
+total_of counts = counts.active + counts.backoff + counts.unschedulable + counts.in_flight

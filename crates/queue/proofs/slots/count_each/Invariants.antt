@@ -1,5 +1,6 @@
 use Rattle.std.proofs.Common.{◌≡◌, ◌≤◌, take}
-use Rattle.queue.specs.Queue.{counts_in, total_of}
+use Rattle.queue.specs.Queue.{counts_in}
+use Rattle.queue.specs.Slots.{total_of}
 use Rattle.queue.proofs.slots.count_each.Given as goal
 
 -- the counts are those of the slots so far
