@@ -1,14 +1,14 @@
 -- Digits put together.
-use Rattle.std.proofs.Common.{◌≡◌, ◌∷◌, get_or, add-one, true, false, cond, ℕ, suc, ◌+◌, ◌-◌, ◌*◌, ◌^◌, ◌<◌, ◌≤◌, ℤ, pos, negsuc, Ok, Err, Result, Bool, List, drop, length, refl, ap, ◌∙◌, arith}
+use Rattle.std.proofs.Common.{◌≡◌, ◌∷◌, get_or, add-one, true, false, cond, min, ℕ, suc, ◌+◌, ◌-◌, ◌*◌, ◌^◌, ◌<◌, ◌≤◌, ℤ, pos, negsuc, Ok, Err, Result, Bool, List, drop, length, refl, ap, ◌∙◌, arith}
 use Rattle.std.proofs.Math.IntN.{◌+ℤ◌, ◌*ℤ◌}
 use Rattle.std.proofs.lemmas.Int.{ints}
 use Rattle.std.proofs.lemmas.Bool.{lt-ltb, le-ltb, le-leb, lt-leb}
 use Rattle.std.proofs.lemmas.Nat.{pow-add, pow_pos}
-use Rattle.std.proofs.Math.Nat.{mul-le-mul_left}
+use Rattle.std.proofs.Math.Nat.{mul-le-mul_left, min-eq_right}
 use Rattle.std.proofs.Math.Pow.{pow_mono}
 use Rattle.std.proofs.Math.Seq.{drop-cons}
 use Rattle.std.proofs.Math.ListN.{drop_of_length-le}
-use Rattle.leb.specs.Number.{Sign}
+use Rattle.leb.specs.Number.{Sign, unsigned, signed}
 use Rattle.leb.specs.declared.LebFault.TheVariants.{Truncated, TooLong}
 use Rattle.leb.specs.Reading.{before, last_at, join, onto, Found, reading, sign_of}
 use Rattle.leb.specs.declared.LebFault.{LebFault}
@@ -68,6 +68,18 @@ positive_is true low w high rest r t e = cc
 -- a last byte that is refused
 pub refused_is : (low w : ℕ) (rest : List ℕ) (r : Result ℤ LebFault) (e : LebFault) → r ≡ Err e → onto low w (before rest r) ≡ Err e
 refused_is low w rest r e h = ap (λ x. onto low w (before rest x)) h
+
+-- a byte below 64 is a number of its own, with a sign or without
+last_small : (s : Sign) (bits b : ℕ) → 7 ≤ bits → b < 64 → last_at s bits b ≡ Ok (pos b)
+unfolding last_at
+last_small unsigned bits b k h = let m : min bits 7 ≡ 7 = min-eq_right k in rw (m, lt-ltb b (2 ^ 7) (omega arith)) refl
+last_small signed bits b k h = let p : 6 ≤ bits - 1 = omega arith in let m : min (bits - 1) 6 ≡ 6 = min-eq_right p in rw (m, lt-ltb b (2 ^ 6) h) refl
+
+pub small_is : (s : Sign) (bits : ℕ) (bytes : List ℕ) (at : ℕ) → 7 ≤ bits → at < length bytes → get_or bytes at 0 < 64
+    → reading s bits (drop at bytes) ≡ Ok (pos (get_or bytes at 0), drop (at + 1) bytes)
+small_is s bits bytes at k p h =
+    ap (reading s bits) (at_place bytes at p) ∙ ends s bits (get_or bytes at 0) (drop (at + 1) bytes) (omega arith)
+    ∙ ap (before (drop (at + 1) bytes)) (last_small s bits (get_or bytes at 0) k h)
 
 -- The bits below the weight are read, the others are left. What is read from the start is that, joined to what is read from here on.
 pub record HasRead (bytes : List ℕ) (at : ℕ) (sign : Bool) (bits low weight left next : ℕ) : Type 0 where

@@ -23,6 +23,7 @@ pub enum LebFault {
 }
 
 /// Reads an unsigned number of 32 bits from `at` on. Gives the number, and the place after its last byte.
+#[inline]
 pub fn read_u32(bytes: &[u8], at: usize) -> Result<(u32, usize), LebFault>
     requires { at ≤ length bytes.now }
     ensures number { IfOk result (λ x. Spells unsigned 32 (drop at bytes.now) (pos x.0) (drop x.1 bytes.now)) }
@@ -39,6 +40,7 @@ pub fn read_u32(bytes: &[u8], at: usize) -> Result<(u32, usize), LebFault>
 }
 
 /// Reads a signed number of 32 bits from `at` on. Gives the number, and the place after its last byte.
+#[inline]
 pub fn read_i32(bytes: &[u8], at: usize) -> Result<(i32, usize), LebFault>
     requires { at ≤ length bytes.now }
     ensures number { IfOk result (λ x. Spells signed 32 (drop at bytes.now) x.0 (drop x.1 bytes.now)) }
@@ -59,6 +61,7 @@ pub fn read_i32(bytes: &[u8], at: usize) -> Result<(i32, usize), LebFault>
 }
 
 /// Reads a signed number of 64 bits from `at` on. Gives the number, and the place after its last byte.
+#[inline]
 pub fn read_i64(bytes: &[u8], at: usize) -> Result<(i64, usize), LebFault>
     requires { at ≤ length bytes.now }
     ensures number { IfOk result (λ x. Spells signed 64 (drop at bytes.now) x.0 (drop x.1 bytes.now)) }
@@ -96,7 +99,7 @@ struct Spelled {
 #[inline]
 fn read(bytes: &[u8], at: usize, bits: u32, signed: bool) -> Result<Spelled, LebFault>
     requires place { at ≤ length bytes.now }
-    requires some { 1 ≤ bits }
+    requires some { 7 ≤ bits }
     requires most { bits ≤ 64 }
     ensures number { IfOk result (λ x. Spells (sign_of signed) bits (drop at bytes.now) (value_of x) (drop x.next bytes.now)) }
     ensures range { IfOk result (λ x. InRange (sign_of signed) bits (value_of x)) }
@@ -106,14 +109,31 @@ fn read(bytes: &[u8], at: usize, bits: u32, signed: bool) -> Result<Spelled, Leb
     ensures too_long { IsErrOf result LebFault.TooLong ↔ IsTooLong bits (drop at bytes.now) }
     ensures bad_last_byte { IsErrOf result LebFault.BadLastByte ↔ HasBadLastByte (sign_of signed) bits (drop at bytes.now) }
 {
+    begin(bytes, at, bits, signed)
+}
+
+// The same: most numbers have one byte, and no sign.
+#[inline]
+fn begin(bytes: &[u8], at: usize, bits: u32, signed: bool) -> Result<Spelled, LebFault>
+    requires place { at ≤ length bytes.now }
+    requires some { 7 ≤ bits }
+    requires most { bits ≤ 64 }
+    ensures { Gives bytes.now result (reading (sign_of signed) bits (drop at bytes.now)) }
+{
+    if at < bytes.len() && bytes[at] < 64 {
+        return Ok(Spelled {
+            negative: false,
+            low: bytes[at] as u64,
+            next: at + 1,
+        });
+    }
     scan(bytes, at, bits, signed)
 }
 
 // The same, byte by byte.
-#[inline]
 fn scan(bytes: &[u8], at: usize, bits: u32, signed: bool) -> Result<Spelled, LebFault>
     requires place { at ≤ length bytes.now }
-    requires some { 1 ≤ bits }
+    requires some { 7 ≤ bits }
     requires most { bits ≤ 64 }
     ensures { Gives bytes.now result (reading (sign_of signed) bits (drop at bytes.now)) }
 {
