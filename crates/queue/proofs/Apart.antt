@@ -19,6 +19,7 @@ apart-set (e ∷ es) (suc i) d new apart within is =
     (ap is_none (find-set es i d new e.pod.uid (right_part _ _ apart) inside is ∙ ap (λ b. cond b (Some new) (find (has_uid e.pod.uid) es)) other) ∙ left_part _ _ apart)
     (apart-set es i d new (right_part _ _ apart) inside is)
 
+-- to take nothing of nothing leaves nothing
 nothing_left : (b : Bool) (o : Option Entry) → is_none o ≡ true → is_none (cond b None o) ≡ true
 nothing_left true o h = refl
 nothing_left false o h = h
@@ -42,6 +43,7 @@ apart-push (e ∷ es) new apart none =
       | false ↦ λ is h. both_parts _ _ (none-push (has_uid e.pod.uid) es new (left_part _ _ apart) (same_laws.symm e.pod.uid new.pod.uid ∙ is)) (apart-push es new (right_part _ _ apart) h)
     ] refl none
 
+-- a change of what is there leaves what is not
 is_none-map : (f : Entry → Entry) (o : Option Entry) → is_none (option_map f o) ≡ is_none o
 is_none-map f None = refl
 is_none-map f (Some x) = refl

@@ -25,12 +25,14 @@ first_active es n x within is act none = record {
       (cases_lt k n);
 }
 
+-- one entry goes before another, whichever default they are read with
 earlier_than : (es : List Entry) (n at : ℕ) (x y d : Entry) → n < length es → at < n → x ≡ get_or es n x → y ≡ get_or es at y → comes_before (item_of x) (item_of y) ≡ true → comes_before (item_of (get_or es n d)) (item_of (get_or es at d)) ≡ true
 earlier_than es n at x y d within inside is_x is_y goes_first =
     let here : x ≡ get_or es n d = read_at es n x d within is_x in
     let there : y ≡ get_or es at d = read_at es at y d (omega arith) is_y in
     sym (ap (λ (e : Entry). comes_before (item_of e) (item_of (get_or es at d))) here) ∙ sym (ap (λ (e : Entry). comes_before (item_of x) (item_of e)) there) ∙ goes_first
 
+-- what would put the first before the third does not hold
 late : (a b c : Bool) → (a ≡ true → b ≡ true → c ≡ true) → b ≡ true → c ≡ false → a ≡ false
 late true b c h is_b not_c = absurd (differ (sym not_c ∙ h refl is_b))
 late false b c h is_b not_c = refl

@@ -56,6 +56,7 @@ find-set (e ∷ es) (suc i) d new q apart within is =
     ∙ swapped (same q e.pod.uid) (same q new.pod.uid) (Some e) (Some new) (find (has_uid q) es)
     (λ first later. apart_head e es i d q apart (omega arith) first (sym (ap (same q) is) ∙ later))
 
+-- the test for nothing finds it
 none_is : (o : Option Entry) → is_none o ≡ true → o ≡ None
 none_is None h = refl
 none_is (Some x) h = cc

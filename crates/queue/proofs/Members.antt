@@ -25,14 +25,17 @@ nothing e h = cc
 pub same_some : (a b : Entry) → Some a ≡ Some b → a ≡ b
 same_some a b h = cc
 
+-- the first part of an `and` of tests
 left_test : (a b : Bool) → T (a && b) → T a
 left_test true b h = tt
 left_test false b h = h
 
+-- the second part
 right_test : (a b : Bool) → T (a && b) → T b
 right_test true b h = h
 right_test false b h = absurd h
 
+-- what is less is not equal
 less_differs : (o : Ordering) → T (is_lt o) → is_eq o ≡ false
 less_differs Less h = refl
 less_differs Equal h = absurd h

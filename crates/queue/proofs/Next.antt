@@ -94,10 +94,12 @@ first_of_list (y ∷ ys) =
 abbrev gives_way : Item → Item → Bool
 gives_way x y = not (is_active y.1.state && comes_before y x)
 
+-- the test passes where an active one does not come before
 gives_way_if : (a b : Bool) → (a ≡ true → b ≡ false) → not (a && b) ≡ true
 gives_way_if true b h = ap not (h refl)
 gives_way_if false b h = refl
 
+-- and where it passes, an active one does not
 late_if : (a b : Bool) → not (a && b) ≡ true → a ≡ true → b ≡ false
 late_if true true h a = sym h
 late_if true false h a = refl
@@ -122,14 +124,17 @@ only_first items x y sorted f g =
     let entry : y.1 ≡ x.1 = same_some y.1 x.1 (sym (found_member items y sorted g.member) ∙ ap (λ (u : Name). table.find (slice_cmp nat_cmp) u items) uid ∙ found_member items x sorted f.member) in
     λ i. (uid i, entry i)
 
+-- what is next in a list is the first one
 pub next_first : (items : List Item) (x : Item) → T (table.is_sorted (slice_cmp nat_cmp) items) → IsFirst items x → next_item items ≡ Some x
 next_first items x sorted f =
     find_only (is_next items) items x f.member (next_if_first items x f) (λ y is passes. only_first items x y sorted f (first_if_next items y is passes))
 
+-- an `and` fails by its first part
 idle_fails : (a b : Bool) → a ≡ false → (a && b) ≡ false
 idle_fails true b h = cc
 idle_fails false b h = refl
 
+-- nothing is next where none is active
 pub next_none : (items : List Item) → NoneIsActive items → next_item items ≡ None
 next_none items none = find_none (is_next items) items (λ x is. idle_fails _ _ (none x is))
 
@@ -141,6 +146,7 @@ items_first q x n = record {
   first = λ y is act. n.first y (table.get-entries q.entries y.0 ∙ found_member (table.entries q.entries) y (table.entries_sorted q.entries) is) act;
 }
 
+-- and of the queue by its list
 queue_first : (q : QueueState) (x : Item) → IsFirst (table.entries q.entries) x → IsNext q x
 queue_first q x f = record {
   there = table.get-entries q.entries x.0 ∙ found_member (table.entries q.entries) x (table.entries_sorted q.entries) f.member;
@@ -148,6 +154,7 @@ queue_first q x f = record {
   first = λ y there act. f.first y (member_found (table.entries q.entries) y.0 y.1 (sym (table.get-entries q.entries y.0) ∙ there)) act;
 }
 
+-- none of the queue is active where none of its list is
 none_active : (q : QueueState) → NoneIsActive (table.entries q.entries) → NoneActive q
 none_active q none uid =
     elim (entry_of q uid) as (λ o. entry_of q uid ≡ o → MatchOption o (Unit {0}) (λ entry. is_active entry.state ≡ false)) [
@@ -155,23 +162,28 @@ none_active q none uid =
       | Some e ↦ λ h. none (uid, e) (member_found (table.entries q.entries) uid e (sym (table.get-entries q.entries uid) ∙ h))
     ] refl
 
+-- and the other way round
 items_idle : (q : QueueState) → NoneActive q → NoneIsActive (table.entries q.entries)
 items_idle q none x is =
     subst (λ o. MatchOption o (Unit {0}) (λ (entry : Entry). is_active entry.state ≡ false))
     (table.get-entries q.entries x.0 ∙ found_member (table.entries q.entries) x (table.entries_sorted q.entries) is) (none x.0)
 
+-- one entry at most is next
 pub only_one_is_next : OnlyOneIsNext
 unfolding next_of
 only_one_is_next q item n = next_first (table.entries q.entries) item (table.entries_sorted q.entries) (items_first q item n)
 
+-- nothing is next in a queue where none is active
 pub none_is_next : (q : QueueState) → NoneActive q → next_of q ≡ None
 unfolding next_of
 none_is_next q none = next_none (table.entries q.entries) (items_idle q none)
 
+-- each of the two cases
 either : (q : QueueState) → NoneIsActive (table.entries q.entries) ⊎ ((x : Item) × IsFirst (table.entries q.entries) x) → MatchOption (next_of q) (NoneActive q) (IsNext q)
 unfolding next_of
 either q (inl none) = subst (λ o. MatchOption o (NoneActive q) (IsNext q)) (sym (next_none (table.entries q.entries) none)) (none_active q none)
 either q (inr (x, f)) = subst (λ o. MatchOption o (NoneActive q) (IsNext q)) (sym (next_first (table.entries q.entries) x (table.entries_sorted q.entries) f)) (queue_first q x f)
 
+-- what is next is the first one, or none is active
 pub pops_the_first : PopsTheFirst
 pops_the_first q = either q (first_of_list (table.entries q.entries))

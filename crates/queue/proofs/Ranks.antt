@@ -15,6 +15,7 @@ item_laws =
     then_total (back_total (on_total (λ (item : Item). item.1.pod.priority) int_cmp_total))
     (then_total (on_total (λ (item : Item). item.1.arrival.0) nat_cmp_total) (on_total (λ (item : Item). item.0) nat_list_cmp_total))
 
+-- only less passes the test for it
 is_less : (o : Ordering) → is_lt o ≡ true → o ≡ Less
 is_less Less h = refl
 is_less Equal h = cc
@@ -28,6 +29,7 @@ not_before_itself a = ap is_lt (tied_itself item_laws a)
 pub before_trans : (a b c : Item) → comes_before a b ≡ true → comes_before b c ≡ true → comes_before a c ≡ true
 before_trans a b c first second = ap is_lt (item_laws.trans a b c (is_less _ first) (is_less _ second))
 
+-- two that are not less than each other are level
 level : (o p : Ordering) → o ≡ ordering_reverse p → is_lt o ≡ false → is_lt p ≡ false → o ≡ Equal
 level Less p turned a b = cc
 level Equal p turned a b = refl
@@ -35,6 +37,7 @@ level Greater Less turned a b = cc
 level Greater Equal turned a b = cc
 level Greater Greater turned a b = cc
 
+-- a tie of three comparisons is one of the last
 last_tie : (o p q : Ordering) → ordering_then o (ordering_then p q) ≡ Equal → q ≡ Equal
 last_tie Less p q h = cc
 last_tie Equal Less q h = cc

@@ -27,9 +27,11 @@ use Rattle.queue.proofs.Tables.{get-by_uid, by_uid-set, by_uid-remove, by_uid-pu
 use Rattle.queue.proofs.Tallies.{count-by_uid}
 use Rattle.queue.proofs.Next.{only_one_is_next, none_is_next}
 
+-- something is not nothing
 some_not_none : (n : ℕ) → Some n ≡ None → ⊥
 some_not_none n h = cc
 
+-- a lesser number passes the test
 test_of_lt : (m n : ℕ) → m < n → nat_lt m n ≡ true
 test_of_lt m n h = grind (arith, nat_tests)
 
@@ -56,9 +58,11 @@ entry_nowhere limit es uid none = get-by_uid es uid ∙ missing (has_uid uid) es
 uid_at_place : (es : List Entry) (uid : Name) (i : ℕ) (x : Entry) → position (has_uid uid) es ≡ Some i → x ≡ get_or es i x → uid ≡ x.pod.uid
 uid_at_place es uid i x at is = let here = position-Some (has_uid uid) es i x at in same_is uid x.pod.uid (ap (has_uid uid) is ∙ here.1)
 
+-- nothing is no place
 no_place : (i : ℕ) → None ≡ Some i → ⊥
 no_place i h = cc
 
+-- where there is a place there is an entry
 found_somewhere : (limit : ℕ) (es : List Entry) (uid : Name) (i : ℕ) → are_apart es ≡ true → position (has_uid uid) es ≡ Some i → is_some (Some i) ≡ has_entry (state_of limit es) uid
 found_somewhere limit [] uid i apart at = absurd (no_place i at)
 found_somewhere limit (e ∷ es) uid i apart at =
@@ -127,6 +131,7 @@ next_nowhere limit es none = none_is_next (state_of limit es) (λ uid.
           ap (λ (y : Entry). is_active y.state) at.2 ∙ none at.0 e at.1
     ] refl)
 
+-- the entries under a limit
 abbrev with_limit : ℕ → Entries → QueueState
 with_limit limit entries = record { limit = limit; entries = entries }
 
@@ -182,6 +187,7 @@ changed_at_place limit es uid i x y test f keeps apart at is passes new =
     ∙ changed_place limit es i x (f x) uid apart (position-Some (has_uid uid) es i x at).0 is (uid_at_place es uid i x at is) (keeps x)
     ∙ sym (ap (λ r. unless_refused r q (changed_at q uid f)) (accepted_at_place limit es uid i x test apart at is passes) ∙ ap (with_change q uid f) e)
 
+-- what fails the test for something is nothing
 none_of_test : (o : Option Entry) → is_some o ≡ false → o ≡ None
 none_of_test None h = refl
 none_of_test (Some e) h = cc

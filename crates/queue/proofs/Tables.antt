@@ -57,6 +57,7 @@ by_uid-push es new none =
     ap (λ (items : List Item). table.from_entries {R = slice_cmp nat_cmp} items) (map-append item_of es (new ∷ []))
     ∙ table.from_entries_push nat_list_cmp_total (slice_cmp-IsAntisymmetric nat_cmp-IsAntisymmetric) (map item_of es) new.pod.uid new (find-items es new.pod.uid ∙ none)
 
+-- what is found among changed items
 find-changed : (f : Entry → Entry) (items : List Item) (q : Name) → table.find (slice_cmp nat_cmp) q (map (λ (item : Item). (item.0, f item.1)) items) ≡ option_map f (table.find (slice_cmp nat_cmp) q items)
 find-changed f [] q = refl
 find-changed f (item ∷ items) q =
@@ -77,6 +78,7 @@ by_uid-map f keeps es = same_entries _ _ (λ q.
     ∙ find-map f keeps es q
     ∙ sym (get-each_changed f (by_uid es) q ∙ ap (option_map f) (get-by_uid es q)))
 
+-- the test for nothing, turned round
 absent : (o : Option Entry) → is_none o ≡ true → is_some o ≡ false
 absent None h = refl
 absent (Some x) h = cc

@@ -20,6 +20,7 @@ tally : (Entry → Bool) → List Entry → ℕ
 tally p [] = 0
 tally p (e ∷ es) = cond (p e) 1 0 + tally p es
 
+-- it is the count
 count_by-tally : (p : Entry → Bool) (es : List Entry) → count_by p es ≡ tally p es
 unfolding tally
 count_by-tally p [] = refl
@@ -29,6 +30,7 @@ count_by-tally p (e ∷ es) = sum_by-cons (λ x. cond (p x) 1 0) e es ∙ ap (λ
 abbrev entries_of : List Item → List Entry
 entries_of items = map (λ (item : Item). item.1) items
 
+-- two parts of a sum change places
 later : (a b m n : ℕ) → m ≡ a + n → b + m ≡ a + (b + n)
 later a b m n is = omega arith
 
@@ -43,6 +45,7 @@ tally-put p uid new (item ∷ items) none =
       | Greater ↦ λ h. later (cond (p new) 1 0) (cond (p item.1) 1 0) _ _ (tally-put p uid new items h)
     ] none
 
+-- a list of no length is empty
 empty_list : (items : List Item) → length items ≡ 0 → items ≡ []
 empty_list [] h = refl
 empty_list (item ∷ items) h = absurd (omega arith)
@@ -51,6 +54,7 @@ empty_list (item ∷ items) h = absurd (omega arith)
 no_items : table.entries (by_uid []) ≡ []
 no_items = empty_list (table.entries (by_uid [])) (sym (table.len-entries (by_uid [])) ∙ table.len-empty (slice_cmp nat_cmp) Entry)
 
+-- the same by recursion
 tally-by_uid : (p : Entry → Bool) (es : List Entry) → are_apart es ≡ true → tally p (table.values (by_uid es)) ≡ tally p es
 unfolding tally
 tally-by_uid p [] apart = ap (λ (items : List Item). tally p (entries_of items)) no_items

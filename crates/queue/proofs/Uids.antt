@@ -12,6 +12,7 @@ use Rattle.quant.specs.declared.name.Name.{Name}
 abbrev pub same : Name → Name → Bool
 same = eq_by_cmp (slice_cmp nat_cmp)
 
+-- it is an equivalence
 pub same_laws : IsEquivalence same
 same_laws = eq_by_cmp_equiv nat_list_cmp_total
 
@@ -30,10 +31,12 @@ pub left_part : (a b : Bool) → (a && b) ≡ true → a ≡ true
 left_part true b e = refl
 left_part false b e = e
 
+-- and the second
 pub right_part : (a b : Bool) → (a && b) ≡ true → b ≡ true
 right_part true b e = e
 right_part false b e = cc
 
+-- and back
 pub both_parts : (a b : Bool) → a ≡ true → b ≡ true → (a && b) ≡ true
 both_parts true b e f = f
 both_parts false b e f = e
