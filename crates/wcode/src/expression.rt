@@ -44,16 +44,16 @@ pub fn one_expression()
 
 // Instructions up to the `else` or `end` at `last`.
 #[derive(Drop)]
-pub struct Ended {
-    pub body: Vec<Instr>,
-    pub by_else: bool,
-    pub last: usize,
-    pub next: usize,
+struct Ended {
+    body: Vec<Instr>,
+    by_else: bool,
+    last: usize,
+    next: usize,
 }
 
 // One instruction of a body, or what ends it, and the place after it.
 #[derive(Drop)]
-pub enum Item {
+enum Item {
     One(Instr, usize),
     Ends(bool, usize),
 }

@@ -10,9 +10,11 @@ pub mod operator;
 pub mod reading;
 pub mod value;
 
+pub use expression::{NESTING, read_expr};
 pub use fault::{BinFault, Kind, OpFault};
 pub use instruction::{Instr, MemArg, Op, Plain};
 pub use operator::{BinOp, CvtOp, LoadOp, RelOp, Sign, StoreOp, TestOp, UnOp};
+pub use reading::{read_label, read_op};
 pub use value::{BlockType, Value, ValueType};
 
 #[cfg(test)]
