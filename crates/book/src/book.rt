@@ -1,5 +1,5 @@
 //! The book: the nodes, the places, and the version of the last event.
-ghost use Rattle.std.specs.Prelude.{◌≡◌, IfOk};
+ghost use Rattle.std.specs.Prelude.{◌≡◌, IfOk, nat_le};
 ghost use Rattle.std.specs.FinMap as fin;
 
 use crate::NoMemory;
@@ -88,10 +88,17 @@ impl Book {
         }
     }
 
+    // Whether an event of this version comes too late.
+    fn is_old(&self, version: Version) -> bool
+        ensures { result ≡ nat_le version.0 self.now.version }
+    {
+        version <= self.version
+    }
+
     fn set_node(&mut self, version: Version, node: Arc<Node>) -> Result<(), Refusal>
         ensures { IsTaken self.old (NodeSet version node) result self.new }
     {
-        if version <= self.version {
+        if self.is_old(version) {
             return Err(Refusal::Old);
         }
         self.nodes.set(node)?;
@@ -108,7 +115,7 @@ impl Book {
     ) -> Result<(), Refusal>
         ensures { IsTaken self.old (PodBound version uid node request) result self.new }
     {
-        if version <= self.version {
+        if self.is_old(version) {
             return Err(Refusal::Old);
         }
         if self.places.is_full_for(&uid) {

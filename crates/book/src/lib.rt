@@ -11,6 +11,8 @@ mod places;
 mod refusal;
 mod step;
 mod table;
+#[cfg(test)]
+mod tests;
 mod version;
 
 pub use book::Book;

@@ -62,6 +62,7 @@ impl Desk {
         ensures handed { OnOk result (self.new ≡ with_pass self.old) }
         ensures all_handed { IsErr result ↔ (length self.old.calls ≡ MAX_PASSES) }
         ensures err { OnErr result (self.new ≡ self.old) }
+        ensures of { IfOk result (λ pass. IsOf pass self.new) }
 
         // The history stays, and has no call of the new pass.
         ensures history { (l : List Call) → Leaves l self.old → IfOk result (λ pass. Leaves l self.new × IsPart pass l self.new) }

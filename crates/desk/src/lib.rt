@@ -5,6 +5,8 @@ mod desk;
 mod pass;
 mod snapshot;
 mod step;
+#[cfg(test)]
+mod tests;
 
 pub use book::{Limits, NoMemory, Refusal, Ticket, Version};
 pub use desk::{Desk, history_tells_the_state};

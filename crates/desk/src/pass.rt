@@ -37,15 +37,13 @@ impl Pass {
         Pass { number, calls: 0 }
     }
 
-    /// The pass's number among those of its desk, from 0.
-    pub fn number(&self) -> usize
+    pub(crate) fn number(&self) -> usize
         ensures { result ≡ self.now.number }
     {
         self.number
     }
 
-    /// How many of its calls were answered.
-    pub fn calls(&self) -> u64
+    pub(crate) fn calls(&self) -> u64
         ensures { result ≡ self.now.calls }
     {
         self.calls
