@@ -55,8 +55,8 @@ pub trait Sink {
         ensures failed { CountsFailure (failure_count self.old) (failure_count self.new) result };
 }
 
-// Writes all of the bytes, or a beginning of them before a write fails.
-pub(crate) fn write_all<W: Sink>(sink: &mut W, bytes: &[u8]) -> Result<(), DeviceFailed>
+/// Writes all of the bytes, or a beginning of them before a write fails.
+pub fn write_all<W: Sink>(sink: &mut W, bytes: &[u8]) -> Result<(), DeviceFailed>
     requires { W.failure_count sink.old < 10 ^ 18 }
     ensures ok { OnOk result (Appends (W.written sink.old) (W.written sink.new) bytes.now) }
     ensures err { OnErr result (AppendsFront (W.written sink.old) (W.written sink.new) bytes.now) }

@@ -9,6 +9,6 @@ mod script;
 mod session;
 mod text;
 
-pub use device::{DeviceFailed, Sink, Source};
+pub use device::{DeviceFailed, Sink, Source, write_all};
 pub use fault::RunFault;
 pub use script::run;
