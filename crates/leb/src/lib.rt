@@ -12,14 +12,34 @@ use thiserror::Error;
 #[derive(Clone, Copy, PartialEq, Eq, Debug, Error)]
 pub enum LebFault {
     /// The bytes end inside the number.
-    #[error("Truncated")]
+    #[error("{} {}", self.number(), self.name())]
     Truncated,
     /// As many bytes as the number may have say that another follows.
-    #[error("TooLong")]
+    #[error("{} {}", self.number(), self.name())]
     TooLong,
     /// The unused bits of the last byte aren't zeros, or copies of the sign.
-    #[error("BadLastByte")]
+    #[error("{} {}", self.number(), self.name())]
     BadLastByte,
+}
+
+impl LebFault {
+    /// The fault's number.
+    pub fn number(self) -> u8 {
+        match self {
+            LebFault::Truncated => 1,
+            LebFault::TooLong => 2,
+            LebFault::BadLastByte => 3,
+        }
+    }
+
+    /// The fault's name.
+    pub fn name(self) -> &'static str {
+        match self {
+            LebFault::Truncated => "Truncated",
+            LebFault::TooLong => "TooLong",
+            LebFault::BadLastByte => "BadLastByte",
+        }
+    }
 }
 
 /// Reads an unsigned number of 32 bits from `at` on. Gives the number, and the place after its last byte.

@@ -83,3 +83,20 @@ fn long_numbers(rt: HostRuntime) -> Result<(), Fail> {
     assert_eq!(rt; read_i64(&[0xC0, 0xBB, 0x78], 0), Ok((-123_456, 3)));
     Ok(())
 }
+
+#[test]
+fn numbers_and_names_of_faults(rt: HostRuntime) -> Result<(), Fail> {
+    assert_eq!(rt; LebFault::Truncated.number(), 1);
+    assert_eq!(rt; LebFault::TooLong.number(), 2);
+    assert_eq!(rt; LebFault::BadLastByte.number(), 3);
+    assert_eq!(rt; LebFault::Truncated.name(), "Truncated");
+    assert_eq!(rt;
+        LebFault::TooLong.to_string(rt.alloc())?.as_str(),
+        "2 TooLong"
+    );
+    assert_eq!(rt;
+        LebFault::BadLastByte.to_string(rt.alloc())?.as_str(),
+        "3 BadLastByte"
+    );
+    Ok(())
+}

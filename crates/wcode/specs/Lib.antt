@@ -4,3 +4,4 @@ pub mod Opcodes
 pub mod Grammar
 pub mod Shown
 pub mod Ended
+pub mod Fault

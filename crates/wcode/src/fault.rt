@@ -1,5 +1,8 @@
 // Why bytes are refused.
 
+ghost use Rattle.std.specs.Prelude.{◌≡◌};
+ghost use Rattle.wcode.specs.Fault.{whole};
+
 use thiserror::Error;
 
 /// What is wrong with bytes that spell nothing.
@@ -111,6 +114,8 @@ impl BinFault {
 }
 
 impl From<OpFault> for BinFault {
+    ghost from_gives = { λ f e. e ≡ whole f };
+
     fn from(fault: OpFault) -> BinFault {
         match fault {
             OpFault::Malformed { kind, place } => BinFault::Malformed { kind, place },

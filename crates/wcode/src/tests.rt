@@ -524,6 +524,17 @@ fn numbers_and_names(rt: HostRuntime) -> Result<(), Fail> {
     assert_eq!(rt; Kind::CountMismatch.number(), 9);
     assert_eq!(rt; Kind::TooDeep.number(), 10);
     assert_eq!(rt; Kind::TooLong.number(), 11);
+    assert_eq!(rt; Kind::Truncated.name(), "Truncated");
+    assert_eq!(rt; Kind::BadMagic.name(), "BadMagic");
+    assert_eq!(rt; Kind::BadVersion.name(), "BadVersion");
+    assert_eq!(rt; Kind::BadSection.name(), "BadSection");
+    assert_eq!(rt; Kind::BadNumber.name(), "BadNumber");
+    assert_eq!(rt; Kind::BadType.name(), "BadType");
+    assert_eq!(rt; Kind::BadOpcode.name(), "BadOpcode");
+    assert_eq!(rt; Kind::BadName.name(), "BadName");
+    assert_eq!(rt; Kind::CountMismatch.name(), "CountMismatch");
+    assert_eq!(rt; Kind::TooDeep.name(), "TooDeep");
+    assert_eq!(rt; Kind::TooLong.name(), "TooLong");
     let cut = BinFault::Malformed {
         kind: Kind::Truncated,
         place: 4,
