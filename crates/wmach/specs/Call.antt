@@ -1,5 +1,5 @@
 -- What is called of a module, the law that it never gets stuck, and what a machine is seen as.
-use Rattle.std.specs.Prelude.{◌≡◌, ◌≢◌, ℕ, ◌*◌, List, [], ◌∷◌, Option, Some, None, option_map, map, replicate}
+use Rattle.std.specs.Prelude.{◌≡◌, ℕ, ◌*◌, List, [], ◌∷◌, Option, Some, None, option_map, map, replicate, slice_get}
 use Rattle.wcode.specs.declared.value.ValueType.{ValueType}
 use Rattle.wcode.specs.declared.value.Value.{Value}
 use Rattle.wcode.specs.declared.instruction.Plain.TheVariants.{Const}
@@ -7,6 +7,7 @@ use Rattle.wcode.specs.Syntax.{Body, done, plain}
 use Rattle.wbin.specs.declared.module.Limits.{Limits}
 use Rattle.wbin.specs.declared.module.Module.{Module}
 use Rattle.wbin.specs.Syntax.{GlobalSyntax, ModuleSyntax, module_of}
+use Rattle.wbody.specs.Context.{function_types}
 use Rattle.wtype.specs.Accepted.{Accepted, export_named, filter_name, score_name}
 use Rattle.wmach.specs.declared.export.Export.{Export}
 use Rattle.wmach.specs.declared.export.Export.TheVariants.{Filter, Score, Start}
@@ -21,6 +22,11 @@ abbrev pub called_function : ModuleSyntax → Export → Option ℕ
 called_function m Filter = option_map (λ e. e.index) (export_named filter_name m.exports)
 called_function m Score = option_map (λ e. e.index) (export_named score_name m.exports)
 called_function m Start = m.start
+
+-- the function with this index takes nothing, and gives a result or none
+pub record CalledType (m : ModuleSyntax) (function : ℕ) : Type 0 where
+  pub result : Option ValueType
+  pub is : slice_get (function_types m) function ≡ Some (Some (record { parameters = []; result = result }))
 
 -- No chain of reductions of a call leads to where neither a rule applies nor the call has ended: whatever
 -- accepted module, store that fits it, records, and function that can be called.

@@ -5,3 +5,4 @@ pub mod Reduction
 pub mod Fits
 pub mod Outcome
 pub mod Call
+pub mod Walk

@@ -3,8 +3,11 @@
 
 pub mod export;
 pub mod law;
+pub mod machine;
 pub mod outcome;
+mod walk;
 
 pub use export::Export;
 pub use law::never_stuck;
+pub use machine::{Host, Machine};
 pub use outcome::{Outcome, Trap};
