@@ -12,3 +12,6 @@ mod text;
 pub use device::{DeviceFailed, Sink, Source, write_all};
 pub use fault::RunFault;
 pub use script::run;
+
+#[cfg(test)]
+mod tests;
