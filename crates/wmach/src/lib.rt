@@ -11,3 +11,6 @@ pub use export::Export;
 pub use law::never_stuck;
 pub use machine::{Host, Machine};
 pub use outcome::{Outcome, Trap};
+
+#[cfg(test)]
+mod tests;
