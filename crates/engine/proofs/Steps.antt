@@ -1,5 +1,5 @@
 -- Limits and requests are told by their numbers.
-use Rattle.std.proofs.Common.{◌≡◌, ℕ, ◌^◌, ◌≤◌, min, refl, ap, subst, ◌∙◌, lit≤}
+use Rattle.std.proofs.Common.{◌≡◌, ℕ, ◌^◌, ◌≤◌, min, ap, subst, ◌∙◌, lit≤}
 use Rattle.std.proofs.Math.Nat.{min-le_right, min-eq_left}
 use Rattle.std.proofs.Math.Bridge.{le_prop}
 use Rattle.quant.specs.declared.amount.Request.{Request}

@@ -4,12 +4,9 @@ use Rattle.std.specs.Prelude.{ℕ, ◌^◌, min, List, [], ◌∷◌, ◌++◌}
 use Rattle.std.specs.List.{flat_map}
 use Rattle.std.proofs.Common.{lit≤}
 use Rattle.std.proofs.Math.Nat.{min-le_right}
-use Rattle.std.specs.declared.sync.Arc.{Arc}
-use Rattle.std.specs.declared.alloc.Global.{Global}
 use Rattle.quant.specs.declared.amount.Cpu.{Cpu}
 use Rattle.quant.specs.declared.amount.Bytes.{Bytes}
 use Rattle.quant.specs.declared.amount.Request.{Request}
-use Rattle.quant.specs.declared.objects.Node.{Node}
 use Rattle.book.specs.declared.limits.Limits.{Limits}
 use Rattle.desk.specs.declared.step.Step.{Step}
 use Rattle.desk.specs.declared.step.Step.TheVariants.{NodeSet, PodBound, Count}

@@ -1,7 +1,6 @@
-use Rattle.std.proofs.Common.{◌≡◌, arith, rules, ◌∙◌}
+use Rattle.std.proofs.Common.{rules}
 use Rattle.std.proofs.lemmas.List.{take_rest}
 use Rattle.std.proofs.lemmas.Result.{err_from_is_err_and}
-use Rattle.std.specs.Io.KnownBytes.{Appends, Keeps}
 use Rattle.engine.proofs.Known.{Appends-take-add, AppendsFront-take}
 use Rattle.engine.proofs.device.write_all.Goals as goal
 

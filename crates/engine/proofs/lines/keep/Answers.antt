@@ -1,4 +1,4 @@
-use Rattle.std.proofs.Common.{arith, rules}
+use Rattle.std.proofs.Common.{rules}
 use Rattle.engine.proofs.Pieces.{kept-push}
 use Rattle.engine.proofs.lines.keep.Goals as goal
 

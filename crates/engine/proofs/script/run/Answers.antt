@@ -1,4 +1,4 @@
-use Rattle.std.proofs.Common.{◌≡◌, ◌+◌, ◌≤◌, ℕ, [], Bool, true, false, Ok, length, refl, ap, subst, sym, ◌∙◌, arith, rules}
+use Rattle.std.proofs.Common.{◌≡◌, ◌+◌, true, false, Ok, length, refl, ap, subst, sym, ◌∙◌, arith, rules}
 use Rattle.std.proofs.lemmas.Result.{err_from_is_err_and, on_ok_weaker, on_err_weaker}
 use Rattle.engine.specs.declared.fault.RunFault.TheVariants.{Line}
 use Rattle.engine.specs.Output.{asked_by, IsLineFault}

@@ -1,4 +1,4 @@
-use Rattle.std.proofs.Common.{◌≡◌, ◌++◌, ◌<◌, Bool, true, false, Ok, length, ap, subst, sym, ◌∙◌, arith, rules}
+use Rattle.std.proofs.Common.{◌≡◌, ◌++◌, ◌<◌, true, false, Ok, length, ap, subst, arith, rules}
 use Rattle.std.proofs.lemmas.List.{length-append}
 use Rattle.engine.specs.Lines.{TakesPiece}
 use Rattle.engine.proofs.Taking.{IsTaken-more, IsTaken-piece, TakesLine-newline, TakesLine-last, length-kept}

@@ -1,4 +1,4 @@
-use Rattle.std.proofs.Common.{◌≡◌, ◌<◌, ◌++◌, length, arith, rules, take, get_or, slice_range, ◌∙◌, sym}
+use Rattle.std.proofs.Common.{◌≡◌, ◌<◌, ◌++◌, length, rules, take, get_or, slice_range, ◌∙◌, sym}
 use Rattle.engine.specs.Lines.{kept}
 use Rattle.engine.proofs.Pieces.{range-cut}
 use Rattle.engine.proofs.lines.LineReader.take_piece.Goals as goal
