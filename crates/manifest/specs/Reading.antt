@@ -1,5 +1,5 @@
 -- What the fields of a line say. The first fault is told.
-use Rattle.std.specs.Prelude.{◌≡◌, ◌&&◌, ℕ, List, Result, Ok, Err, Option, Some, None, option_and_then, nat_le, if◌then◌else◌}
+use Rattle.std.specs.Prelude.{◌≡◌, ◌&&◌, ℕ, List, Result, Ok, Err, option_and_then, nat_le, if◌then◌else◌}
 use Rattle.std.specs.Option.{ok_or}
 use Rattle.std.specs.Str.{is_utf8}
 use Rattle.serde_json.specs.Data.{Data, Num, unsigned, negative, float}
