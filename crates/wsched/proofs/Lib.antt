@@ -1,1 +1,1 @@
-pub mod Faulty
+pub mod Lengths

@@ -1,2 +1,3 @@
-pub mod Status
+pub mod Fault
+pub mod Message
 pub mod Words

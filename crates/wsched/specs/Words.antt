@@ -1,14 +1,35 @@
--- The numbers and names of the faults of words.
-use Rattle.std.specs.Prelude.{ℕ, List, codes}
-use Rattle.wsched.specs.declared.given.WordFault.{WordFault}
-use Rattle.wsched.specs.declared.given.WordFault.TheVariants.{BadWords, NoMemory}
+-- What the program's words ask for.
+use Rattle.std.specs.Prelude.{ℕ, ◌&&◌, Bool, true, false, List, [], ◌∷◌, codes, bytes_eq, Option, Some, None, if◌then◌else◌}
+use Rattle.clap.specs.Simple.{App, Shape, on_top}
+use Rattle.clap.specs.Words.{new_app, with_subcommand}
+use Rattle.clap.specs.declared.error.kind.ErrorKind.{ErrorKind}
+use Rattle.clap.specs.declared.error.kind.ErrorKind.TheVariants.{OutOfMemory}
+use Rattle.wsched.specs.declared.command.Words.{Words}
+use Rattle.wsched.specs.declared.command.Words.TheVariants.{Run}
 
--- the number that messages tell
-abbrev pub number_of : WordFault → ℕ
-number_of BadWords = 1
-number_of NoMemory = 2
+-- no words, or the `--` that ends options
+abbrev pub is_end : List (List ℕ) → Bool
+is_end [] = true
+is_end (word ∷ []) = bytes_eq word (codes "--")
+is_end (word ∷ next ∷ rest) = false
 
--- the name that messages tell
-abbrev pub name_of : WordFault → List ℕ
-name_of BadWords = codes "BadWords"
-name_of NoMemory = codes "NoMemory"
+-- what the words behind the program's name ask for: `run` takes no further words
+unfoldable pub meaning : List (List ℕ) → Option Words
+meaning [] = None
+meaning (word ∷ rest) = if bytes_eq word (codes "run") && is_end rest then Some Run else None
+
+-- the command line as `clap` sees it: one command, which is wanted, and no options
+abbrev pub command_line : App
+command_line = with_subcommand
+    (on_top (λ s. record s {
+      no_binary_name = true;
+      disable_help_flag = true;
+      disable_help_subcommand = true;
+      subcommand_required = true;
+    }) (new_app (codes "wsched")))
+    (new_app (codes "run")).top
+
+-- the kind of an error that says nothing of the words
+abbrev pub is_memory : ErrorKind → Bool
+is_memory OutOfMemory = true
+is_memory _ = false

@@ -1,27 +1,64 @@
-//! The words with which the program is called.
-use crate::given::{WordFault, Words};
-use clap::Command;
-use clap::error::ErrorKind;
-use std::alloc::Global;
+//! What the program's words ask for.
+ghost use Rattle.std.specs.Prelude.{◌≡◌, Some, None, Err, map, IfOk, if◌then◌else◌};
+ghost use Rattle.wsched.specs.Words.{meaning, command_line, is_memory};
+ghost use Rattle.clap.specs.Words.{app_of, kind_of};
 
-/// What the words ask for, the program's own name first. A request for help is refused as any
-/// other words.
+use crate::command::Words;
+use crate::faults::WordFault;
+use clap::error::ErrorKind;
+use clap::{Command, Error};
+use std::alloc::{AllocError, Global};
+use std::convert::AsStr;
+use std::rt::Env;
+use std::{env, io};
+
+// The program's command line, as `clap` reads it: a command is wanted, `run` is the only one, and
+// there are no options.
+fn command_line<'a>(alloc: Global) -> Result<Command<'a>, AllocError>
+    ensures { IfOk result (λ command. app_of command ≡ command_line) }
+{
+    Command::new(alloc, "wsched")
+        .no_binary_name(true)
+        .disable_help_flag(true)
+        .disable_help_subcommand(true)
+        .subcommand_required(true)
+        .subcommand(Command::new(alloc, "run"))
+}
+
+/// Reads the words that follow the program's name: `run`, and nothing else but a closing `--`.
+/// A request for help or for the version is no such word.
 ///
-/// Errors: `BadWords`, `NoMemory`.
-pub fn words(alloc: Global, args: &[String]) -> Result<Words, WordFault> {
-    let run = Command::new(alloc, "run");
-    let Ok(command) = Command::new(alloc, "wsched").subcommand(run) else {
+/// Errors: `BadWords`, and `NoMemory`, which says nothing of the words.
+pub fn words<'a, S: AsStr>(alloc: Global, args: &'a [S]) -> Result<Words, WordFault> {
+    let Ok(command) = command_line(alloc) else {
         return Err(WordFault::NoMemory);
     };
     match command.try_get_matches_from(args) {
-        Ok(matches) => match matches.subcommand_name() {
-            Some("run") => Ok(Words::Run),
-            _ => Err(WordFault::BadWords),
+        Ok(_matches) => Ok(Words::Run),
+        Err(error) => Err(fault_of(&error)),
+    }
+}
+
+// Why `clap` refused the words.
+fn fault_of(error: &Error) -> WordFault
+    ensures { result ≡ (if is_memory (kind_of error.now) then WordFault.NoMemory else WordFault.BadWords) }
+{
+    match error.kind() {
+        ErrorKind::OutOfMemory => WordFault::NoMemory,
+        _ => WordFault::BadWords,
+    }
+}
+
+/// The words that follow the program's name.
+///
+/// Errors: `BadWords` where one is not UTF-8, and `NoMemory`.
+pub fn arguments<R: Env + AllocGlobal>(rt: &R) -> Result<Vec<String>, WordFault> {
+    match env::args(rt) {
+        Ok(args) => match args.skip(1).collect(rt.alloc()) {
+            Ok(args) => Ok(args),
+            Err(_) => Err(WordFault::NoMemory),
         },
-        Err(e) => Err(if e.kind() == ErrorKind::OutOfMemory {
-            WordFault::NoMemory
-        } else {
-            WordFault::BadWords
-        }),
+        Err(error) if error.kind() == io::ErrorKind::InvalidData => Err(WordFault::BadWords),
+        Err(_) => Err(WordFault::NoMemory),
     }
 }

@@ -1,33 +1,37 @@
-//! Readers and writers of the system, as the engine's devices.
-ghost use Rattle.std.specs.Prelude.{◌≡◌, ◌^◌, ◌≤◌};
+//! What a script is read from and the output is written to, over std's readers and writers.
+ghost use Rattle.std.specs.Prelude.{◌≡◌, ◌^◌, ◌<◌, length, IfOk};
+ghost use Rattle.std.specs.Io.{ReadsAtMost, WritesAtMost};
+ghost use Rattle.std.specs.Io.KnownBytes.{ReadConsumes, WriteAppends};
 
 use engine::{DeviceFailed, Sink, Source};
-use std::io;
+use std::io::{ErrorKind, Read, Write};
 
-/// A reader, with how many bytes it may still give, and how often it has failed.
+// The most bytes that are read of one input. No clause says where standard input ends, and a run
+// needs an end.
+const MAX_INPUT: u64 = 1 << 63;
+
+/// A script that a reader gives. A read that is interrupted is tried again.
 #[derive(Drop)]
-pub struct Reads<R: io::Read + Drop> {
-    pub reader: R,
-    pub left: u64,
-    pub failures: u64,
+pub struct Input<R> {
+    reader: R,
+    left: u64,
+    failures: u64,
 }
 
-impl<R: io::Read + Drop> Reads<R> {
-    /// A reader that has not failed. It gives 2^64 - 1 bytes at most, and fails behind them.
-    pub fn new(reader: R) -> Self
-        ensures failures { result.failures ≡ 0 }
-        ensures reader { result.reader ≡ reader }
-        ensures left { result.left ≡ u64.MAX }
+impl<R> Input<R> {
+    /// All that the reader gives from here on.
+    pub fn new(reader: R) -> Input<R>
+        ensures { result ≡ record { reader = reader; left = 2 ^ 63; failures = 0 } }
     {
-        Reads {
+        Input {
             reader,
-            left: u64::MAX,
+            left: MAX_INPUT,
             failures: 0,
         }
     }
 }
 
-impl<R: io::Read + Drop> Source for Reads<R> {
+impl<R: Read> Source for Input<R> {
     ghost remaining = { λ s. R.remaining s.reader };
 
     ghost bytes_left = { λ s. s.left };
@@ -39,44 +43,50 @@ impl<R: io::Read + Drop> Source for Reads<R> {
     }
 
     fn read(&mut self, buffer: &mut [u8]) -> Result<usize, DeviceFailed> {
-        if buffer.len() as u64 > self.left {
-            self.failures += 1;
-            return Err(DeviceFailed);
+        let room = self.left.min(buffer.len() as u64) as usize;
+        if room > 0
+            && let Ok(n) = read_some(&mut self.reader, &mut buffer[..room])
+        {
+            self.left -= n as u64;
+            return Ok(n);
         }
-        match self.reader.read(buffer) {
-            Ok(n) => {
-                self.left -= n as u64;
-                Ok(n)
-            }
-            Err(_) => {
-                self.failures += 1;
-                Err(DeviceFailed)
-            }
-        }
+        self.failures += 1;
+        Err(DeviceFailed)
     }
 }
 
-/// A writer, with how often it has failed.
+/// Output that a writer takes. The writer holds nothing back, so that no flush is needed. A write
+/// that is interrupted is tried again.
 #[derive(Drop)]
-pub struct Writes<W: io::Write + Drop> {
-    pub writer: W,
-    pub failures: u64,
+pub struct Output<W> {
+    writer: W,
+    failures: u64,
 }
 
-impl<W: io::Write + Drop> Writes<W> {
-    /// A writer that has not failed.
-    pub fn new(writer: W) -> Self
-        ensures failures { result.failures ≡ 0 }
-        ensures writer { result.writer ≡ writer }
+impl<W> Output<W> {
+    /// The writer, of which no write has failed.
+    pub fn new(writer: W) -> Output<W>
+        ensures { result ≡ record { writer = writer; failures = 0 } }
     {
-        Writes {
+        Output {
             writer,
             failures: 0,
         }
     }
+
+    /// The writer, as the last write left it.
+    pub fn into_inner(self) -> W
+        ensures { result ≡ self.writer }
+    {
+        let Output {
+            writer,
+            failures: _,
+        } = self;
+        writer
+    }
 }
 
-impl<W: io::Write + Drop> Sink for Writes<W> {
+impl<W: Write> Sink for Output<W> {
     ghost written = { λ s. W.contents s.writer };
 
     ghost failure_count = { λ s. s.failures };
@@ -86,12 +96,42 @@ impl<W: io::Write + Drop> Sink for Writes<W> {
     }
 
     fn write(&mut self, bytes: &[u8]) -> Result<usize, DeviceFailed> {
-        match self.writer.write(bytes) {
-            Ok(n) if n > 0 || bytes.is_empty() => Ok(n),
-            _ => {
-                self.failures += 1;
-                Err(DeviceFailed)
-            }
+        if let Ok(n) = write_some(&mut self.writer, bytes)
+            && (n > 0 || bytes.is_empty())
+        {
+            return Ok(n);
+        }
+        self.failures += 1;
+        Err(DeviceFailed)
+    }
+}
+
+// Reads some bytes, as often as the read is interrupted.
+fn read_some<R: Read>(reader: &mut R, buffer: &mut [u8]) -> Result<usize, DeviceFailed>
+    ensures bound { ReadsAtMost result buffer.new }
+    ensures bytes { ReadConsumes (R.remaining reader.old) (R.remaining reader.new) result buffer.new }
+{
+    for _ in 0..u64::MAX {
+        match reader.read(buffer) {
+            Ok(n) => return Ok(n),
+            Err(error) if error.kind() == ErrorKind::Interrupted => {}
+            Err(_) => break,
         }
     }
+    Err(DeviceFailed)
+}
+
+// Writes some bytes, as often as the write is interrupted.
+fn write_some<W: Write>(writer: &mut W, bytes: &[u8]) -> Result<usize, DeviceFailed>
+    ensures bound { WritesAtMost result bytes.now }
+    ensures bytes { WriteAppends (W.contents writer.old) (W.contents writer.new) result bytes.now }
+{
+    for _ in 0..u64::MAX {
+        match writer.write(bytes) {
+            Ok(n) => return Ok(n),
+            Err(error) if error.kind() == ErrorKind::Interrupted => {}
+            Err(_) => break,
+        }
+    }
+    Err(DeviceFailed)
 }

@@ -1,38 +1,38 @@
-//! The program `wsched`: `wsched run` reads a script from standard input and writes the answers.
+//! The program `wsched`. `wsched run` reads a script from standard input and writes the answers to
+//! standard output; a fault goes to standard error as one line. It ends with status 0 when all was
+//! done, 1 at a faulty line, 2 at bad words, 3 for want of memory or of a place at the desk, and 4
+//! when a read or a write failed.
 #![tactic(auto)]
 
+mod command;
 mod command_line;
 mod device;
-mod given;
-mod status;
-#[cfg(test)]
-mod tests;
+mod faults;
+mod message;
+mod serve;
 
-use crate::command_line::words;
-use crate::device::{Reads, Writes};
-use crate::status::{BAD_WORDS, NO_ROOM, serve, tell_words};
-use std::env;
-use std::io::ErrorKind;
+use crate::command_line::{arguments, words};
+use crate::device::{Input, Output};
+use crate::faults::Fault;
+use crate::message::report;
+use crate::serve::serve;
 use std::process::ExitCode;
 
 fn main(rt: HostRuntime) -> ExitCode {
-    let mut err = Writes::new(rt.stderr());
-    let given = match env::args(&rt) {
-        Ok(args) => args.collect::<Vec<String>>(rt.alloc()),
-        Err(e) => {
-            let no_memory = e.kind() == ErrorKind::OutOfMemory;
-            return ExitCode::from(if no_memory { NO_ROOM } else { BAD_WORDS });
-        }
+    let mut err = Output::new(rt.stderr());
+    let status = match arguments(&rt) {
+        Ok(args) => match words(rt.alloc(), args.as_slice()) {
+            Ok(words) => {
+                let mut source = Input::new(rt.stdin());
+                let mut out = Output::new(rt.stdout());
+                serve(rt.alloc(), &words, &mut source, &mut out, &mut err)
+            }
+            Err(fault) => report(Fault::Words(fault), &mut err),
+        },
+        Err(fault) => report(Fault::Words(fault), &mut err),
     };
-    let Ok(args) = given else {
-        return ExitCode::from(NO_ROOM);
-    };
-    match words(rt.alloc(), &args) {
-        Ok(words) => {
-            let mut source = Reads::new(rt.stdin());
-            let mut out = Writes::new(rt.stdout());
-            ExitCode::from(serve(rt.alloc(), &words, &mut source, &mut out, &mut err))
-        }
-        Err(fault) => ExitCode::from(tell_words(fault, &mut err)),
-    }
+    ExitCode::from(status)
 }
+
+#[cfg(test)]
+mod tests;

@@ -1,0 +1,46 @@
+-- How long the names of faults and fields are, at most.
+use Rattle.std.proofs.Common.{ℕ, ◌≤◌, length, lit≤}
+use Rattle.manifest.specs.Field.{key}
+use Rattle.manifest.specs.Fault as line
+use Rattle.manifest.specs.declared.field.Field.{Field}
+use Rattle.manifest.specs.declared.field.Field.TheVariants.{Op, Version, Name, Cpu, Memory, Pods, Uid, Node}
+use Rattle.manifest.specs.declared.fault.LineFault.{LineFault}
+use Rattle.manifest.specs.declared.fault.LineFault.TheVariants as line_fault
+use Rattle.engine.specs.Fault as run
+use Rattle.engine.specs.declared.fault.RunFault.{RunFault}
+use Rattle.engine.specs.declared.fault.RunFault.TheVariants as run_fault
+use Rattle.wsched.specs.Fault.{name_of}
+use Rattle.wsched.specs.declared.faults.WordFault.{WordFault}
+use Rattle.wsched.specs.declared.faults.WordFault.TheVariants as word_fault
+
+-- the name of a line's fault
+pub line_name_short : (fault : LineFault) → length (line.name_of fault) ≤ 10
+line_name_short line_fault.NotJson = lit≤ tt
+line_name_short (line_fault.BadField field) = lit≤ tt
+line_name_short (line_fault.Quantity field) = lit≤ tt
+line_name_short (line_fault.OverLimit field) = lit≤ tt
+line_name_short line_fault.NoMemory = lit≤ tt
+
+-- the key of a field
+pub key_short : (field : Field) → length (key field) ≤ 8
+key_short Op = lit≤ tt
+key_short Version = lit≤ tt
+key_short Name = lit≤ tt
+key_short Cpu = lit≤ tt
+key_short Memory = lit≤ tt
+key_short Pods = lit≤ tt
+key_short Uid = lit≤ tt
+key_short Node = lit≤ tt
+
+-- the name of a run's fault
+pub run_name_short : (fault : RunFault) → length (run.name_of fault) ≤ 10
+run_name_short (run_fault.Line number fault) = lit≤ tt
+run_name_short run_fault.NoMemory = lit≤ tt
+run_name_short run_fault.Read = lit≤ tt
+run_name_short run_fault.Write = lit≤ tt
+run_name_short run_fault.NoPlace = lit≤ tt
+
+-- the name of a word's fault
+pub word_name_short : (fault : WordFault) → length (name_of fault) ≤ 10
+word_name_short word_fault.BadWords = lit≤ tt
+word_name_short word_fault.NoMemory = lit≤ tt

@@ -1,0 +1,8 @@
+//! What the program can be asked to do.
+
+/// What the program is asked to do.
+#[derive(Clone, Copy, Debug, PartialEq, Eq)]
+pub enum Words {
+    /// To read a script from standard input, and to write the answers to standard output.
+    Run,
+}
