@@ -1,8 +1,8 @@
 -- How bytes spell modules (WebAssembly Core 1.0, 5.1.3, 5.3 and 5.5).
 -- In each relation over three things the bytes are a spelling of something, and then the rest.
-use Rattle.std.specs.Prelude.{◌≡◌, ℕ, ◌+◌, ◌<◌, ◌≤◌, ◌⊎◌, List, [], ◌∷◌, ◌++◌, map, length, Option, Some, None, option_map, IsTrue, IsFalse, replicate, find, flat_map, ◌==◌}
+use Rattle.std.specs.Prelude.{◌≡◌, ℕ, ◌<◌, ◌≤◌, ◌⊎◌, List, [], ◌∷◌, ◌++◌, map, length, Option, Some, None, option_map, Bool, true, false, replicate, find, flat_map, ◌==◌}
 use Rattle.std.specs.List.{zip}
-use Rattle.std.specs.Str.{is_utf8}
+use Rattle.std.specs.Str.{IsUtf8}
 use Rattle.wcode.specs.declared.value.ValueType.{ValueType}
 use Rattle.wcode.specs.declared.value.ValueType.TheVariants.{I32, I64}
 use Rattle.wcode.specs.Syntax.{Body}
@@ -40,22 +40,28 @@ SpellsBytes bytes contents rest = SpellsIndex bytes (length contents) (contents 
 
 -- a name: bytes in UTF-8 (5.2.4)
 abbrev pub SpellsName : Spelling (List ℕ)
-SpellsName bytes name rest = SpellsBytes bytes name rest × IsTrue (is_utf8 name)
+SpellsName bytes name rest = SpellsBytes bytes name rest × IsUtf8 name
 
 -- a value type (5.3.1)
+abbrev pub value_type_byte : ValueType → ℕ
+value_type_byte I32 = 0x7F
+value_type_byte I64 = 0x7E
+
 abbrev pub SpellsValueType : Spelling ValueType
-SpellsValueType bytes I32 rest = Byte 0x7F bytes rest
-SpellsValueType bytes I64 rest = Byte 0x7E bytes rest
+SpellsValueType bytes type rest = Byte (value_type_byte type) bytes rest
 
 -- a function type: parameters, and at most one result (5.3.3)
 abbrev pub results_listed : Option ValueType → List ValueType
 results_listed None = []
 results_listed (Some t) = t ∷ []
 
+abbrev pub SpellsResults : Spelling (Option ValueType)
+SpellsResults bytes result rest = SpellsVector SpellsValueType bytes (results_listed result) rest
+
 abbrev pub SpellsFunctionType : Spelling Signature
 SpellsFunctionType bytes type rest =
     (takes gives : List ℕ) × Byte 0x60 bytes takes × SpellsVector SpellsValueType takes (type.parameters) gives
-    × SpellsVector SpellsValueType gives (results_listed type.result) rest
+    × SpellsResults gives type.result rest
 
 -- the least size, and the greatest where there is one (5.3.4)
 abbrev pub SpellsLimits : Spelling Limits
@@ -68,20 +74,34 @@ SpellsLimits bytes limits rest =
 abbrev pub SpellsTableType : Spelling Limits
 SpellsTableType bytes limits rest = (more : List ℕ) × Byte 0x70 bytes more × SpellsLimits more limits rest
 
--- what a global holds, and whether it can be written: 0 where it can't, and 1 where it can (5.3.7)
+-- what a global holds, and whether it can be written (5.3.7)
+abbrev pub mutable_byte : Bool → ℕ
+mutable_byte false = 0
+mutable_byte true = 1
+
+abbrev pub SpellsMutable : Spelling Bool
+SpellsMutable bytes mutable rest = Byte (mutable_byte mutable) bytes rest
+
 abbrev pub SpellsGlobalType : Spelling GlobalType
-SpellsGlobalType bytes type rest =
-    (more : List ℕ) × SpellsValueType bytes type.value more
-    × ((Byte 0 more rest × IsFalse type.mutable) ⊎ (Byte 1 more rest × IsTrue type.mutable))
+SpellsGlobalType bytes type rest = (more : List ℕ) × SpellsValueType bytes type.value more × SpellsMutable more type.mutable rest
 
 -- ---- the entries of sections
 
--- what an import is: a byte for its kind, and the index of its type or its type (5.5.5)
+-- the byte of an import's kind, and behind it the index of its type or its type (5.5.5)
+abbrev pub import_byte : ImportKind → ℕ
+import_byte (imported.Function type) = 0
+import_byte (imported.Table limits) = 1
+import_byte (imported.Memory limits) = 2
+import_byte (imported.Global type) = 3
+
+abbrev pub SpellsImported : Spelling ImportKind
+SpellsImported bytes (imported.Function type) rest = SpellsIndex bytes type rest
+SpellsImported bytes (imported.Table limits) rest = SpellsTableType bytes limits rest
+SpellsImported bytes (imported.Memory limits) rest = SpellsLimits bytes limits rest
+SpellsImported bytes (imported.Global type) rest = SpellsGlobalType bytes type rest
+
 abbrev pub SpellsImportKind : Spelling ImportKind
-SpellsImportKind bytes (imported.Function type) rest = (more : List ℕ) × Byte 0 bytes more × SpellsIndex more type rest
-SpellsImportKind bytes (imported.Table limits) rest = (more : List ℕ) × Byte 1 bytes more × SpellsTableType more limits rest
-SpellsImportKind bytes (imported.Memory limits) rest = (more : List ℕ) × Byte 2 bytes more × SpellsLimits more limits rest
-SpellsImportKind bytes (imported.Global type) rest = (more : List ℕ) × Byte 3 bytes more × SpellsGlobalType more type rest
+SpellsImportKind bytes kind rest = (more : List ℕ) × Byte (import_byte kind) bytes more × SpellsImported more kind rest
 
 -- an import: the names of a module and of a thing in it, and what it is (5.5.5)
 abbrev pub SpellsImport : Spelling ImportSyntax
@@ -99,10 +119,13 @@ export_byte exported.Table = 1
 export_byte exported.Memory = 2
 export_byte exported.Global = 3
 
+abbrev pub SpellsExportKind : Spelling ExportKind
+SpellsExportKind bytes kind rest = Byte (export_byte kind) bytes rest
+
 -- an export: its name, its kind, and the index of what it names (5.5.10)
 abbrev pub SpellsExport : Spelling ExportSyntax
 SpellsExport bytes e rest =
-    (kind index : List ℕ) × SpellsName bytes e.name kind × Byte (export_byte e.kind) kind index × SpellsIndex index e.index rest
+    (kind index : List ℕ) × SpellsName bytes e.name kind × SpellsExportKind kind e.kind index × SpellsIndex index e.index rest
 
 -- an element segment: a table, an offset, and the indices of functions (5.5.12)
 abbrev pub SpellsElement : Spelling ElementSyntax

@@ -1,2 +1,7 @@
 pub mod Syntax
 pub mod Grammar
+pub mod Reading
+pub mod Unique
+pub mod Codes
+pub mod Outline
+pub mod Decoded

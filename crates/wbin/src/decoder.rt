@@ -1,0 +1,202 @@
+// A module from bytes (WebAssembly Core 1.0, 5.5.15).
+#![tactic(auto, unfolding(crate::specs::Reading::Reads, crate::specs::Decoded::ReadsWhole, crate::specs::Decoded::AssemblesTo))]
+
+ghost use Rattle.std.specs.Prelude.{◌≡◌, ◌≢◌, ℕ, ◌+◌, ◌-◌, ◌<◌, ◌≤◌, List, [], ◌∷◌, ◌++◌, All, length, take, drop, map, zip, find, ◌==◌, Option, Some, None, IfOk, IfErr, OnErr, MatchOption, vec_len};
+ghost use Rattle.wcode.specs.declared.fault.BinFault.TheVariants.{NoMemory};
+ghost use Rattle.wbin.specs.Syntax.{ModuleSyntax, FunctionSyntax, function_of, module_of};
+ghost use Rattle.wbin.specs.Grammar.{Lists, Starts, contents_of, header, function_with, Assembles, Spells};
+ghost use Rattle.wbin.specs.Codes.{code_of};
+ghost use Rattle.wbin.specs.Outline.{section_of, Within, OutlinesUpTo};
+ghost use Rattle.wbin.specs.Decoded.{ReadsWhole, AssemblesTo};
+
+use crate::code::FunctionCode;
+use crate::entry::{Entry, Many, malformed, truncated};
+use crate::module::{
+    DataSegment, ElementSegment, Export, Function, FunctionType, GlobalVariable, Import, Limits,
+    Module,
+};
+use crate::section::{Stretch, fenced, find_sections};
+use crate::types::TableType;
+use std::alloc::{AllocError, Global};
+use wcode::{BinFault, Kind};
+
+/// How many bytes a module has at most.
+pub const LONGEST: usize = 1_048_576;
+
+/// Reads a module of 2.5 in the integer profile: no floats, no imported value types beyond the two integers.
+/// It gives the module that the bytes spell, in time and memory in proportion to the bytes. It refuses bytes that spell
+/// none by the first fault in their order; a size that passes the end of the bytes is told before what stands in it, and
+/// unequal counts of functions and bodies are told last.
+pub fn decode(alloc: Global, bytes: &[u8]) -> Result<Module, BinFault>
+    ensures module { IfOk result (λ m. Spells bytes.now (module_of m)) }
+    ensures none { IfErr result (λ e. e ≢ NoMemory → (m : ModuleSyntax) → Spells bytes.now m → ⊥) }
+{
+    match check_header(bytes) {
+        Ok(()) => match find_sections(alloc, bytes, 8) {
+            Ok(found) => assemble(alloc, bytes, found.sections.as_slice(), found.fault),
+            Err(_) => Err(BinFault::NoMemory),
+        },
+        Err(fault) => Err(fault),
+    }
+}
+
+/// Bytes spell one module at most.
+pub fn one_module()
+    ensures { (bytes : List ℕ) (m n : ModuleSyntax) → Spells bytes m → Spells bytes n → m ≡ n }
+{}
+
+// The length of the bytes, and their first eight.
+fn check_header(bytes: &[u8]) -> Result<(), BinFault>
+    ensures short { IfOk result (λ u. length bytes.now ≤ 1048576) }
+    ensures whole { IfOk result (λ u. 8 ≤ length bytes.now) }
+    ensures headed { IfOk result (λ u. bytes.now ≡ header ++ drop 8 bytes.now) }
+    ensures none { OnErr result (length bytes.now ≤ 1048576 → (rest : List ℕ) → bytes.now ≡ header ++ rest → ⊥) }
+{
+    if bytes.len() > LONGEST {
+        return Err(malformed(Kind::TooLong, 0));
+    }
+    if bytes.len() < 4 {
+        return Err(truncated(bytes));
+    }
+    if !(bytes[0] == 0x00 && bytes[1] == 0x61 && bytes[2] == 0x73 && bytes[3] == 0x6D) {
+        return Err(malformed(Kind::BadMagic, 0));
+    }
+    if bytes.len() < 8 {
+        return Err(truncated(bytes));
+    }
+    if !(bytes[4] == 0x01 && bytes[5] == 0x00 && bytes[6] == 0x00 && bytes[7] == 0x00) {
+        return Err(malformed(Kind::BadVersion, 4));
+    }
+    Ok(())
+}
+
+// The module of the sections, which a fault may follow.
+fn assemble(
+    alloc: Global,
+    bytes: &[u8],
+    sections: &[Stretch],
+    fault: Option<BinFault>,
+) -> Result<Module, BinFault>
+    requires { All (Within bytes.now) sections.now }
+    ensures { AssemblesTo (map (section_of bytes.now) sections.now) fault result }
+{
+    let types = read_list::<FunctionType>(alloc, bytes, sections, 1)?;
+    let imports = read_list::<Import>(alloc, bytes, sections, 2)?;
+    let signatures = read_list::<u32>(alloc, bytes, sections, 3)?;
+    let tables = read_list::<TableType>(alloc, bytes, sections, 4)?;
+    let memories = read_list::<Limits>(alloc, bytes, sections, 5)?;
+    let globals = read_list::<GlobalVariable>(alloc, bytes, sections, 6)?;
+    let exports = read_list::<Export>(alloc, bytes, sections, 7)?;
+    let start = read_start(alloc, bytes, sections)?;
+    let element_segments = read_list::<ElementSegment>(alloc, bytes, sections, 9)?;
+    let codes = read_list::<FunctionCode>(alloc, bytes, sections, 10)?;
+    let data_segments = read_list::<DataSegment>(alloc, bytes, sections, 11)?;
+    no_fault(fault)?;
+    if signatures.len() != codes.len() {
+        return Err(malformed(Kind::CountMismatch, bytes.len()));
+    }
+    let Ok(functions) = join(alloc, signatures.as_slice(), codes) else {
+        return Err(BinFault::NoMemory);
+    };
+    Ok(Module {
+        types,
+        imports,
+        functions,
+        tables,
+        memories,
+        globals,
+        exports,
+        start,
+        element_segments,
+        data_segments,
+    })
+}
+
+// That there is no fault.
+fn no_fault(fault: Option<BinFault>) -> Result<(), BinFault>
+    ensures none { IfOk result (λ u. fault ≡ None) }
+    ensures some { IfErr result (λ e. fault ≡ Some e) }
+{
+    match fault {
+        Some(fault) => Err(fault),
+        None => Ok(()),
+    }
+}
+
+// What the section of this number lists; nothing where there is none.
+fn read_list<E: Entry>(
+    alloc: Global,
+    bytes: &[u8],
+    sections: &[Stretch],
+    id: u8,
+) -> Result<Vec<E::Out>, BinFault>
+    requires { All (Within bytes.now) sections.now }
+    ensures { ReadsWhole (Lists E.spells (contents_of id (map (section_of bytes.now) sections.now))) (λ v. map E.seen v.items) result }
+{
+    match find_section(sections, id) {
+        Some(section) => read_filling::<Many<E>>(alloc, bytes, section),
+        None => Ok(Vec::new(alloc)),
+    }
+}
+
+// The index of the function that runs first, if there is one.
+fn read_start(alloc: Global, bytes: &[u8], sections: &[Stretch]) -> Result<Option<u32>, BinFault>
+    requires { All (Within bytes.now) sections.now }
+    ensures { ReadsWhole (Starts (contents_of 8 (map (section_of bytes.now) sections.now))) (λ s. s) result }
+{
+    match find_section(sections, 8) {
+        Some(section) => match read_filling::<u32>(alloc, bytes, section) {
+            Ok(index) => Ok(Some(index)),
+            Err(fault) => Err(fault),
+        },
+        None => Ok(None),
+    }
+}
+
+// The section of this number.
+fn find_section(sections: &[Stretch], id: u8) -> Option<Stretch>
+    ensures { result ≡ find (λ s. s.id == id) sections.now }
+{
+    sections.iter().copied().find(|s| s.id == id)
+}
+
+// What fills a section.
+fn read_filling<E: Entry>(alloc: Global, bytes: &[u8], section: Stretch) -> Result<E::Out, BinFault>
+    requires { Within bytes.now section }
+    ensures { ReadsWhole (λ x. E.spells (drop section.start (take section.end bytes.now)) x []) E.seen result }
+{
+    match E::read(alloc, &bytes[..section.end], section.start) {
+        Ok((found, end)) => {
+            if end == section.end {
+                Ok(found)
+            } else {
+                Err(malformed(Kind::BadSection, section.at))
+            }
+        }
+        Err(fault) => Err(fenced(fault, bytes, section.at)),
+    }
+}
+
+// The functions, of the indices of their types and as many bodies.
+fn join(
+    alloc: Global,
+    signatures: &[u32],
+    codes: Vec<FunctionCode>,
+) -> Result<Vec<Function>, AllocError>
+    requires { length signatures.now ≡ vec_len codes }
+    ensures { IfOk result (λ v. map function_of v.items ≡ map (λ f. function_with f.0 f.1) (zip signatures.now (map code_of codes.items))) }
+{
+    let mut functions = Vec::new(alloc);
+    let mut rest = codes.into_iter();
+    for &signature in signatures {
+        match rest.next() {
+            Some(code) => functions.push(Function {
+                signature,
+                locals: code.locals,
+                body: code.body,
+            })?,
+            None => unreachable!(),
+        }
+    }
+    Ok(functions)
+}
