@@ -29,7 +29,10 @@ fn command_line<'a>(alloc: Global) -> Result<Command<'a>, AllocError>
 /// A request for help or for the version is no such word.
 ///
 /// Errors: `BadWords`, and `NoMemory`, which says nothing of the words.
-pub fn words<'a, S: AsStr>(alloc: Global, args: &'a [S]) -> Result<Words, WordFault> {
+pub fn words<'a, S: AsStr>(alloc: Global, args: &'a [S]) -> Result<Words, WordFault>
+    ensures ok { IfOk result (λ words. meaning (map S.text args.now) ≡ Some words) }
+    ensures refused { result ≡ Err WordFault.BadWords → meaning (map S.text args.now) ≡ None }
+{
     let Ok(command) = command_line(alloc) else {
         return Err(WordFault::NoMemory);
     };
