@@ -14,3 +14,6 @@ pub use module::{
     DataSegment, ElementSegment, Export, ExportKind, Function, FunctionType, GlobalType,
     GlobalVariable, Import, ImportKind, Limits, LocalRun, Module,
 };
+
+#[cfg(test)]
+mod tests;
