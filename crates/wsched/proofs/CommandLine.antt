@@ -1,13 +1,13 @@
 -- Which words `clap` takes for the program's command line: `run`, which `--` may follow.
-use Rattle.std.proofs.Common.{◌≡◌, ℕ, zero, suc, ◌+◌, ◌&&◌, ◌||◌, ◌∙◌, Bool, true, false, List, [], ◌∷◌, ◌++◌, length, Option, Some, None, option_map, fold, codes, chars, slice_get, cond, refl, sym, ap, subst, arith, is_some, Decides}
+use Rattle.std.proofs.Common.{◌≡◌, ℕ, zero, suc, ◌&&◌, Bool, true, false, List, [], ◌∷◌, length, Option, Some, None, fold, codes, chars, slice_get, cond, refl, sym, ap, subst, arith, is_some, Decides}
 use Rattle.std.specs.Str.{bytes_eq}
 use Rattle.std.specs.Option.{option_map_or}
 use Rattle.std.proofs.lemmas.Bool.{false≢true}
 use Rattle.std.proofs.lemmas.Slice.Eq.{bytes_eq-Decides}
 use Rattle.clap.specs.Kinds.{Kinds, or_else}
 use Rattle.clap.specs.Lexer.{long_of, short_of}
-use Rattle.clap.specs.Simple.{App, Shape, built, names_of}
-use Rattle.clap.specs.Walk.{Held, Names, Step, next, trailing, subcommand, value, Outcome, plain, Text, Walk, Waiting, idle, nothing_held, walk_from, walked, subcommand_met, subcommand_or_other, long_or_other, short_or_plain, after_flag, bundle_met, bundle_step}
+use Rattle.clap.specs.Simple.{Shape, built, names_of}
+use Rattle.clap.specs.Walk.{Names, trailing, value, plain, Text, Walk, idle, nothing_held, walk_from, walked, subcommand_met, subcommand_or_other, long_or_other, short_or_plain, after_flag, bundle_met, bundle_step}
 use Rattle.clap.specs.Faults.{fault_of, is_simple_and_free, flag_word_fault, other_fault, step_fault, bundle_fault, flags_fault, bundle_step_fault, turn_fault, walk_fault, level_fault, entered_fault}
 use Rattle.clap.proofs.OnLiterals.{clap_on_literals}
 use Rattle.clap.proofs.WalkLemmas.{walk_stopped}

@@ -1,5 +1,5 @@
 -- How long the names of faults and fields are, at most.
-use Rattle.std.proofs.Common.{ℕ, ◌≤◌, length, lit≤}
+use Rattle.std.proofs.Common.{◌≤◌, length, lit≤}
 use Rattle.manifest.specs.Field.{key}
 use Rattle.manifest.specs.Fault as line
 use Rattle.manifest.specs.declared.field.Field.{Field}

@@ -1,6 +1,5 @@
 -- The faults that end the program: their numbers, their names and the exit statuses.
 use Rattle.std.specs.Prelude.{ℕ, List, codes}
-use Rattle.engine.specs.declared.fault.RunFault.{RunFault}
 use Rattle.engine.specs.declared.fault.RunFault.TheVariants.{Line, NoMemory, Read, Write, NoPlace}
 use Rattle.wsched.specs.declared.faults.Fault.{Fault}
 use Rattle.wsched.specs.declared.faults.Fault.TheVariants.{Words, Run}

@@ -1,6 +1,6 @@
 -- What the program's words ask for.
 use Rattle.std.specs.Prelude.{ℕ, ◌&&◌, Bool, true, false, List, [], ◌∷◌, codes, bytes_eq, Option, Some, None, if◌then◌else◌}
-use Rattle.clap.specs.Simple.{App, Shape, on_top}
+use Rattle.clap.specs.Simple.{App, on_top}
 use Rattle.clap.specs.Words.{new_app, with_subcommand}
 use Rattle.clap.specs.declared.error.kind.ErrorKind.{ErrorKind}
 use Rattle.clap.specs.declared.error.kind.ErrorKind.TheVariants.{OutOfMemory}
