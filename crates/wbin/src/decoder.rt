@@ -23,10 +23,12 @@ use wcode::{BinFault, Kind};
 /// How many bytes a module has at most.
 pub const LONGEST: usize = 1_048_576;
 
-/// Reads a module of 2.5 in the integer profile: no floats, no imported value types beyond the two integers.
-/// It gives the module that the bytes spell, in time and memory in proportion to the bytes. It refuses bytes that spell
-/// none by the first fault in their order; a size that passes the end of the bytes is told before what stands in it, and
-/// unequal counts of functions and bodies are told last.
+/// Reads a module: one of the first edition, with the integer types and instructions alone, of at most `LONGEST` bytes.
+/// It takes time and memory in proportion to the bytes, whatever counts they tell.
+///
+/// Bytes that spell no module are refused by their first fault, with its place in them. A section's size that passes their
+/// end is told before what is wrong inside the section; that the functions and the bodies aren't as many is told last, at
+/// the end. Floats are refused as `Float`.
 pub fn decode(alloc: Global, bytes: &[u8]) -> Result<Module, BinFault>
     ensures module { IfOk result (λ m. Spells bytes.now (module_of m)) }
     ensures none { IfErr result (λ e. e ≢ NoMemory → (m : ModuleSyntax) → Spells bytes.now m → ⊥) }
