@@ -62,8 +62,13 @@ pub fn validate(alloc: Global, module: Module) -> Result<Checked, TypeFault>
     if !module.imports.is_empty() {
         return Err(TypeFault::BadImport);
     }
-    if !has_no_more(&module) || !name_something(&module) {
+    if !has_no_more(&module) {
         return Err(untyped);
+    }
+    match name_something(alloc, &module) {
+        Ok(true) => {}
+        Ok(false) => return Err(untyped),
+        Err(_) => return Err(TypeFault::NoMemory),
     }
     let mut notes = Vec::new(alloc);
     'bodies: for function in 0..module.functions.len() {

@@ -1,10 +1,13 @@
 // The exports of a module.
 
-ghost use Rattle.std.specs.Prelude.{◌≡◌, ℕ, [], ◌<◌, IfSome, map, option_map, vec_len};
+ghost use Rattle.std.specs.Prelude.{◌≡◌, ℕ, [], ◌<◌, IfOk, IfSome, map, option_map, vec_len};
 ghost use Rattle.std.specs.Bool.{OnTrue};
+ghost use Rattle.std.specs.List.{AllByRecursion};
 ghost use Rattle.wbin.specs.Syntax.{module_of, export_of};
-ghost use Rattle.wtype.specs.Accepted.{NamesSomething, export_named, gives, IsFunctionOf, ExportsRight, ExportsNamed};
+ghost use Rattle.wtype.specs.Accepted.{NamesSomething, export_named, gives, IsFunctionOf, ExportsRight, ExportsNamed, DistinctNames};
 
+use std::alloc::{AllocError, Global};
+use std::collections::BTreeSet;
 use wbin::{Export, ExportKind, Module};
 use wcode::ValueType;
 
@@ -34,19 +37,42 @@ fn is_there(module: &Module, export: &Export) -> bool
     (export.index as usize) < count
 }
 
-// Each export names something, and no two have one name.
-pub fn name_something(module: &Module) -> bool
+// Each export names something.
+fn are_there(module: &Module) -> bool
     requires { module.now.imports.items ≡ [] }
-    ensures { OnTrue result (ExportsNamed (module_of module.now)) }
+    ensures { OnTrue result (AllByRecursion (λ e. NamesSomething (module_of module.now) e.kind e.index) (map export_of module.now.exports.items)) }
 {
-    for (i, export) in module.exports.iter().enumerate() {
-        if !is_there(module, export)
-            || find_export(&module.exports[i + 1..], &export.name).is_some()
-        {
+    for export in &module.exports {
+        if !is_there(module, export) {
             return false;
         }
     }
     true
+}
+
+// No two exports have one name. A set keeps this near linear in how many there are.
+fn have_distinct_names(alloc: Global, exports: &[Export]) -> Result<bool, AllocError>
+    ensures { IfOk result (λ distinct. OnTrue distinct (DistinctNames (map export_of exports.now))) }
+{
+    let mut names: BTreeSet<&[u8]> = BTreeSet::new(alloc);
+    for export in exports {
+        if !names.insert(export.name.as_slice())? {
+            return Ok(false);
+        }
+    }
+    Ok(true)
+}
+
+// Each export names something, and no two have one name.
+pub fn name_something(alloc: Global, module: &Module) -> Result<bool, AllocError>
+    requires { module.now.imports.items ≡ [] }
+    ensures { IfOk result (λ named. OnTrue named (ExportsNamed (module_of module.now))) }
+{
+    if are_there(module) {
+        have_distinct_names(alloc, &module.exports)
+    } else {
+        Ok(false)
+    }
 }
 
 // The export is a function without parameters that gives this, in a module without imports.

@@ -42,7 +42,7 @@ whole c =
     omega (arith, c.bodies.notes.ok.0, c.bodies.invariant.0, c.bodies-test.false, c.bodies.auto.function-end, c.len-function-end.ensures, count) in
     let fits : (k : ℕ) (n : Notes) → k < length code.functions.items → slice_get c.bodies.notes.items k ≡ Some n → FunctionFits (module_of code) k n.greatest_height =
     λ k n h e. c.sizes.invariant k n (omega (arith, c.sizes-test.false, c.len-function-end-2.ensures, count)) e in (
-      accepted code c.bodies.notes.items none c.if-not-has_no_more.ensures c.if-not-name_something.ensures c.if-not-are_right.ensures long c.bodies.invariant.1 fits,
+      accepted code c.bodies.notes.items none c.if-not-has_no_more.ensures (rw c.in-Ok-true.field-0-test at c.in-Ok-true.ensures) c.if-not-are_right.ensures long c.bodies.invariant.1 fits,
       record { count = long ∙ sym (length-map code.functions.items function_of); each = c.bodies.invariant.1 },
     )
 
