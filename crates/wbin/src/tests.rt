@@ -253,6 +253,31 @@ fn empty_sections(rt: HostRuntime) -> Result<(), Fail> {
     Ok(())
 }
 
+// Each section twice.
+#[test]
+fn doubled_sections(rt: HostRuntime) -> Result<(), Fail> {
+    for id in 1..12u8 {
+        // A start section has the index of a function, and each other one a vector, here an empty one.
+        let bytes = module(rt.alloc(), &[id, 0x01, 0x00, id, 0x01, 0x00])?;
+        refused(&rt, rt.alloc(), &bytes, malformed(Kind::BadSection, 11));
+    }
+    Ok(())
+}
+
+#[test]
+fn a_custom_section_leaves_no_trace(rt: HostRuntime) -> Result<(), Fail> {
+    let mut bytes = module(rt.alloc(), &[0x00, 0x05, 0x04, 0x6E, 0x61, 0x6D, 0x65])?;
+    bytes.extend_from_slice(&ZERO[8..])?;
+    assert_eq!(&rt; bytes.len(), 46);
+    let with = decode(rt.alloc(), &bytes)?;
+    let without = decode(rt.alloc(), &ZERO)?;
+    assert_eq!(&rt; with.types.len(), without.types.len());
+    assert_eq!(&rt; with.functions.len(), without.functions.len());
+    assert_eq!(&rt; with.exports.len(), 1);
+    assert_eq!(&rt; with.exports[0].name.as_slice(), b"filter".as_slice());
+    Ok(())
+}
+
 // An entry of each section, and custom sections, which leave no trace.
 #[test]
 fn whole_module(rt: HostRuntime) -> Result<(), Fail> {
