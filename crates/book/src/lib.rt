@@ -13,7 +13,6 @@ mod step;
 mod table;
 #[cfg(test)]
 mod tests;
-mod version;
 
 pub use book::Book;
 pub use limits::{Limits, MAX_NODES, MAX_PLACED, MAX_QUEUED};
@@ -22,7 +21,6 @@ pub use refusal::Refusal;
 use std::alloc::AllocError;
 pub use step::{ClusterStep, Reply};
 use thiserror::Error;
-pub use version::{Ticket, Version};
 
 /// Memory was asked for and refused.
 #[derive(Clone, Copy, Debug, PartialEq, Eq, Error)]

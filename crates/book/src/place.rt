@@ -1,6 +1,5 @@
 //! Where a pod is placed.
-use crate::version::Ticket;
-use quant::{Name, Request};
+use quant::{Name, Request, Ticket};
 
 /// How sure a place is.
 #[derive(Clone, Copy, Debug, PartialEq, Eq)]

@@ -1,7 +1,6 @@
 //! What happens to a cluster, and what is answered.
 use crate::refusal::Refusal;
-use crate::version::Version;
-use quant::{Name, Node, Request};
+use quant::{Name, Node, Request, Version};
 use std::sync::Arc;
 
 /// A step that touches the version, the nodes or the places.

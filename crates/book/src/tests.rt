@@ -1,9 +1,9 @@
 //! A book at work, and at its limits.
 ghost use Rattle.std.specs.Prelude.{◌≤◌, ◌^◌};
 
-use crate::{Book, ClusterStep, Limits, Refusal, Reply, Version};
+use crate::{Book, ClusterStep, Limits, Refusal, Reply};
 use arrayvec::ArrayVec;
-use quant::{Bytes, Cpu, Name, Node, Request, Res};
+use quant::{Bytes, Cpu, Name, Node, Request, Res, Version};
 use std::alloc::Global;
 use std::sync::Arc;
 use std::test::Fail;

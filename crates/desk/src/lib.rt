@@ -8,7 +8,7 @@ mod step;
 #[cfg(test)]
 mod tests;
 
-pub use book::{Limits, NoMemory, Refusal, Ticket, Version};
+pub use book::{Limits, NoMemory, Refusal};
 pub use desk::{Desk, history_tells_the_state};
 pub use pass::{MAX_CALLS, MAX_PASSES, NoPlace, Pass};
 pub use snapshot::{Row, Snapshot};

@@ -1,6 +1,6 @@
 //! What a caller may ask of the desk, and what is answered.
-use book::{Refusal, Version};
-use quant::{Moment, Name, Node, Request};
+use book::Refusal;
+use quant::{Moment, Name, Node, Request, Version};
 use std::sync::Arc;
 
 /// A step.

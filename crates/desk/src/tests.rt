@@ -1,9 +1,9 @@
 //! A desk at work.
 ghost use Rattle.std.specs.Prelude.{◌≤◌, ◌^◌};
 
-use crate::{Counts, Desk, Limits, Refusal, Reply, Step, Version};
+use crate::{Counts, Desk, Limits, Refusal, Reply, Step};
 use arrayvec::ArrayVec;
-use quant::{Bytes, Cpu, Moment, Name, Node, Request, Res};
+use quant::{Bytes, Cpu, Moment, Name, Node, Request, Res, Version};
 use std::alloc::Global;
 use std::sync::Arc;
 use std::test::Fail;

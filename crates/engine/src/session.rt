@@ -6,7 +6,7 @@ ghost use Rattle.engine.specs.Answers.{after, text_of, opening, reply_lines, sna
 
 use crate::fault::RunFault;
 use crate::text::{push_clock, push_node, push_places, push_queue, push_refused};
-use desk::{Counts, Desk, Limits, Pass, Reply, Snapshot, Step, Version};
+use desk::{Counts, Desk, Limits, Pass, Reply, Snapshot, Step};
 use manifest::Command;
 use std::alloc::{AllocError, Global};
 
@@ -54,17 +54,14 @@ impl Session {
     {
         self.text.clear();
         let step = match command {
-            Command::NodeSet { version, node } => Step::NodeSet {
-                version: Version(version),
-                node,
-            },
+            Command::NodeSet { version, node } => Step::NodeSet { version, node },
             Command::PodBound {
                 version,
                 uid,
                 node,
                 request,
             } => Step::PodBound {
-                version: Version(version),
+                version,
                 uid,
                 node,
                 request,

@@ -20,8 +20,8 @@ pub data Asked : Type 0 where
 
 -- what a command asks for, without where it lies in memory
 abbrev pub shown : Command → Asked
-shown (NodeSet version node) = node_set version (arc_value node)
-shown (PodBound version uid node request) = pod_bound version uid node request.cpu request.mem
+shown (NodeSet version node) = node_set version.0 (arc_value node)
+shown (PodBound version uid node request) = pod_bound version.0 uid node request.cpu request.mem
 shown Dump = dump
 
 -- a node of this name that has these amounts, with no labels and no taints, and open to new pods

@@ -9,7 +9,7 @@ use crate::fault::LineFault;
 use crate::field::Field;
 use crate::reading::{cpu_at, integer_at, memory_at, name_at, parse, text_at};
 use arrayvec::ArrayVec;
-use quant::{Bytes, Cpu, Name, Node, Request, Res};
+use quant::{Bytes, Cpu, Name, Node, Request, Res, Version};
 use serde_json::Value;
 use std::alloc::Global;
 use std::sync::Arc;
@@ -63,7 +63,7 @@ fn command_of(alloc: Global, value: &Value) -> Result<Command, LineFault>
 fn node_of(alloc: Global, value: &Value) -> Result<Command, LineFault>
     ensures { Gives shown result (node_in (view value.now)) }
 {
-    let version = integer_at(value, Field::Version, 1, MAX_VERSION)?;
+    let version = Version(integer_at(value, Field::Version, 1, MAX_VERSION)?);
     let name = name_at(value, Field::Name)?;
     let cpu = cpu_at(value)?;
     let mem = memory_at(value)?;
@@ -93,7 +93,7 @@ fn open_node(name: Name, cpu: Cpu, mem: Bytes, pods: u32) -> Node
 fn bound_of(value: &Value) -> Result<Command, LineFault>
     ensures { Gives shown result (bound_in (view value.now)) }
 {
-    let version = integer_at(value, Field::Version, 1, MAX_VERSION)?;
+    let version = Version(integer_at(value, Field::Version, 1, MAX_VERSION)?);
     let uid = name_at(value, Field::Uid)?;
     let node = name_at(value, Field::Node)?;
     let cpu = cpu_at(value)?;

@@ -123,7 +123,7 @@ fn nodes(rt: HostRuntime) -> Result<(), Fail> {
     let Ok(Command::NodeSet { version, node }) = read_line(rt.alloc(), node.as_bytes()) else {
         return Err("a node")?;
     };
-    assert_eq!(rt; version, 1);
+    assert_eq!(rt; version.0, 1);
     assert_eq!(rt; node.name.as_bytes(), b"a".as_slice());
     assert_eq!(rt; node.allocatable.cpu.0, 4_000);
     assert_eq!(rt; node.allocatable.mem.0, 8_589_934_592);
@@ -145,7 +145,7 @@ fn places_and_dumps(rt: HostRuntime) -> Result<(), Fail> {
             node,
             request,
         } => {
-            assert_eq!(rt; version, 2);
+            assert_eq!(rt; version.0, 2);
             assert_eq!(rt; uid.as_bytes(), b"p0".as_slice());
             assert_eq!(rt; node.as_bytes(), b"b".as_slice());
             assert_eq!(rt; request.cpu.0, 500);

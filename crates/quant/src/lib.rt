@@ -1,5 +1,5 @@
-//! The quantities, names and objects of the scheduler: what a node offers, what a pod asks,
-//! and how both are spelled. Nothing here allocates.
+//! The quantities, names, numbers and objects of the scheduler: what a node offers, what a pod
+//! asks, and how both are spelled. Nothing here allocates.
 #![tactic(auto)]
 
 mod amount;
@@ -10,6 +10,7 @@ mod objects;
 mod pod_request;
 mod spelling;
 mod taint;
+mod version;
 
 pub use amount::{Bytes, Cpu, Moment, Request, Res};
 pub use fault::QuantFault;
@@ -22,6 +23,7 @@ pub use objects::{Label, Node, Pod};
 pub use pod_request::request;
 pub use spelling::{read_bytes, read_cpu};
 pub use taint::{Effect, Operator, Taint, Toleration};
+pub use version::{Ticket, Version};
 
 #[cfg(test)]
 mod tests;
