@@ -2,8 +2,6 @@
 use Rattle.std.specs.Prelude.{ℕ, ◌&&◌, Bool, true, false, List, [], ◌∷◌, codes, bytes_eq, Option, Some, None, if◌then◌else◌}
 use Rattle.clap.specs.Simple.{App, on_top}
 use Rattle.clap.specs.Words.{new_app, with_subcommand}
-use Rattle.clap.specs.declared.error.kind.ErrorKind.{ErrorKind}
-use Rattle.clap.specs.declared.error.kind.ErrorKind.TheVariants.{OutOfMemory}
 use Rattle.wsched.specs.declared.command.Words.{Words}
 use Rattle.wsched.specs.declared.command.Words.TheVariants.{Run}
 
@@ -28,8 +26,3 @@ command_line = with_subcommand
       subcommand_required = true;
     }) (new_app (codes "wsched")))
     (new_app (codes "run")).top
-
--- the kind of an error that says nothing of the words
-abbrev pub is_memory : ErrorKind → Bool
-is_memory OutOfMemory = true
-is_memory _ = false

@@ -1,12 +1,12 @@
 //! What the program's words ask for.
-ghost use Rattle.std.specs.Prelude.{◌≡◌, Some, None, Err, map, IfOk, if◌then◌else◌};
-ghost use Rattle.wsched.specs.Words.{meaning, command_line, is_memory};
-ghost use Rattle.clap.specs.Words.{app_of, kind_of};
+ghost use Rattle.std.specs.Prelude.{◌≡◌, ◌⊎◌, Some, None, Err, map, IfOk, IfErr, OnOk};
+ghost use Rattle.wsched.specs.Words.{meaning, command_line};
+ghost use Rattle.clap.specs.Words.{app_of};
 
 use crate::command::Words;
 use crate::faults::WordFault;
+use clap::Command;
 use clap::error::ErrorKind;
-use clap::{Command, Error};
 use std::alloc::{AllocError, Global};
 use std::convert::AsStr;
 use std::rt::Env;
@@ -25,6 +25,21 @@ fn command_line<'a>(alloc: Global) -> Result<Command<'a>, AllocError>
         .subcommand(Command::new(alloc, "run"))
 }
 
+// Has `clap` read the words, and gives the kind of its error where it refuses them.
+fn parse<'a, S: AsStr>(alloc: Global, args: &'a [S]) -> Result<(), ErrorKind>
+    ensures taken { OnOk result (meaning (map S.text args.now) ≡ Some Words.Run) }
+    ensures refused { IfErr result (λ kind. (kind ≡ ErrorKind.OutOfMemory)
+        ⊎ (meaning (map S.text args.now) ≡ None)) }
+{
+    let Ok(command) = command_line(alloc) else {
+        return Err(ErrorKind::OutOfMemory);
+    };
+    match command.try_get_matches_from(args) {
+        Ok(_matches) => Ok(()),
+        Err(error) => Err(error.kind()),
+    }
+}
+
 /// Reads the words that follow the program's name: `run`, and nothing else but a closing `--`.
 /// A request for help or for the version is no such word.
 ///
@@ -33,22 +48,10 @@ pub fn words<'a, S: AsStr>(alloc: Global, args: &'a [S]) -> Result<Words, WordFa
     ensures ok { IfOk result (λ words. meaning (map S.text args.now) ≡ Some words) }
     ensures refused { result ≡ Err WordFault.BadWords → meaning (map S.text args.now) ≡ None }
 {
-    let Ok(command) = command_line(alloc) else {
-        return Err(WordFault::NoMemory);
-    };
-    match command.try_get_matches_from(args) {
-        Ok(_matches) => Ok(Words::Run),
-        Err(error) => Err(fault_of(&error)),
-    }
-}
-
-// Why `clap` refused the words.
-fn fault_of(error: &Error) -> WordFault
-    ensures { result ≡ (if is_memory (kind_of error.now) then WordFault.NoMemory else WordFault.BadWords) }
-{
-    match error.kind() {
-        ErrorKind::OutOfMemory => WordFault::NoMemory,
-        _ => WordFault::BadWords,
+    match parse(alloc, args) {
+        Ok(()) => Ok(Words::Run),
+        Err(ErrorKind::OutOfMemory) => Err(WordFault::NoMemory),
+        Err(_) => Err(WordFault::BadWords),
     }
 }
 
