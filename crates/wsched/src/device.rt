@@ -10,7 +10,8 @@ use std::io::{ErrorKind, Read, Write};
 // needs an end.
 const MAX_INPUT: u64 = 1 << 63;
 
-/// A script that a reader gives. A read that is interrupted is tried again.
+/// A script that a reader gives. A read that is interrupted is tried again. Past the most bytes that
+/// are read a read fails, since it would else look like the end.
 #[derive(Drop)]
 pub struct Input<R> {
     reader: R,
@@ -55,8 +56,8 @@ impl<R: Read> Source for Input<R> {
     }
 }
 
-/// Output that a writer takes. The writer holds nothing back, so that no flush is needed. A write
-/// that is interrupted is tried again.
+/// Output that a writer takes. It is never flushed, so the writer must hold nothing back. A write
+/// that is interrupted is tried again, and one that takes nothing has failed.
 #[derive(Drop)]
 pub struct Output<W> {
     writer: W,

@@ -9,7 +9,8 @@ use engine::{RunFault, Sink, write_all};
 use itoa::Buffer;
 use manifest::LineFault;
 
-// Room for the longest message: a line's number has up to 20 digits.
+// Room for the longest message: a number has up to 20 digits, a fault's name up to 10 bytes, and a
+// field's key up to 8. Each `push_..` below says how much of the room it wants at most.
 const MAX_MESSAGE: usize = 96;
 
 // A message takes no memory, so that want of memory can be told.

@@ -6,7 +6,7 @@ use crate::faults::{Fault, WordFault};
 use crate::message::report;
 use crate::serve::serve;
 use arrayvec::ArrayVec;
-use engine::RunFault;
+use engine::{RunFault, Sink, Source};
 use manifest::{Field, LineFault};
 use std::alloc::Global;
 use std::env::FillError;
@@ -87,6 +87,50 @@ impl Write for Paper {
 
     fn flush(&mut self) -> io::Result<()> {
         Ok(())
+    }
+}
+
+// A device of which every other call is interrupted, the first one too.
+#[derive(Drop)]
+struct Interrupted<T> {
+    device: T,
+    is_ready: bool,
+}
+
+impl<T> Interrupted<T> {
+    fn new(device: T) -> Interrupted<T> {
+        Interrupted {
+            device,
+            is_ready: true,
+        }
+    }
+
+    // Whether this call is interrupted.
+    fn interrupts(&mut self) -> bool {
+        self.is_ready = !self.is_ready;
+        !self.is_ready
+    }
+}
+
+impl<T: Read> Read for Interrupted<T> {
+    fn read(&mut self, buf: &mut [u8]) -> io::Result<usize> {
+        if self.interrupts() {
+            return Err(io::Error::from(io::ErrorKind::Interrupted));
+        }
+        self.device.read(buf)
+    }
+}
+
+impl<T: Write> Write for Interrupted<T> {
+    fn write(&mut self, buf: &[u8]) -> io::Result<usize> {
+        if self.interrupts() {
+            return Err(io::Error::from(io::ErrorKind::Interrupted));
+        }
+        self.device.write(buf)
+    }
+
+    fn flush(&mut self) -> io::Result<()> {
+        self.device.flush()
     }
 }
 
@@ -260,7 +304,34 @@ fn failing_devices_end_the_run(rt: HostRuntime) {
         );
     }
     // 158 bytes, of which a write takes 10 at most.
-    assert!(rt; failed >= 16);
+    assert!(rt; (16..99).contains(&failed));
+}
+
+#[test]
+fn interrupted_calls_are_tried_again(rt: HostRuntime) {
+    let rows = [
+        (FIRST_RUN, 0, FIRST_OUTPUT, ""),
+        ("{}", 1, "", "wsched: line 1: 2 BadField op\n"),
+    ];
+    for (script, status, output, fault) in rows {
+        let mut source = Input::new(Interrupted::new(Pieces {
+            rest: script.as_bytes(),
+            most: 10,
+            reads: 0,
+            failing: 0,
+        }));
+        let mut out = Output::new(Interrupted::new(Paper::new(10, 0)));
+        let mut err = Output::new(Interrupted::new(Paper::new(10, 0)));
+        assert_eq!(rt;
+            serve(rt.alloc(), &Words::Run, &mut source, &mut out, &mut err),
+            status,
+            "{fault}"
+        );
+        assert_eq!(rt; source.failures(), 0);
+        assert_eq!(rt; out.failures(), 0);
+        assert_eq!(rt; out.into_inner().device.text.as_slice(), output.as_bytes());
+        assert_eq!(rt; err.into_inner().device.text.as_slice(), fault.as_bytes());
+    }
 }
 
 #[test]
