@@ -1,3 +1,4 @@
+pub mod Fault
 pub mod Context
 pub mod Typing
 pub mod Heights

@@ -1,5 +1,8 @@
 // Why a module is refused.
 
+ghost use Rattle.std.specs.Prelude.{◌≡◌, codes};
+ghost use Rattle.wbody.specs.Fault.{number_of, name_of};
+
 use thiserror::Error;
 
 /// What is wrong with a module that the bytes spell.
@@ -7,28 +10,30 @@ use thiserror::Error;
 pub enum TypeFault {
     /// A body without a typing, with the index of its function among all functions, or else a rule of the module that
     /// is broken. The place isn't told yet: it is 0.
-    #[error("1 Untyped")]
+    #[error("{} {}", self.number(), self.name())]
     Untyped {
         function: Option<usize>,
         place: usize,
     },
     /// An import that no module may have.
-    #[error("2 BadImport")]
+    #[error("{} {}", self.number(), self.name())]
     BadImport,
     /// An export `filter` or `score` of another type, or neither of them.
-    #[error("3 BadExport")]
+    #[error("{} {}", self.number(), self.name())]
     BadExport,
     /// More locals, operands, globals, pages or elements than there may be.
-    #[error("4 OverLimit")]
+    #[error("{} {}", self.number(), self.name())]
     OverLimit,
     /// Memory ran out.
-    #[error("5 NoMemory")]
+    #[error("{} {}", self.number(), self.name())]
     NoMemory,
 }
 
 impl TypeFault {
     /// The fault's number.
-    pub fn number(self) -> u8 {
+    pub fn number(self) -> u8
+        ensures { result ≡ number_of self }
+    {
         match self {
             TypeFault::Untyped { .. } => 1,
             TypeFault::BadImport => 2,
@@ -39,7 +44,9 @@ impl TypeFault {
     }
 
     /// The fault's name.
-    pub fn name(self) -> &'static str {
+    pub fn name(self) -> &'static str
+        ensures { result.now ≡ name_of self }
+    {
         match self {
             TypeFault::Untyped { .. } => "Untyped",
             TypeFault::BadImport => "BadImport",

@@ -130,16 +130,16 @@ fn block_of(gives: Option<ValueType>) -> BlockType
 
 /// The typing of the body of a function of the module, by its place among those of the module itself, and what a
 /// machine wants to know of it. Untyped also where its type isn't there.
-pub fn type_body(alloc: Global, module: &Module, function: usize) -> Result<Notes, TypeFault>
-    requires { function < vec_len module.now.functions }
-    ensures { IfOk result (λ notes. BodyTyped (module_of module.now) function notes) }
+pub fn type_body(alloc: Global, decoded: &Module, function: usize) -> Result<Notes, TypeFault>
+    requires { function < vec_len decoded.now.functions }
+    ensures { IfOk result (λ notes. BodyTyped (module_of decoded.now) function notes) }
 {
-    let body = &module.functions[function];
+    let body = &decoded.functions[function];
     let untyped = TypeFault::Untyped {
         function: Some(function),
         place: 0,
     };
-    let Some(signature) = module.types.get(body.signature as usize) else {
+    let Some(signature) = decoded.types.get(body.signature as usize) else {
         return Err(untyped);
     };
     let mut typing = Typing {

@@ -13,7 +13,7 @@ use Rattle.wbody.proofs.typing.type_body.Goals as goal
 
 pub returns : goal.returns
 returns c =
-    let code = c.args.module.now in
+    let code = c.args.decoded.now in
     let f = c.index-body.result.now in
     let signature = c.in-Some.signature.now in
     let m = module_of code in
