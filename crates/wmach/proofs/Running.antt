@@ -1,5 +1,5 @@
 -- Typed code has the operands that it takes and room for those that it leaves.
-use Rattle.std.proofs.Common.{◌≡◌, ℕ, suc, zero, ◌+◌, ◌-◌, ◌%◌, ◌^◌, ◌≤◌, ◌<◌, List, [], ◌∷◌, ◌++◌, length, max, refl, sym, ap, ◌∙◌, subst, arith}
+use Rattle.std.proofs.Common.{◌≡◌, ℕ, suc, zero, ◌+◌, ◌-◌, ◌%◌, ◌^◌, ◌≤◌, ◌<◌, List, [], ◌∷◌, ◌++◌, length, max, refl, ap, ◌∙◌, subst, arith}
 use Rattle.std.proofs.lemmas.List.{length-append}
 use Rattle.std.proofs.Math.Nat.{add-mod}
 use Rattle.wnum.specs.Integer.{iadd}
@@ -67,9 +67,9 @@ ready_add room height rest r =
     )
 
 -- the lowest bits of a sum are those of the sum of the lowest bits
-pub iadd_low : (a b : ℕ) → iadd 32 (a % 2 ^ 32) (b % 2 ^ 32) ≡ iadd 32 a b
+pub sum_of_low : (a b : ℕ) → iadd 32 a b ≡ iadd 32 (a % 2 ^ 32) (b % 2 ^ 32)
 unfolding iadd
-iadd_low a b = sym (add-mod a b (2 ^ 32))
+sum_of_low a b = add-mod a b (2 ^ 32)
 
 -- two stretches that went to their ends
 record ThenWent (r : Ran) (go : Slots → Ran) (s : Slots) : Type 0 where

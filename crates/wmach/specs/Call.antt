@@ -1,4 +1,4 @@
--- What is called of a module, the law that it never gets stuck, and what a machine is seen as.
+-- What is called of a module, the laws of all calls, and what a machine is seen as.
 use Rattle.std.specs.Prelude.{◌≡◌, ℕ, ◌*◌, List, [], ◌∷◌, Option, Some, None, option_map, map, replicate, slice_get}
 use Rattle.wcode.specs.declared.value.ValueType.{ValueType}
 use Rattle.wcode.specs.declared.value.Value.{Value}
@@ -28,6 +28,11 @@ pub record CalledType (m : ModuleSyntax) (function : ℕ) : Type 0 where
   pub result : Option ValueType
   pub is : slice_get (function_types m) function ≡ Some (Some (record { parameters = []; result = result }))
 
+-- With so much fuel a call of this function ends so and leaves the store, whatever the store and the records are.
+abbrev pub Ends : ModuleSyntax → (function fuel : ℕ) → Outcome → Type 0
+Ends m function fuel outcome =
+    (records : ℕ → Option (List ℕ)) (store : Store) → HasOutcome (record { module_syntax = m; records = records }) store function fuel outcome store
+
 -- No chain of reductions of a call leads to where neither a rule applies nor the call has ended: whatever
 -- accepted module, store that fits it, records, and function that can be called.
 abbrev pub NeverStuck : Type 0
@@ -36,6 +41,13 @@ NeverStuck =
     Accepted (setting.module_syntax) → StoreFits (setting.module_syntax) store →
     called_function (setting.module_syntax) export ≡ Some function →
     (n cost : ℕ) (c : Configuration) → Chain setting n (call_of store function) cost c → ¬ (Stuck setting c)
+
+-- A call ends in one way: with the same fuel two outcomes of it are one, and so are the stores that they leave.
+abbrev pub OneOutcome : Type 0
+OneOutcome =
+    (setting : Setting) (before : Store) (function fuel : ℕ) (first second : Outcome) (after_first after_second : Store) →
+    HasOutcome setting before function fuel first after_first → HasOutcome setting before function fuel second after_second →
+    (first ≡ second) × (after_first ≡ after_second)
 
 -- no records are given to a start function
 abbrev pub records_for : Export → (ℕ → Option (List ℕ)) → ℕ → Option (List ℕ)

@@ -1,15 +1,15 @@
 // The machine: a checked module, its store, and the room for its operands.
 
-ghost use Rattle.std.specs.Prelude.{◌≡◌, ℕ, List, [], ◌++◌, ◌≤◌, ◌↔◌, IfOk, IsSome, IsTrue, Option, map, option_map, reverse, vec_len, vec_capacity};
+ghost use Rattle.std.specs.Prelude.{◌≡◌, ℕ, List, [], ◌++◌, ◌-◌, ◌≤◌, ◌↔◌, IfOk, IfSome, IfNone, IsSome, IsTrue, Option, map, option_map, reverse, vec_len, vec_capacity};
 ghost use Rattle.std.specs.Arc.{arc_value};
 ghost use Rattle.wcode.specs.declared.value.Value.{Value};
 ghost use Rattle.wbin.specs.Syntax.{module_of, export_of};
 ghost use Rattle.wbody.specs.Context.{at_most_one};
 ghost use Rattle.wtype.specs.Accepted.{Accepted, export_named};
-ghost use Rattle.wmach.specs.Configuration.{Store};
 ghost use Rattle.wmach.specs.Fits.{types_of, StoreFits};
-ghost use Rattle.wmach.specs.Outcome.{values_of, HasOutcome};
-ghost use Rattle.wmach.specs.Call.{called_function, first_store, Calls, CalledType};
+ghost use Rattle.wmach.specs.declared.outcome.Outcome.TheVariants as outcomes;
+ghost use Rattle.wmach.specs.Outcome.{values_of};
+ghost use Rattle.wmach.specs.Call.{called_function, first_store, Calls, CalledType, Ends};
 ghost use Rattle.wmach.specs.Walk.{AllSmall, all_bits};
 
 use crate::export::Export;
@@ -32,6 +32,9 @@ pub trait Host {
         ensures { option_map (λ r. r.now) result ≡ records self.now import };
 }
 
+// The most operands of an accepted module's function: its parameters, locals and operands together are no more.
+const MOST_OPERANDS: usize = 1024;
+
 /// A machine for one checked module. It reserves all its room when it is made.
 #[derive(Drop)]
 pub struct Machine {
@@ -52,11 +55,12 @@ impl Model for Machine {
     ghost use Rattle.wbin.specs.Syntax.{module_of};
     ghost use Rattle.wtype.specs.Accepted.{Accepted};
     ghost use Rattle.wmach.specs.Call.{first_store};
+    ghost use Rattle.wmach.specs.declared.machine.TheConstants.{MOST_OPERANDS};
 
     // No accepted module changes its store yet.
     ghost view = { λ m. record { content = m.checked.value.content; store = first_store (module_of m.checked.value.content) } };
 
-    ghost invariant = { λ m. Accepted (module_of m.checked.value.content) × (vec_len m.slots ≡ 0) × (1024 ≤ vec_capacity m.slots) };
+    ghost invariant = { λ m. Accepted (module_of m.checked.value.content) × (vec_len m.slots ≡ 0) × (MOST_OPERANDS ≤ vec_capacity m.slots) };
 }
 
 // The index of the first export of this name.
@@ -72,13 +76,13 @@ fn find_index(exports: &[Named], name: &[u8]) -> Option<usize>
 }
 
 // The function that is called, by its index.
-fn function_index(module: &Module, export: Export) -> Option<usize>
-    ensures { result ≡ called_function (module_of module.now) export }
+fn function_index(content: &Module, export: Export) -> Option<usize>
+    ensures { result ≡ called_function (module_of content.now) export }
 {
     match export {
-        Export::Filter => find_index(&module.exports, b"filter"),
-        Export::Score => find_index(&module.exports, b"score"),
-        Export::Start => match module.start {
+        Export::Filter => find_index(&content.exports, b"filter"),
+        Export::Score => find_index(&content.exports, b"score"),
+        Export::Start => match content.start {
             Some(index) => Some(index as usize),
             None => None,
         },
@@ -98,26 +102,48 @@ fn result_of(slots: &Vec<u64>, result_type: Option<ValueType>) -> Option<Value>
     }
 }
 
-// A call of a function of an accepted module.
-fn call(module: &Module, slots: &mut Vec<u64>, index: usize, fuel: u64) -> Outcome
-    requires accepted { Accepted (module_of module.now) }
-    requires called { CalledType (module_of module.now) index }
+// Runs a function of an accepted module, from empty slots to its result. None: what comes next costs more than is left.
+fn run_function(
+    content: &Module,
+    slots: &mut Vec<u64>,
+    index: usize,
+    left: &mut u64,
+) -> Option<Option<Value>>
+    requires accepted { Accepted (module_of content.now) }
+    requires called { CalledType (module_of content.now) index }
     requires empty { vec_len slots.old ≡ 0 }
-    requires room { 1024 ≤ vec_capacity slots.old }
-    ensures outcome { (records : ℕ → Option (List ℕ)) (store : Store) → HasOutcome (record { module_syntax = module_of module.now; records = records }) store index fuel result store }
+    requires room { MOST_OPERANDS ≤ vec_capacity slots.old }
+    ensures ended { IfSome result (λ value. Ends (module_of content.now) index left.old (outcomes.Value value (left.old - left.new))) }
+    ensures exhausted { IfNone result (Ends (module_of content.now) index left.old (outcomes.Exhausted (left.old - left.new))) }
+    ensures spent { left.new ≤ left.old }
+    ensures room { vec_capacity slots.new ≡ vec_capacity slots.old }
+{
+    let function = &content.functions[index];
+    let result_type = content.types[function.signature as usize].result;
+    if !run_sequence(slots, left, &function.body) {
+        return None;
+    }
+    Some(result_of(slots, result_type))
+}
+
+// A call of a function of an accepted module. It leaves the slots empty, as it finds them.
+fn call(content: &Module, slots: &mut Vec<u64>, index: usize, fuel: u64) -> Outcome
+    requires accepted { Accepted (module_of content.now) }
+    requires called { CalledType (module_of content.now) index }
+    requires empty { vec_len slots.old ≡ 0 }
+    requires room { MOST_OPERANDS ≤ vec_capacity slots.old }
+    ensures outcome { Ends (module_of content.now) index fuel result }
     ensures empty { vec_len slots.new ≡ 0 }
     ensures room { vec_capacity slots.new ≡ vec_capacity slots.old }
 {
-    let function = &module.functions[index];
-    let result_type = module.types[function.signature as usize].result;
     let mut left = fuel;
-    if !run_sequence(slots, &mut left, &function.body) {
-        slots.truncate(0);
-        return Outcome::Exhausted(fuel - left);
-    }
-    let result = result_of(slots, result_type);
+    let ended = run_function(content, slots, index, &mut left);
     slots.truncate(0);
-    Outcome::Value(result, fuel - left)
+    let cost = fuel - left;
+    match ended {
+        Some(value) => Outcome::Value(value, cost),
+        None => Outcome::Exhausted(cost),
+    }
 }
 
 impl Machine {
@@ -128,7 +154,7 @@ impl Machine {
         ensures fits { IfOk result (λ m. StoreFits (module_of m.content) m.store) }
     {
         let _ = checked.module();
-        let slots = Vec::with_capacity(alloc, 1024)?;
+        let slots = Vec::with_capacity(alloc, MOST_OPERANDS)?;
         Ok(Machine { checked, slots })
     }
 
@@ -144,8 +170,8 @@ impl Machine {
         requires { IsSome (called_function (module_of self.old.content) export) }
         ensures { Calls self.old export (H.records host.now) fuel result self.new }
     {
-        let module = self.checked.module();
-        let index = function_index(module, export).unwrap();
-        call(module, &mut self.slots, index, fuel)
+        let content = self.checked.module();
+        let index = function_index(content, export).unwrap();
+        call(content, &mut self.slots, index, fuel)
     }
 }

@@ -2,6 +2,7 @@
 
 ghost use Rattle.std.specs.Prelude.{◌≡◌, ℕ, ◌+◌, ◌∷◌, ◌%◌, ◌^◌, ◌<◌, length, reverse, vec_len, vec_capacity, drop};
 ghost use Rattle.std.specs.Bool.{OnTrue, OnFalse};
+ghost use Rattle.wnum.specs.Integer.{iadd};
 ghost use Rattle.wcode.specs.Syntax.{Body, plain, with_instr, body_of};
 ghost use Rattle.wmach.specs.Walk.{slots_of, AllSmall, run, run_plain, finished, exhausted, Ready};
 
@@ -16,7 +17,7 @@ pub fn low(slot: u64) -> u32
 }
 
 // The topmost slot.
-pub fn pop(slots: &mut Vec<u64>) -> u64
+fn pop(slots: &mut Vec<u64>) -> u64
     requires { 0 < vec_len slots.old }
     ensures items { reverse slots.old.items ≡ result ∷ reverse slots.new.items }
     ensures len { vec_len slots.old ≡ vec_len slots.new + 1 }
@@ -35,6 +36,15 @@ fn push(slots: &mut Vec<u64>, slot: u64)
     ensures small { slot < 2 ^ 32 → AllSmall slots.old.items → AllSmall slots.new.items }
 {
     slots.push_reserved(slot);
+}
+
+// The sum of two slots, each read as an i32.
+#[tactic(auto, using(crate::proofs::Running::sum_of_low))]
+fn sum_i32(left: u64, right: u64) -> u64
+    ensures sum { result ≡ iadd 32 left right }
+    ensures small { result < 2 ^ 32 }
+{
+    u64::from(int32::add(low(left), low(right)))
 }
 
 // An instruction without others inside it. False: it costs more than is left.
@@ -58,7 +68,8 @@ fn run_one(slots: &mut Vec<u64>, fuel: &mut u64, instruction: &Plain) -> bool
             *fuel -= 1;
             let right = pop(slots);
             let left = pop(slots);
-            push(slots, u64::from(int32::add(low(left), low(right))));
+            let sum = sum_i32(left, right);
+            push(slots, sum);
             true
         }
         _ => false,

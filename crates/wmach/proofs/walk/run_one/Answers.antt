@@ -1,4 +1,4 @@
-use Rattle.std.proofs.Common.{◌≡◌, ℕ, suc, zero, ◌-◌, ◌%◌, ◌^◌, ◌<◌, List, ◌∷◌, reverse, vec_len, vec_capacity, refl, sym, ap, ◌∙◌, subst, arith}
+use Rattle.std.proofs.Common.{◌≡◌, ℕ, suc, zero, ◌-◌, List, ◌∷◌, reverse, vec_len, vec_capacity, refl, sym, ap, ◌∙◌, subst, arith}
 use Rattle.wnum.specs.Integer.{iadd}
 use Rattle.wcode.specs.declared.value.ValueType.TheVariants.{I32}
 use Rattle.wcode.specs.declared.value.Value.TheVariants as value
@@ -6,7 +6,7 @@ use Rattle.wcode.specs.declared.operator.BinOp.TheVariants as binary
 use Rattle.wcode.specs.declared.instruction.Plain.TheVariants.{Const, Binary}
 use Rattle.wcode.specs.Syntax.{plain}
 use Rattle.wmach.specs.Walk.{Slots, finished, slots_of, run_plain, Ready}
-use Rattle.wmach.proofs.Running.{ready_const, ready_add, iadd_low}
+use Rattle.wmach.proofs.Running.{ready_const, ready_add}
 use Rattle.wmach.proofs.walk.run_one.Goals as goal
 
 -- a sum, where there is fuel
@@ -30,13 +30,9 @@ returns-else-fuel-eq0-clause-went c =
     let field_0 = rw c.in-Binary-I32-Add.is at c.in-Binary-I32-Add.field-0-is in
     let field = rw c.in-Binary-I32-Add.is at c.in-Binary-I32-Add.field-1-is in
     let is : c.args.instruction.now ≡ Binary I32 binary.Add = c.in-Binary-I32-Add.is ∙ ap (λ t. Binary t c.in-Binary-I32-Add.field-1) field_0 ∙ ap (Binary I32) field in
-    let low_left = c.low.ensures in
-    let low_right = c.low-in-Binary-I32-Add.ensures in
-    let sum : c.from-in-Binary-I32-Add.result ≡ iadd 32 c.pop-left.result c.pop-right.result =
-    c.from-in-Binary-I32-Add.ensures ∙ c.add.ensures ∙ ap (λ x. iadd 32 x c.low-in-Binary-I32-Add.result) low_left ∙ ap (λ x. iadd 32 (c.pop-left.result % 2 ^ 32) x) low_right ∙ iadd_low c.pop-left.result c.pop-right.result in
     let operands : reverse c.args.slots.now.items ≡ c.pop-right.result ∷ c.pop-left.result ∷ reverse c.pop-left.new.slots.items = c.pop-right.ensures.items ∙ ap (λ l. c.pop-right.result ∷ l) c.pop-left.ensures.items in
     ap (λ p. run_plain p (slots_of c.args.slots.now c.args.fuel.now)) is
-    ∙ add_went c.args.fuel.now c.pop-left.result c.pop-right.result c.from-in-Binary-I32-Add.result _ (reverse c.pop-left.new.slots.items) (reverse c.push-in-Binary-I32-Add.new.slots.items) c.if-fuel-eq0.false operands c.push-in-Binary-I32-Add.ensures.items sum
+    ∙ add_went c.args.fuel.now c.pop-left.result c.pop-right.result c.sum_i32-sum.result _ (reverse c.pop-left.new.slots.items) (reverse c.push-in-Binary-I32-Add.new.slots.items) c.if-fuel-eq0.false operands c.push-in-Binary-I32-Add.ensures.items c.sum_i32-sum.ensures.sum
 
 pub returns-else-fuel-eq0-clause-ready : goal.returns-else-fuel-eq0-clause-ready
 returns-else-fuel-eq0-clause-ready c rest r =
@@ -50,5 +46,4 @@ returns-else-fuel-eq0-clause-ready c rest r =
 
 pub returns-else-fuel-eq0-clause-small : goal.returns-else-fuel-eq0-clause-small
 returns-else-fuel-eq0-clause-small c before =
-    let range : c.from-in-Binary-I32-Add.result < 2 ^ 32 = omega (arith, c.from-in-Binary-I32-Add.ensures, c.add.type_inv) in
-    c.push-in-Binary-I32-Add.ensures.small range (c.pop-left.ensures.small (c.pop-right.ensures.small before))
+    c.push-in-Binary-I32-Add.ensures.small c.sum_i32-sum.ensures.small (c.pop-left.ensures.small (c.pop-right.ensures.small before))

@@ -6,5 +6,5 @@ use Rattle.wmach.proofs.machine.Machine.invoke.Goals as goal
 
 pub call-requires-clause-called : goal.call-requires-clause-called
 call-requires-clause-called g c =
-    let accepted = subst (λ m. Accepted (module_of m)) (sym c.module-module.ensures.value) c.module-module.ensures.accepted in
-    called_type (module_of c.module-module.result.now) accepted c.args.export c.unwrap-index.result (sym c.function_index.ensures ∙ c.unwrap-index.ensures)
+    let accepted = subst (λ m. Accepted (module_of m)) (sym c.module-content.ensures.value) c.module-content.ensures.accepted in
+    called_type (module_of c.module-content.result.now) accepted c.args.export c.unwrap-index.result (sym c.function_index.ensures ∙ c.unwrap-index.ensures)

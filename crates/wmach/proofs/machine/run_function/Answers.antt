@@ -13,7 +13,7 @@ use Rattle.wmach.specs.Call.{CalledType}
 use Rattle.wmach.specs.Walk.{slots_of, finished, exhausted}
 use Rattle.wmach.proofs.Calling.{Entry, entry, exhausts, ends, values}
 use Rattle.wmach.proofs.Results.{mapped_at, within_mapped, run_here, ready_entry}
-use Rattle.wmach.proofs.machine.call.Goals as goal
+use Rattle.wmach.proofs.machine.run_function.Goals as goal
 
 -- the function that the code finds
 function_found : (code : Module) (index : ℕ) (result : Option ValueType) (e : Entry (module_of code) index result) (f : Function) → f ≡ get_or code.functions.items index f → function_of f ≡ e.function
@@ -41,7 +41,7 @@ no_store = record { memory = []; globals = []; table = [] }
 
 pub index-requires : goal.index-requires
 index-requires c =
-    let code = c.args.module.now in
+    let code = c.args.content.now in
     let e = called code c.requires.accepted c.args.index c.requires.called in
     let f = c.index-function.result.now in
     let within = within_mapped signature_of code.types.items f.signature _ (type_found code c.args.index c.requires.called.result e f c.index-function.ensures) in
@@ -49,64 +49,64 @@ index-requires c =
 
 pub run_sequence-requires : goal.run_sequence-requires
 run_sequence-requires c =
-    let code = c.args.module.now in
+    let code = c.args.content.now in
     let e = called code c.requires.accepted c.args.index c.requires.called in
     let f = c.index-function.result.now in
     let b_is : body_of c.deref.result.now ≡ body_of f.body.items = ap body_of c.deref.ensures.value in
     ready_entry (module_of code) c.args.index c.requires.called.result e (vec_capacity c.args.slots.now) (vec_len c.args.slots.now) (body_of c.deref.result.now) c.requires.room c.requires.empty (body_found code c.args.index c.requires.called.result e f (body_of c.deref.result.now) c.index-function.ensures b_is)
 
-pub overflow_sub-result : goal.overflow_sub-result
-overflow_sub-result c =
-    let code = c.args.module.now in
+pub returns-then-not-run_sequence-clause-spent : goal.returns-then-not-run_sequence-clause-spent
+returns-then-not-run_sequence-clause-spent c =
+    let code = c.args.content.now in
     let e = called code c.requires.accepted c.args.index c.requires.called in
     let f = c.index-function.result.now in
     let b_is : body_of c.deref.result.now ≡ body_of f.body.items = ap body_of c.deref.ensures.value in
     let body = body_found code c.args.index c.requires.called.result e f (body_of c.deref.result.now) c.index-function.ensures b_is in
-    let ran = run_here e.function.body c.deref.result.now c.args.slots.now c.args.fuel (exhausted c.run_sequence.new.fuel) body c.requires.empty c.if-not-run_sequence.ensures.exhausted in
-    (exhausts (module_of code) c.requires.accepted (λ n. None) no_store c.args.index c.requires.called.result e c.args.fuel c.run_sequence.new.fuel ran).0
+    let ran = run_here e.function.body c.deref.result.now c.args.slots.now c.args.left.now (exhausted c.run_sequence.new.fuel) body c.requires.empty c.if-not-run_sequence.ensures.exhausted in
+    (exhausts (module_of code) c.requires.accepted (λ n. None) no_store c.args.index c.requires.called.result e c.args.left.now c.run_sequence.new.fuel ran).0
 
-pub returns-then-not-run_sequence-clause-outcome : goal.returns-then-not-run_sequence-clause-outcome
-returns-then-not-run_sequence-clause-outcome c records store =
-    let code = c.args.module.now in
+pub returns-then-not-run_sequence-clause-exhausted : goal.returns-then-not-run_sequence-clause-exhausted
+returns-then-not-run_sequence-clause-exhausted c records store =
+    let code = c.args.content.now in
     let e = called code c.requires.accepted c.args.index c.requires.called in
     let f = c.index-function.result.now in
     let b_is : body_of c.deref.result.now ≡ body_of f.body.items = ap body_of c.deref.ensures.value in
     let body = body_found code c.args.index c.requires.called.result e f (body_of c.deref.result.now) c.index-function.ensures b_is in
-    let ran = run_here e.function.body c.deref.result.now c.args.slots.now c.args.fuel (exhausted c.run_sequence.new.fuel) body c.requires.empty c.if-not-run_sequence.ensures.exhausted in
-    (exhausts (module_of code) c.requires.accepted records store c.args.index c.requires.called.result e c.args.fuel c.run_sequence.new.fuel ran).1
+    let ran = run_here e.function.body c.deref.result.now c.args.slots.now c.args.left.now (exhausted c.run_sequence.new.fuel) body c.requires.empty c.if-not-run_sequence.ensures.exhausted in
+    (exhausts (module_of code) c.requires.accepted records store c.args.index c.requires.called.result e c.args.left.now c.run_sequence.new.fuel ran).1
 
-pub result_of-result-requires-clause-one : goal.result_of-result-requires-clause-one
-result_of-result-requires-clause-one c =
-    let code = c.args.module.now in
+pub result_of-requires-clause-one : goal.result_of-requires-clause-one
+result_of-requires-clause-one c =
+    let code = c.args.content.now in
     let e = called code c.requires.accepted c.args.index c.requires.called in
     let f = c.index-function.result.now in
     let b_is : body_of c.deref.result.now ≡ body_of f.body.items = ap body_of c.deref.ensures.value in
     let body = body_found code c.args.index c.requires.called.result e f (body_of c.deref.result.now) c.index-function.ensures b_is in
     let s = slots_of c.run_sequence.new.slots c.run_sequence.new.fuel in
-    let ran = run_here e.function.body c.deref.result.now c.args.slots.now c.args.fuel (finished s) body c.requires.empty c.if-not-run_sequence.ensures.went in
-    let end = ends (module_of code) c.requires.accepted (λ n. None) no_store c.args.index c.requires.called.result e c.args.fuel s ran in
+    let ran = run_here e.function.body c.deref.result.now c.args.slots.now c.args.left.now (finished s) body c.requires.empty c.if-not-run_sequence.ensures.went in
+    let end = ends (module_of code) c.requires.accepted (λ n. None) no_store c.args.index c.requires.called.result e c.args.left.now s ran in
     let same = result_found code c.args.index c.requires.called.result e f c.index.result.now c.index-function.ensures c.index.ensures in
     (end.1.0, end.1.1 ∙ ap at_most_one (sym same), end.1.2)
 
-pub overflow_sub-result-2 : goal.overflow_sub-result-2
-overflow_sub-result-2 c =
-    let code = c.args.module.now in
+pub returns-clause-spent : goal.returns-clause-spent
+returns-clause-spent c =
+    let code = c.args.content.now in
     let e = called code c.requires.accepted c.args.index c.requires.called in
     let f = c.index-function.result.now in
     let b_is : body_of c.deref.result.now ≡ body_of f.body.items = ap body_of c.deref.ensures.value in
     let body = body_found code c.args.index c.requires.called.result e f (body_of c.deref.result.now) c.index-function.ensures b_is in
     let s = slots_of c.run_sequence.new.slots c.run_sequence.new.fuel in
-    let ran = run_here e.function.body c.deref.result.now c.args.slots.now c.args.fuel (finished s) body c.requires.empty c.if-not-run_sequence.ensures.went in
-    (ends (module_of code) c.requires.accepted (λ n. None) no_store c.args.index c.requires.called.result e c.args.fuel s ran).0
+    let ran = run_here e.function.body c.deref.result.now c.args.slots.now c.args.left.now (finished s) body c.requires.empty c.if-not-run_sequence.ensures.went in
+    (ends (module_of code) c.requires.accepted (λ n. None) no_store c.args.index c.requires.called.result e c.args.left.now s ran).0
 
-pub returns-clause-outcome : goal.returns-clause-outcome
-returns-clause-outcome c records store =
-    let code = c.args.module.now in
+pub returns-clause-ended : goal.returns-clause-ended
+returns-clause-ended c records store =
+    let code = c.args.content.now in
     let e = called code c.requires.accepted c.args.index c.requires.called in
     let f = c.index-function.result.now in
     let b_is : body_of c.deref.result.now ≡ body_of f.body.items = ap body_of c.deref.ensures.value in
     let body = body_found code c.args.index c.requires.called.result e f (body_of c.deref.result.now) c.index-function.ensures b_is in
     let s = slots_of c.run_sequence.new.slots c.run_sequence.new.fuel in
-    let ran = run_here e.function.body c.deref.result.now c.args.slots.now c.args.fuel (finished s) body c.requires.empty c.if-not-run_sequence.ensures.went in
+    let ran = run_here e.function.body c.deref.result.now c.args.slots.now c.args.left.now (finished s) body c.requires.empty c.if-not-run_sequence.ensures.went in
     let same = result_found code c.args.index c.requires.called.result e f c.index.result.now c.index-function.ensures c.index.ensures in
-    values (module_of code) c.requires.accepted records store c.args.index c.requires.called.result e c.args.fuel s c.result_of-result.result ran (λ after types slots. c.result_of-result.ensures after (types ∙ ap at_most_one (sym same)) slots)
+    values (module_of code) c.requires.accepted records store c.args.index c.requires.called.result e c.args.left.now s c.result_of.result ran (λ after types slots. c.result_of.ensures after (types ∙ ap at_most_one (sym same)) slots)
