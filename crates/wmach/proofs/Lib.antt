@@ -9,3 +9,4 @@ pub mod Going
 pub mod Follows
 pub mod Calling
 pub mod Results
+pub mod OneEnd
