@@ -1,6 +1,8 @@
-//! The bounds on what one object may hold and on what one pod may ask.
+//! The bounds on what one object may hold and on what one pod may ask. They are the scheduler's own:
+//! a row has a fixed size, and the sum over all placed pods, 150,000 at most, is below 2^62.
 
-/// The most bytes of a name or a text.
+/// The most bytes of a name or a text: as many as a label's value may have (the Kubernetes page
+/// "Labels and Selectors").
 pub const MAX_NAME: usize = 63;
 
 /// The most labels of a node or a pod.
