@@ -1,5 +1,5 @@
 -- The numbers and names of the faults of typing.
-use Rattle.std.specs.Prelude.{ℕ, List, codes}
+use Rattle.std.specs.Prelude.{ℕ, List, ⊤, codes}
 use Rattle.wbody.specs.declared.fault.TypeFault.{TypeFault}
 use Rattle.wbody.specs.declared.fault.TypeFault.TheVariants.{Untyped, BadImport, BadExport, OverLimit, NoMemory}
 
@@ -18,3 +18,11 @@ name_of BadImport = codes "BadImport"
 name_of BadExport = codes "BadExport"
 name_of OverLimit = codes "OverLimit"
 name_of NoMemory = codes "NoMemory"
+
+-- the fault is one that a body alone can have
+abbrev pub IsOfBody : TypeFault → Type 0
+IsOfBody (Untyped function place) = ⊤
+IsOfBody BadImport = ⊥
+IsOfBody BadExport = ⊥
+IsOfBody OverLimit = ⊥
+IsOfBody NoMemory = ⊤

@@ -8,8 +8,9 @@ use thiserror::Error;
 /// What is wrong with a module that the bytes spell.
 #[derive(Clone, Copy, PartialEq, Eq, Debug, Error)]
 pub enum TypeFault {
-    /// A body without a typing, with the index of its function among all functions, or else a rule of the module that
-    /// is broken. The place isn't told yet: it is 0.
+    /// A body without a typing, with the index of its function, or else a rule of the module that is broken. An index
+    /// counts the imported functions first; while every import is refused there are none. The place isn't told yet: it
+    /// is 0.
     #[error("{} {}", self.number(), self.name())]
     Untyped {
         function: Option<usize>,

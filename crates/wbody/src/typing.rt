@@ -1,10 +1,11 @@
 // The typing of a body, instruction by instruction, with the types of the operands so far.
 
-ghost use Rattle.std.specs.Prelude.{◌≡◌, ℕ, List, [], ◌∷◌, ◌<◌, length, IfOk, OnOk, OnErr, Some, None, MatchBool, drop, vec_len};
+ghost use Rattle.std.specs.Prelude.{◌≡◌, ℕ, List, ◌<◌, IfOk, IfErr, OnOk, OnErr, Some, None, MatchBool, vec_len};
 ghost use Rattle.wcode.specs.Syntax.{Body, with_instr, body_of};
 ghost use Rattle.wbin.specs.Syntax.{module_of};
 ghost use Rattle.wbody.specs.Context.{Context, results_of, at_most_one};
 ghost use Rattle.wbody.specs.BodyTyped.{BodyTyped};
+ghost use Rattle.wbody.specs.Fault.{IsOfBody};
 ghost use Rattle.wbody.specs.Walk.{state_of, walk, walk_plain, pushed, taken_off, left};
 
 use crate::fault::TypeFault;
@@ -15,15 +16,15 @@ use wcode::{BinOp, BlockType, Instr, Plain, Value, ValueType};
 
 // What is known at a point of a body: the types of the operands, the last one on top, and what was found so far.
 #[derive(Drop)]
-pub struct Typing {
-    pub operands: Vec<ValueType>,
-    pub greatest: usize,
-    pub branches: Vec<BranchNote>,
+struct Typing {
+    operands: Vec<ValueType>,
+    greatest: usize,
+    branches: Vec<BranchNote>,
 }
 
 // Why the typing of a body stops.
-#[derive(Clone, Copy, PartialEq, Eq, Debug)]
-pub enum Stop {
+#[derive(Clone, Copy)]
+enum Stop {
     Untyped,
     NoMemory,
 }
@@ -132,7 +133,8 @@ fn block_of(gives: Option<ValueType>) -> BlockType
 /// machine wants to know of it. Untyped also where its type isn't there.
 pub fn type_body(alloc: Global, decoded: &Module, function: usize) -> Result<Notes, TypeFault>
     requires { function < vec_len decoded.now.functions }
-    ensures { IfOk result (λ notes. BodyTyped (module_of decoded.now) function notes) }
+    ensures typed { IfOk result (λ notes. BodyTyped (module_of decoded.now) function notes) }
+    ensures refused { IfErr result IsOfBody }
 {
     let body = &decoded.functions[function];
     let untyped = TypeFault::Untyped {

@@ -1,3 +1,4 @@
 pub mod Found
 pub mod Whole
 mod Names
+pub mod Refused

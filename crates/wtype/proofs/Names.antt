@@ -1,5 +1,5 @@
 -- Sets of names, and lists of exports with distinct names.
-use Rattle.std.proofs.Common.{◌≡◌, ◌≢◌, ℕ, List, [], ◌∷◌, ◌++◌, Bool, true, false, cond, Bor, BTreeSet, refl, sym, ap, ◌∙◌, subst}
+use Rattle.std.proofs.Common.{◌≡◌, ◌≢◌, ℕ, List, [], ◌∷◌, ◌++◌, Bool, true, false, cond, Bor, BTreeSet, refl, sym, ◌∙◌, subst}
 use Rattle.std.specs.List.{AllByRecursion}
 use Rattle.std.specs.BTreeSet.{contains, contains_by, Updates}
 use Rattle.std.specs.BTreeMap.{is_at}

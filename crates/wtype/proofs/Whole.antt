@@ -4,6 +4,7 @@ use Rattle.std.specs.Prelude.{slice_get, is_ok, is_err, if◌then◌else◌, ◌
 use Rattle.std.specs.declared.vec.Vec.{Vec}
 use Rattle.std.specs.declared.alloc.Global.{Global}
 use Rattle.std.proofs.lemmas.List.{length-map}
+use Rattle.std.proofs.lemmas.Option.{slice_get_within}
 use Rattle.wbin.specs.declared.module.Module.{Module}
 use Rattle.wbin.specs.Syntax.{FunctionSyntax, module_of, function_of, import_of}
 use Rattle.wbody.specs.declared.notes.Notes.{Notes}
@@ -37,11 +38,6 @@ same_at [] k x y is e = absurd (cc)
 same_at (z ∷ xs) zero x y is e = cc
 same_at (z ∷ xs) (suc k) x y is e = same_at xs k x y is e
 
-within_at : {A : Type 0} (xs : List A) (k : ℕ) (x : A) → slice_get xs k ≡ Some x → k < length xs
-within_at [] k x e = absurd (cc)
-within_at (y ∷ xs) zero x e = omega arith
-within_at (y ∷ xs) (suc k) x e = let h = within_at xs k x e in omega arith
-
 record At {A : Type 0} (xs : List A) (k : ℕ) : Type 0 where
   element : A
   is : slice_get xs k ≡ Some element
@@ -68,7 +64,7 @@ pub accepted : (code : Module) (notes : List Notes) → code.imports.items ≡ [
 accepted code notes none no_more named right long typed fits =
     let m = module_of code in
     let each : (k : ℕ) (f : FunctionSyntax) → slice_get m.functions k ≡ Some f → FunctionAccepted m f = λ k f is.
-    let within : k < length m.functions = within_at m.functions k f is in
+    let within : k < length m.functions = slice_get_within m.functions k f is in
     let within_code : k < length code.functions.items = omega (arith, length-map code.functions.items function_of) in
     let a = some_at notes k (omega arith) in
     function_accepted code k f a.element is (typed k a.element a.is) (fits k a.element within_code a.is) in

@@ -1,8 +1,9 @@
 // A module that was found acceptable, and the test that finds it so.
 
-ghost use Rattle.std.specs.Prelude.{◌≡◌, ℕ, IfOk, MatchBool};
+ghost use Rattle.std.specs.Prelude.{◌≡◌, ◌≢◌, [], IfOk, MatchBool};
+ghost use Rattle.std.specs.List.{AllByRecursion};
 ghost use Rattle.wbin.specs.Syntax.{module_of};
-ghost use Rattle.wtype.specs.Accepted.{Accepted, HasNoMore};
+ghost use Rattle.wtype.specs.Accepted.{Accepted, HasNoMore, ExportsRight, FunctionAccepted};
 ghost use Rattle.wtype.specs.CheckedModule.{NotesAgree};
 
 use crate::exports::{are_right, name_something};
@@ -50,52 +51,59 @@ impl Checked {
 
 /// Finds a module acceptable, or why it isn't: an import, then whatever has no typing or names nothing, then the exports
 /// that are called, then the sizes. At a fault the module is given up.
-pub fn validate(alloc: Global, module: Module) -> Result<Checked, TypeFault>
-    ensures ok { IfOk result (λ checked. checked.content ≡ «module») }
-    ensures accepted { IfOk result (λ checked. Accepted (module_of «module»)) }
-    ensures notes { IfOk result (λ checked. NotesAgree (module_of «module») checked.notes) }
+pub fn validate(alloc: Global, decoded: Module) -> Result<Checked, TypeFault>
+    ensures ok { IfOk result (λ checked. checked.content ≡ decoded) }
+    ensures accepted { IfOk result (λ checked. Accepted (module_of decoded)) }
+    ensures notes { IfOk result (λ checked. NotesAgree (module_of decoded) checked.notes) }
+    ensures bad_import { result ≡ Err TypeFault.BadImport → decoded.imports.items ≢ [] }
+    ensures imports_first { decoded.imports.items ≢ [] → result ≡ Err TypeFault.BadImport }
+    ensures bad_export { result ≡ Err TypeFault.BadExport → ExportsRight (module_of decoded) → ⊥ }
+    ensures over_limit { result ≡ Err TypeFault.OverLimit → AllByRecursion (FunctionAccepted (module_of decoded)) (module_of decoded).functions → ⊥ }
 {
     let untyped = TypeFault::Untyped {
         function: None,
         place: 0,
     };
-    if !module.imports.is_empty() {
+    if !decoded.imports.is_empty() {
         return Err(TypeFault::BadImport);
     }
-    if !has_no_more(&module) {
+    if !has_no_more(&decoded) {
         return Err(untyped);
     }
-    match name_something(alloc, &module) {
+    match name_something(alloc, &decoded) {
         Ok(true) => {}
         Ok(false) => return Err(untyped),
         Err(_) => return Err(TypeFault::NoMemory),
     }
     let mut notes = Vec::new(alloc);
-    'bodies: for function in 0..module.functions.len() {
-        let found = type_body(alloc, &module, function)?;
+    'bodies: for function in 0..decoded.functions.len() {
+        let found = type_body(alloc, &decoded, function)?;
         if notes.push(found).is_err() {
             return Err(TypeFault::NoMemory);
         }
     }
-    if !are_right(&module) {
+    if !are_right(&decoded) {
         return Err(TypeFault::BadExport);
     }
-    'sizes: for function in 0..module.functions.len() {
-        if !fits(&module, function, notes[function].greatest_height) {
+    'sizes: for function in 0..decoded.functions.len() {
+        if !fits(&decoded, function, notes[function].greatest_height) {
             return Err(TypeFault::OverLimit);
         }
     }
-    Ok(Checked { module, notes })
+    Ok(Checked {
+        module: decoded,
+        notes,
+    })
 }
 
 // There are no tables, memories, globals, start function or segments, which have no rules yet.
-fn has_no_more(module: &Module) -> bool
-    ensures { MatchBool result (HasNoMore (module_of module.now)) (HasNoMore (module_of module.now) → ⊥) }
+fn has_no_more(decoded: &Module) -> bool
+    ensures { MatchBool result (HasNoMore (module_of decoded.now)) (HasNoMore (module_of decoded.now) → ⊥) }
 {
-    module.tables.is_empty()
-        && module.memories.is_empty()
-        && module.globals.is_empty()
-        && module.element_segments.is_empty()
-        && module.data_segments.is_empty()
-        && module.start.is_none()
+    decoded.tables.is_empty()
+        && decoded.memories.is_empty()
+        && decoded.globals.is_empty()
+        && decoded.element_segments.is_empty()
+        && decoded.data_segments.is_empty()
+        && decoded.start.is_none()
 }

@@ -1,6 +1,6 @@
 // The exports of a module.
 
-ghost use Rattle.std.specs.Prelude.{◌≡◌, ℕ, [], ◌<◌, IfOk, IfSome, map, option_map, vec_len};
+ghost use Rattle.std.specs.Prelude.{◌≡◌, [], IfOk, IfSome, MatchBool, map, option_map};
 ghost use Rattle.std.specs.Bool.{OnTrue};
 ghost use Rattle.std.specs.List.{AllByRecursion};
 ghost use Rattle.wbin.specs.Syntax.{module_of, export_of};
@@ -24,26 +24,26 @@ fn find_export<'a>(exports: &'a [Export], name: &[u8]) -> Option<&'a Export>
 }
 
 // The export names something of a module without imports.
-fn is_there(module: &Module, export: &Export) -> bool
-    requires { module.now.imports.items ≡ [] }
-    ensures { OnTrue result (NamesSomething (module_of module.now) export.now.kind export.now.index) }
+fn is_there(decoded: &Module, export: &Export) -> bool
+    requires { decoded.now.imports.items ≡ [] }
+    ensures { OnTrue result (NamesSomething (module_of decoded.now) export.now.kind export.now.index) }
 {
     let count = match export.kind {
-        ExportKind::Function => module.functions.len(),
-        ExportKind::Table => module.tables.len(),
-        ExportKind::Memory => module.memories.len(),
-        ExportKind::Global => module.globals.len(),
+        ExportKind::Function => decoded.functions.len(),
+        ExportKind::Table => decoded.tables.len(),
+        ExportKind::Memory => decoded.memories.len(),
+        ExportKind::Global => decoded.globals.len(),
     };
     (export.index as usize) < count
 }
 
 // Each export names something.
-fn are_there(module: &Module) -> bool
-    requires { module.now.imports.items ≡ [] }
-    ensures { OnTrue result (AllByRecursion (λ e. NamesSomething (module_of module.now) e.kind e.index) (map export_of module.now.exports.items)) }
+fn are_there(decoded: &Module) -> bool
+    requires { decoded.now.imports.items ≡ [] }
+    ensures { OnTrue result (AllByRecursion (λ e. NamesSomething (module_of decoded.now) e.kind e.index) (map export_of decoded.now.exports.items)) }
 {
-    for export in &module.exports {
-        if !is_there(module, export) {
+    for export in &decoded.exports {
+        if !is_there(decoded, export) {
             return false;
         }
     }
@@ -64,30 +64,30 @@ fn have_distinct_names(alloc: Global, exports: &[Export]) -> Result<bool, AllocE
 }
 
 // Each export names something, and no two have one name.
-pub fn name_something(alloc: Global, module: &Module) -> Result<bool, AllocError>
-    requires { module.now.imports.items ≡ [] }
-    ensures { IfOk result (λ named. OnTrue named (ExportsNamed (module_of module.now))) }
+pub fn name_something(alloc: Global, decoded: &Module) -> Result<bool, AllocError>
+    requires { decoded.now.imports.items ≡ [] }
+    ensures { IfOk result (λ named. OnTrue named (ExportsNamed (module_of decoded.now))) }
 {
-    if are_there(module) {
-        have_distinct_names(alloc, &module.exports)
+    if are_there(decoded) {
+        have_distinct_names(alloc, &decoded.exports)
     } else {
         Ok(false)
     }
 }
 
 // The export is a function without parameters that gives this, in a module without imports.
-fn is_function(module: &Module, export: &Export, wanted: ValueType) -> bool
-    requires { module.now.imports.items ≡ [] }
-    ensures { OnTrue result (IsFunctionOf (module_of module.now) (gives wanted) (export_of export.now)) }
+fn is_function(decoded: &Module, export: &Export, wanted: ValueType) -> bool
+    requires { decoded.now.imports.items ≡ [] }
+    ensures { MatchBool result (IsFunctionOf (module_of decoded.now) (gives wanted) (export_of export.now)) (IsFunctionOf (module_of decoded.now) (gives wanted) (export_of export.now) → ⊥) }
 {
     match export.kind {
         ExportKind::Function => {}
         _ => return false,
     }
-    let Some(function) = module.functions.get(export.index as usize) else {
+    let Some(function) = decoded.functions.get(export.index as usize) else {
         return false;
     };
-    let Some(signature) = module.types.get(function.signature as usize) else {
+    let Some(signature) = decoded.types.get(function.signature as usize) else {
         return false;
     };
     match signature.result {
@@ -97,24 +97,24 @@ fn is_function(module: &Module, export: &Export, wanted: ValueType) -> bool
 }
 
 // Where there is such an export, it is a function that gives this.
-fn is_right(module: &Module, export: Option<&Export>, wanted: ValueType) -> bool
-    requires { module.now.imports.items ≡ [] }
-    ensures { OnTrue result (IfSome (option_map (λ e. export_of e.now) export.entry) (IsFunctionOf (module_of module.now) (gives wanted))) }
+fn is_right(decoded: &Module, export: Option<&Export>, wanted: ValueType) -> bool
+    requires { decoded.now.imports.items ≡ [] }
+    ensures { MatchBool result (IfSome (option_map (λ e. export_of e.now) export.entry) (IsFunctionOf (module_of decoded.now) (gives wanted))) (IfSome (option_map (λ e. export_of e.now) export.entry) (IsFunctionOf (module_of decoded.now) (gives wanted)) → ⊥) }
 {
     match export {
         None => true,
-        Some(export) => is_function(module, export, wanted),
+        Some(export) => is_function(decoded, export, wanted),
     }
 }
 
 // The exports that are called are right, and one of them is there.
-pub fn are_right(module: &Module) -> bool
-    requires { module.now.imports.items ≡ [] }
-    ensures { OnTrue result (ExportsRight (module_of module.now)) }
+pub fn are_right(decoded: &Module) -> bool
+    requires { decoded.now.imports.items ≡ [] }
+    ensures { MatchBool result (ExportsRight (module_of decoded.now)) (ExportsRight (module_of decoded.now) → ⊥) }
 {
-    let filter = find_export(&module.exports, b"filter");
-    let score = find_export(&module.exports, b"score");
+    let filter = find_export(&decoded.exports, b"filter");
+    let score = find_export(&decoded.exports, b"score");
     (filter.is_some() || score.is_some())
-        && is_right(module, filter, ValueType::I32)
-        && is_right(module, score, ValueType::I64)
+        && is_right(decoded, filter, ValueType::I32)
+        && is_right(decoded, score, ValueType::I64)
 }

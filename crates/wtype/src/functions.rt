@@ -1,7 +1,6 @@
 // How many parameters, locals and operands a function has.
 
-ghost use Rattle.std.specs.Prelude.{◌≡◌, ◌<◌, ◌≤◌, length, vec_len, MatchOption};
-ghost use Rattle.std.specs.Bool.{OnTrue};
+ghost use Rattle.std.specs.Prelude.{◌≡◌, ◌<◌, ◌≤◌, length, vec_len, MatchBool, MatchOption};
 ghost use Rattle.wbin.specs.Syntax.{module_of, locals_of};
 ghost use Rattle.wtype.specs.Accepted.{most_slots, FunctionFits};
 
@@ -26,12 +25,12 @@ fn count_locals(runs: &[LocalRun]) -> Option<usize>
 }
 
 // The function at this place has no more parameters, locals and operands than there may be.
-pub fn fits(module: &Module, function: usize, greatest_height: usize) -> bool
-    requires { function < vec_len module.now.functions }
-    ensures { OnTrue result (FunctionFits (module_of module.now) function greatest_height) }
+pub fn fits(decoded: &Module, function: usize, greatest_height: usize) -> bool
+    requires { function < vec_len decoded.now.functions }
+    ensures { MatchBool result (FunctionFits (module_of decoded.now) function greatest_height) (FunctionFits (module_of decoded.now) function greatest_height → ⊥) }
 {
-    let code = &module.functions[function];
-    let Some(signature) = module.types.get(code.signature as usize) else {
+    let code = &decoded.functions[function];
+    let Some(signature) = decoded.types.get(code.signature as usize) else {
         return false;
     };
     let Some(locals) = count_locals(&code.locals) else {

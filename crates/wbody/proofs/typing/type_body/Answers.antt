@@ -11,8 +11,8 @@ use Rattle.wbody.specs.Walk.{state_of, walk}
 use Rattle.wbody.proofs.Walked.{walked, left_is}
 use Rattle.wbody.proofs.typing.type_body.Goals as goal
 
-pub returns : goal.returns
-returns c =
+pub returns-clause-typed : goal.returns-clause-typed
+returns-clause-typed c =
     let code = c.args.decoded.now in
     let f = c.index-body.result.now in
     let signature = c.in-Some.signature.now in

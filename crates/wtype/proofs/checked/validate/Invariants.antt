@@ -10,9 +10,9 @@ use Rattle.wtype.proofs.checked.validate.Given as goal
 abbrev pub invariant-bodies : goal.invariant-bodies
 invariant-bodies l =
     (vec_len l.notes ≡ l.function)
-    × ((k : ℕ) (n : Notes) → slice_get l.notes.items k ≡ Some n → BodyTyped (module_of l.module) k n)
+    × ((k : ℕ) (n : Notes) → slice_get l.notes.items k ≡ Some n → BodyTyped (module_of l.decoded) k n)
 
 -- each function so far is small enough
 abbrev pub invariant-sizes : goal.invariant-sizes
 invariant-sizes l =
-    (k : ℕ) (n : Notes) → k < l.function → slice_get l.notes.items k ≡ Some n → FunctionFits (module_of l.module) k n.greatest_height
+    (k : ℕ) (n : Notes) → k < l.function → slice_get l.notes.items k ≡ Some n → FunctionFits (module_of l.decoded) k n.greatest_height

@@ -7,4 +7,4 @@ use Rattle.wtype.proofs.exports.are_there.Given as goal
 -- it holds of all where it holds of those to come
 abbrev pub invariant-loop-export : goal.invariant-loop-export
 invariant-loop-export l =
-    AllByRecursion (λ (e : ExportSyntax). NamesSomething (module_of l.module) e.kind e.index) (map export_of (drop l.export-index l.module.exports.items)) → AllByRecursion (λ (e : ExportSyntax). NamesSomething (module_of l.module) e.kind e.index) (map export_of l.module.exports.items)
+    AllByRecursion (λ (e : ExportSyntax). NamesSomething (module_of l.decoded) e.kind e.index) (map export_of (drop l.export-index l.decoded.exports.items)) → AllByRecursion (λ (e : ExportSyntax). NamesSomething (module_of l.decoded) e.kind e.index) (map export_of l.decoded.exports.items)

@@ -1,9 +1,7 @@
-use Rattle.std.proofs.Common.{◌≡◌, ℕ, List, true, map, take, Bor}
-use Rattle.std.specs.List.{AllByRecursion}
-use Rattle.std.specs.BTreeSet.{contains}
-use Rattle.wbin.specs.Syntax.{ExportSyntax, export_of}
+use Rattle.std.proofs.Common.{map, take}
+use Rattle.wbin.specs.Syntax.{export_of}
 use Rattle.wtype.specs.Accepted.{DistinctNames}
-use Rattle.wtype.proofs.Names.{name_cmp, HasNames}
+use Rattle.wtype.proofs.Names.{HasNames}
 use Rattle.wtype.proofs.exports.have_distinct_names.Given as goal
 
 -- those so far have distinct names, and the set has each of them
