@@ -31,7 +31,7 @@ const MOST_ATTEMPTS: u32 = 1_000_000;
 
 /// A pod that waits, with what the queue knows of it.
 #[derive(Drop)]
-pub struct Slot {
+pub(crate) struct Slot {
     pod: Arc<Pod>,
     arrival: Moment,
     attempts: u32,
@@ -68,7 +68,7 @@ fn end_of_backoff(failed: Moment, attempts: u32) -> Moment
 
 impl Slot {
     /// A pod that comes now.
-    pub fn new(pod: Arc<Pod>, now: Moment) -> Slot
+    pub(crate) fn new(pod: Arc<Pod>, now: Moment) -> Slot
         ensures { result ≡ new_entry (arc_value pod) now }
     {
         Slot {
@@ -80,63 +80,63 @@ impl Slot {
     }
 
     /// The pod.
-    pub fn pod(&self) -> &Arc<Pod>
+    pub(crate) fn pod(&self) -> &Arc<Pod>
         ensures { arc_value result.now ≡ self.now.pod }
     {
         &self.pod
     }
 
     /// The pod's uid.
-    pub fn uid(&self) -> &Name
+    pub(crate) fn uid(&self) -> &Name
         ensures { result.now ≡ self.now.pod.uid }
     {
         &self.pod.uid
     }
 
     /// The pod, out of its entry.
-    pub fn into_pod(self) -> Arc<Pod>
+    pub(crate) fn into_pod(self) -> Arc<Pod>
         ensures { arc_value result ≡ self.pod }
     {
         self.pod
     }
 
     /// Where the pod stands.
-    pub fn state(&self) -> State
+    pub(crate) fn state(&self) -> State
         ensures { result ≡ self.now.state }
     {
         self.state
     }
 
     /// Whether the pod waits to be popped.
-    pub fn is_active(&self) -> bool
+    pub(crate) fn is_active(&self) -> bool
         ensures { result ≡ is_active self.now.state }
     {
         self.state.is_active()
     }
 
     /// Whether some pass has popped the pod.
-    pub fn is_in_flight(&self) -> bool
+    pub(crate) fn is_in_flight(&self) -> bool
         ensures { result ≡ is_in_flight self.now.state }
     {
         self.state.is_in_flight()
     }
 
     /// Whether this pass has popped the pod.
-    pub fn is_in_flight_for(&self, pass: PassNumber) -> bool
+    pub(crate) fn is_in_flight_for(&self, pass: PassNumber) -> bool
         ensures { result ≡ is_in_flight_for pass self.now.state }
     {
         self.state.is_in_flight_for(pass)
     }
 
     /// Whether this is the pod's uid.
-    pub fn has_uid(&self, uid: &Name) -> bool
+    pub(crate) fn has_uid(&self, uid: &Name) -> bool
         ensures { result ≡ eq_by_cmp (slice_cmp nat_cmp) uid.now self.now.pod.uid }
     {
         uid.cmp(&self.pod.uid).is_eq()
     }
 
     /// Whether this entry goes first of the two.
-    pub fn comes_before(&self, other: &Slot) -> bool
+    pub(crate) fn comes_before(&self, other: &Slot) -> bool
         ensures { result ≡ comes_before (item_of self.now) (item_of other.now) }
     {
         let by_priority = other.pod.priority.cmp(&self.pod.priority);
@@ -146,7 +146,7 @@ impl Slot {
     }
 
     /// A pass pops the pod.
-    pub fn pop(&mut self, pass: PassNumber)
+    pub(crate) fn pop(&mut self, pass: PassNumber)
         ensures { self.new ≡ popped pass self.old }
     {
         self.attempts = self.attempts.saturating_add(1).min(MOST_ATTEMPTS);
@@ -154,7 +154,7 @@ impl Slot {
     }
 
     /// The pod comes back to back off from now on.
-    pub fn send_back(&mut self, now: Moment)
+    pub(crate) fn send_back(&mut self, now: Moment)
         requires { now.0 ≤ LATEST_MOMENT }
         ensures { self.new ≡ sent_back now self.old }
     {
@@ -162,7 +162,7 @@ impl Slot {
     }
 
     /// The pod's attempt has failed.
-    pub fn fail(&mut self, how: Failure, now: Moment)
+    pub(crate) fn fail(&mut self, how: Failure, now: Moment)
         requires { now.0 ≤ LATEST_MOMENT }
         ensures { self.new ≡ failed how now self.old }
     {
@@ -175,7 +175,7 @@ impl Slot {
     }
 
     /// Time goes on to this moment.
-    pub fn tick(&mut self, now: Moment)
+    pub(crate) fn tick(&mut self, now: Moment)
         ensures { self.new ≡ ticked now self.old }
     {
         let over = match self.state {
@@ -189,7 +189,7 @@ impl Slot {
     }
 
     /// Something moved that may let an unschedulable pod in.
-    pub fn move_on(&mut self, now: Moment)
+    pub(crate) fn move_on(&mut self, now: Moment)
         ensures { self.new ≡ moved_on now self.old }
     {
         match self.state {

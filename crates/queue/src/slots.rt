@@ -9,7 +9,7 @@ use crate::slot::Slot;
 use quant::{Moment, Name};
 
 /// The place of the entry of this uid.
-pub fn place_of(slots: &[Slot], uid: &Name) -> Option<usize>
+pub(crate) fn place_of(slots: &[Slot], uid: &Name) -> Option<usize>
     ensures { result ≡ position (has_uid uid.now) slots.now }
 {
     slots.iter().position(|slot| slot.has_uid(uid))
@@ -38,7 +38,7 @@ fn first_with(slots: &[Slot], first: Option<usize>, place: usize) -> Option<usiz
 }
 
 /// The place of the active entry that goes first, if any is active.
-pub fn next_place(slots: &[Slot]) -> Option<usize>
+pub(crate) fn next_place(slots: &[Slot]) -> Option<usize>
     ensures { IsNextBelow slots.now (length slots.now) result }
 {
     let mut first = None;
@@ -49,7 +49,7 @@ pub fn next_place(slots: &[Slot]) -> Option<usize>
 }
 
 /// How many entries stand where.
-pub fn count_each(slots: &[Slot]) -> Counts
+pub(crate) fn count_each(slots: &[Slot]) -> Counts
     ensures { result ≡ counts_in slots.now }
 {
     let mut counts = Counts::default();
@@ -60,7 +60,7 @@ pub fn count_each(slots: &[Slot]) -> Counts
 }
 
 /// Time goes on to this moment.
-pub fn tick_each(slots: &mut [Slot], now: Moment)
+pub(crate) fn tick_each(slots: &mut [Slot], now: Moment)
     ensures { slots.new ≡ map (ticked now) slots.old }
 {
     for slot in slots.iter_mut() {
@@ -69,7 +69,7 @@ pub fn tick_each(slots: &mut [Slot], now: Moment)
 }
 
 /// Something moved that may let unschedulable pods in.
-pub fn move_each(slots: &mut [Slot], now: Moment)
+pub(crate) fn move_each(slots: &mut [Slot], now: Moment)
     ensures { slots.new ≡ map (moved_on now) slots.old }
 {
     for slot in slots.iter_mut() {
