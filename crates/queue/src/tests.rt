@@ -192,3 +192,16 @@ fn refusals_and_a_move_in_flight(rt: HostRuntime) -> Result<(), Fail> {
     assert_eq!(rt; queue.counts(), Counts::default());
     Ok(())
 }
+
+/// A refusal prints as its name.
+#[test]
+fn printed_refusals(rt: HostRuntime) -> Result<(), Fail> {
+    for (why, name) in [
+        (Refusal::Known, "Known"),
+        (Refusal::Full, "Full"),
+        (Refusal::NotInFlight, "NotInFlight"),
+    ] {
+        assert_eq!(rt; format!(in rt.alloc(); "{why}")?.as_str(), name);
+    }
+    Ok(())
+}
