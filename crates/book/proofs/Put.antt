@@ -13,11 +13,13 @@ pub both_true : (a b : Bool) → (a && b) ≡ true → (a ≡ true) × (b ≡ tr
 both_true true b h = (refl, h)
 both_true false b h = absurd (cc)
 
+-- an order that tests as less is Less
 pub less_of : (r : Ordering) → is_lt r ≡ true → r ≡ Less
 less_of Less h = refl
 less_of Equal h = absurd (cc)
 less_of Greater h = absurd (cc)
 
+-- an order's index is 0, 1 or 2
 at_most_two : (r : Ordering) → ordering_index r ≤ 2
 at_most_two Less = omega arith
 at_most_two Equal = omega arith

@@ -19,10 +19,10 @@ use Rattle.book.specs.Tables.{Held}
 use Rattle.book.proofs.Put.{index_rises, earlier_less, put_gap, put_here, find_absent, find_here}
 
 -- names in the order of their bytes are in one order, and only equal ones tie
-
 pub same_name : (a b : List ℕ) → name_cmp a b ≡ Equal → a ≡ b
 same_name a b e = slice_cmp-IsAntisymmetric nat_cmp-IsAntisymmetric a b e
 
+-- a test that holds is true
 pub true_of : (b : Bool) → T b → b ≡ true
 true_of true h = refl
 true_of false h = absurd h
@@ -87,9 +87,10 @@ after_put row t = record t { map = fin.insert t.map row.value.name row.value }
 pub no_rows : from_sorted {R = name_cmp} (named []) ≡ fin.empty
 no_rows = fin.empty_of_len _ (len-entries _ ∙ ap length (entries-from_sorted name_cmp [] tt))
 
--- what tells whether there is room, where the name is there, and where it isn't
+-- a name that is there always has room
 pub no_gap : (has : Bool) (full : Bool) → has ≡ true → (not has && full) ≡ false
 no_gap has full e = rw e refl
 
+-- and a new one has room exactly where the table isn't full
 pub in_gap : (has : Bool) (full : Bool) (b : Bool) → has ≡ false → full ≡ b → (not has && full) ≡ b
 in_gap has full b e f = rw (e, f) refl

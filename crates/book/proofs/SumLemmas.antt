@@ -17,6 +17,7 @@ use Rattle.book.proofs.Put.{both_true, less_of}
 use Rattle.book.proofs.RowLemmas.{true_of}
 use Rattle.book.proofs.TableLemmas.{get_map, no_key}
 
+-- a list of length 0 is empty
 no_length : {A : Type 0} (xs : List A) → length xs ≡ 0 → xs ≡ []
 no_length [] e = refl
 no_length (x ∷ xs) e = absurd (omega arith)
@@ -25,6 +26,7 @@ no_length (x ∷ xs) e = absurd (omega arith)
 abbrev pub of_option : {X : Type 0} → (X → ℕ) → Option X → ℕ
 of_option number o = unwrap_or (option_map number o) 0
 
+-- what isn't there is None
 none_of : {X : Type 0} (o : Option X) → is_some o ≡ false → o ≡ None
 none_of None h = refl
 none_of (Some x) h = absurd (cc)
@@ -38,11 +40,13 @@ module _ {X : Type 0} (number : X → ℕ) where
   abbrev pub sum_of : List (List ℕ × X) → ℕ
   sum_of es = sum_by number (values_of es)
 
+  -- a key that is below all others is not found
   find_below : (k : List ℕ) (es : List (List ℕ × X)) → below_all name_cmp k es ≡ true → find name_cmp k es ≡ None
   find_below k [] h = refl
   find_below k (e ∷ es) h =
       ap (λ r. cond (is_eq r) (Some e.1) (find name_cmp k es)) (less_of _ (both_true _ _ h).0) ∙ find_below k es (both_true _ _ h).1
 
+  -- what is less than a key is below all that the key is below
   further_below : (k l : List ℕ) (es : List (List ℕ × X)) → name_cmp k l ≡ Less → below_all name_cmp l es ≡ true → below_all name_cmp k es ≡ true
   further_below k l [] less h = refl
   further_below k l (e ∷ es) less h =

@@ -17,6 +17,7 @@ use Rattle.book.specs.Cluster.{name_cmp}
 use Rattle.book.specs.Tables.{Held, is_full_for}
 use Rattle.book.proofs.RowLemmas.{same_name}
 
+-- an order that tests as equal is Equal
 equal_of : (r : Ordering) → is_eq r ≡ true → r ≡ Equal
 equal_of Less h = absurd (cc)
 equal_of Equal h = refl
@@ -40,6 +41,7 @@ no_key test [] none = refl
 no_key test (k ∷ ks) none = ap (λ b. b || list_any test ks) none.0 ∙ no_key test ks none.1
 
 module _ {X : Type 0} where
+  -- what is found by the order is what is found by the test of equality
   find_lookup : (es : List (List ℕ × X)) (q : List ℕ) → find name_cmp q es ≡ lookup (bytes_eq q) es
   find_lookup [] q = refl
   find_lookup (e ∷ es) q = ap (λ b. cond b (Some e.1) (find name_cmp q es)) (same_test q e.0) ∙ ap (cond (bytes_eq q e.0) (Some e.1)) (find_lookup es q)

@@ -23,9 +23,11 @@ use Rattle.book.proofs.SumLemmas.{of_option, sum_insert, entries_empty}
 pub same_res : (a b : Res) → a.cpu.0 ≡ b.cpu.0 → a.mem.0 ≡ b.mem.0 → a.pods ≡ b.pods → a ≡ b
 same_res a b cpu mem pods = λ i. record { cpu = record { 0 = cpu i }; mem = record { 0 = mem i }; pods = pods i }
 
+-- nothing more changes no amount
 pub plus_nothing : (a : Res) → plus a nothing ≡ a
 plus_nothing a = same_res _ _ (omega arith) (omega arith) (omega arith)
 
+-- the default goes into both cases
 option_cond : (b : Bool) (v d : Res) (o : Option Res) → unwrap_or (cond b (Some v) o) d ≡ cond b v (unwrap_or o d)
 option_cond true v d o = refl
 option_cond false v d o = refl
@@ -87,7 +89,7 @@ used_most (p ∷ ps) node =
     let first = share_most node p in
     rw (used_cons p ps node) (record { cpu = omega (arith, rest.cpu, first.cpu); mem = omega (arith, rest.mem, first.mem); pods = omega (arith, rest.pods, first.pods) })
 
--- what is within a part of an amount is within the amount
+-- a part of what n pods can use is at most what the greatest number of pods can use
 pub part_within : (a b c : Res) (n : ℕ) → plus a b ≡ c → IsWithin c (most_of n) → n ≤ 150000 → IsWithin a (most_of 150000)
 part_within a b c n e within le =
     let cpu : a.cpu.0 + b.cpu.0 ≡ c.cpu.0 = ap (λ r. r.cpu.0) e in
@@ -95,7 +97,7 @@ part_within a b c n e within le =
     let pods : a.pods + b.pods ≡ c.pods = ap (λ r. r.pods) e in
     record { cpu = omega (arith, within.cpu); mem = omega (arith, within.mem); pods = omega (arith, within.pods) }
 
--- what is equal to an amount is within what that is within
+-- and so is the whole
 pub whole_within : (a c : Res) (n : ℕ) → a ≡ c → IsWithin c (most_of n) → n ≤ 150000 → IsWithin a (most_of 150000)
 whole_within a c n e within le = part_within a nothing c n (plus_nothing a ∙ e) within le
 
@@ -103,6 +105,7 @@ whole_within a c n e within le = part_within a nothing c n (plus_nothing a ∙ e
 pub total_empty : (q : List ℕ) → total_at fin.empty q ≡ nothing
 total_empty q = ap (λ o. unwrap_or o nothing) (fin.get-empty name_cmp q)
 
+-- an amount more than nothing is that amount
 pub nothing_plus : (a : Res) → plus nothing a ≡ a
 nothing_plus a = same_res _ _ (omega arith) (omega arith) (omega arith)
 
@@ -168,10 +171,12 @@ module _ (m : Places) (uid : List ℕ) (p : Place) (t0 t1 : Totals)
         (omega (arith, mem1 q, sum_insert (λ r. (share q r).mem.0) m uid p, ap (of_option (λ r. (share q r).mem.0)) had, ap (λ r. r.mem.0) (each2 q)))
         (omega (arith, pods1 q, sum_insert (λ r. (share q r).pods) m uid p, ap (of_option (λ r. (share q r).pods)) had, ap (λ r. r.pods) (each2 q)))
 
+-- a place counts once among the assumed ones, or not at all
 pub assumed_one : (status : Status) → assumed_in status ≤ 1
 assumed_one (Assumed ticket finished) = omega arith
 assumed_one Bound = omega arith
 
+-- no more are assumed than are listed
 assumed_few : (ps : List Place) → sum_by (λ p. assumed_in p.status) ps ≤ length ps
 assumed_few [] = omega arith
 assumed_few (p ∷ ps) = omega (arith, sum_by-cons (λ p. assumed_in p.status) p ps, assumed_few ps, assumed_one p.status)
@@ -185,10 +190,12 @@ pub assumed_after : (m : Places) (uid : List ℕ) (p : Place) (old : Option Plac
     → assumed (fin.insert m uid p) + of_option (λ r. assumed_in r.status) old ≡ assumed m + assumed_in p.status
 assumed_after m uid p old had = omega (arith, sum_insert (λ r. assumed_in r.status) m uid p, ap (of_option (λ r. assumed_in r.status)) had)
 
+-- a place is either bound or assumed
 each_once : (status : Status) → bound_in status + assumed_in status ≡ 1
 each_once (Assumed ticket finished) = refl
 each_once Bound = refl
 
+-- so both kinds together are as many as are listed
 each_of : (ps : List Place) → sum_by (λ p. bound_in p.status) ps + sum_by (λ p. assumed_in p.status) ps ≡ length ps
 each_of [] = refl
 each_of (p ∷ ps) = omega (arith, sum_by-cons (λ q. bound_in q.status) p ps, sum_by-cons (λ q. assumed_in q.status) p ps, each_of ps, each_once p.status)

@@ -17,7 +17,7 @@ Totals = FinMap name_cmp Res
 abbrev pub total_at : Totals → List ℕ → Res
 total_at totals node = unwrap_or (get totals node) nothing
 
--- both amounts together
+-- the sum of two amounts, number by number
 abbrev pub plus : Res → Res → Res
 plus a b = record { cpu = record { 0 = a.cpu.0 + b.cpu.0 }; mem = record { 0 = a.mem.0 + b.mem.0 }; pods = a.pods + b.pods }
 
@@ -29,7 +29,7 @@ one_pod request = record { cpu = request.cpu; mem = request.mem; pods = 1 }
 abbrev pub adds : List ℕ → Request → List ℕ → Res
 adds home request node = if bytes_eq home node then one_pod request else nothing
 
--- neither amount is above the other
+-- each number of the first amount is at most that of the second
 pub record IsWithin (a b : Res) : Type 0 where
   pub cpu : a.cpu.0 ≤ b.cpu.0
   pub mem : a.mem.0 ≤ b.mem.0

@@ -1,5 +1,5 @@
 //! The nodes of a cluster, by name.
-ghost use Rattle.std.specs.Prelude.{◌≡◌, ℕ, ◌+◌, ◌-◌, ◌<◌, ◌≤◌, ◌↔◌, map, length, IsTrue, IfOk, IfErr, OnOk, OnErr, true, false};
+ghost use Rattle.std.specs.Prelude.{◌≡◌, ◌≤◌, length, IfOk, IfErr, OnOk, OnErr, true, false};
 ghost use Rattle.std.specs.FinMap as fin;
 ghost use Rattle.book.specs.Rows.{named, IsInOrder, IsRowOf, IsGapFor};
 ghost use Rattle.book.specs.Tables.{is_full_for};

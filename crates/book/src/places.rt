@@ -1,5 +1,5 @@
 //! Where pods are placed, with what the pods on each node use together.
-ghost use Rattle.std.specs.Prelude.{◌≡◌, ℕ, ◌+◌, ◌*◌, ◌<◌, ◌≤◌, IfOk, false, List};
+ghost use Rattle.std.specs.Prelude.{◌≡◌, ℕ, ◌+◌, ◌<◌, ◌≤◌, IfOk, false, List};
 ghost use Rattle.std.specs.FinMap as fin;
 ghost use Rattle.book.specs.Tables.{is_full_for};
 ghost use Rattle.book.specs.Used.{used, assumed, bound, assumed_in};
@@ -13,10 +13,11 @@ use std::alloc::Global;
 use std::marker::Model;
 
 /// The places of pods, by uid. What the pods on a node use is kept, so that neither a look-up nor a change
-/// depends on how many places there are.
+/// depends on how many places there are, but for the change that counts anew.
 ///
 /// A node's total stays when its last pod goes. When the totals have used up their room, which is more than
-/// twice that of the places, they are counted anew, and then those of nodes without pods are gone.
+/// twice that of the places, they are counted anew, and then those of nodes without pods are gone. That takes
+/// one pass over the places, and comes once at most in as many changes as there is room for places.
 #[derive(Drop)]
 pub(crate) struct Places {
     by_uid: Table<Place>,

@@ -31,27 +31,33 @@ same_reply s (NodeSet version node) r h = h
 same_reply s (PodBound version uid node request) r h = h
 same_reply s Count r h = h
 
+-- a lesser number is another number
 lt-eqb : (m n : ℕ) → m < n → eqb m n ≡ false
 lt-eqb m n lt = grind (arith, nat_tests)
 
+-- an empty list at the end changes nothing
 append_nil : (xs : List ℕ) → xs ++ [] ≡ xs
 append_nil [] = refl
 append_nil (x ∷ xs) = ap (λ r. x ∷ r) (append_nil xs)
 
 -- ---- one more call
 
+-- the state after one more call is what the call makes of the state before it
 state_more : (s : State) (l : List Call) (c : Call) → state_after s (l ++ c ∷ []) ≡ after (state_after s l) c.pass c.step
 state_more s [] c = refl
 state_more s (d ∷ l) c = state_more (after s d.pass d.step) l c
 
+-- and where that call got the machine's answer, each call did
 answered_more : (s : State) (l : List Call) (c : Call) → AreAnswered s l → c.reply ≡ reply (state_after s l) c.step → AreAnswered s (l ++ c ∷ [])
 answered_more s [] c all e = (e, tt)
 answered_more s (d ∷ l) c all e = (all.0, answered_more (after s d.pass d.step) l c all.1 e)
 
+-- where its pass was handed out, each call's was
 handed_more : (n : ℕ) (l : List Call) (c : Call) → AllByRecursion (λ d. d.pass < n) l → c.pass < n → AllByRecursion (λ d. d.pass < n) (l ++ c ∷ [])
 handed_more n [] c all lt = (lt, tt)
 handed_more n (d ∷ l) c all lt = (all.0, handed_more n l c all.1 lt)
 
+-- one more item is kept at the end, or not at all
 filter_more : (p : Call → Bool) (l : List Call) (c : Call) → filter p (l ++ c ∷ []) ≡ filter p l ++ cond (p c) (c ∷ []) []
 filter_more p [] c = refl
 filter_more p (d ∷ l) c = elim (p d) as (λ b. cond b (d ∷ filter p (l ++ c ∷ [])) (filter p (l ++ c ∷ [])) ≡ cond b (d ∷ filter p l) (filter p l) ++ cond (p c) (c ∷ []) []) [
@@ -59,6 +65,7 @@ filter_more p (d ∷ l) c = elim (p d) as (λ b. cond b (d ∷ filter p (l ++ c 
   | false ↦ filter_more p l c
 ]
 
+-- 1, 2, 3, .. goes one further
 one_to_more : (n : ℕ) → one_to (n + 1) ≡ one_to n ++ (n + 1) ∷ []
 one_to_more n = sym (map-id (range_with_len 1 (n + 1))) ∙ map-range_with_len_more (λ k. k) 1 n (n + 1) (omega arith) ∙ ap (λ r. r ++ (n + 1) ∷ []) (map-id (range_with_len 1 n))
 
@@ -69,6 +76,7 @@ module _ (l : List Call) (c : Call) where
       ap length (filter_more (λ d. eqb d.pass pass) l c) ∙ length-append (filter (λ d. eqb d.pass pass) l) (cond (eqb c.pass pass) (c ∷ []) [])
       ∙ ap (λ n. calls_of pass l + n) (elim (eqb c.pass pass) as (λ b. length (cond b (c ∷ []) []) ≡ cond b 1 0) [ true ↦ refl | false ↦ refl ])
 
+  -- the pass that makes a call has its number at the end, and no other pass has
   numbers_more : (pass : ℕ) → numbers_of pass (l ++ c ∷ []) ≡ numbers_of pass l ++ cond (eqb c.pass pass) (c.number ∷ []) []
   numbers_more pass =
       ap (map (λ d. d.number)) (filter_more (λ d. eqb d.pass pass) l c) ∙ map-append (λ d. d.number) (filter (λ d. eqb d.pass pass) l) (cond (eqb c.pass pass) (c ∷ []) [])
@@ -87,6 +95,7 @@ module _ (l : List Call) (c : Call) where
 
 -- ---- what no call changes
 
+-- no step of the book changes its limits
 limits_after : (c : Cluster) (e : ClusterStep) → (book_step.after c e).limits ≡ c.limits
 limits_after c e = elim (book_step.refusal c e) as (λ r. (elim r as (λ _. Cluster) [ None ↦ book_step.effect c e | Some why ↦ c ]).limits ≡ c.limits) [ None ↦ effect_limits c e | Some why ↦ refl ]
   where
@@ -94,6 +103,7 @@ limits_after c e = elim (book_step.refusal c e) as (λ r. (elim r as (λ _. Clus
     effect_limits c (cluster.NodeSet version node) = refl
     effect_limits c (cluster.PodBound version uid node request) = refl
 
+-- nor does a step of the desk
 cluster_limits : (c : Cluster) (e : Step) → (cluster_after c e).limits ≡ c.limits
 cluster_limits c (NodeSet version node) = limits_after c (cluster.NodeSet version node)
 cluster_limits c (PodBound version uid node request) = limits_after c (cluster.PodBound version uid node request)
@@ -130,6 +140,7 @@ module _ (l : List Call) (s : State) (p : Caller) (e : Step) (answer : Reply) wh
 
 -- ---- one more pass
 
+-- one pass more begins with no calls
 replicate_more : (n : ℕ) → replicate {A = ℕ} (n + 1) 0 ≡ replicate {A = ℕ} n 0 ++ 0 ∷ []
 replicate_more n = ap (λ k. replicate {A = ℕ} k 0) (add-one n) ∙ by n
   where
@@ -143,12 +154,14 @@ pass_and_call s pass e lt =
     ap (λ calls. with_calls (cluster_after s.cluster e) s.clock calls)
     (ap (λ n. slice_set (s.calls ++ 0 ∷ []) pass (n + 1)) (get_or_append_left s.calls (0 ∷ []) 0 pass lt) ∙ set-append_left s.calls (0 ∷ []) pass (slice_index s.calls pass + 1) lt)
 
+-- nor do all calls of earlier passes
 pass_and_calls : (s : State) (l : List Call) → AllByRecursion (λ c. c.pass < length s.calls) l → state_after (with_pass s) l ≡ with_pass (state_after s l)
 pass_and_calls s [] handed = refl
 pass_and_calls s (c ∷ l) handed =
     ap (λ t. state_after t l) (pass_and_call s c.pass c.step handed.0)
     ∙ pass_and_calls (after s c.pass c.step) l (subst (λ n. AllByRecursion (λ d. d.pass < n) l) (sym (after_passes s c.pass c.step)) handed.1)
 
+-- so each call still got the machine's answer
 answered_with_pass : (s : State) (l : List Call) → AllByRecursion (λ c. c.pass < length s.calls) l → AreAnswered s l → AreAnswered (with_pass s) l
 answered_with_pass s [] handed all = tt
 answered_with_pass s (c ∷ l) handed all = (
@@ -157,10 +170,12 @@ answered_with_pass s (c ∷ l) handed all = (
       (answered_with_pass (after s c.pass c.step) l (subst (λ n. AllByRecursion (λ d. d.pass < n) l) (sym (after_passes s c.pass c.step)) handed.1) all.1),
 )
 
+-- passes that were handed out are among more of them
 handed_wider : (m n : ℕ) (l : List Call) → m ≤ n → AllByRecursion (λ c. c.pass < m) l → AllByRecursion (λ c. c.pass < n) l
 handed_wider m n [] le all = tt
 handed_wider m n (c ∷ l) le all = (omega (arith, all.0), handed_wider m n l le all.1)
 
+-- a pass that wasn't handed out made no call
 no_calls : (n : ℕ) (l : List Call) → AllByRecursion (λ c. c.pass < n) l → calls_of n l ≡ 0
 no_calls n [] all = refl
 no_calls n (c ∷ l) all = rw (lt-eqb c.pass n all.0) (no_calls n l all.1)

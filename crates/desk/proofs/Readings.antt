@@ -28,6 +28,7 @@ use Rattle.desk.specs.Machine.{State, opening, reply, after, cluster_after, told
 use Rattle.desk.specs.History.{Call, AreAnswered, state_after, Legal, Leaves, is_accepted, last_said, accepted, row_in, place_in, node_in, pod_in, found_at, rows_of, places_of, snap}
 use Rattle.desk.specs.Machine as machine
 
+-- the last of two that says anything, or else what was known
 or_else : {X : Type 0} (a b : Option X) (d : X) → unwrap_or (option_or a b) d ≡ unwrap_or a (unwrap_or b d)
 or_else None b d = refl
 or_else (Some x) b d = refl
@@ -37,6 +38,7 @@ said_here : {X : Type 0} (b : Bool) (x : X) (d : Option X) → unwrap_or (if b t
 said_here true x d = refl
 said_here false x d = refl
 
+-- a step says nothing of another name
 not_said : {X : Type 0} (b : Bool) (x : X) → b ≡ false → (if b then Some x else None) ≡ None
 not_said b x e = rw e refl
 
@@ -95,14 +97,17 @@ abbrev pub names : Option (List ℕ) → List ℕ → Bool
 names None q = false
 names (Some n) q = bytes_eq q n
 
+-- a name is among those of a step and of the rest where one of the two names it
 any_named : (o : Option (List ℕ)) (ns : List (List ℕ)) (q : List ℕ) → list_any (bytes_eq q) (cons_option o ns) ≡ (names o q || list_any (bytes_eq q) ns)
 any_named None ns q = refl
 any_named (Some n) ns q = refl
 
+-- both parts of a test that fails
 neither : (a b : Bool) → (a || b) ≡ false → (a ≡ false) × (b ≡ false)
 neither true b h = absurd (cc)
 neither false b h = (refl, h)
 
+-- nothing in both cases
 always_none : {X : Type 0} (b : Bool) → cond {A = Option X} b None None ≡ None
 always_none true = refl
 always_none false = refl
@@ -116,6 +121,7 @@ abbrev pub among : {X : Type 0} → (List ℕ → Option X) → List (List ℕ) 
 among find ns q = cond (list_any (bytes_eq q) ns) (find q) None
 
 module _ {X : Type 0} where
+  -- one name more: what is found there, or what the others have
   found_more : (find : List ℕ → Option X) (n : List ℕ) (ns : List (List ℕ)) (q : List ℕ) → lookup (bytes_eq q) (pairs find ns) ≡ among find ns q
       → (o : Option X) → find n ≡ o → (b : Bool) → bytes_eq q n ≡ b → lookup (bytes_eq q) (pairs find (n ∷ ns)) ≡ among find (n ∷ ns) q
   found_more find n ns q rest None e true h =
@@ -166,6 +172,7 @@ module _ {X : Type 0} (says : List ℕ → Step → Option (Option X)) (name_in 
 -- what is said of a name by calls that got the machine's answers is what the state has at it
 module _ {X : Type 0} (table : Cluster → FinMap name_cmp X) (says : Step → Option (Option X)) (q : List ℕ)
     (one : (s : State) (e : Step) → fin.get (table (cluster_after s.cluster e)) q ≡ unwrap_or (if is_accepted (reply s e) then says e else None) (fin.get (table s.cluster) q)) where
+  -- by going through the calls, the first one first
   pub said_is : (s : State) (l : List Call) → AreAnswered s l → fin.get (table (state_after s l).cluster) q ≡ unwrap_or (last_said (accepted says) l) (fin.get (table s.cluster) q)
   said_is s [] all = refl
   said_is s (c ∷ l) all =
@@ -173,11 +180,13 @@ module _ {X : Type 0} (table : Cluster → FinMap name_cmp X) (says : Step → O
       ∙ ap (unwrap_or (last_said (accepted says) l)) (one s c.step ∙ ap (λ r. unwrap_or (if is_accepted r then says c.step else None) (fin.get (table s.cluster) q)) (sym all.0))
       ∙ sym (or_else (last_said (accepted says) l) (accepted says c) (fin.get (table s.cluster) q))
 
+-- a step says nothing of a node that it doesn't name
 row_silent : (q : List ℕ) (e : Step) → names (node_in e) q ≡ false → row_in q e ≡ None
 row_silent q (NodeSet version node) h = not_said (bytes_eq node.value.name q) (Some node.value) (test_turned node.value.name q ∙ h)
 row_silent q (PodBound version uid node request) h = refl
 row_silent q Count h = refl
 
+-- nor of a pod that it doesn't name
 place_silent : (q : List ℕ) (e : Step) → names (pod_in e) q ≡ false → place_in q e ≡ None
 place_silent q (NodeSet version node) h = refl
 place_silent q (PodBound version uid node request) h = not_said (bytes_eq uid q) _ (test_turned uid q ∙ h)
@@ -212,6 +221,7 @@ snapshot_told s l left =
 abbrev pub shown_of : Places → Arc Node Global → Shown
 shown_of places row = record { node = row.value; used = used places row.value.name }
 
+-- the rows are shown one by one
 shown_each : (places : Places) (nodes : List (Arc Node Global)) → map (λ e. record { node = e.1; used = used places e.0 }) (named nodes) ≡ map (shown_of places) nodes
 shown_each places [] = refl
 shown_each places (node ∷ nodes) = ap (λ r. shown_of places node ∷ r) (shown_each places nodes)
