@@ -37,6 +37,8 @@ impl Model for Desk {
 impl Desk {
     ghost use Rattle.desk.specs.Machine.{reply, after, snapshot, counts, with_pass, cluster_after};
     ghost use Rattle.desk.specs.History.{Leaves, IsPart, IsOf, call, snap};
+    ghost use Rattle.desk.specs.Calm.{IsCalm, HasRoom};
+    ghost use Rattle.std.specs.List.{All};
 
     /// A desk with no nodes and no pods, that has handed out no pass.
     ///
@@ -163,6 +165,9 @@ impl Desk {
 
         // It is the snapshot of the history that left the desk so.
         ensures history { (l : List Call) → Leaves l self.now → IfOk result (λ shown. shown ≡ snap l) }
+
+        // Where that history is calm, no node has more used than it has.
+        ensures calm { (l : List Call) → Leaves l self.now → IsCalm l → IfOk result (All HasRoom) }
     {
         let nodes = self.book.rows();
         let mut rows = Vec::with_capacity(self.alloc, nodes.len())?;

@@ -1,7 +1,10 @@
-use Rattle.std.proofs.Common.{◌≡◌, ap, ◌∙◌, map, take}
+use Rattle.std.proofs.Common.{◌≡◌, ap, ◌∙◌, map, take, sym, subst}
+use Rattle.std.specs.List.{All}
 use Rattle.std.proofs.lemmas.List.{take_all}
 use Rattle.desk.specs.Machine.{snapshot}
 use Rattle.desk.proofs.Readings.{shown_of, shown_all, snapshot_told}
+use Rattle.desk.specs.Calm.{HasRoom}
+use Rattle.desk.proofs.Calm.{calm_has_room}
 use Rattle.desk.proofs.desk.Desk.look.Goals as goal
 
 -- all rows of the book are shown
@@ -16,3 +19,7 @@ returns-clause-snapshot c =
 -- and the state's snapshot is the history's
 pub returns-clause-history : goal.returns-clause-history
 returns-clause-history c l left = returns-clause-snapshot c ∙ snapshot_told c.args.self.now l left
+
+-- where that is calm, each node has room
+pub returns-clause-calm : goal.returns-clause-calm
+returns-clause-calm c l left calm = subst (All HasRoom) (sym (returns-clause-history c l left)) (calm_has_room l calm)
