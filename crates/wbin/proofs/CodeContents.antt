@@ -37,10 +37,6 @@ not_filled bytes at end x l h code f =
     let e : length (drop end bytes) ≡ 0 = ap length p.1 in
     omega (arith, e, length-drop end bytes)
 
-pub code_reads : (bytes contents inside rest : List ℕ) (code : Code) → SpellsBytes bytes contents rest → contents ≡ inside → Fills inside code → SpellsCode bytes code rest
-code_reads bytes contents inside rest code h e f =
-    (inside, f.body, f.runs, subst (λ c. SpellsBytes bytes c rest) e h, f.runs_spelled, f.locals_are, f.spelled)
-
 pub code_missing : (bytes contents inside rest : List ℕ) → SpellsBytes bytes contents rest → contents ≡ inside → ((code : Code) → Fills inside code → ⊥) → Nothing SpellsCode bytes
 code_missing bytes contents inside rest h e none code more s =
     let p = bytes_once bytes contents s.0 rest more h s.3 in

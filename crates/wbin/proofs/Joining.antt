@@ -1,7 +1,6 @@
 -- Functions of indices and bodies.
-use Rattle.std.proofs.Common.{◌≡◌, ℕ, ◌+◌, ◌<◌, ◌≤◌, List, [], ◌∷◌, ◌++◌, map, length, get_or, drop, Option, ap, sym, ◌∙◌, arith, append_assoc}
-use Rattle.std.proofs.lemmas.List.{append-nil, map-id, length-map}
-use Rattle.std.proofs.Math.ListN.{drop_of_length-le}
+use Rattle.std.proofs.Common.{◌≡◌, ℕ, ◌+◌, ◌<◌, List, [], ◌∷◌, ◌++◌, map, length, get_or, drop, Option, ap, sym, ◌∙◌, arith, append_assoc}
+use Rattle.std.proofs.lemmas.List.{map-id, length-map}
 use Rattle.leb.proofs.Digits.{at_place}
 use Rattle.wbin.specs.declared.code.FunctionCode.{FunctionCode}
 use Rattle.wbin.specs.declared.module.Function.{Function}
@@ -39,11 +38,6 @@ joined_more signatures codes functions others index left fewer rest after f code
       joined = ap (λ x. map function_of x ++ tail) e ∙ ap (λ x. x ++ tail) (map_push function_of functions f) ∙ append_assoc (map function_of functions) (function_of f ∷ []) tail
           ∙ ap (λ x. map function_of functions ++ x) (sym d) ∙ j.joined;
     }
-
-pub joined_ends : (signatures : List ℕ) (codes : List FunctionCode) (functions : List Function) (index left : ℕ) (rest : List FunctionCode) → length signatures ≤ index → HasJoined signatures codes functions index left rest
-    → map function_of functions ≡ together signatures (map code_of codes)
-joined_ends signatures codes functions index left rest l j =
-    sym (append-nil (map function_of functions)) ∙ ap (λ x. map function_of functions ++ together x (map code_of rest)) (sym (drop_of_length-le signatures l)) ∙ j.joined
 
 pub functions_listed : (s c : Option (List ℕ)) (signatures now : List ℕ) (codes : List FunctionCode) (functions : List Function) → Lists SpellsIndex s (map (λ n. n) signatures) → Lists SpellsCode c (map code_of codes)
     → length signatures ≡ length codes → now ≡ signatures → map function_of functions ≡ together now (map code_of codes) → Functions s c (map function_of functions)

@@ -1,5 +1,5 @@
 -- Sections in their order.
-use Rattle.std.proofs.Common.{◌≡◌, ◌≢◌, ℕ, max, ◌+◌, ◌<◌, ◌≤◌, ◌⊎◌, inl, inr, List, [], ◌∷◌, ◌++◌, map, length, drop, Some, None, Ok, Err, refl, ap, sym, subst, ◌∙◌, arith, length-drop, append_assoc}
+use Rattle.std.proofs.Common.{◌≡◌, ◌≢◌, ℕ, max, ◌<◌, ◌≤◌, inl, inr, List, [], ◌∷◌, ◌++◌, map, length, drop, Some, None, Ok, Err, refl, ap, sym, subst, ◌∙◌, arith, length-drop, append_assoc}
 use Rattle.std.specs.List.{All}
 use Rattle.std.proofs.lemmas.List.Elements.{All-nil, All-push}
 use Rattle.std.proofs.lemmas.List.{append-nil}
@@ -113,28 +113,6 @@ pub sections_once : (bytes : List ℕ) (xs zs : List Section) → SpellsEach Spe
 sections_once bytes xs zs h k =
     let p = each_extends bytes xs [] zs h k in
     sym (p.1 ∙ ap (λ l. xs ++ l) (nothing_left p.0 p.2) ∙ append-nil xs)
-
--- a section that is read
-pub section_reads : (bytes : List ℕ) (at id : ℕ) (contents inside rest : List ℕ) → drop at bytes ≡ id ∷ drop (at + 1) bytes → contents ≡ inside → SpellsBytes (drop (at + 1) bytes) contents rest
-    → SpellsSection (drop at bytes) (record { id = id; contents = inside }) rest
-section_reads bytes at id contents inside rest e f h = (drop (at + 1) bytes, e, subst (λ c. SpellsBytes (drop (at + 1) bytes) c rest) f h)
-
-pub section_follows : (above id : ℕ) (inside : List ℕ) → (id ≡ 0) ⊎ ((above < id) × (id ≤ 11)) → (id ≡ 0 → (name rest : List ℕ) × SpellsName inside name rest)
-    → MayFollow above (record { id = id; contents = inside })
-section_follows above id inside may named = elim may [
-  | inl z ↦ (let n = named z in inl (z, (n.0, n.1, n.2)))
-  | inr p ↦ inr p
-]
-
--- a section that can't follow by its number
-pub no_follower : (bytes more : List ℕ) (above id : ℕ) → bytes ≡ id ∷ more → ((id ≡ 0) ⊎ ((above < id) × (id ≤ 11)) → ⊥) → (s : Section) (rest : List ℕ) → SpellsSection bytes s rest → MayFollow above s → ⊥
-no_follower bytes more above id e none s rest h may =
-    let p = (byte_once s.id id bytes h.0 more h.1 e).0 in
-    none (elim may [ inl c ↦ inl (sym p ∙ c.0) | inr q ↦ (let a : above < id = omega (arith, p, q.0) in let b : id ≤ 11 = omega (arith, p, q.1) in inr (a, b)) ])
-
-pub no_contents : (bytes more : List ℕ) (above id : ℕ) → bytes ≡ id ∷ more → Nothing SpellsBytes more → (s : Section) (rest : List ℕ) → SpellsSection bytes s rest → MayFollow above s → ⊥
-no_contents bytes more above id e none s rest h may =
-    let p = byte_once s.id id bytes h.0 more h.1 e in none s.contents rest (subst (λ b. SpellsBytes b s.contents rest) p.1 h.2)
 
 pub no_custom_name : (bytes more : List ℕ) (above id : ℕ) (contents inside after : List ℕ) → bytes ≡ id ∷ more → SpellsBytes more contents after → contents ≡ inside → id ≡ 0 → Nothing SpellsName inside
     → (s : Section) (rest : List ℕ) → SpellsSection bytes s rest → MayFollow above s → ⊥

@@ -1,5 +1,5 @@
 -- Types that are spelled, and bytes that spell none.
-use Rattle.std.proofs.Common.{◌≡◌, ◌≢◌, ℕ, ◌+◌, inl, inr, List, [], ◌∷◌, drop, Some, None, Result, Ok, Err, refl, sym, subst, ◌∙◌, arith}
+use Rattle.std.proofs.Common.{◌≡◌, ◌≢◌, ℕ, ◌+◌, inl, inr, List, ◌∷◌, drop, Some, None, Result, Ok, Err, refl, sym, subst, arith}
 use Rattle.wcode.specs.declared.value.ValueType.{ValueType}
 use Rattle.wcode.specs.Grammar.{SpellsIndex}
 use Rattle.wcode.proofs.Words.{index_once}
@@ -9,13 +9,6 @@ use Rattle.wbin.specs.Grammar.{Byte, SpellsEach, SpellsVector, SpellsValueType, 
 use Rattle.wbin.specs.Reading.{Nothing, Reads, SpellsBoth}
 use Rattle.wcode.specs.declared.fault.BinFault.{BinFault}
 use Rattle.wbin.specs.Unique.{byte_once}
-
--- no byte of a kind's stands there
-pub coded_none : {A : Type 0} (code : A → ℕ) (bytes more : List ℕ) (byte : ℕ) → bytes ≡ byte ∷ more → ((x : A) → code x ≡ byte → ⊥) → (x : A) (rest : List ℕ) → Byte (code x) bytes rest → ⊥
-coded_none code bytes more byte e none x rest h = none x (byte_once (code x) byte bytes rest more h e).0
-
-pub coded_empty : {A : Type 0} (code : A → ℕ) (bytes : List ℕ) → bytes ≡ [] → (x : A) (rest : List ℕ) → Byte (code x) bytes rest → ⊥
-coded_empty code bytes e x rest h = cc (sym e ∙ h)
 
 pub no_results : (bytes next : List ℕ) → SpellsIndex bytes 0 next → SpellsResults bytes None next
 unfolding SpellsEach
@@ -44,38 +37,13 @@ pub table_type_missing : (bytes more : List ℕ) → Byte 0x70 bytes more → No
 table_type_missing bytes more e none x rest h =
     let p = byte_once 0x70 0x70 bytes more h.0 e h.1 in none x rest (subst (λ b. SpellsLimits b x rest) (sym p.1) h.2)
 
-pub least_missing : (bytes more : List ℕ) → bytes ≡ 0 ∷ more → Nothing SpellsIndex more → Nothing SpellsLimits bytes
-least_missing bytes more e none x rest h = elim h [
-  | inl a ↦ (let p = byte_once 0 0 bytes more a.0 e a.1 in none x.least rest (subst (λ b. SpellsIndex b x.least rest) (sym p.1) a.3))
-  | inr a ↦ (let p = byte_once 0 1 bytes more a.0 e a.3 in absurd (omega (arith, p.0)))
-]
-
 pub most_missing : (bytes more : List ℕ) → bytes ≡ 1 ∷ more → Nothing (SpellsBoth SpellsIndex SpellsIndex) more → Nothing SpellsLimits bytes
 most_missing bytes more e none x rest h = elim h [
   | inl a ↦ (let p = byte_once 1 0 bytes more a.0 e a.1 in absurd (omega (arith, p.0)))
   | inr a ↦ (let p = byte_once 1 1 bytes more a.0 e a.3 in none (x.least, a.2) rest (a.1, subst (λ b. SpellsIndex b x.least a.1) (sym p.1) a.5, a.6))
 ]
 
-pub no_limits : (bytes more : List ℕ) (byte : ℕ) → bytes ≡ byte ∷ more → byte ≢ 0 → byte ≢ 1 → Nothing SpellsLimits bytes
-no_limits bytes more byte e p q x rest h = elim h [
-  | inl a ↦ p (byte_once byte 0 bytes more a.0 e a.1).0
-  | inr a ↦ q (byte_once byte 1 bytes more a.0 e a.3).0
-]
-
-pub limits_empty : (bytes : List ℕ) → bytes ≡ [] → Nothing SpellsLimits bytes
-limits_empty bytes e x rest h = elim h [ inl a ↦ cc (sym e ∙ a.1) | inr a ↦ cc (sym e ∙ a.3) ]
-
-pub most_spelled : (bytes more : List ℕ) (least most : ℕ) (rest : List ℕ) → bytes ≡ 1 ∷ more → SpellsBoth SpellsIndex SpellsIndex more (least, most) rest → SpellsLimits bytes (record { least = least; most = Some most }) rest
-most_spelled bytes more least most rest e h = inr (more, h.0, most, e, refl, h.1, h.2)
-
-pub least_spelled : (bytes more : List ℕ) (least : ℕ) (rest : List ℕ) → bytes ≡ 0 ∷ more → SpellsIndex more least rest → SpellsLimits bytes (record { least = least; most = None }) rest
-least_spelled bytes more least rest e h = inl (more, e, refl, h)
-
 -- imports of each kind
-pub function_missing : (bytes more : List ℕ) → bytes ≡ 0 ∷ more → Nothing SpellsIndex more → Nothing SpellsImportKind bytes
-function_missing bytes more e none (imported.Function x) rest h = let p = byte_once 0 0 bytes more h.0 e h.1 in none x rest (subst (λ b. SpellsIndex b x rest) (sym p.1) h.2)
-function_missing bytes more e none x rest h = let p = byte_once 0 (import_byte x) bytes more h.0 e h.1 in absurd (omega (arith, p.0))
-
 pub table_missing : (bytes more : List ℕ) → bytes ≡ 1 ∷ more → Nothing SpellsTableType more → Nothing SpellsImportKind bytes
 table_missing bytes more e none (imported.Table x) rest h = let p = byte_once 1 1 bytes more h.0 e h.1 in none x rest (subst (λ b. SpellsTableType b x rest) (sym p.1) h.2)
 table_missing bytes more e none x rest h = let p = byte_once 1 (import_byte x) bytes more h.0 e h.1 in absurd (omega (arith, p.0))
@@ -87,12 +55,6 @@ memory_missing bytes more e none x rest h = let p = byte_once 2 (import_byte x) 
 pub global_missing : (bytes more : List ℕ) → bytes ≡ 3 ∷ more → Nothing SpellsGlobalType more → Nothing SpellsImportKind bytes
 global_missing bytes more e none (imported.Global x) rest h = let p = byte_once 3 3 bytes more h.0 e h.1 in none x rest (subst (λ b. SpellsGlobalType b x rest) (sym p.1) h.2)
 global_missing bytes more e none x rest h = let p = byte_once 3 (import_byte x) bytes more h.0 e h.1 in absurd (omega (arith, p.0))
-
-pub no_import_kind : (bytes more : List ℕ) (byte : ℕ) → bytes ≡ byte ∷ more → byte ≢ 0 → byte ≢ 1 → byte ≢ 2 → byte ≢ 3 → Nothing SpellsImportKind bytes
-no_import_kind bytes more byte e p q r s (imported.Function x) rest h = p (byte_once byte 0 bytes more h.0 e h.1).0
-no_import_kind bytes more byte e p q r s (imported.Table x) rest h = q (byte_once byte 1 bytes more h.0 e h.1).0
-no_import_kind bytes more byte e p q r s (imported.Memory x) rest h = r (byte_once byte 2 bytes more h.0 e h.1).0
-no_import_kind bytes more byte e p q r s (imported.Global x) rest h = s (byte_once byte 3 bytes more h.0 e h.1).0
 
 pub table_type_reads : (bytes : List ℕ) (at : ℕ) (r : Result (Limits × ℕ) BinFault) → Byte 0x70 (drop at bytes) (drop (at + 1) bytes) → Reads SpellsLimits (λ l. l) bytes (at + 1) r
     → Reads SpellsTableType (λ l. l) bytes at r

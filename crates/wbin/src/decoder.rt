@@ -192,13 +192,20 @@ fn join(
     let mut rest = codes.into_iter();
     for &signature in signatures {
         match rest.next() {
-            Some(code) => functions.push(Function {
-                signature,
-                locals: code.locals,
-                body: code.body,
-            })?,
+            Some(code) => functions.push(with_code(signature, code))?,
             None => unreachable!(),
         }
     }
     Ok(functions)
+}
+
+// A function of its type's index and its code.
+fn with_code(signature: u32, code: FunctionCode) -> Function
+    ensures { function_of result ≡ function_with signature (code_of code) }
+{
+    Function {
+        signature,
+        locals: code.locals,
+        body: code.body,
+    }
 }

@@ -17,8 +17,7 @@ use crate::module::{
     ImportKind, LocalRun,
 };
 use std::alloc::Global;
-use wcode::expression::read_expr;
-use wcode::{BinFault, Instr, ValueType};
+use wcode::{BinFault, Instr, ValueType, read_expr};
 
 /// Bytes with their number before them.
 pub struct Contents;

@@ -1,4 +1,4 @@
-use Rattle.std.proofs.Common.{arith, refl, ◌∙◌, sym}
+use Rattle.std.proofs.Common.{arith, ◌∙◌, sym}
 use Rattle.wbin.proofs.Joining.{joined_begins, joined_more}
 use Rattle.wbin.proofs.decoder.join.Goals as goal
 
@@ -12,4 +12,4 @@ unreachable-requires c = cc (c.in-None.ensures.variant.1 (omega (arith, c.loop-s
 pub loop-signature-preserved : goal.loop-signature-preserved
 loop-signature-preserved c =
     joined_more c.args.signatures.now c.args.codes.items c.loop-signature.functions.items c.push.new.self.items c.loop-signature.signature-index _ _ _ _ _ c.in-Some.code
-    c.in_ok-push-in-Some.ensures.items c.in-Some.ensures.items (omega (arith, c.in-Some.ensures.len)) c.loop-signature-test.true refl c.loop-signature.invariant
+    c.in_ok-push-in-Some.ensures.items c.in-Some.ensures.items (omega (arith, c.in-Some.ensures.len)) c.loop-signature-test.true c.with_code.ensures c.loop-signature.invariant
