@@ -1,7 +1,6 @@
 -- Pieces of lines, as they are cut off a buffer and kept.
-use Rattle.std.proofs.Common.{◌≡◌, ℕ, ◌+◌, ◌-◌, ◌<◌, List, [], ◌∷◌, ◌++◌, length, take, drop, get_or, min, slice_range, sym, ap, ◌∙◌, arith}
+use Rattle.std.proofs.Common.{◌≡◌, ℕ, ◌+◌, ◌-◌, ◌<◌, List, ◌∷◌, ◌++◌, length, take, drop, get_or, min, slice_range, sym, ap, ◌∙◌, arith}
 use Rattle.std.proofs.Math.Seq.{take-append-add}
-use Rattle.std.proofs.lemmas.Grind.{common_steps}
 use Rattle.std.proofs.lemmas.List.{take_min, take-append-drop, length-take, drop-take, drop-drop, drop_more}
 
 -- what is added to a kept line within its room is kept of the whole
@@ -22,7 +21,3 @@ range-cut xs start end at inside newline =
     in
     sym (take-append-drop at v)
     ∙ ap (λ t. take at v ++ t) (drop_more v at 0 inside ∙ ap (λ b. b ∷ drop (at + 1) v) newline ∙ ap (λ t. 10 ∷ t) behind)
-
--- a range with no element is empty
-pub range-none : (xs : List ℕ) (end : ℕ) → slice_range xs end end ≡ []
-range-none xs end = grind (arith, common_steps)

@@ -14,7 +14,7 @@ use Rattle.engine.proofs.Taking.{lines_of-nil}
 
 -- ---- a line of which the front is kept
 
--- what a line asks for is told by what is kept of it
+-- what is kept of a line means what the line means
 pub meaning-kept : (text : List ℕ) → meaning (kept text) ≡ meaning text
 unfolding meaning
 meaning-kept text = ⊎_elim
@@ -25,6 +25,7 @@ meaning-kept text = ⊎_elim
     (λ short. ap meaning (take_all 65537 text short))
     (cases_lt 65537 (length text))
 
+-- and asks for what the line asks for
 pub asked_by-kept : (text : List ℕ) → asked_by (kept text) ≡ asked_by text
 unfolding asked_by
 asked_by-kept text = ⊎_elim
@@ -117,6 +118,7 @@ asked-first : (rest later line text : List ℕ) (says : Result (Option Asked) Li
 asked-first rest later line text says stored cut told =
     ap asked_in cut ∙ ap (λ r. asked_then r (asked_in (lines_of later))) (says-whole line text says stored told)
 
+-- the first fault of what is left is that of its first line, or else of the later ones
 fault-first : (number : ℕ) (rest later line text : List ℕ) (says : Result (Option Asked) LineFault) → line ≡ kept text → lines_of rest ≡ text ∷ lines_of later → asked_by line ≡ says → fault_from number (lines_of rest) ≡ fault_or number says (fault_from (number + 1) (lines_of later))
 fault-first number rest later line text says stored cut told =
     ap (fault_from number) cut ∙ ap (λ r. fault_or number r (fault_from (number + 1) (lines_of later))) (says-whole line text says stored told)
@@ -167,6 +169,7 @@ IsRunning-answered script rest later old now pending new line state next number 
 abbrev pub EndsAtFault : Option (List ℕ) → Option (List ℕ) → Option (List ℕ) → ℕ → LineFault → Type 0
 EndsAtFault script old now number fault = IfSome script (λ text. (first_fault text ≡ Some (number, fault)) × Appends old now (output text))
 
+-- a faulty line ends the output
 pub fault-flushed : (script rest later old now : Option (List ℕ)) (line : List ℕ) (state : State) (number : ℕ) (fault : LineFault) → TakesLine rest later line → asked_by line ≡ Err fault → IsRunning script rest old now [] state number → EndsAtFault script old now number fault
 fault-flushed None rest later old now line state number fault took says so_far = tt
 fault-flushed (Some script) None later old now line state number fault took says so_far = absurd so_far

@@ -6,9 +6,11 @@ use Rattle.quant.specs.declared.amount.Request.{Request}
 use Rattle.book.specs.declared.limits.Limits.{Limits}
 use Rattle.engine.specs.Answers.{limits, request_of}
 
+-- the request of these numbers
 requested : (c : ℕ) (m : ℕ) → c ≤ 2 ^ 30 → m ≤ 2 ^ 44 → Request
 requested c m p q = record { cpu = record { 0 = c }; mem = record { 0 = m }; within_cpu = p; within_mem = q }
 
+-- requests of equal numbers are equal
 requested-same : (c d m n : ℕ) (p : c ≤ 2 ^ 30) (p' : d ≤ 2 ^ 30) (q : m ≤ 2 ^ 44) (q' : n ≤ 2 ^ 44) → c ≡ d → m ≡ n → requested c m p q ≡ requested d n p' q'
 requested-same c d m n p p' q q' e f =
     subst (λ x. (h : x ≤ 2 ^ 30) → requested c m p q ≡ requested x n h q') e
@@ -20,9 +22,11 @@ pub request_of_same : (r : Request) → request_of r.cpu r.mem ≡ r
 unfolding requested
 request_of_same r = requested-same (min r.cpu.0 (2 ^ 30)) r.cpu.0 (min r.mem.0 (2 ^ 44)) r.mem.0 (min-le_right r.cpu.0 (2 ^ 30)) r.within_cpu (min-le_right r.mem.0 (2 ^ 44)) r.within_mem (min-eq_left r.within_cpu) (min-eq_left r.within_mem)
 
+-- the limits of these numbers
 limited : (a b c : ℕ) → a ≤ 1000 → b ≤ 150000 → c ≤ 10000 → Limits
 limited a b c p q r = record { nodes = a; placed = b; queued = c; few_nodes = p; few_placed = q; few_queued = r }
 
+-- limits of equal numbers are equal
 limited-same : (a b c x y z : ℕ) (p : a ≤ 1000) (q : b ≤ 150000) (r : c ≤ 10000) (p' : x ≤ 1000) (q' : y ≤ 150000) (r' : z ≤ 10000) → a ≡ x → b ≡ y → c ≡ z → limited a b c p q r ≡ limited x y z p' q' r'
 limited-same a b c x y z p q r p' q' r' e f g =
     subst (λ v. (h : v ≤ 1000) → limited a b c p q r ≡ limited v y z h q' r') e

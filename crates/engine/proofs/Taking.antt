@@ -3,7 +3,7 @@ use Rattle.std.proofs.Common.{◌≡◌, ℕ, zero, suc, ◌<◌, ◌≤◌, Boo
 use Rattle.std.proofs.KnownBytes.{Consumes-trans, Consumes-nil}
 use Rattle.std.proofs.lemmas.Bool.{ltb-true, lt-ltb, ne_eqb}
 use Rattle.std.proofs.lemmas.List.{length-append, length-take, append-nil}
-use Rattle.std.proofs.lemmas.List.Elements.{All-append, All-nil}
+use Rattle.std.proofs.lemmas.List.Elements.{All-append}
 use Rattle.std.proofs.lemmas.List.Splits.{slice_split_at, slice_split_none}
 use Rattle.std.specs.Io.KnownBytes.{Consumes, IsAtEnd, prepend_known}
 use Rattle.std.specs.List.{slice_split, onto_first}
@@ -11,6 +11,7 @@ use Rattle.engine.specs.Lines.{is_newline, without_empty_end, lines_of, IsLine, 
 
 -- ---- the lines of a text
 
+-- where an element is put onto the first part, there is a first part
 onto_first-some : (x : ℕ) (parts : List (List ℕ)) → (first : List ℕ) × (rest : List (List ℕ)) × (onto_first x parts ≡ first ∷ rest)
 onto_first-some x [] = (x ∷ [], [], refl)
 onto_first-some x (part ∷ parts) = (x ∷ part, parts, refl)
@@ -53,9 +54,6 @@ pub record IsTaken (first now : Option (List ℕ)) (line : List ℕ) (begun : Bo
   pub consumed : Consumes first now taken
   pub begun_is : begun ≡ ltb 0 (length taken)
 
-pub IsTaken-none : (known : Option (List ℕ)) → IsTaken known known [] false []
-IsTaken-none known = record { is_line = All-nil (λ b. is_newline b ≡ false); kept_is = refl; consumed = Consumes-nil known; begun_is = refl }
-
 -- a piece is read where nothing of an earlier one is left
 pub filled : (old new : Option (List ℕ)) (rest piece : List ℕ) → rest ≡ [] → Consumes old new piece → Consumes (prepend_known rest old) (prepend_known piece new) []
 filled None new rest piece none h = tt
@@ -75,6 +73,7 @@ IsTaken-more first old new line begun taken read so_far = record {
   begun_is = so_far.begun_is;
 }
 
+-- the front of a front and more is the front of the whole and more
 take-append-take : (n : ℕ) (xs ys : List ℕ) → take n (take n xs ++ ys) ≡ take n (xs ++ ys)
 take-append-take zero xs ys = refl
 take-append-take (suc n) [] ys = refl
@@ -84,10 +83,12 @@ take-append-take (suc n) (x ∷ xs) ys = ap (λ t. x ∷ t) (take-append-take n 
 kept-append : (line taken piece : List ℕ) → line ≡ kept taken → kept (line ++ piece) ≡ kept (taken ++ piece)
 kept-append line taken piece e = ap (λ t. kept (t ++ piece)) e ∙ take-append-take 65537 taken piece
 
+-- a piece that stood in front was taken
 passed : (rest : Option (List ℕ)) (piece : List ℕ) → Consumes (prepend_known piece rest) (prepend_known [] rest) piece
 passed None piece = tt
 passed (Some xs) piece = refl
 
+-- a line of which a piece was taken has begun
 grown : (taken piece : List ℕ) → 0 < length piece → ltb 0 (length (taken ++ piece)) ≡ true
 grown taken piece some = lt-ltb 0 (length (taken ++ piece)) (omega (arith, length-append taken piece))
 
@@ -103,6 +104,7 @@ IsTaken-piece first rest old new piece line kept_line begun taken is_line stored
       begun_is = sym (grown taken piece (subst (λ t. 0 < length t) cut.0 some));
     }
 
+-- what was taken up to the newline is the first line, and what stands behind it has the later ones
 taken_whole : (first rest : Option (List ℕ)) (line taken piece new : List ℕ) → IsLine (taken ++ piece) → line ≡ kept (taken ++ piece) → Consumes first (prepend_known (piece ++ 10 ∷ new) rest) taken → TakesLine first (prepend_known new rest) line
 taken_whole None rest line taken piece new is_line stored read = tt
 taken_whole (Some xs) None line taken piece new is_line stored read = absurd read
@@ -115,6 +117,7 @@ pub TakesLine-newline : (first rest : Option (List ℕ)) (old piece new line kep
 TakesLine-newline first rest old piece new line kept_line begun taken is_line stored cut so_far =
     taken_whole first rest kept_line taken piece new (All-append (λ b. is_newline b ≡ false) taken piece so_far.is_line is_line) (stored ∙ kept-append line taken piece so_far.kept_is) (subst (λ t. Consumes first (prepend_known t rest) taken) cut so_far.consumed)
 
+-- all that was left is the last line
 last_whole : (first rest : Option (List ℕ)) (line taken : List ℕ) → IsLine taken → line ≡ kept taken → 0 < length taken → IsAtEnd rest → Consumes first (prepend_known [] rest) taken → TakesLine first (prepend_known [] rest) line
 last_whole None rest line taken is_line stored some ended read = tt
 last_whole (Some xs) None line taken is_line stored some ended read = absurd read

@@ -1,11 +1,12 @@
 //! The lines of a source, which is read in pieces.
-ghost use Rattle.std.specs.Prelude.{◌≡◌, ◌==◌, ◌⊎◌, ◌+◌, ◌^◌, ◌<◌, ◌≤◌, ◌++◌, [], nat_lt, true, false, Ok, IfErr, IsErrOf, ℕ, List, length, take, slice_index, vec_len, IfOk, OnOk, IfSome, IfNone};
+ghost use Rattle.std.specs.Prelude.{◌≡◌, ◌≢◌, ◌==◌, ◌⊎◌, ◌+◌, ◌^◌, ◌<◌, ◌≤◌, ◌++◌, [], nat_lt, true, false, Ok, Err, IfErr, IsErrOf, ℕ, List, length, take, slice_index, vec_len, IfOk, OnOk, IfSome, IfNone};
 ghost use Rattle.std.specs.Io.KnownBytes.{Consumes, IsAtEnd, prepend_known};
 ghost use Rattle.engine.specs.Device.{CountsFailure};
 ghost use Rattle.engine.specs.Lines.{IsLine, TakesPiece, TakesLine, kept};
 
 use crate::device::{DeviceFailed, Source};
 use crate::fault::RunFault;
+use manifest::MAX_LINE;
 use memchr::memchr;
 use std::alloc::{AllocError, Global};
 use std::marker::Model;
@@ -14,7 +15,7 @@ use std::marker::Model;
 const PIECE: usize = 65_536;
 
 // The most bytes of a line that are kept: one more than a line may have.
-pub(crate) const MAX_KEPT: usize = 65_537;
+const MAX_KEPT: usize = MAX_LINE + 1;
 
 // What was read of a source and is not yet taken.
 #[derive(Drop)]
@@ -73,7 +74,7 @@ impl LineReader {
         ensures less { result ≡ Ok true → R.bytes_left source.new + length self.new
             < R.bytes_left source.old + length self.old }
         ensures failed { IsErrOf result RunFault.Read → R.failure_count source.old < R.failure_count source.new }
-        ensures kept { OnOk result (R.failure_count source.new ≡ R.failure_count source.old) }
+        ensures kept { result ≢ Err RunFault.Read → R.failure_count source.new ≡ R.failure_count source.old }
         ensures faults { IfErr result (λ e. (e ≡ RunFault.Read) ⊎ (e ≡ RunFault.NoMemory)) }
     {
         line.clear();

@@ -1,5 +1,5 @@
 //! A script from its first line to its last.
-ghost use Rattle.std.specs.Prelude.{◌≡◌, ℕ, ◌^◌, ◌<◌, Some, None, Ok, Err, [], option_map, IfSome, OnOk, OnErr, IfErr};
+ghost use Rattle.std.specs.Prelude.{◌≡◌, ◌≢◌, ℕ, ◌^◌, ◌<◌, Some, None, Ok, Err, [], option_map, IfSome, OnOk, OnErr, IfErr};
 ghost use Rattle.std.specs.Io.KnownBytes.{Appends};
 ghost use Rattle.engine.specs.Device.{AppendsFront, WritesSome, CountsFailure};
 ghost use Rattle.manifest.specs.Line.{shown};
@@ -10,7 +10,7 @@ ghost use Rattle.engine.specs.Session.{state_of};
 
 use crate::device::{Sink, Source, write_all};
 use crate::fault::RunFault;
-use crate::lines::{LineReader, MAX_KEPT};
+use crate::lines::LineReader;
 use crate::session::Session;
 use manifest::{Command, LineFault, read_line};
 use std::alloc::Global;
@@ -110,6 +110,10 @@ pub fn run<R: Source, W: Sink>(alloc: Global, source: &mut R, sink: &mut W) -> R
     // A failure is told only where the device failed in this call.
     ensures read { result ≡ Err RunFault.Read → R.failure_count source.old < R.failure_count source.new }
     ensures write { result ≡ Err RunFault.Write → W.failure_count sink.old < W.failure_count sink.new }
+
+    // And each failure is told: at any other end no read, and no write, has failed.
+    ensures read_told { result ≢ Err RunFault.Read → R.failure_count source.new ≡ R.failure_count source.old }
+    ensures write_told { result ≢ Err RunFault.Write → W.failure_count sink.new ≡ W.failure_count sink.old }
 
     ensures no_place { result ≡ Err RunFault.NoPlace → (source.new ≡ source.old) × (sink.new ≡ sink.old) }
 {

@@ -1,4 +1,5 @@
 use super::*;
+use manifest::{Field, LineFault};
 use std::alloc::Global;
 use std::test::Fail;
 
@@ -89,7 +90,8 @@ queue active 0 backoff 0 unschedulable 0 inflight 0
 clock 0 version 2
 ";
     let (result, output) = output_of(rt.alloc(), script)?;
-    assert!(rt; matches!(result, Err(RunFault::Line(5, _))));
+    let fault = LineFault::BadField(Field::Op);
+    assert_eq!(rt; result, Err(RunFault::Line(5, fault)));
     assert_eq!(rt; output.as_slice(), want.as_bytes());
     Ok(())
 }
