@@ -27,9 +27,9 @@ pub struct Limits {
 impl Limits {
     /// The greatest limits.
     pub fn greatest() -> Self
-        ensures nodes { result.nodes ≡ MAX_NODES }
-        ensures placed { result.placed ≡ MAX_PLACED }
-        ensures queued { result.queued ≡ MAX_QUEUED }
+        ensures nodes { result.nodes ≡ 1000 }
+        ensures placed { result.placed ≡ 150000 }
+        ensures queued { result.queued ≡ 10000 }
     {
         Limits {
             nodes: MAX_NODES,

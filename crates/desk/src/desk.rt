@@ -1,5 +1,5 @@
 //! The desk.
-ghost use Rattle.std.specs.Prelude.{◌≡◌, ◌↔◌, ◌≤◌, ◌<◌, ◌++◌, ◌∷◌, [], List, IfOk, OnOk, OnErr, IsErr, length, ℕ, ◌+◌, slice_index};
+ghost use Rattle.std.specs.Prelude.{◌≡◌, ◌↔◌, ◌^◌, ◌≤◌, ◌<◌, ◌++◌, ◌∷◌, [], List, IfOk, OnOk, OnErr, IsErr, length, ℕ, ◌+◌, slice_index};
 ghost use Rattle.desk.specs.Machine.{opening, told};
 ghost use Rattle.desk.specs.History.{Call, Legal, state_after, rows_of, places_of};
 ghost use Rattle.book.specs.declared.limits.Limits.{Limits};
@@ -62,7 +62,7 @@ impl Desk {
     pub fn pass(&mut self) -> Result<Pass, NoPlace>
         ensures pass { IfOk result (λ pass. pass ≡ record { number = length self.old.calls; calls = 0 }) }
         ensures handed { OnOk result (self.new ≡ with_pass self.old) }
-        ensures all_handed { IsErr result ↔ (length self.old.calls ≡ MAX_PASSES) }
+        ensures all_handed { IsErr result ↔ (length self.old.calls ≡ 1) }
         ensures err { OnErr result (self.new ≡ self.old) }
         ensures of { IfOk result (λ pass. IsOf pass self.new) }
 
@@ -85,7 +85,7 @@ impl Desk {
         ensures reply { IfOk result (λ answer. answer ≡ reply self.old step) }
         ensures after { OnOk result (self.new ≡ after self.old pass.old.number step) }
         ensures counted { OnOk result (pass.new ≡ record pass.old { calls = pass.old.calls + 1 }) }
-        ensures used_up { IsErr result ↔ (MAX_CALLS ≤ pass.old.calls) }
+        ensures used_up { IsErr result ↔ (10 ^ 18 ≤ pass.old.calls) }
         ensures err { OnErr result (self.new ≡ self.old) }
         ensures pass_err { OnErr result (pass.new ≡ pass.old) }
         ensures of { IsOf pass.new self.new }
@@ -106,7 +106,7 @@ impl Desk {
     // Does a step for a pass of this number, and counts the call.
     fn answer_call(&mut self, pass: usize, step: Step) -> Reply
         requires handed { pass < length self.old.calls }
-        requires fits { slice_index self.old.calls pass < MAX_CALLS }
+        requires fits { slice_index self.old.calls pass < 10 ^ 18 }
         ensures reply { result ≡ reply self.old step }
         ensures after { self.new ≡ after self.old pass step }
     {

@@ -1,5 +1,5 @@
 //! Leave to use a desk.
-ghost use Rattle.std.specs.Prelude.{◌≡◌, ◌<◌, ◌+◌};
+ghost use Rattle.std.specs.Prelude.{◌≡◌, ◌<◌, ◌+◌, ◌^◌};
 
 use std::marker::Model;
 use thiserror::Error;
@@ -50,7 +50,7 @@ impl Pass {
     }
 
     pub(crate) fn count(&mut self)
-        requires { self.old.calls < MAX_CALLS }
+        requires { self.old.calls < 10 ^ 18 }
         ensures { self.new ≡ record self.old { calls = self.old.calls + 1 } }
     {
         self.calls += 1;

@@ -46,7 +46,7 @@ impl Queue {
     /// A queue with no entry, and with room for `limit` of them. The only call that may find no
     /// memory.
     pub fn new(alloc: Global, limit: usize) -> Result<Queue, AllocError>
-        requires { limit ≤ MAX_QUEUED }
+        requires { limit ≤ 10000 }
         ensures { IfOk result (λ queue. queue ≡ no_entries limit) }
     {
         let slots = Vec::with_capacity(alloc, limit)?;

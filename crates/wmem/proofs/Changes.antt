@@ -3,9 +3,8 @@ use Rattle.std.proofs.Common.{◌≡◌, ℕ, ◌+◌, ◌-◌, ◌*◌, ◌%◌
 use Rattle.std.proofs.lemmas.List.{length-take-le, take-append-drop, drop_at, with_items_is}
 use Rattle.std.specs.Vec.{with_items}
 use Rattle.wmem.specs.declared.memory.Memory.TheInside.{Inside}
-use Rattle.wmem.specs.declared.memory.TheConstants.{PAGE_SIZE, MAX_PAGES}
 use Rattle.wmem.specs.Access.{with_bytes}
-use Rattle.wmem.specs.Memory.{MemoryInstance, zeros, new_memory}
+use Rattle.wmem.specs.Memory.{MemoryInstance, page_size, most_pages, zeros, new_memory}
 use Rattle.wmem.specs.Inside.{instance_of, IsClear, IsSound}
 use Rattle.wmem.proofs.Buffers.{length-zeros, take-zeros, clear_zeros, clear_later, clear_same, take-clear, length-with_bytes, drop-with_bytes, take-with_bytes}
 
@@ -72,7 +71,7 @@ write_view memory buffer at new sound within is =
     ap seen (ap (take memory.len) is ∙ take-with_bytes memory.bytes.items at new memory.len within fits)
 
 -- more of the zeros in use: the fields are still sound
-pub grow_sound : (memory : Inside) (more : ℕ) → IsSound memory → more % PAGE_SIZE ≡ 0 → memory.len + more ≤ PAGE_SIZE * memory.cap
+pub grow_sound : (memory : Inside) (more : ℕ) → IsSound memory → more % page_size ≡ 0 → memory.len + more ≤ page_size * memory.cap
     → IsSound (record memory { len = memory.len + more })
 grow_sound memory more sound whole within = record {
   limited = sound.limited;
@@ -87,7 +86,7 @@ grow_sound memory more sound whole within = record {
 }
 
 -- and the bytes end in that many zeros
-pub grow_view : (memory : Inside) (more : ℕ) → IsSound memory → memory.len + more ≤ PAGE_SIZE * memory.cap
+pub grow_view : (memory : Inside) (more : ℕ) → IsSound memory → memory.len + more ≤ page_size * memory.cap
     → instance_of (record memory { len = memory.len + more }) ≡ record (instance_of memory) { bytes = (instance_of memory).bytes ++ zeros more }
 grow_view memory more sound within =
     let seen : List ℕ → MemoryInstance = λ bytes. record { bytes = bytes; cap = memory.cap; image = take memory.image_len memory.image.items } in
@@ -148,12 +147,12 @@ reset_sound memory buffer sound is =
     }
 
 -- two buffers of zeros
-pub new_sound : (memory : Inside) (pages : ℕ) → pages ≤ memory.cap → memory.cap ≤ MAX_PAGES
-    → memory.bytes.items ≡ zeros (PAGE_SIZE * memory.cap) → memory.image.items ≡ zeros (PAGE_SIZE * memory.cap)
-    → memory.len ≡ PAGE_SIZE * pages → memory.image_len ≡ PAGE_SIZE * pages → IsSound memory
+pub new_sound : (memory : Inside) (pages : ℕ) → pages ≤ memory.cap → memory.cap ≤ most_pages
+    → memory.bytes.items ≡ zeros (page_size * memory.cap) → memory.image.items ≡ zeros (page_size * memory.cap)
+    → memory.len ≡ page_size * pages → memory.image_len ≡ page_size * pages → IsSound memory
 new_sound memory pages within limited is image_is len_is image_len_is =
-    let room : length memory.bytes.items ≡ PAGE_SIZE * memory.cap = ap length is ∙ length-zeros (PAGE_SIZE * memory.cap) in
-    let image_room : length memory.image.items ≡ PAGE_SIZE * memory.cap = ap length image_is ∙ length-zeros (PAGE_SIZE * memory.cap) in
+    let room : length memory.bytes.items ≡ page_size * memory.cap = ap length is ∙ length-zeros (page_size * memory.cap) in
+    let image_room : length memory.image.items ≡ page_size * memory.cap = ap length image_is ∙ length-zeros (page_size * memory.cap) in
     record {
       limited = limited;
       room = room;
@@ -162,21 +161,21 @@ new_sound memory pages within limited is image_is len_is image_len_is =
       whole_image = omega (arith, image_len_is);
       within = omega (arith, len_is);
       grown = omega (arith, len_is, image_len_is);
-      clear = clear_zeros memory.bytes.items memory.len (PAGE_SIZE * memory.cap) is;
-      image_clear = clear_zeros memory.image.items memory.image_len (PAGE_SIZE * memory.cap) image_is;
+      clear = clear_zeros memory.bytes.items memory.len (page_size * memory.cap) is;
+      image_clear = clear_zeros memory.image.items memory.image_len (page_size * memory.cap) image_is;
     }
 
 -- what two buffers of zeros mean
 pub new_view : (memory : Inside) (pages : ℕ) → pages ≤ memory.cap
-    → memory.bytes.items ≡ zeros (PAGE_SIZE * memory.cap) → memory.image.items ≡ zeros (PAGE_SIZE * memory.cap)
-    → memory.len ≡ PAGE_SIZE * pages → memory.image_len ≡ PAGE_SIZE * pages → instance_of memory ≡ new_memory pages memory.cap
+    → memory.bytes.items ≡ zeros (page_size * memory.cap) → memory.image.items ≡ zeros (page_size * memory.cap)
+    → memory.len ≡ page_size * pages → memory.image_len ≡ page_size * pages → instance_of memory ≡ new_memory pages memory.cap
 new_view memory pages within is image_is len_is image_len_is =
-    let front : take (PAGE_SIZE * pages) (zeros (PAGE_SIZE * memory.cap)) ≡ zeros (PAGE_SIZE * pages) =
-    take-zeros (PAGE_SIZE * pages) (PAGE_SIZE * memory.cap) (omega arith) in
-    let bytes_are : take memory.len memory.bytes.items ≡ zeros (PAGE_SIZE * pages) =
-    ap (take memory.len) is ∙ ap (λ (n : ℕ). take n (zeros (PAGE_SIZE * memory.cap))) len_is ∙ front in
-    let image_bytes_are : take memory.image_len memory.image.items ≡ zeros (PAGE_SIZE * pages) =
-    ap (take memory.image_len) image_is ∙ ap (λ (n : ℕ). take n (zeros (PAGE_SIZE * memory.cap))) image_len_is ∙ front in
+    let front : take (page_size * pages) (zeros (page_size * memory.cap)) ≡ zeros (page_size * pages) =
+    take-zeros (page_size * pages) (page_size * memory.cap) (omega arith) in
+    let bytes_are : take memory.len memory.bytes.items ≡ zeros (page_size * pages) =
+    ap (take memory.len) is ∙ ap (λ (n : ℕ). take n (zeros (page_size * memory.cap))) len_is ∙ front in
+    let image_bytes_are : take memory.image_len memory.image.items ≡ zeros (page_size * pages) =
+    ap (take memory.image_len) image_is ∙ ap (λ (n : ℕ). take n (zeros (page_size * memory.cap))) image_len_is ∙ front in
     let with_bytes : List ℕ → MemoryInstance = λ bytes. record { bytes = bytes; cap = memory.cap; image = take memory.image_len memory.image.items } in
-    let with_image : List ℕ → MemoryInstance = λ image. record { bytes = zeros (PAGE_SIZE * pages); cap = memory.cap; image = image } in
+    let with_image : List ℕ → MemoryInstance = λ image. record { bytes = zeros (page_size * pages); cap = memory.cap; image = image } in
     ap with_bytes bytes_are ∙ ap with_image image_bytes_are

@@ -1,8 +1,7 @@
 -- What a memory's fields mean.
 use Rattle.std.specs.Prelude.{◌≡◌, ℕ, ◌-◌, ◌*◌, ◌%◌, ◌≤◌, List, length, take, drop}
-use Rattle.wmem.specs.declared.memory.TheConstants.{PAGE_SIZE, MAX_PAGES}
 use Rattle.wmem.specs.declared.memory.Memory.TheInside.{Inside}
-use Rattle.wmem.specs.Memory.{MemoryInstance, zeros}
+use Rattle.wmem.specs.Memory.{MemoryInstance, page_size, most_pages, zeros}
 
 -- the bytes and the image are the parts of the buffers that are in use
 abbrev pub instance_of : Inside → MemoryInstance
@@ -18,12 +17,12 @@ pub record IsClear (buffer : List ℕ) (from : ℕ) : Type 0 where
 
 -- both buffers have the whole cap, and are zero past what is in use, which is whole pages
 pub record IsSound (memory : Inside) : Type 0 where
-  pub limited : memory.cap ≤ MAX_PAGES
-  pub room : length memory.bytes.items ≡ PAGE_SIZE * memory.cap
-  pub image_room : length memory.image.items ≡ PAGE_SIZE * memory.cap
-  pub whole_pages : memory.len % PAGE_SIZE ≡ 0
-  pub whole_image : memory.image_len % PAGE_SIZE ≡ 0
-  pub within : memory.len ≤ PAGE_SIZE * memory.cap
+  pub limited : memory.cap ≤ most_pages
+  pub room : length memory.bytes.items ≡ page_size * memory.cap
+  pub image_room : length memory.image.items ≡ page_size * memory.cap
+  pub whole_pages : memory.len % page_size ≡ 0
+  pub whole_image : memory.image_len % page_size ≡ 0
+  pub within : memory.len ≤ page_size * memory.cap
   pub grown : memory.image_len ≤ memory.len
   pub clear : IsClear memory.bytes.items memory.len
   pub image_clear : IsClear memory.image.items memory.image_len

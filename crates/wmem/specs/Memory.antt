@@ -1,8 +1,15 @@
 -- A linear memory (WebAssembly Core 1.0, 4.2.8), and the image that it can be brought back to.
 use Rattle.std.specs.Prelude.{◌≡◌, ℕ, ◌+◌, ◌*◌, ◌/◌, ◌%◌, ◌<◌, ◌≤◌, List, ◌++◌, length, replicate, Option, Some, None, Result, Ok, Err}
-use Rattle.wmem.specs.declared.memory.TheConstants.{PAGE_SIZE, MAX_PAGES}
 use Rattle.wmem.specs.declared.trap.Trap.{Trap}
 use Rattle.wmem.specs.Access.{with_bytes}
+
+-- how many bytes a page has
+abbrev pub page_size : ℕ
+page_size = 65536
+
+-- the most pages that a memory may have
+abbrev pub most_pages : ℕ
+most_pages = 32
 
 -- what a memory is: its bytes, the greatest size in pages that it may grow to, and the bytes to go back to
 pub record MemoryInstance : Type 0 where
@@ -16,19 +23,19 @@ zeros count = replicate count 0
 
 -- a size in pages
 abbrev pub pages_in : List ℕ → ℕ
-pages_in bytes = length bytes / PAGE_SIZE
+pages_in bytes = length bytes / page_size
 
 -- what is so of every memory: sizes are whole numbers of pages, and none passes the cap
 pub record IsMemory (memory : MemoryInstance) : Type 0 where
-  pub whole_pages : length memory.bytes % PAGE_SIZE ≡ 0
-  pub within_cap : length memory.bytes ≤ PAGE_SIZE * memory.cap
-  pub whole_image : length memory.image % PAGE_SIZE ≡ 0
+  pub whole_pages : length memory.bytes % page_size ≡ 0
+  pub within_cap : length memory.bytes ≤ page_size * memory.cap
+  pub whole_image : length memory.image % page_size ≡ 0
   pub grown : length memory.image ≤ length memory.bytes
-  pub limited : memory.cap ≤ MAX_PAGES
+  pub limited : memory.cap ≤ most_pages
 
 -- a new memory of so many pages of zeros, whose image is itself
 abbrev pub new_memory : ℕ → ℕ → MemoryInstance
-new_memory pages cap = record { bytes = zeros (PAGE_SIZE * pages); cap = cap; image = zeros (PAGE_SIZE * pages) }
+new_memory pages cap = record { bytes = zeros (page_size * pages); cap = cap; image = zeros (page_size * pages) }
 
 -- a write's outcome: all the bytes stand at the address, or, where they would pass the memory's end, nothing is written
 abbrev pub WriteGives : Trap → MemoryInstance → ℕ → List ℕ → Result (Unit {0}) Trap → MemoryInstance → Type 0
@@ -41,5 +48,5 @@ WriteGives out_of_bounds old address new_bytes (Err trap) new =
 abbrev pub GrowGives : MemoryInstance → ℕ → Option ℕ → MemoryInstance → Type 0
 GrowGives old delta (Some pages) new =
     (pages_in old.bytes + delta ≤ old.cap) × (pages ≡ pages_in old.bytes)
-    × (new ≡ record old { bytes = old.bytes ++ zeros (PAGE_SIZE * delta) })
+    × (new ≡ record old { bytes = old.bytes ++ zeros (page_size * delta) })
 GrowGives old delta None new = (old.cap < pages_in old.bytes + delta) × (new ≡ old)

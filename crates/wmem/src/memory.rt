@@ -57,7 +57,7 @@ impl Memory {
     /// later takes more.
     pub fn new(alloc: Global, min: u32, cap: u32) -> Result<Memory, AllocError>
         requires within { min ≤ cap }
-        requires limited { cap ≤ MAX_PAGES }
+        requires limited { cap ≤ 32 }
         ensures { IfOk result (λ memory. memory ≡ new_memory min cap) }
     {
         let room = cap as usize * PAGE_SIZE;
