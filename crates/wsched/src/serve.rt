@@ -1,5 +1,5 @@
 //! What the program does at its words.
-ghost use Rattle.std.specs.Prelude.{◌≡◌, ◌⊎◌, ◌^◌, ◌<◌, ℕ, [], Some, None, IfSome};
+ghost use Rattle.std.specs.Prelude.{◌≡◌, ◌≢◌, ◌⊎◌, ◌^◌, ◌<◌, ℕ, [], Some, None, IfSome};
 ghost use Rattle.std.specs.Io.KnownBytes.{Appends};
 ghost use Rattle.manifest.specs.declared.fault.LineFault.{LineFault};
 ghost use Rattle.engine.specs.Device.{AppendsFront};
@@ -61,6 +61,10 @@ pub fn serve<R: Source, W: Sink, E: Sink>(
         ⊎ (Tells (E.written err.old) (E.written err.new) (E.failure_count err.old)
         (E.failure_count err.new) (message_of (Run run_fault.Write))
         × (W.failure_count out.old < W.failure_count out.new)) }
+
+    // And each failure is told: at any other status no read, and no write to `out`, has failed.
+    ensures failures_told { result ≢ 4 → (R.failure_count source.new ≡ R.failure_count source.old)
+        × (W.failure_count out.new ≡ W.failure_count out.old) }
 
     // Nothing but the output, or a beginning of it, is written.
     ensures front { IfSome (R.remaining source.old) (λ script.
