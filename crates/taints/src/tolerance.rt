@@ -1,7 +1,7 @@
 //! Which taints a pod tolerates, and which keep it off a node.
 ghost use Rattle.std.specs.Prelude.{◌≡◌, ◌≤◌, ◌&&◌, not};
 ghost use Rattle.std.specs.List.{list_any};
-ghost use Rattle.taints.specs.Tolerance.{same_effect, takes_every_value, takes_effect, matches, tolerated_by, tolerated, keeps_off, unschedulable_mark, rejection, prefer_not};
+ghost use Rattle.taints.specs.Tolerance.{takes_effect, matches, tolerated_by, tolerated, keeps_off, unschedulable_mark, rejection, prefer_not};
 
 use quant::{Effect, Node, Operator, Pod, Taint, Toleration};
 

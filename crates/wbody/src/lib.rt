@@ -1,8 +1,8 @@
 //! The typing of function bodies (WebAssembly Core 1.0, 3.3 and 3.4.1).
 #![tactic(auto)]
 
-pub mod fault;
-pub mod notes;
+mod fault;
+mod notes;
 mod typing;
 
 pub use fault::TypeFault;

@@ -2,13 +2,13 @@
 //! (WebAssembly Core 1.0, 2.4 and 5.4).
 #![tactic(auto)]
 
-pub mod expression;
-pub mod fault;
-pub mod instruction;
-pub mod opcode;
-pub mod operator;
-pub mod reading;
-pub mod value;
+mod expression;
+mod fault;
+mod instruction;
+mod opcode;
+mod operator;
+mod reading;
+mod value;
 
 pub use expression::{NESTING, read_expr};
 pub use fault::{BinFault, Kind, OpFault};
