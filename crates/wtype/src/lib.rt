@@ -1,9 +1,12 @@
 //! What makes a module acceptable (WebAssembly Core 1.0, 3.4).
 #![tactic(auto)]
 
-pub mod checked;
+mod checked;
 mod exports;
 mod functions;
 
 pub use checked::{Checked, validate};
 pub use wbody::TypeFault;
+
+#[cfg(test)]
+mod tests;
