@@ -51,7 +51,7 @@ const ZERO_BEHIND_MANY: &[u8] =
 
 const EMPTY: &[u8] = b"\x0A\x04\x01\x02\x00\x0B";
 
-// A second function, of the second type, that takes an i64: behind 1,022 and 1,023 locals it has an empty body.
+// A second function, of the second type, that takes an i64: behind 1,023 and 1,024 locals it has an empty body.
 const TWO_TYPES: &[u8] = b"\x01\x09\x02\x60\x00\x01\x7F\x60\x01\x7E\x00";
 
 const TWO_FUNCTIONS: &[u8] = b"\x03\x03\x02\x00\x01";
