@@ -3,7 +3,9 @@
 #![tactic(auto)]
 
 mod amount;
+mod event;
 mod fault;
+mod laws;
 mod limits;
 mod name;
 mod objects;
@@ -13,10 +15,12 @@ mod taint;
 mod version;
 
 pub use amount::{Bytes, Cpu, Moment, Request, Res};
+pub use event::{Event, SharedNode, SharedPod};
 pub use fault::QuantFault;
+pub use laws::limits_are_these;
 pub use limits::{
-    MAX_CONTAINERS, MAX_CPU, MAX_INIT_CONTAINERS, MAX_LABELS, MAX_MEM, MAX_NAME, MAX_TAINTS,
-    MAX_TOLERATIONS,
+    LATEST_MOMENT, MAX_CONTAINERS, MAX_CPU, MAX_INIT_CONTAINERS, MAX_LABELS, MAX_MEM, MAX_NAME,
+    MAX_NODES, MAX_PLACED, MAX_QUEUED, MAX_TAINTS, MAX_TICKET, MAX_TOLERATIONS, MAX_VERSION,
 };
 pub use name::{Name, Text};
 pub use objects::{Label, Node, Pod};

@@ -1,5 +1,7 @@
-//! The bounds on what one object may hold and on what one pod may ask. They are the scheduler's own:
-//! a row has a fixed size, and the sum over all placed pods, 150,000 at most, is below 2^62.
+//! The scheduler's limits, each in this one place: what one object may hold, what one pod may ask,
+//! how much there may be of everything, and how far numbers count. They are the scheduler's own.
+//! A row has a fixed size, all tables have their room from the start, and the sum over all placed
+//! pods is below 2^62.
 
 /// The most bytes of a name or a text: as many as a label's value may have (the Kubernetes page
 /// "Labels and Selectors").
@@ -25,3 +27,21 @@ pub const MAX_CPU: u64 = 1_073_741_824;
 
 /// The most memory that one amount or one pod's request may be, 2^44 bytes.
 pub const MAX_MEM: u64 = 17_592_186_044_416;
+
+/// The most nodes.
+pub const MAX_NODES: usize = 1_000;
+
+/// The most pods with a place, and the most pods that one node may take.
+pub const MAX_PLACED: usize = 150_000;
+
+/// The most pods in the queue, those in flight and assumed included.
+pub const MAX_QUEUED: usize = 10_000;
+
+/// The greatest version of a watch event. The least is 1.
+pub const MAX_VERSION: u64 = 1_000_000_000_000_000_000;
+
+/// The greatest ticket of an assumed place. The least is 1.
+pub const MAX_TICKET: u64 = 1_000_000_000_000_000_000;
+
+/// The latest moment of a clock, in milliseconds.
+pub const LATEST_MOMENT: u64 = 1_000_000_000_000_000;
