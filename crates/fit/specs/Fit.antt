@@ -1,5 +1,6 @@
--- Whether a node has room for a pod (Kubernetes, "Resource Management for Pods and Containers",
--- "How Pods with resource requests are scheduled").
+-- Whether a node has room for a pod. That the sum of requests stays within what is allocatable is Kubernetes'
+-- ("Resource Management for Pods and Containers", "How Pods with resource requests are scheduled"); that a request of 0
+-- passes also where more is used, and the order in which reasons are told, are this project's own.
 use Rattle.std.specs.Prelude.{ℕ, ◌+◌, Bool, ◌||◌, ◌==◌, nat_le, if◌then◌else◌, Result, Ok, Err}
 use Rattle.quant.specs.declared.amount.Res.{Res}
 use Rattle.quant.specs.declared.amount.Request.{Request}

@@ -1,2 +1,3 @@
 pub mod Fit
 pub mod Score
+pub mod Examples

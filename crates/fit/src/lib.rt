@@ -1,11 +1,10 @@
 //! Whether a pod fits on a node, and how much of the node it would leave free.
 #![tactic(auto)]
 
+mod laws;
 mod room;
 mod score;
 
+pub use laws::worked_examples;
 pub use room::{Shortage, fits};
 pub use score::least_allocated;
-
-#[cfg(test)]
-mod tests;

@@ -1,2 +1,3 @@
 pub mod Tolerance
 pub mod TaintScore
+pub mod Examples
