@@ -1,3 +1,5 @@
 pub mod Buffers
 pub mod Changes
 pub mod LawProofs
+pub mod NotedLemmas
+pub mod TrackedLemmas

@@ -6,9 +6,9 @@ use Rattle.wmem.specs.Memory.{MemoryInstance, page_size, most_pages, zeros}
 -- the bytes and the image are the parts of the buffers that are in use
 abbrev pub instance_of : Inside → MemoryInstance
 instance_of memory = record {
-  bytes = take memory.len memory.bytes.items;
+  bytes = take memory.len memory.tracked.bytes;
   cap = memory.cap;
-  image = take memory.image_len memory.image.items;
+  image = take memory.image_len memory.tracked.image;
 }
 
 -- a buffer is zero from a place on
@@ -18,11 +18,11 @@ pub record IsClear (buffer : List ℕ) (from : ℕ) : Type 0 where
 -- both buffers have the whole cap, and are zero past what is in use, which is whole pages
 pub record IsSound (memory : Inside) : Type 0 where
   pub limited : memory.cap ≤ most_pages
-  pub room : length memory.bytes.items ≡ page_size * memory.cap
-  pub image_room : length memory.image.items ≡ page_size * memory.cap
+  pub room : length memory.tracked.bytes ≡ page_size * memory.cap
+  pub image_room : length memory.tracked.image ≡ page_size * memory.cap
   pub whole_pages : memory.len % page_size ≡ 0
   pub whole_image : memory.image_len % page_size ≡ 0
   pub within : memory.len ≤ page_size * memory.cap
   pub grown : memory.image_len ≤ memory.len
-  pub clear : IsClear memory.bytes.items memory.len
-  pub image_clear : IsClear memory.image.items memory.image_len
+  pub clear : IsClear memory.tracked.bytes memory.len
+  pub image_clear : IsClear memory.tracked.image memory.image_len

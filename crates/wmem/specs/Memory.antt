@@ -1,5 +1,5 @@
 -- A linear memory (WebAssembly Core 1.0, 4.2.8), and the image that it can be brought back to.
-use Rattle.std.specs.Prelude.{◌≡◌, ℕ, ◌+◌, ◌*◌, ◌/◌, ◌%◌, ◌<◌, ◌≤◌, List, ◌++◌, length, replicate, Option, Some, None, Result, Ok, Err}
+use Rattle.std.specs.Prelude.{◌≡◌, ℕ, ◌+◌, ◌*◌, ◌/◌, ◌%◌, ◌<◌, ◌≤◌, List, ◌++◌, length, replicate, slice_index, slice_index_or, count_by, Bool, false, Option, Some, None, Result, Ok, Err}
 use Rattle.wmem.specs.declared.trap.Trap.{Trap}
 use Rattle.wmem.specs.Access.{with_bytes}
 
@@ -50,3 +50,12 @@ GrowGives old delta (Some pages) new =
     (pages_in old.bytes + delta ≤ old.cap) × (pages ≡ pages_in old.bytes)
     × (new ≡ record old { bytes = old.bytes ++ zeros (page_size * delta) })
 GrowGives old delta None new = (old.cap < pages_in old.bytes + delta) × (new ≡ old)
+
+-- the bytes of this page of 4,096 bytes are the image's, and zero past the image's end
+abbrev pub IsUntouched : MemoryInstance → ℕ → Type 0
+IsUntouched memory page = (k : ℕ) → k / 4096 ≡ page → slice_index memory.bytes k ≡ slice_index memory.image k
+
+-- no more pages of 4,096 bytes than so many have flags, and each page without one is untouched
+abbrev pub TouchesAtMost : MemoryInstance → ℕ → Type 0
+TouchesAtMost memory count =
+    (flags : List Bool) × (count_by (λ flag. flag) flags ≡ count) × ((page : ℕ) → slice_index_or flags page false ≡ false → IsUntouched memory page)

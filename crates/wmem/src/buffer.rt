@@ -1,5 +1,5 @@
 //! Reads and writes within a slice of bytes: the places are the caller's condition.
-ghost use Rattle.std.specs.Prelude.{◌≡◌, ◌+◌, ◌*◌, ◌^◌, ◌<◌, ◌≤◌, ◌++◌, length, take, drop};
+ghost use Rattle.std.specs.Prelude.{◌≡◌, ◌+◌, ◌*◌, ◌^◌, ◌<◌, ◌≤◌, length, take, drop};
 ghost use Rattle.wmem.specs.Access.{byte_count, with_bytes, reading_of, value_read};
 ghost use Rattle.wmem.specs.Bytes.{bytes_of, number_in};
 
@@ -74,13 +74,4 @@ pub fn copy_at(bytes: &mut [u8], at: usize, new: &[u8])
     ensures { bytes.new ≡ with_bytes bytes.old at new.now }
 {
     bytes[at..at + new.len()].copy_from_slice(new);
-}
-
-/// Copies the first `count` bytes of `from` over those of `bytes`.
-pub fn copy_front(bytes: &mut [u8], from: &[u8], count: usize)
-    requires room { count ≤ length bytes.old }
-    requires given { count ≤ length from.now }
-    ensures { bytes.new ≡ take count from.now ++ drop count bytes.old }
-{
-    bytes[..count].copy_from_slice(&from[..count]);
 }

@@ -7,6 +7,8 @@ mod access;
 mod buffer;
 mod laws;
 mod memory;
+mod noted;
+mod tracked;
 mod trap;
 
 pub use access::{Load, Width};

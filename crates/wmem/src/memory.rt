@@ -4,6 +4,7 @@ ghost use Rattle.wmem.specs.declared.trap.Trap.TheVariants.{MemoryOutOfBounds, H
 
 use crate::access::{Load, Width};
 use crate::buffer;
+use crate::tracked::{STRETCH, Tracked};
 use crate::trap::Trap;
 use std::alloc::{AllocError, Global};
 use std::marker::Model;
@@ -16,14 +17,14 @@ pub const MAX_PAGES: u32 = 32;
 
 /// A linear memory, with an image that it can be brought back to.
 ///
-/// Both buffers have room for the whole cap from the start, and are zero past what is in use.
+/// The bytes and the image have room for the whole cap from the start, and are zero past what is in use. Pages of
+/// 4,096 bytes that were written since the image was kept are noted: to bring the image back copies those alone.
 #[derive(Drop)]
 pub struct Memory {
-    bytes: Vec<u8>,
-    /// How many of `bytes` are in use.
+    tracked: Tracked,
+    /// How many of the bytes are in use.
     len: usize,
-    image: Vec<u8>,
-    /// How many of `image` are in use.
+    /// How many of the image's bytes are in use.
     image_len: usize,
     cap: u32,
 }
@@ -51,7 +52,7 @@ fn effective_address(base: u32, offset: u32) -> usize
 impl Memory {
     ghost use Rattle.wmem.specs.Access.{LoadGives, byte_count, reading_of, value_read, with_bytes};
     ghost use Rattle.wmem.specs.Bytes.{bytes_of};
-    ghost use Rattle.wmem.specs.Memory.{new_memory, pages_in, IsMemory, WriteGives, GrowGives};
+    ghost use Rattle.wmem.specs.Memory.{new_memory, pages_in, IsMemory, WriteGives, GrowGives, TouchesAtMost};
 
     /// A memory of `min` pages of zeros, which is also its image. It takes the room for `cap` pages of each, and nothing
     /// later takes more.
@@ -60,12 +61,11 @@ impl Memory {
         requires limited { cap ≤ 32 }
         ensures { IfOk result (λ memory. memory ≡ new_memory min cap) }
     {
-        let room = cap as usize * PAGE_SIZE;
         let len = min as usize * PAGE_SIZE;
+        let tracked = Tracked::new(alloc, cap as usize * (PAGE_SIZE / STRETCH))?;
         Ok(Memory {
-            bytes: vec![in alloc; 0u8; room]?,
+            tracked,
             len,
-            image: vec![in alloc; 0u8; room]?,
             image_len: len,
             cap,
         })
@@ -146,16 +146,25 @@ impl Memory {
     pub fn keep(&mut self)
         ensures { self.new ≡ record self.old { image = self.old.bytes } }
     {
-        buffer::copy_front(&mut self.image, &self.bytes, self.len);
+        self.tracked.keep();
         self.image_len = self.len;
     }
 
-    /// Brings the image back, its size too.
+    /// Brings the image back, its size too. It copies only pages of 4,096 bytes that were written since the image was
+    /// kept.
     pub fn reset(&mut self)
         ensures { self.new ≡ record self.old { bytes = self.old.image } }
     {
-        buffer::copy_front(&mut self.bytes, &self.image, self.len);
+        self.tracked.reset();
         self.len = self.image_len;
+    }
+
+    /// How many pages of 4,096 bytes were written since the image was kept or brought back. A page that isn't among them
+    /// is the image's, and zero past the image's end.
+    pub fn touched(&self) -> usize
+        ensures { TouchesAtMost self.now result }
+    {
+        self.tracked.touched()
     }
 
     #[inline(always)]
@@ -171,7 +180,7 @@ impl Memory {
         ensures value { result ≡ value_read (reading_of load) self.now.bytes address }
         ensures fits { result < 2 ^ (reading_of load).bits }
     {
-        buffer::read(&self.bytes, address, load)
+        buffer::read(self.tracked.bytes(), address, load)
     }
 
     #[inline(always)]
@@ -179,13 +188,13 @@ impl Memory {
         requires { address + byte_count width ≤ length self.old.bytes }
         ensures { self.new ≡ record self.old { bytes = with_bytes self.old.bytes address (bytes_of (byte_count width) value) } }
     {
-        buffer::write(&mut self.bytes, address, width, value);
+        self.tracked.write(address, width, value);
     }
 
     fn copy_at(&mut self, at: usize, bytes: &[u8])
         requires { at + length bytes.now ≤ length self.old.bytes }
         ensures { self.new ≡ record self.old { bytes = with_bytes self.old.bytes at bytes.now } }
     {
-        buffer::copy_at(&mut self.bytes, at, bytes);
+        self.tracked.copy_at(at, bytes);
     }
 }

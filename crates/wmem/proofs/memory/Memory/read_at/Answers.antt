@@ -9,7 +9,7 @@ read-requires c =
     let memory = c.self.inside in
     let within : c.args.address + (reading_of c.args.load).bytes ≤ memory.len =
     rw (← c.self.view_is, length-bytes memory c.self.invariant) at c.requires in
-    rw c.deref.ensures.value (omega arith)
+    rw c.bytes.ensures (omega (arith, c.self.invariant.room, c.self.invariant.within))
 
 pub returns-clause-value : goal.returns-clause-value
 returns-clause-value c =
@@ -18,5 +18,5 @@ returns-clause-value c =
     rw (← c.self.view_is, length-bytes memory c.self.invariant) at c.requires in
     rw (← c.self.view_is)
     (c.read.ensures.value
-    ∙ ap (λ (xs : List ℕ). value_read (reading_of c.args.load) xs c.args.address) c.deref.ensures.value
-    ∙ sym (value_read-take (reading_of c.args.load) memory.bytes.items memory.len c.args.address within))
+    ∙ ap (λ (xs : List ℕ). value_read (reading_of c.args.load) xs c.args.address) c.bytes.ensures
+    ∙ sym (value_read-take (reading_of c.args.load) memory.tracked.bytes memory.len c.args.address within))

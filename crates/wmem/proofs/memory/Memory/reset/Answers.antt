@@ -1,10 +1,9 @@
-use Rattle.std.proofs.Common.{◌∙◌, arith}
-use Rattle.std.specs.Vec.{with_items}
-use Rattle.wmem.proofs.Changes.{copied_items, reset_buffer, reset_sound}
+use Rattle.std.proofs.Common.{arith}
+use Rattle.wmem.proofs.Changes.{reset_sound}
 use Rattle.wmem.proofs.memory.Memory.reset.Goals as goal
 
 pub invariant_of-self : goal.invariant_of-self
 invariant_of-self c =
-    let memory = c.self.inside in
-    let is = copied_items memory.bytes memory.image _ _ _ memory.len c.deref_mut.ensures.value c.deref.ensures.value (omega arith) (omega arith) c.copy_front.ensures in
-    reset_sound memory (with_items memory.bytes c.copy_front.new.bytes) c.self.invariant (is ∙ reset_buffer memory c.self.invariant)
+    let sound = c.self.invariant in
+    reset_sound c.self.inside c.reset.new.self _ sound c.reset.ensures.bytes c.reset.ensures.image
+    (omega (arith, sound.whole_image, sound.whole_pages)) (omega (arith, sound.grown)) (omega (arith, sound.grown, sound.within))

@@ -1,0 +1,38 @@
+-- Facts about flags and the list of the places where they are set.
+use Rattle.std.proofs.Common.{◌≡◌, ◌≢◌, ℕ, zero, suc, ◌+◌, ◌≤◌, ◌<◌, Bool, true, false, cond, List, [], ◌∷◌, ◌++◌, length, get_or, set, sym, subst, ap, ◌∙◌, inl, inr, arith, length-set, length-append, get_or-set_other}
+use Rattle.std.specs.List.{count_by, Contains, All}
+use Rattle.std.proofs.lemmas.List.Elements.{All-append, Contains-push, Contains-append_left}
+use Rattle.std.proofs.lemmas.List.Sums.{count_by-le-length, sum_by-set}
+use Rattle.std.proofs.lemmas.Grind.{get_or_head}
+use Rattle.std.proofs.lemmas.Bool.{cases_eq}
+use Rattle.wmem.specs.Noted.{is_set, IsListed}
+
+-- setting a flag that wasn't set makes one more
+pub count-set_true : (flags : List Bool) (page : ℕ) → page < length flags → get_or flags page true ≡ false
+    → count_by is_set (set flags page true) ≡ count_by is_set flags + 1
+count-set_true flags page within fresh =
+    let one : Bool → ℕ = λ flag. cond (is_set flag) 1 0 in
+    let was : one (get_or flags page true) ≡ 0 = ap one fresh in
+    omega (arith, sum_by-set one flags page true true within, was)
+
+-- a page that is noted first keeps the list right
+pub note_listed : (flags : List Bool) (order : List ℕ) (page : ℕ) → IsListed (record { flags = flags; order = order })
+    → page < length flags → get_or flags page true ≡ false
+    → IsListed (record { flags = set flags page true; order = order ++ page ∷ [] })
+note_listed flags order page listed within fresh =
+    let same : length (set flags page true) ≡ length flags = length-set flags page true in
+    let more = count-set_true flags page within fresh in
+    record {
+      covers = λ other is. elim (cases_eq page other) [
+        | inl e ↦ subst (λ (p : ℕ). Contains (order ++ page ∷ []) p) e (Contains-push order page)
+        | inr ne ↦ Contains-append_left order (page ∷ []) other (listed.covers other (sym (get_or-set_other flags page other true false (λ e. ne (sym e))) ∙ is))
+      ];
+      within = All-append (λ (p : ℕ). p < length (set flags page true)) order (page ∷ []) (rw same listed.within) (λ k d h. let here : get_or (page ∷ []) k d ≡ page = get_or_head page [] k d (omega arith) in rw (here, same) within);
+      few = rw more (simp length-append (omega (arith, listed.few)));
+    }
+
+-- there is room for one more while one isn't noted
+pub listed_room : (flags : List Bool) (order : List ℕ) (page : ℕ) → IsListed (record { flags = flags; order = order })
+    → page < length flags → get_or flags page true ≡ false → length order < length flags
+listed_room flags order page listed within fresh =
+    omega (arith, count-set_true flags page within fresh, listed.few, count_by-le-length is_set (set flags page true), length-set flags page true)
