@@ -1,5 +1,6 @@
-use Rattle.std.proofs.Common.{◌≡◌, ◌+◌, ◌≤◌, List, ℕ, length}
+use Rattle.std.proofs.Common.{◌≡◌, ◌+◌, ◌≤◌, [], List, ℕ, length}
 use Rattle.std.specs.Io.KnownBytes.{prepend_known}
+use Rattle.engine.specs.Lines.{IsLine}
 use Rattle.engine.proofs.Taking.{IsTaken}
 use Rattle.engine.proofs.lines.LineReader.next_line.Given as goal
 
@@ -10,6 +11,7 @@ invariant-pieces g l =
     let now = prepend_known l.self (g.R.Source.remaining l.source) in
     (taken : List ℕ) × IsTaken first now l.line.items l.begun taken
     × (g.R.Source.failure_count l.source ≡ g.R.Source.failure_count l.initial.source)
+    × (IsLine l.self → l.waits ≡ [])
     × (length taken + (g.R.Source.bytes_left l.source + length l.self) ≤ g.R.Source.bytes_left l.initial.source + length l.initial.self)
 
 abbrev pub decreases-pieces : goal.decreases-pieces
