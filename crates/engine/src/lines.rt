@@ -169,6 +169,7 @@ fn newline_at(bytes: &[u8]) -> Option<usize>
 }
 
 // Adds a piece to what is kept of a line.
+#[tactic(auto, using(crate::proofs::Pieces::kept_push))]
 fn keep(line: &mut Vec<u8>, piece: &[u8]) -> Result<(), AllocError>
     requires { vec_len line.old ≤ 65537 }
     ensures { OnOk result (line.new.items ≡ kept (line.old.items ++ piece.now)) }
