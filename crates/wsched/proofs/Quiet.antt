@@ -1,5 +1,5 @@
 -- What holds where a fault of the words ends the program.
-use Rattle.std.proofs.Common.{◌≡◌, List, [], ℕ, Option, Some, None, IfSome, refl, subst, sym}
+use Rattle.std.proofs.Common.{◌≡◌, List, [], ℕ, Option, Some, None, IfSome, refl}
 use Rattle.std.proofs.KnownBytes.{Appends-nil}
 use Rattle.engine.specs.Device.{AppendsFront}
 use Rattle.engine.specs.declared.fault.RunFault.TheVariants as run_fault

@@ -43,9 +43,9 @@ pub fn answer<S: AsStr + Drop, R: Source, W: Sink, E: Sink>(
     ensures unread { IfErr args (λ fault. (result ≡ status_of (faults.Words fault))
         × Tells (E.written err.old) (E.written err.new) (E.failure_count err.old) (E.failure_count err.new)
         (message_of (faults.Words fault))) }
-    ensures idle { asked_by (λ words. map S.text words.items) args ≡ None
+    ensures idle { asked_by (λ given. map S.text given.items) args ≡ None
         → ((result ≡ 2) ⊎ (result ≡ 3)) × (source.new ≡ source.old) × (out.new ≡ out.old) }
-    ensures words { result ≡ 2 → (asked_by (λ words. map S.text words.items) args ≡ None)
+    ensures words { result ≡ 2 → (asked_by (λ given. map S.text given.items) args ≡ None)
         × Tells (E.written err.old) (E.written err.new) (E.failure_count err.old) (E.failure_count err.new)
         (message_of (faults.Words WordFault.BadWords)) }
 
@@ -98,8 +98,8 @@ fn asked<S: AsStr + Drop>(
     alloc: Global,
     args: Result<Vec<S>, WordFault>,
 ) -> Result<Words, WordFault>
-    ensures ok { IfOk result (λ words. asked_by (λ words. map S.text words.items) args ≡ Some words) }
-    ensures refused { result ≡ Err WordFault.BadWords → asked_by (λ words. map S.text words.items) args ≡ None }
+    ensures ok { IfOk result (λ words. asked_by (λ given. map S.text given.items) args ≡ Some words) }
+    ensures refused { result ≡ Err WordFault.BadWords → asked_by (λ given. map S.text given.items) args ≡ None }
     ensures unread { IfErr args (λ fault. result ≡ Err fault) }
 {
     let args = args?;
