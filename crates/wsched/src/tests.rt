@@ -304,33 +304,6 @@ fn words_and_scripts_have_their_statuses_and_texts(rt: HostRuntime) -> Result<()
     Ok(())
 }
 
-// A dump behind as many spaces as make a line of this length.
-fn dump_of(alloc: Global, len: usize) -> Result<Vec<u8>, AllocError> {
-    let mut line = vec![in alloc; b' '; len.saturating_sub(DUMP.len())]?;
-    line.extend_from_slice(DUMP.as_bytes())?;
-    Ok(line)
-}
-
-#[test]
-fn a_line_has_up_to_65536_bytes(rt: HostRuntime) -> Result<(), Fail> {
-    let rows = [
-        (65_536, 0, EMPTY, ""),
-        (65_537, 1, "", "wsched: line 1: 4 OverLimit op\n"),
-    ];
-    for (len, status, out, err) in rows {
-        let line = dump_of(rt.alloc(), len)?;
-        let given = Given {
-            args: &["run"],
-            script: line.as_slice(),
-            most: 1000,
-            bad_read: 0,
-            bad_write: 0,
-        };
-        assert_ends(&rt, rt.alloc(), given, (status, out, err), err)?;
-    }
-    Ok(())
-}
-
 // 146 bytes in pieces of 10 and the end are 16 reads. Each of the first 16 writes has at most 10 of
 // the 158 bytes, so there are as many.
 #[test]
