@@ -133,6 +133,11 @@ TakesLine-last first rest now line begun taken begins ended so_far =
     let line_taken : TakesLine first (prepend_known [] rest) line = last_whole first rest line taken so_far.is_line so_far.kept_is some ended.1 read in
     subst (λ t. TakesLine first (prepend_known t rest) line) (sym ended.0) line_taken
 
+-- Nothing waits where what was left has no newline. So nothing waits behind a piece without a newline: it is what was left, or nothing was.
+pub told-still : (old more piece waits : List ℕ) → (IsLine old → waits ≡ []) → (0 < length old → more ≡ old) → IsLine piece → more ≡ piece → waits ≡ []
+told-still [] more piece waits told same line cut = told (λ k d inside. absurd (omega arith))
+told-still (x ∷ xs) more piece waits told same line cut = told (subst IsLine (sym cut ∙ same (omega arith)) line)
+
 -- no more than 65,537 bytes are kept
 pub length-kept : (line taken : List ℕ) → line ≡ kept taken → length line ≤ 65537
 length-kept line taken e = omega (arith, ap length e, length-take 65537 taken)

@@ -1,8 +1,11 @@
 //! Why a run ended early.
 ghost use Rattle.std.specs.Prelude.{◌≡◌};
 ghost use Rattle.engine.specs.Fault.{number_of, name_of};
+ghost use Rattle.engine.specs.declared.fault.RunFault.TheVariants as faults;
 
+use desk::{NoMemory, NoPlace};
 use manifest::LineFault;
+use std::alloc::AllocError;
 use thiserror::Error;
 
 /// Why a run ended early.
@@ -12,16 +15,16 @@ pub enum RunFault {
     #[error("line {0}: {1}")]
     Line(u64, LineFault),
     /// No memory was left.
-    #[error("NoMemory")]
+    #[error("{} {}", self.number(), self.name())]
     NoMemory,
     /// A read of the script failed.
-    #[error("Read")]
+    #[error("{} {}", self.number(), self.name())]
     Read,
     /// A write of the output failed.
-    #[error("Write")]
+    #[error("{} {}", self.number(), self.name())]
     Write,
     /// The desk had no pass left.
-    #[error("NoPlace")]
+    #[error("{} {}", self.number(), self.name())]
     NoPlace,
 }
 
@@ -50,5 +53,29 @@ impl RunFault {
             RunFault::Write => "Write",
             RunFault::NoPlace => "NoPlace",
         }
+    }
+}
+
+impl From<AllocError> for RunFault {
+    ghost from_gives = { λ _ fault. fault ≡ faults.NoMemory };
+
+    fn from(_refused: AllocError) -> Self {
+        RunFault::NoMemory
+    }
+}
+
+impl From<NoMemory> for RunFault {
+    ghost from_gives = { λ _ fault. fault ≡ faults.NoMemory };
+
+    fn from(_refused: NoMemory) -> Self {
+        RunFault::NoMemory
+    }
+}
+
+impl From<NoPlace> for RunFault {
+    ghost from_gives = { λ _ fault. fault ≡ faults.NoPlace };
+
+    fn from(_refused: NoPlace) -> Self {
+        RunFault::NoPlace
     }
 }

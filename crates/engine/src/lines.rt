@@ -1,5 +1,5 @@
 //! The lines of a source, which is read in pieces.
-ghost use Rattle.std.specs.Prelude.{◌≡◌, ◌≢◌, ◌==◌, ◌⊎◌, ◌+◌, ◌^◌, ◌<◌, ◌≤◌, ◌++◌, [], nat_lt, true, false, Ok, Err, IfErr, IsErrOf, ℕ, List, length, take, slice_index, vec_len, IfOk, OnOk, IfSome, IfNone};
+ghost use Rattle.std.specs.Prelude.{◌≡◌, ◌≢◌, ◌==◌, ◌⊎◌, ◌+◌, ◌^◌, ◌<◌, ◌≤◌, ◌++◌, [], nat_lt, true, false, Ok, Err, IfErr, IsErrOf, ℕ, List, length, take, slice_index, vec_len, Contains, IsTrue, IfOk, OnOk, IfSome, IfNone};
 ghost use Rattle.std.specs.Io.KnownBytes.{Consumes, IsAtEnd, prepend_known};
 ghost use Rattle.engine.specs.Device.{CountsFailure};
 ghost use Rattle.engine.specs.Lines.{IsLine, TakesPiece, TakesLine, kept};
@@ -55,17 +55,23 @@ impl LineReader {
     }
 
     // Whether a whole line was read and is not yet taken.
-    pub(crate) fn has_line(&self) -> bool {
-        memchr(b'\n', &self.buffer[self.start..self.end]).is_some()
+    pub(crate) fn has_line(&self) -> bool
+        ensures some { IsTrue result → Contains self.now 10 }
+        ensures none { result ≡ false → IsLine self.now }
+    {
+        newline_at(&self.buffer[self.start..self.end]).is_some()
     }
 
     // Takes the next line of a source, of which it keeps the front, and says whether there was one.
+    // `waits` is the output that is not yet written: nothing, where the source is read.
     pub(crate) fn next_line<R: Source>(
         &mut self,
         source: &mut R,
         line: &mut Vec<u8>,
+        waits: &[u8],
     ) -> Result<bool, RunFault>
-        requires { R.failure_count source.old < 10 ^ 18 }
+        requires reads { R.failure_count source.old < 10 ^ 18 }
+        requires told { IsLine self.old → waits.now ≡ [] }
         ensures found { result ≡ Ok true → TakesLine (prepend_known self.old (R.remaining source.old))
             (prepend_known self.new (R.remaining source.new)) line.new.items }
         ensures ended { result ≡ Ok false → (self.new ≡ []) × IsAtEnd (R.remaining source.new)
@@ -80,13 +86,11 @@ impl LineReader {
         line.clear();
         let mut begun = false;
         'pieces: loop {
-            if !self.has_more(source)? {
+            if !self.has_more(source, waits)? {
                 return Ok(begun);
             }
             begun = true;
-            let Ok(ended) = self.take_piece(line) else {
-                return Err(RunFault::NoMemory);
-            };
+            let ended = self.take_piece(line)?;
             if ended {
                 return Ok(true);
             }
@@ -95,12 +99,14 @@ impl LineReader {
 
     // Whether any byte of a source is left. It reads a piece where all that was read is taken.
     #[tactic(auto, using(crate::proofs::Taking::filled, crate::proofs::Taking::unread))]
-    fn has_more<R: Source>(&mut self, source: &mut R) -> Result<bool, RunFault>
-        requires { R.failure_count source.old < 10 ^ 18 }
+    fn has_more<R: Source>(&mut self, source: &mut R, waits: &[u8]) -> Result<bool, RunFault>
+        requires reads { R.failure_count source.old < 10 ^ 18 }
+        requires told { self.old ≡ [] → waits.now ≡ [] }
         ensures some { IfOk result (λ more. more ≡ nat_lt 0 (length self.new)) }
         ensures read { OnOk result (Consumes (prepend_known self.old (R.remaining source.old))
             (prepend_known self.new (R.remaining source.new)) []) }
         ensures ended { result ≡ Ok false → (self.new ≡ []) × IsAtEnd (R.remaining source.new) }
+        ensures kept { 0 < length self.old → self.new ≡ self.old }
         ensures left { OnOk result (R.bytes_left source.new + length self.new
             ≤ R.bytes_left source.old + length self.old) }
         ensures failed { CountsFailure (R.failure_count source.old) (R.failure_count source.new) result }
@@ -109,21 +115,22 @@ impl LineReader {
         if !self.is_empty() {
             return Ok(true);
         }
-        match self.fill(source) {
-            Ok(()) => Ok(!self.is_empty()),
-            Err(_) => Err(RunFault::Read),
-        }
+        self.fill(source, waits).map_err(|_| RunFault::Read)?;
+        Ok(!self.is_empty())
     }
 
-    // Reads the next piece of a source, where all that was read is taken.
-    fn fill<R: Source>(&mut self, source: &mut R) -> Result<(), DeviceFailed>
+    // Reads the next piece of a source, where all that was read is taken and all answers to it are
+    // written: who writes the script may wait for them.
+    fn fill<R: Source>(&mut self, source: &mut R, waits: &[u8]) -> Result<(), DeviceFailed>
         requires empty { self.old ≡ [] }
+        requires told { waits.now ≡ [] }
         requires failures { R.failure_count source.old < 10 ^ 18 }
         ensures read { OnOk result (Consumes (R.remaining source.old) (R.remaining source.new) self.new) }
         ensures end { OnOk result (self.new ≡ [] → IsAtEnd (R.remaining source.new)) }
         ensures left { OnOk result (R.bytes_left source.new + length self.new ≤ R.bytes_left source.old) }
         ensures failed { CountsFailure (R.failure_count source.old) (R.failure_count source.new) result }
     {
+        prove!(waits.is_empty());
         self.start = 0;
         self.end = 0;
         self.end = source.read(self.buffer.as_mut_slice())?;
@@ -162,6 +169,7 @@ fn newline_at(bytes: &[u8]) -> Option<usize>
 }
 
 // Adds a piece to what is kept of a line.
+#[tactic(auto, using(crate::proofs::Pieces::kept_push))]
 fn keep(line: &mut Vec<u8>, piece: &[u8]) -> Result<(), AllocError>
     requires { vec_len line.old ≤ 65537 }
     ensures { OnOk result (line.new.items ≡ kept (line.old.items ++ piece.now)) }

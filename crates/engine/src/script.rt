@@ -1,5 +1,5 @@
 //! A script from its first line to its last.
-ghost use Rattle.std.specs.Prelude.{◌≡◌, ◌≢◌, ℕ, ◌^◌, ◌<◌, Some, None, Ok, Err, [], option_map, IfSome, OnOk, OnErr, IfErr};
+ghost use Rattle.std.specs.Prelude.{◌≡◌, ◌≢◌, ℕ, ◌^◌, ◌<◌, Some, None, Ok, Err, [], option_map, vec_len, IsTrue, IfSome, OnOk, OnErr, IfErr};
 ghost use Rattle.std.specs.Io.KnownBytes.{Appends};
 ghost use Rattle.engine.specs.Device.{AppendsFront, WritesSome, CountsFailure};
 ghost use Rattle.manifest.specs.Line.{shown};
@@ -15,7 +15,8 @@ use crate::session::Session;
 use manifest::{Command, LineFault, read_line};
 use std::alloc::Global;
 
-// The output waits for so many bytes, while further lines are there to be answered.
+// So much output may wait before it is written, while whole lines are there to be answered. One
+// piece of input can ask for thousands of dumps, each as long as all nodes' lines.
 const MAX_PENDING: usize = 65_536;
 
 // Writes what waits to be written.
@@ -27,17 +28,17 @@ fn flush<W: Sink>(sink: &mut W, pending: &mut Vec<u8>) -> Result<(), RunFault>
     ensures failed { CountsFailure (W.failure_count sink.old) (W.failure_count sink.new) result }
     ensures faults { IfErr result (λ e. e ≡ RunFault.Write) }
 {
-    let Ok(()) = write_all(sink, pending) else {
-        return Err(RunFault::Write);
-    };
+    write_all(sink, pending).map_err(|_| RunFault::Write)?;
     pending.clear();
     Ok(())
 }
 
-// Writes what waits, where it is due or has grown large.
+// Writes what waits, where it is due or has grown to the most that may wait.
 fn flush_if<W: Sink>(sink: &mut W, pending: &mut Vec<u8>, due: bool) -> Result<(), RunFault>
     requires { W.failure_count sink.old < 10 ^ 18 }
     ensures written { OnOk result (WritesSome (W.written sink.old) (W.written sink.new) pending.old.items pending.new.items) }
+    ensures told { OnOk result (IsTrue due → pending.new.items ≡ []) }
+    ensures bounded { OnOk result (vec_len pending.new < MAX_PENDING) }
     ensures front { OnErr result (AppendsFront (W.written sink.old) (W.written sink.new) pending.old.items) }
     ensures failed { CountsFailure (W.failure_count sink.old) (W.failure_count sink.new) result }
     ensures faults { IfErr result (λ e. e ≡ RunFault.Write) }
@@ -60,7 +61,8 @@ fn command_of(alloc: Global, line: &[u8]) -> Result<Option<Command>, LineFault>
     Ok(Some(command))
 }
 
-// Does what a line asks for, and adds the answer to what waits. A faulty line changes nothing.
+// Does what a line asks for, and adds the answer to what waits, so that no more waits than the most
+// that may and this answer. A faulty line changes nothing.
 fn answer_line(
     alloc: Global,
     session: &mut Session,
@@ -68,6 +70,7 @@ fn answer_line(
     number: u64,
     pending: &mut Vec<u8>,
 ) -> Result<(), RunFault>
+    requires { vec_len pending.old < MAX_PENDING }
     ensures answered { OnOk result (IsAnswered (asked_by line.now) (state_of session.old) (state_of session.new)
         pending.old.items pending.new.items) }
     ensures kept { OnErr result (pending.new.items ≡ pending.old.items) }
@@ -84,6 +87,9 @@ fn answer_line(
 /// Reads a script to its end or its first faulty line, does what its lines ask of a new desk with
 /// one pass, and writes the answers. A line ends at a newline, which the last one may lack; an
 /// empty line is passed over and counted.
+///
+/// Before more is read, all answers so far are written, so that a peer that waits for them goes on.
+/// While whole lines are there, fewer than 64 KiB of output wait, and the answer to one line.
 ///
 /// Errors: `Line` with the number of the first faulty line and its fault, when the answers to all
 /// lines before it are written; `NoMemory`, `Read` and `Write`, when a beginning of the output is
@@ -118,15 +124,13 @@ pub fn run<R: Source, W: Sink>(alloc: Global, source: &mut R, sink: &mut W) -> R
     ensures no_place { result ≡ Err RunFault.NoPlace → (source.new ≡ source.old) × (sink.new ≡ sink.old) }
 {
     let mut session = Session::new(alloc)?;
-    let Ok(mut reader) = LineReader::new(alloc) else {
-        return Err(RunFault::NoMemory);
-    };
+    let mut reader = LineReader::new(alloc)?;
     let mut line = Vec::new(alloc);
     let mut pending = Vec::new(alloc);
     let mut number = 0u64;
     'lines: loop {
         flush_if(sink, &mut pending, !reader.has_line())?;
-        if !reader.next_line(source, &mut line)? {
+        if !reader.next_line(source, &mut line, &pending)? {
             return flush(sink, &mut pending);
         }
         number += 1;

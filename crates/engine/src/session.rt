@@ -30,13 +30,8 @@ impl Session {
         ensures opening { IfOk result (λ session. state_of session ≡ opening) }
         ensures faults { IfErr result (λ e. (e ≡ RunFault.NoMemory) ⊎ (e ≡ RunFault.NoPlace)) }
     {
-        let limits = Limits::greatest();
-        let Ok(mut desk) = Desk::new(alloc, limits) else {
-            return Err(RunFault::NoMemory);
-        };
-        let Ok(pass) = desk.pass() else {
-            return Err(RunFault::NoPlace);
-        };
+        let mut desk = Desk::new(alloc, Limits::greatest())?;
+        let pass = desk.pass()?;
         Ok(Session {
             desk,
             pass,
@@ -82,12 +77,8 @@ impl Session {
             ++ reply_lines (machine.reply (state_of self.old) step)) }
         ensures faults { IfErr result (λ e. e ≡ RunFault.NoMemory) }
     {
-        let Ok(reply) = self.desk.apply(&mut self.pass, step) else {
-            return Err(RunFault::NoMemory);
-        };
-        let Ok(()) = push_reply(&mut self.text, reply) else {
-            return Err(RunFault::NoMemory);
-        };
+        let reply = self.desk.apply(&mut self.pass, step)?;
+        push_reply(&mut self.text, reply)?;
         Ok(())
     }
 
@@ -98,12 +89,8 @@ impl Session {
             ++ snapshot_lines (machine.snapshot (state_of self.old).cluster)) }
         ensures faults { IfErr result (λ e. e ≡ RunFault.NoMemory) }
     {
-        let Ok(snapshot) = self.desk.look(&mut self.pass) else {
-            return Err(RunFault::NoMemory);
-        };
-        let Ok(()) = push_snapshot(&mut self.text, &snapshot) else {
-            return Err(RunFault::NoMemory);
-        };
+        let snapshot = self.desk.look(&mut self.pass)?;
+        push_snapshot(&mut self.text, &snapshot)?;
         Ok(())
     }
 }
@@ -114,10 +101,8 @@ fn add(out: &mut Vec<u8>, text: &[u8]) -> Result<(), RunFault>
     ensures kept { OnErr result (out.new.items ≡ out.old.items) }
     ensures faults { IfErr result (λ e. e ≡ RunFault.NoMemory) }
 {
-    match out.extend_from_slice(text) {
-        Ok(()) => Ok(()),
-        Err(_) => Err(RunFault::NoMemory),
-    }
+    out.extend_from_slice(text)?;
+    Ok(())
 }
 
 // Adds the lines that answer a step.

@@ -59,12 +59,12 @@ pub fn words<'a, S: AsStr>(alloc: Global, args: &'a [S]) -> Result<Words, WordFa
 ///
 /// Errors: `BadWords` where one is not UTF-8, and `NoMemory`.
 pub fn arguments<R: Env + AllocGlobal>(rt: &R) -> Result<Vec<String>, WordFault> {
-    match env::args(rt) {
-        Ok(args) => match args.skip(1).collect(rt.alloc()) {
-            Ok(args) => Ok(args),
-            Err(_) => Err(WordFault::NoMemory),
-        },
-        Err(error) if error.kind() == io::ErrorKind::InvalidData => Err(WordFault::BadWords),
-        Err(_) => Err(WordFault::NoMemory),
-    }
+    let words = env::args(rt).map_err(|error| match error.kind() {
+        io::ErrorKind::InvalidData => WordFault::BadWords,
+        _ => WordFault::NoMemory,
+    })?;
+    words
+        .skip(1)
+        .collect(rt.alloc())
+        .map_err(|_| WordFault::NoMemory)
 }

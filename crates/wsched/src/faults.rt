@@ -9,10 +9,10 @@ use thiserror::Error;
 #[derive(Clone, Copy, Debug, PartialEq, Eq, Error)]
 pub enum WordFault {
     /// The words ask for nothing that the program does.
-    #[error("BadWords")]
+    #[error("{} {}", self.number(), self.name())]
     BadWords,
     /// No memory was left to read them.
-    #[error("NoMemory")]
+    #[error("{} {}", self.number(), self.name())]
     NoMemory,
 }
 

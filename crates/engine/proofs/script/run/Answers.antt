@@ -7,10 +7,10 @@ use Rattle.engine.proofs.script.run.Goals as goal
 
 pub lines-init : goal.lines-init
 lines-init g c = (
-  IsRunning-begin _ _ _ _ _ c.in-Ok.ensures c.new-pending.ensures.items c.in_ok-session.ensures.opening,
+  IsRunning-begin _ _ _ _ _ c.in_ok-reader.ensures c.new-pending.ensures.items c.in_ok-session.ensures.opening,
   refl,
   refl,
-  omega (arith, ap length c.in-Ok.ensures),
+  omega (arith, ap length c.in_ok-reader.ensures),
 )
 
 pub returns-in_err-flush_if-clause-front : goal.returns-in_err-flush_if-clause-front
@@ -44,11 +44,11 @@ returns-in_err-flush-clause-front g c =
 pub returns-in-Err-clause-line : goal.returns-in-Err-clause-line
 returns-in-Err-clause-line g c number fault e =
     let is_line : c.in-Err.fault ≡ Line number fault = cc in
-    let told = subst (IsLineFault (c.lines.number + 1) (asked_by c.deref.result.now)) is_line c.in-Err.ensures.faults in
+    let told = subst (IsLineFault (c.lines.number + 1) (asked_by c.deref-in-lines.result.now)) is_line c.in-Err.ensures.faults in
     let yes : c.in_ok-next_line.field-0 ≡ true = search rules in
     let so_far = IsRunning-partly _ _ _ _ _ _ _ _ _ c.in_ok-flush_if.ensures.written c.lines.invariant.0 in
     let wrote = rw c.in-Err.ensures.kept at c.in_ok-flush.ensures.written in
-    let says = ap asked_by (sym c.deref.ensures.value) ∙ told.1 in
+    let says = ap asked_by (sym c.deref-in-lines.ensures.value) ∙ told.1 in
     rw told.0 (fault-flushed _ _ _ _ _ _ _ _ _ (c.in_ok-next_line.ensures.found (ap Ok yes)) says (IsRunning-flushed _ _ _ _ _ _ _ _ wrote so_far))
 
 pub returns-in-Err-clause-front : goal.returns-in-Err-clause-front
@@ -62,8 +62,8 @@ lines-preserved g c =
     let so_far = IsRunning-partly _ _ _ _ _ _ _ _ _ c.in_ok-flush_if.ensures.written c.lines.invariant.0 in
     let yes : c.in_ok-next_line.field-0 ≡ true = search rules in
     let took = c.in_ok-next_line.ensures.found (ap Ok yes) in
-    let says = ap asked_by (sym c.deref.ensures.value) in (
-      IsRunning-answered _ _ _ _ _ _ _ _ _ _ _ _ says took c.in_default-answer_line.ensures.answered so_far,
+    let says = ap asked_by (sym c.deref-in-lines.ensures.value) in (
+      IsRunning-answered _ _ _ _ _ _ _ _ _ _ _ _ says took c.in_default.ensures.answered so_far,
       search rules,
       search rules,
       omega (arith, c.lines.invariant.3, c.in_ok-next_line.ensures.less (ap Ok yes)),

@@ -1,7 +1,7 @@
 use Rattle.std.proofs.Common.{◌≡◌, ◌++◌, ◌<◌, true, false, Ok, length, ap, subst, arith, rules}
 use Rattle.std.proofs.lemmas.List.{length-append}
 use Rattle.engine.specs.Lines.{TakesPiece}
-use Rattle.engine.proofs.Taking.{IsTaken-more, IsTaken-piece, TakesLine-newline, TakesLine-last, length-kept}
+use Rattle.engine.proofs.Taking.{IsTaken-more, IsTaken-piece, told-still, TakesLine-newline, TakesLine-last, length-kept}
 use Rattle.engine.proofs.lines.LineReader.next_line.Goals as goal
 
 pub take_piece-requires : goal.take_piece-requires
@@ -16,17 +16,18 @@ returns-then-not-branch-clause-found g c e =
 
 pub returns-then-ended-clause-found : goal.returns-then-ended-clause-found
 returns-then-ended-clause-found g c _ =
-    let piece = c.in-Ok.ensures in
+    let piece = c.in_ok-ended.ensures in
     let cut : TakesPiece true c.has_more.new.self c.take_piece.new.self piece.0 = subst (λ b. TakesPiece b c.has_more.new.self c.take_piece.new.self piece.0) c.if-ended.true piece.3 in
     TakesLine-newline _ _ _ _ _ _ _ _ _ piece.1 piece.2 cut (IsTaken-more _ _ _ _ _ _ c.in_ok-has_more.ensures.read c.pieces.invariant.1)
 
 pub pieces-preserved : goal.pieces-preserved
 pieces-preserved g c =
-    let piece = c.in-Ok.ensures in
+    let piece = c.in_ok-ended.ensures in
     let cut : TakesPiece false c.has_more.new.self c.take_piece.new.self piece.0 = subst (λ b. TakesPiece b c.has_more.new.self c.take_piece.new.self piece.0) c.if-ended.false piece.3 in
     let some : 0 < length c.has_more.new.self = search rules in (
       c.pieces.invariant.0 ++ piece.0,
       IsTaken-piece _ _ _ _ _ _ _ _ _ piece.1 piece.2 cut some (IsTaken-more _ _ _ _ _ _ c.in_ok-has_more.ensures.read c.pieces.invariant.1),
       search rules,
-      omega (arith, length-append c.pieces.invariant.0 piece.0, ap length cut.0, ap length cut.1, c.pieces.invariant.3, c.in_ok-has_more.ensures.left),
+      λ _. told-still _ _ _ _ c.pieces.invariant.3 c.in_ok-has_more.ensures.kept piece.1 cut.0,
+      omega (arith, length-append c.pieces.invariant.0 piece.0, ap length cut.0, ap length cut.1, c.pieces.invariant.4, c.in_ok-has_more.ensures.left),
     )

@@ -6,8 +6,8 @@ use Rattle.engine.proofs.session.Session.new.Goals as goal
 
 pub returns-clause-opening : goal.returns-clause-opening
 returns-clause-opening c =
-    let greatest = c.greatest-limits.ensures in
+    let greatest = c.greatest.ensures in
     let opened : machine.with_pass (machine.opening limits 0) ≡ opening = refl in
-    c.in-Ok-pass.ensures.handed
-    ∙ ap machine.with_pass (c.in-Ok.ensures.opening ∙ ap (λ l. machine.opening l 0) (limits_same c.greatest-limits.result greatest.nodes greatest.placed greatest.queued))
+    c.in_ok-pass.ensures.handed
+    ∙ ap machine.with_pass (c.in_ok-desk.ensures.opening ∙ ap (λ l. machine.opening l 0) (limits_same c.greatest.result greatest.nodes greatest.placed greatest.queued))
     ∙ opened
