@@ -102,7 +102,8 @@ fn slot_before(links: &[u32], first: usize, slot: usize) -> usize
     requires ends { Ends links.now first }
     requires there { times slot (chain links.now first) ≡ 1 }
     requires later { first ≢ slot }
-    ensures { (front : List ℕ) × (back : List ℕ) × (chain links.now first ≡ front ++ result ∷ slot ∷ back) }
+    ensures a_slot { result < length links.now }
+    ensures linked { (front : List ℕ) × (back : List ℕ) × (chain links.now first ≡ front ++ result ∷ slot ∷ back) }
 {
     let mut at = first;
     while links[at] as usize != slot {

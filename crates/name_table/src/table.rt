@@ -4,7 +4,7 @@ ghost use Rattle.std.specs.Borrow.{sem};
 ghost use Rattle.std.specs.Option.{option_copied, option_map};
 ghost use Rattle.std.specs.FinMap as fin;
 ghost use Rattle.std.specs.declared.hash.RandomState.{RandomState};
-ghost use Rattle.name_table.specs.Slots.{entry_in, name_in, value_in, slot_of, filled, map_of, NamesOnce, put_in};
+ghost use Rattle.name_table.specs.Slots.{entry_in, name_in, value_in, has_name, slot_of, map_of, NamesOnce, put_in};
 ghost use Rattle.name_table.specs.Lends.{lends_value, lends_slot};
 ghost use Rattle.name_table.specs.Woven.{Ends, IsSpelled, chain, times};
 ghost use Rattle.name_table.specs.Buckets.{bucket_of};
@@ -36,14 +36,11 @@ impl<V> Model for NameTable<V> {
 
     ghost Value = { List (Option (Entry V)) };
 
-    ghost use Rattle.std.specs.Prelude.{◌≡◌, ◌+◌, ◌≤◌, map, vec_len, count_by, is_some};
-    ghost use Rattle.name_table.specs.Slots.{NamesOnce};
-    ghost use Rattle.name_table.specs.Woven.{IsWoven};
-    ghost use Rattle.name_table.specs.Buckets.{home_of};
+    ghost use Rattle.name_table.specs.Buckets.{IsFiled};
 
     ghost view = { λ t. t.entries.items };
 
-    ghost invariant = { λ t. IsWoven t.chains × (vec_len t.chains.heads ≡ t.mask + 2) × (t.chains.homes.items ≡ map (home_of t.keys t.mask) t.entries.items) × (t.len ≡ count_by is_some t.entries.items) × NamesOnce t.entries.items };
+    ghost invariant = { λ t. IsFiled t.keys t.mask t.chains t.entries.items t.len };
 }
 
 impl<V: Drop> NameTable<V> {
@@ -244,6 +241,16 @@ fn free_slots<V: Drop>(alloc: Global, room: usize) -> Result<Vec<Option<Entry<V>
     Ok(slots)
 }
 
+// Whether a slot has this name.
+fn holds<V>(slot: &Option<Entry<V>>, name: &Name) -> bool
+    ensures { result ≡ has_name name.now slot.now }
+{
+    match slot {
+        Some(entry) => name == &entry.name,
+        None => false,
+    }
+}
+
 // The slot of a name in the chain that begins with a slot.
 fn find_from<V>(links: &[u32], entries: &[Option<Entry<V>>], first: usize, name: &Name) -> Option<usize>
     requires as_many { length links.now ≡ length entries.now }
@@ -253,9 +260,7 @@ fn find_from<V>(links: &[u32], entries: &[Option<Entry<V>>], first: usize, name:
 {
     let mut at = first;
     while at < links.len() {
-        if let Some(entry) = &entries[at]
-            && &entry.name == name
-        {
+        if holds(&entries[at], name) {
             return Some(at);
         }
         at = links[at] as usize;
