@@ -31,7 +31,11 @@ impl Chains {
         heads[buckets] = 0;
         let links = in_a_row(alloc, end)?;
         let homes = Vec::from_elem(alloc, buckets as u32, room)?;
-        Ok(Chains { heads, links, homes })
+        Ok(Chains {
+            heads,
+            links,
+            homes,
+        })
     }
 
     /// Takes a slot out of its chain and puts it first in another.

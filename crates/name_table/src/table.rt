@@ -105,7 +105,12 @@ impl<V: Drop> NameTable<V> {
         ensures once { NamesOnce self.now }
     {
         let bucket = bucket(&self.keys, self.mask, name);
-        find_from(&self.chains.links, &self.entries, self.chains.heads[bucket] as usize, name)
+        find_from(
+            &self.chains.links,
+            &self.entries,
+            self.chains.heads[bucket] as usize,
+            name,
+        )
     }
 
     /// The name in a slot.
@@ -252,7 +257,12 @@ fn holds<V>(slot: &Option<Entry<V>>, name: &Name) -> bool
 }
 
 // The slot of a name in the chain that begins with a slot.
-fn find_from<V>(links: &[u32], entries: &[Option<Entry<V>>], first: usize, name: &Name) -> Option<usize>
+fn find_from<V>(
+    links: &[u32],
+    entries: &[Option<Entry<V>>],
+    first: usize,
+    name: &Name,
+) -> Option<usize>
     requires as_many { length links.now ≡ length entries.now }
     requires ends { Ends links.now first }
     ensures found { IfSome result (λ i. name_in entries.now i ≡ Some name.now) }
