@@ -4,6 +4,7 @@ ghost use Rattle.name_table.specs.Woven.{nowhere, times, chain, Ends, IsWoven};
 
 use std::alloc::{AllocError, Global};
 
+// The home of a slot that hangs in no chain.
 const NOWHERE: u32 = u32::MAX;
 
 /// Slots in chains. A number past the last slot, in `heads` or `links`, is a chain's end.
