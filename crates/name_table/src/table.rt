@@ -1,12 +1,11 @@
 //! A table by name.
-ghost use Rattle.std.specs.Prelude.{◌≡◌, ◌≢◌, ℕ, ◌+◌, ◌<◌, ◌≤◌, Bool, IfOk, IsSome, IsSomeAnd, None, Some, is_some, nat_le, length, replicate, slice_set, slice_index_or, vec_len, count_by, bit_and, List, IfSome, IfNone, MatchOption};
+ghost use Rattle.std.specs.Prelude.{◌≡◌, ℕ, ◌<◌, ◌≤◌, List, None, Some, IsSome, IfSome, IfNone, IfOk, MatchOption, is_some, nat_le, length, replicate, slice_set, count_by};
 ghost use Rattle.std.specs.Borrow.{sem};
 ghost use Rattle.std.specs.Option.{option_copied, option_map};
 ghost use Rattle.std.specs.FinMap as fin;
-ghost use Rattle.std.specs.declared.hash.RandomState.{RandomState};
 ghost use Rattle.name_table.specs.Slots.{entry_in, name_in, value_in, has_name, slot_of, map_of, NamesOnce, put_in};
 ghost use Rattle.name_table.specs.Lends.{lends_value, lends_slot};
-ghost use Rattle.name_table.specs.Woven.{Ends, IsSpelled, chain, times};
+ghost use Rattle.name_table.specs.Woven.{Ends, chain, times};
 ghost use Rattle.name_table.specs.Buckets.{bucket_of};
 
 use crate::chains::Chains;
