@@ -2,15 +2,23 @@
 #![tactic(auto)]
 
 mod command;
+mod container;
 mod fault;
 mod field;
+mod item;
+mod label;
 mod line;
+mod members;
+mod operation;
 mod reading;
+mod taint;
+mod toleration;
 
 pub use command::Command;
 pub use fault::LineFault;
 pub use field::Field;
-pub use line::{MAX_LINE, MAX_PODS, MAX_VERSION, read_line};
+pub use line::{MAX_LINE, read_line};
+pub use operation::Operation;
 
 #[cfg(test)]
 mod tests;

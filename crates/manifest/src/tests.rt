@@ -1,11 +1,12 @@
 use super::*;
+use quant::{Effect, Event, Operator};
 use std::alloc::Global;
 use std::test::Fail;
 
-// The number of a line's fault, and the key of the field in which it stands.
+// The number of a line's fault and the key of the field in which it stands, or 0 for a command.
 fn fault(alloc: Global, line: &[u8]) -> (u8, &'static str) {
     match read_line(alloc, line) {
-        Ok(_) => (0, "no fault"),
+        Ok(_) => (0, ""),
         Err(fault) => match fault.field() {
             Some(field) => (fault.number(), field.key()),
             None => (fault.number(), ""),
@@ -13,9 +14,11 @@ fn fault(alloc: Global, line: &[u8]) -> (u8, &'static str) {
     }
 }
 
+// Each line with its first fault: 1 NotJson, 2 BadField, 3 Quantity, 4 OverLimit, and 0 for none.
 #[test]
 fn first_faults(rt: HostRuntime) {
     let cases = [
+        // no JSON, no object, no operation
         (r#"{"op":"dump""#, 1, ""),
         ("", 1, ""),
         ("\r", 1, ""),
@@ -26,181 +29,126 @@ fn first_faults(rt: HostRuntime) {
         (r#"{"v":1}"#, 2, "op"),
         (r#"{"op":1}"#, 2, "op"),
         (r#"{"op":"Dump"}"#, 2, "op"),
-        (r#"{"op":"cycle"}"#, 2, "op"),
+        (r#"{"op":"dumps"}"#, 2, "op"),
+        (r#"{"op":"dump","op":"x"}"#, 2, "op"),
+        (r#"{"op":"dump","v":0,"other":[{"op":1}]}"#, 0, ""),
+        (r#"{"op":"cycle"}"#, 0, ""),
+        // a version
+        (r#"{"op":"gone","v":1,"name":"a"}"#, 0, ""),
+        (r#"{"op":"gone","v":1000000000000000000,"name":"a"}"#, 0, ""),
+        (r#"{"op":"gone","v":1000000000000000001,"name":"a"}"#, 4, "v"),
+        (r#"{"op":"gone","v":0,"name":"a"}"#, 4, "v"),
+        (r#"{"op":"gone","v":-1,"name":"a"}"#, 4, "v"),
+        (r#"{"op":"gone","v":9223372036854775808,"name":"a"}"#, 4, "v"),
+        (r#"{"op":"gone","v":18446744073709551615,"name":"a"}"#, 4, "v"),
+        (r#"{"op":"gone","v":18446744073709551616,"name":"a"}"#, 2, "v"),
+        (r#"{"op":"gone","v":-9223372036854775808,"name":"a"}"#, 4, "v"),
+        (r#"{"op":"gone","v":-9223372036854775809,"name":"a"}"#, 2, "v"),
+        (r#"{"op":"gone","v":-0,"name":"a"}"#, 2, "v"),
+        (r#"{"op":"gone","v":1.0,"name":"a"}"#, 2, "v"),
+        (r#"{"op":"gone","v":1e2,"name":"a"}"#, 2, "v"),
+        (r#"{"op":"gone","v":"1","name":"a"}"#, 2, "v"),
+        (r#"{"op":"gone","v":null,"name":"a"}"#, 2, "v"),
+        (r#"{"op":"gone","v":1,"v":0,"name":"a"}"#, 4, "v"),
+        (r#"{"op":"gone","v":0,"v":1,"name":"a"}"#, 0, ""),
+        (r#"{"op":"gone","name":1}"#, 2, "v"),
+        (r#"{"op":"gone","v":1}"#, 2, "name"),
+        (r#"{"op":"gone","v":1,"name":"a b"}"#, 2, "name"),
+        // a node
+        (r#"{"op":"node"}"#, 2, "v"),
+        (r#"{"op":"node","v":0,"name":""}"#, 4, "v"),
+        (r#"{"op":"node","v":1,"name":"","cpu":4}"#, 2, "name"),
+        (r#"{"op":"node","v":1,"name":7,"cpu":4}"#, 2, "name"),
+        (r#"{"op":"node","v":1,"name":"a","cpu":4,"mem":1}"#, 2, "cpu"),
+        (r#"{"op":"node","v":1,"name":"a","cpu":"0.0005","mem":1}"#, 3, "cpu"),
+        (r#"{"op":"node","v":1,"name":"a","cpu":"1073741825m","mem":1}"#, 3, "cpu"),
+        (r#"{"op":"node","v":1,"name":"a","cpu":"4","mem":8,"pods":-1}"#, 2, "mem"),
+        (r#"{"op":"node","v":1,"name":"a","cpu":"4","mem":"1.5Gi","pods":-1}"#, 3, "mem"),
+        (r#"{"op":"node","v":1,"name":"a","cpu":"4","mem":"8Gi"}"#, 2, "pods"),
+        (r#"{"op":"node","v":1,"name":"a","cpu":"4","mem":"8Gi","pods":"110"}"#, 2, "pods"),
+        (r#"{"op":"node","v":1,"name":"a","cpu":"4","mem":"8Gi","pods":150001,"labels":1}"#, 4, "pods"),
+        (r#"{"op":"node","v":1,"name":"a","cpu":"4","mem":"8Gi","pods":-1}"#, 4, "pods"),
+        (r#"{"op":"node","v":1,"name":"a","cpu":"4","mem":"8Gi","pods":0}"#, 0, ""),
+        (r#"{"op":"node","v":1,"name":"a","cpu":"4","mem":"8Gi","pods":150000,"labels":[],"taints":[],"unschedulable":true}"#, 0, ""),
+        (r#"{"op":"node","v":1,"name":"a","cpu":"4","mem":"8Gi","pods":1,"labels":1,"taints":1}"#, 2, "labels"),
+        (r#"{"op":"node","v":1,"name":"a","cpu":"4","mem":"8Gi","pods":1,"labels":null}"#, 2, "labels"),
+        (r#"{"op":"node","v":1,"name":"a","cpu":"4","mem":"8Gi","pods":1,"labels":[],"taints":{}}"#, 2, "taints"),
+        (r#"{"op":"node","v":1,"name":"a","cpu":"4","mem":"8Gi","pods":1,"taints":[["k","v"]]}"#, 2, "taints"),
+        (r#"{"op":"node","v":1,"name":"a","cpu":"4","mem":"8Gi","pods":1,"taints":[["","v","NoExecute"]]}"#, 2, "taints"),
+        (r#"{"op":"node","v":1,"name":"a","cpu":"4","mem":"8Gi","pods":1,"taints":[["k","v w","NoExecute"]]}"#, 2, "taints"),
+        (r#"{"op":"node","v":1,"name":"a","cpu":"4","mem":"8Gi","pods":1,"taints":[["k","v",""]]}"#, 2, "taints"),
+        (r#"{"op":"node","v":1,"name":"a","cpu":"4","mem":"8Gi","pods":1,"taints":[["k","v","NoExecute"],["k","","NoSchedule"]]}"#, 0, ""),
+        (r#"{"op":"node","v":1,"name":"a","cpu":"4","mem":"8Gi","pods":1,"taints":[["k","v","NoExecute"],["k","w","NoExecute"]]}"#, 2, "taints"),
+        (r#"{"op":"node","v":1,"name":"a","cpu":"4","mem":"8Gi","pods":1,"taints":[1,2,3,4,5,6,7,8,9],"unschedulable":1}"#, 4, "taints"),
+        (r#"{"op":"node","v":1,"name":"a","cpu":"4","mem":"8Gi","pods":1,"unschedulable":"true"}"#, 2, "unschedulable"),
+        (r#"{"op":"node","v":1,"name":"a","cpu":"4","mem":"8Gi","pods":1,"unschedulable":null}"#, 2, "unschedulable"),
+        // a pod
+        (r#"{"op":"pod","uid":1}"#, 2, "v"),
+        (r#"{"op":"pod","v":1,"priority":1}"#, 2, "uid"),
+        (r#"{"op":"pod","v":1,"uid":"p","priority":"1"}"#, 2, "priority"),
+        (r#"{"op":"pod","v":1,"uid":"p","priority":1.5}"#, 2, "priority"),
+        (r#"{"op":"pod","v":1,"uid":"p","priority":2147483648}"#, 4, "priority"),
+        (r#"{"op":"pod","v":1,"uid":"p","priority":-2147483649}"#, 4, "priority"),
+        (r#"{"op":"pod","v":1,"uid":"p","priority":18446744073709551615}"#, 4, "priority"),
+        (r#"{"op":"pod","v":1,"uid":"p","priority":18446744073709551616}"#, 2, "priority"),
+        (r#"{"op":"pod","v":1,"uid":"p","priority":2147483647,"init":1}"#, 2, "containers"),
+        (r#"{"op":"pod","v":1,"uid":"p","priority":-2147483648,"containers":[["1","1"]]}"#, 0, ""),
+        (r#"{"op":"pod","v":2,"uid":"p1","containers":[]}"#, 4, "containers"),
+        (r#"{"op":"pod","v":2,"uid":"p1","containers":[["16Ti","0"]]}"#, 3, "containers"),
+        (r#"{"op":"pod","v":1,"uid":"p","containers":["1","1"]}"#, 2, "containers"),
+        (r#"{"op":"pod","v":1,"uid":"p","containers":[["1"]]}"#, 2, "containers"),
+        (r#"{"op":"pod","v":1,"uid":"p","containers":[["1","1","1"]]}"#, 2, "containers"),
+        (r#"{"op":"pod","v":1,"uid":"p","containers":[["x",1]]}"#, 2, "containers"),
+        (r#"{"op":"pod","v":1,"uid":"p","containers":[["x","1"],1]}"#, 3, "containers"),
+        (r#"{"op":"pod","v":1,"uid":"p","containers":[["1","1"],1,["x","1"]]}"#, 2, "containers"),
+        (r#"{"op":"pod","v":1,"uid":"p","containers":[1,2,3,4,5,6,7,8,9,10,11,12,13,14,15,16,17]}"#, 4, "containers"),
+        (r#"{"op":"pod","v":1,"uid":"p","containers":[["1","1"]],"init":[["1","16Tib"]],"labels":1}"#, 3, "init"),
+        (r#"{"op":"pod","v":1,"uid":"p","containers":[["1","1"]],"init":{}}"#, 2, "init"),
+        (r#"{"op":"pod","v":1,"uid":"p","containers":[["1","1"]],"init":[1,2,3,4,5,6,7,8,9,10,11,12,13,14,15,16,17]}"#, 4, "init"),
+        (r#"{"op":"pod","v":1,"uid":"p","containers":[["600000","1"],["600000","1"]],"init":[]}"#, 3, "containers"),
+        (r#"{"op":"pod","v":1,"uid":"p","containers":[["600000","1"]],"init":[["600000","1"],["1073741","1"]]}"#, 0, ""),
+        (r#"{"op":"pod","v":1,"uid":"p","containers":[["1","9Ti"],["1","9Ti"]],"tolerations":1}"#, 2, "tolerations"),
+        (r#"{"op":"pod","v":1,"uid":"p","containers":[["1","1"]],"labels":[["a"]]}"#, 2, "labels"),
+        (r#"{"op":"pod","v":1,"uid":"p","containers":[["1","1"]],"labels":[["a","b",""]]}"#, 2, "labels"),
+        (r#"{"op":"pod","v":1,"uid":"p","containers":[["1","1"]],"labels":[["","b"]]}"#, 2, "labels"),
+        (r#"{"op":"pod","v":1,"uid":"p","containers":[["1","1"]],"labels":[["a",""],["b","a b"]]}"#, 2, "labels"),
+        (r#"{"op":"pod","v":1,"uid":"p","containers":[["1","1"]],"labels":[["a","b"],["b","b"],["a","c"]]}"#, 2, "labels"),
+        (r#"{"op":"pod","v":1,"uid":"p","containers":[["1","1"]],"labels":[1,2,3,4,5,6,7,8,9,10,11,12,13,14,15,16,17,18,19,20,21,22,23,24,25,26,27,28,29,30,31,32,33]}"#, 4, "labels"),
+        (r#"{"op":"pod","v":1,"uid":"p","containers":[["1","1"]],"tolerations":[["k","Equal","v"]]}"#, 2, "tolerations"),
+        (r#"{"op":"pod","v":1,"uid":"p","containers":[["1","1"]],"tolerations":[["k",1,"v",""]]}"#, 2, "tolerations"),
+        (r#"{"op":"pod","v":1,"uid":"p","containers":[["1","1"]],"tolerations":[["k k","Equal","v",""]]}"#, 2, "tolerations"),
+        (r#"{"op":"pod","v":1,"uid":"p","containers":[["1","1"]],"tolerations":[["k","Gt","v",""]]}"#, 2, "tolerations"),
+        (r#"{"op":"pod","v":1,"uid":"p","containers":[["1","1"]],"tolerations":[["k","Equal","v v",""]]}"#, 2, "tolerations"),
+        (r#"{"op":"pod","v":1,"uid":"p","containers":[["1","1"]],"tolerations":[["k","Equal","v","Never"]]}"#, 2, "tolerations"),
+        (r#"{"op":"pod","v":1,"uid":"p","containers":[["1","1"]],"tolerations":[["","Equal","v",""]]}"#, 2, "tolerations"),
+        (r#"{"op":"pod","v":1,"uid":"p","containers":[["1","1"]],"tolerations":[["","","",""]]}"#, 2, "tolerations"),
+        (r#"{"op":"pod","v":1,"uid":"p","containers":[["1","1"]],"tolerations":[["k","Exists","v",""]]}"#, 2, "tolerations"),
+        (r#"{"op":"pod","v":1,"uid":"p","containers":[["1","1"]],"tolerations":[["k","","",""],["k","","",""],["","Exists","","NoExecute"]]}"#, 0, ""),
+        (r#"{"op":"pod","v":1,"uid":"p","containers":[["1","1"]],"tolerations":[1,2,3,4,5,6,7,8,9,10,11,12,13,14,15,16,17]}"#, 4, "tolerations"),
+        // places
         (r#"{"op":"bound"}"#, 2, "v"),
+        (r#"{"op":"bound","v":1,"node":1}"#, 2, "uid"),
+        (r#"{"op":"bound","v":1,"uid":"p","cpu":1}"#, 2, "node"),
+        (r#"{"op":"bound","v":1,"uid":"p","node":"a","mem":1}"#, 2, "cpu"),
+        (r#"{"op":"bound","v":1,"uid":"p","node":"a","cpu":"1k","mem":1}"#, 3, "cpu"),
+        (r#"{"op":"bound","v":1,"uid":"p","node":"a","cpu":"1"}"#, 2, "mem"),
+        (r#"{"op":"bound","v":1,"uid":"p","node":"a","cpu":"1","mem":"17592186044417"}"#, 3, "mem"),
+        (r#"{"op":"deleted","uid":"p"}"#, 2, "v"),
+        (r#"{"op":"deleted","v":1,"uid":["p"]}"#, 2, "uid"),
+        (r#"{"op":"deleted","v":1,"uid":"p"}"#, 0, ""),
+        // the clock and tickets
+        (r#"{"op":"tick"}"#, 2, "at"),
+        (r#"{"op":"tick","at":1.0}"#, 2, "at"),
+        (r#"{"op":"tick","at":-1}"#, 4, "at"),
+        (r#"{"op":"tick","at":1000000000000001}"#, 4, "at"),
+        (r#"{"op":"done","ticket":"1"}"#, 2, "uid"),
+        (r#"{"op":"done","uid":"p"}"#, 2, "ticket"),
+        (r#"{"op":"done","uid":"p","ticket":0}"#, 4, "ticket"),
+        (r#"{"op":"forget","uid":"","ticket":0}"#, 2, "uid"),
+        (r#"{"op":"forget","uid":"p","ticket":"1"}"#, 2, "ticket"),
+        (r#"{"op":"forget","uid":"p","ticket":1000000000000000001}"#, 4, "ticket"),
     ];
     for (line, number, field) in cases {
-        assert_eq!(rt;
-            fault(rt.alloc(), line.as_bytes()),
-            (number, field),
-            "{line}"
-        );
-    }
-}
-
-#[test]
-fn versions(rt: HostRuntime) -> Result<(), Fail> {
-    let cases = [
-        ("1", 0, "no fault"),
-        ("1000000000000000000", 0, "no fault"),
-        ("1000000000000000001", 4, "v"),
-        ("0", 4, "v"),
-        ("-1", 4, "v"),
-        ("9223372036854775808", 4, "v"),
-        ("18446744073709551615", 4, "v"),
-        ("18446744073709551616", 2, "v"),
-        ("-9223372036854775808", 4, "v"),
-        ("-9223372036854775809", 2, "v"),
-        ("-0", 2, "v"),
-        ("1.0", 2, "v"),
-        ("1e2", 2, "v"),
-        ("\"1\"", 2, "v"),
-        ("null", 2, "v"),
-        ("1,\"v\":0", 4, "v"),
-        ("0,\"v\":1", 0, "no fault"),
-    ];
-    for (version, number, field) in cases {
-        let line = format!(in rt.alloc();
-            "{{\"op\":\"bound\",\"v\":{version},\"uid\":\"p0\",\"node\":\"a\",\"cpu\":\"1\",\"mem\":\"1k\"}}"
-        )?;
-        assert_eq!(rt;
-            fault(rt.alloc(), line.as_str().as_bytes()),
-            (number, field),
-            "{version}"
-        );
-    }
-    Ok(())
-}
-
-#[test]
-fn fields_of_a_node(rt: HostRuntime) -> Result<(), Fail> {
-    let cases = [
-        (
-            r#""name":"a","cpu":"4","mem":"8Gi","pods":110"#,
-            0,
-            "no fault",
-        ),
-        (
-            r#""name":"a","cpu":"4","mem":"8Gi","pods":150000,"labels":1"#,
-            0,
-            "no fault",
-        ),
-        (r#""name":"","cpu":4"#, 2, "name"),
-        (r#""name":7,"cpu":4"#, 2, "name"),
-        (r#""name":"a b","cpu":4"#, 2, "name"),
-        (r#""name":"a","cpu":4,"mem":1"#, 2, "cpu"),
-        (r#""name":"a","cpu":"0.0005","mem":1"#, 3, "cpu"),
-        (r#""name":"a","cpu":"1073741825m","mem":1"#, 3, "cpu"),
-        (r#""name":"a","cpu":"4","mem":8,"pods":-1"#, 2, "mem"),
-        (r#""name":"a","cpu":"4","mem":"1.5Gi","pods":-1"#, 3, "mem"),
-        (r#""name":"a","cpu":"4","mem":"8Gi""#, 2, "pods"),
-        (
-            r#""name":"a","cpu":"4","mem":"8Gi","pods":"110""#,
-            2,
-            "pods",
-        ),
-        (
-            r#""name":"a","cpu":"4","mem":"8Gi","pods":150001"#,
-            4,
-            "pods",
-        ),
-        (r#""name":"a","cpu":"4","mem":"8Gi","pods":-1"#, 4, "pods"),
-    ];
-    for (fields, number, field) in cases {
-        let line = format!(in rt.alloc(); "{{\"op\":\"node\",\"v\":1,{fields}}}")?;
-        assert_eq!(rt;
-            fault(rt.alloc(), line.as_str().as_bytes()),
-            (number, field),
-            "{fields}"
-        );
-    }
-    Ok(())
-}
-
-#[test]
-fn nodes(rt: HostRuntime) -> Result<(), Fail> {
-    let node = r#"{"op":"node","v":1,"name":"a","cpu":"4","mem":"8Gi","pods":110}"#;
-    let Ok(Command::NodeSet { version, node }) = read_line(rt.alloc(), node.as_bytes()) else {
-        return Err("a node")?;
-    };
-    assert_eq!(rt; version.0, 1);
-    assert_eq!(rt; node.name.as_bytes(), b"a".as_slice());
-    assert_eq!(rt; node.allocatable.cpu.0, 4_000);
-    assert_eq!(rt; node.allocatable.mem.0, 8_589_934_592);
-    assert_eq!(rt; node.allocatable.pods, 110);
-    assert!(rt; node.labels.is_empty() && node.taints.is_empty() && !node.unschedulable);
-    Ok(())
-}
-
-#[test]
-fn places_and_dumps(rt: HostRuntime) -> Result<(), Fail> {
-    let bound = r#"{"op":"bound","v":2,"uid":"p0","node":"b","cpu":"500m","mem":"1Gi"}"#;
-    let Ok(command) = read_line(rt.alloc(), bound.as_bytes()) else {
-        return Err("a pod's place")?;
-    };
-    match command {
-        Command::PodBound {
-            version,
-            uid,
-            node,
-            request,
-        } => {
-            assert_eq!(rt; version.0, 2);
-            assert_eq!(rt; uid.as_bytes(), b"p0".as_slice());
-            assert_eq!(rt; node.as_bytes(), b"b".as_slice());
-            assert_eq!(rt; request.cpu.0, 500);
-            assert_eq!(rt; request.mem.0, 1_073_741_824);
-        }
-        Command::NodeSet {
-            version: _version,
-            node: _node,
-        } => return Err("a pod's place")?,
-        Command::Dump => return Err("a pod's place")?,
-    }
-    let dump = r#"{"other":[1,{}],"op":"dump"}"#;
-    assert!(rt; matches!(read_line(rt.alloc(), dump.as_bytes()), Ok(Command::Dump)));
-    Ok(())
-}
-
-// A line of 65,536 bytes is read, one of a byte more is not.
-#[test]
-fn long_lines(rt: HostRuntime) -> Result<(), Fail> {
-    let mut line = Vec::from_slice(rt.alloc(), br#"{"op":"dump"}"#)?;
-    line.resize(65_536, b' ')?;
-    assert_eq!(rt; fault(rt.alloc(), &line), (0, "no fault"));
-    line.push(b' ')?;
-    assert_eq!(rt; fault(rt.alloc(), &line), (4, "op"));
-    Ok(())
-}
-
-// Nesting of 127 is read, one level more is not.
-#[test]
-fn deep_lines(rt: HostRuntime) -> Result<(), Fail> {
-    for (depth, number) in [(126, 0), (127, 1)] {
-        let mut line = Vec::from_slice(rt.alloc(), br#"{"op":"dump","x":"#)?;
-        for _ in 0..depth {
-            line.push(b'[')?;
-        }
-        for _ in 0..depth {
-            line.push(b']')?;
-        }
-        line.push(b'}')?;
-        assert_eq!(rt; fault(rt.alloc(), &line).0, number, "{depth}");
-    }
-    Ok(())
-}
-
-#[test]
-fn names(rt: HostRuntime) {
-    let faults = [
-        (LineFault::NotJson, 1, "NotJson"),
-        (LineFault::BadField(Field::Op), 2, "BadField"),
-        (LineFault::Quantity(Field::Cpu), 3, "Quantity"),
-        (LineFault::OverLimit(Field::Pods), 4, "OverLimit"),
-        (LineFault::NoMemory, 5, "NoMemory"),
-    ];
-    for (fault, number, name) in faults {
-        assert_eq!(rt; fault.number(), number);
-        assert_eq!(rt; fault.name(), name);
+        assert_eq!(rt; fault(rt.alloc(), line.as_bytes()), (number, field), "{line}");
     }
 }
