@@ -114,7 +114,10 @@ pub(crate) fn parts(item: &Value, field: Field, count: usize) -> Result<&[Value]
 pub(crate) fn part(found: &[Value], place: usize, field: Field) -> Result<&str, LineFault>
     ensures { Gives (λ s. s.now) result (part place field (items_view found.now)) }
 {
-    text(item_at(found, place).ok_or(LineFault::BadField(field))?, field)
+    text(
+        item_at(found, place).ok_or(LineFault::BadField(field))?,
+        field,
+    )
 }
 
 // The item at a place.

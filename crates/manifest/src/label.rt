@@ -31,5 +31,7 @@ impl Item for Label {
 fn has_key(labels: &[Label], key: &Name) -> bool
     ensures { result ≡ list_any (λ label. bytes_eq label.key key.now) labels.now }
 {
-    labels.iter().any(|label| label.key.as_bytes() == key.as_bytes())
+    labels
+        .iter()
+        .any(|label| label.key.as_bytes() == key.as_bytes())
 }

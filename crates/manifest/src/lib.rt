@@ -7,6 +7,7 @@ mod fault;
 mod field;
 mod item;
 mod label;
+mod laws;
 mod line;
 mod members;
 mod operation;
@@ -17,6 +18,7 @@ mod toleration;
 pub use command::Command;
 pub use fault::LineFault;
 pub use field::Field;
+pub use laws::longest_line_is_this;
 pub use line::{MAX_LINE, read_line};
 pub use operation::Operation;
 

@@ -9,8 +9,8 @@ use crate::container::request_within;
 use crate::fault::LineFault;
 use crate::field::Field;
 use crate::item::{fill_at, fill_at_or_leave};
-use crate::operation::Operation;
 use crate::members::{cpu_at, flag_at, memory_at, name_at, natural_at, signed_at, text_at};
+use crate::operation::Operation;
 use crate::reading::parse;
 use arrayvec::ArrayVec;
 use quant::{
@@ -139,8 +139,9 @@ fn pod_of(alloc: Global, object: &Value) -> Result<Command, LineFault>
     };
     fill_at_or_leave(&mut pod.labels, object, Field::Labels)?;
     fill_at_or_leave(&mut pod.tolerations, object, Field::Tolerations)?;
-    pod.request = request(containers.as_slice(), init.as_slice())
-        .map_err(|_| LineFault::Quantity(Field::Containers))?;
+    pod.request = request(containers.as_slice(), init.as_slice()).map_err(|_| LineFault::Quantity(
+        Field::Containers,
+    ))?;
     let pod = SharedPod::new(alloc, pod).map_err(|_| LineFault::NoMemory)?;
     Ok(Command::Event(Event::PodPending { version, pod }))
 }

@@ -25,7 +25,12 @@ pub(crate) fn name_at(object: &Value, field: Field) -> Result<Name, LineFault>
 }
 
 // The number in a field, from low to high.
-pub(crate) fn natural_at(object: &Value, field: Field, low: u64, high: u64) -> Result<u64, LineFault>
+pub(crate) fn natural_at(
+    object: &Value,
+    field: Field,
+    low: u64,
+    high: u64,
+) -> Result<u64, LineFault>
     ensures value { Answers result (at field (natural low high) (view object.now)) }
     ensures bounded { IfOk result (λ n. n ≤ high) }
 {

@@ -34,9 +34,7 @@ fn has_taint(taints: &[Taint], key: &Name, effect: Effect) -> bool
     ensures { result ≡ list_any
         (λ taint. bytes_eq taint.key key.now && same_effect taint.effect effect) taints.now }
 {
-    taints
-        .iter()
-        .any(|taint| taint.key.as_bytes() == key.as_bytes() && taint.effect == effect)
+    taints.iter().any(|taint| taint.key.as_bytes() == key.as_bytes() && taint.effect == effect)
 }
 
 // The effect of this name.
