@@ -92,18 +92,18 @@ unfoldable pub flag : Field → Data → Result Bool LineFault
 flag field value = ok_or (as_bool value) (BadField field)
 
 -- the name that a text is
-unfoldable pub named : Field → List ℕ → Result (List ℕ) LineFault
-named field bytes = if is_name bytes then Ok bytes else Err (BadField field)
+unfoldable pub name_from : Field → List ℕ → Result (List ℕ) LineFault
+name_from field bytes = if is_name bytes then Ok bytes else Err (BadField field)
 
 -- the text beside a key that a text is, as a label's value
-unfoldable pub texted : Field → List ℕ → Result (List ℕ) LineFault
-texted field bytes = if is_text bytes then Ok bytes else Err (BadField field)
+unfoldable pub text_from : Field → List ℕ → Result (List ℕ) LineFault
+text_from field bytes = if is_text bytes then Ok bytes else Err (BadField field)
 
 -- a name
 unfoldable pub name : Field → Data → Result (List ℕ) LineFault
 name field value = do
   bytes ← text field value
-  named field bytes
+  name_from field bytes
 
 -- an amount, or that it is none or too large
 abbrev pub amount : {A : Type 0} → Field → Result A QuantFault → Result A LineFault
@@ -111,24 +111,24 @@ amount field (Ok x) = Ok x
 amount field (Err refusal) = Err (Quantity field)
 
 -- the thousandths of a core that a text spells
-unfoldable pub cpu_spelled : Field → List ℕ → Result Cpu LineFault
-cpu_spelled field bytes = amount field (cpu_read bytes)
+unfoldable pub cpu_from : Field → List ℕ → Result Cpu LineFault
+cpu_from field bytes = amount field (cpu_read bytes)
 
 -- the bytes of memory that a text spells
-unfoldable pub memory_spelled : Field → List ℕ → Result Bytes LineFault
-memory_spelled field bytes = amount field (bytes_read bytes)
+unfoldable pub memory_from : Field → List ℕ → Result Bytes LineFault
+memory_from field bytes = amount field (bytes_read bytes)
 
 -- an amount of CPU
 unfoldable pub cpu : Field → Data → Result Cpu LineFault
 cpu field value = do
   bytes ← text field value
-  cpu_spelled field bytes
+  cpu_from field bytes
 
 -- an amount of memory
 unfoldable pub memory : Field → Data → Result Bytes LineFault
 memory field value = do
   bytes ← text field value
-  memory_spelled field bytes
+  memory_from field bytes
 
 -- the request of two amounts, which is never too large, since neither amount is
 unfoldable pub request : Field → Cpu → Bytes → Result Request LineFault

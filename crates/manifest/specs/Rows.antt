@@ -15,7 +15,7 @@ use Rattle.quant.specs.declared.amount.Request.{Request}
 use Rattle.manifest.specs.declared.field.Field.{Field}
 use Rattle.manifest.specs.declared.fault.LineFault.{LineFault}
 use Rattle.manifest.specs.declared.fault.LineFault.TheVariants.{BadField}
-use Rattle.manifest.specs.Reading.{◌>>=◌, named, texted, cpu_spelled, memory_spelled, request}
+use Rattle.manifest.specs.Reading.{◌>>=◌, name_from, text_from, cpu_from, memory_from, request}
 use Rattle.manifest.specs.Item.{parts, part}
 
 -- a taint's effect, by its name
@@ -55,8 +55,8 @@ label field before item = do
   found ← parts 2 field item
   key ← part 0 field found
   value ← part 1 field found
-  key ← named field key
-  value ← texted field value
+  key ← name_from field key
+  value ← text_from field value
   if list_any (λ other. bytes_eq other.key key) before then Err (BadField field) else Ok (record { key = key; value = value })
 
 -- [key, value, effect], where no taint before it has both the key and the effect
@@ -66,8 +66,8 @@ taint field before item = do
   key ← part 0 field found
   value ← part 1 field found
   effect ← part 2 field found
-  key ← named field key
-  value ← texted field value
+  key ← name_from field key
+  value ← text_from field value
   effect ← ok_or (effect_named effect) (BadField field)
   if list_any (λ other. bytes_eq other.key key && same_effect other.effect effect) before then Err (BadField field) else Ok (record { key = key; value = value; effect = effect })
 
@@ -79,9 +79,9 @@ toleration field before item = do
   operator ← part 1 field found
   value ← part 2 field found
   effect ← part 3 field found
-  key ← texted field key
+  key ← text_from field key
   operator ← ok_or (operator_named operator) (BadField field)
-  value ← texted field value
+  value ← text_from field value
   effect ← ok_or (effect_or_none effect) (BadField field)
   if lawful operator key value then Ok (record { key = key; operator = operator; value = value; effect = effect }) else Err (BadField field)
 
@@ -91,6 +91,6 @@ container field before item = do
   found ← parts 2 field item
   cpu ← part 0 field found
   mem ← part 1 field found
-  cpu ← cpu_spelled field cpu
-  mem ← memory_spelled field mem
+  cpu ← cpu_from field cpu
+  mem ← memory_from field mem
   request field cpu mem

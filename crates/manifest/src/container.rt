@@ -6,7 +6,7 @@ ghost use Rattle.manifest.specs.Rows.{container};
 use crate::fault::LineFault;
 use crate::field::Field;
 use crate::item::{Item, part, parts};
-use crate::reading::{cpu_spelled, memory_spelled};
+use crate::reading::{cpu_from, memory_from};
 use quant::{Bytes, Cpu, Request};
 use serde_json::Value;
 
@@ -18,8 +18,8 @@ impl Item for Request {
         let found = parts(item, field, 2)?;
         let cpu = part(found, 0, field)?;
         let mem = part(found, 1, field)?;
-        let cpu = cpu_spelled(cpu, field)?;
-        let mem = memory_spelled(mem, field)?;
+        let cpu = cpu_from(cpu, field)?;
+        let mem = memory_from(mem, field)?;
         Ok(request_within(cpu, mem))
     }
 }

@@ -85,7 +85,7 @@ fn fill<T: Item, const N: usize>(
 }
 
 // The items of an array that has from least to most of them.
-#[tactic(auto, unfolding(crate::specs::Item::items), using(crate::proofs::Items::counted))]
+#[tactic(auto, unfolding(crate::specs::Item::items), using(crate::proofs::Items::count_of_items_view))]
 fn items(value: &Value, field: Field, least: usize, most: usize) -> Result<&[Value], LineFault>
     ensures value { Gives (λ found. items_view found.now) result (items least most field (view value.now)) }
     ensures few { IfOk result (λ found. length found.now ≤ most) }
@@ -98,7 +98,7 @@ fn items(value: &Value, field: Field, least: usize, most: usize) -> Result<&[Val
 }
 
 // The parts of an item that is an array of so many.
-#[tactic(auto, unfolding(crate::specs::Item::parts), using(crate::proofs::Items::counted))]
+#[tactic(auto, unfolding(crate::specs::Item::parts), using(crate::proofs::Items::count_of_items_view))]
 pub(crate) fn parts(item: &Value, field: Field, count: usize) -> Result<&[Value], LineFault>
     ensures { Gives (λ found. items_view found.now) result (parts count field (view item.now)) }
 {
@@ -121,7 +121,7 @@ pub(crate) fn part(found: &[Value], place: usize, field: Field) -> Result<&str, 
 }
 
 // The item at a place.
-#[tactic(auto, using(crate::proofs::Items::got))]
+#[tactic(auto, using(crate::proofs::Items::get_item_of_get))]
 fn item_at(found: &[Value], place: usize) -> Option<&Value>
     ensures { option_map (λ v. view v.now) result ≡ get_item place (items_view found.now) }
 {

@@ -6,7 +6,7 @@ ghost use Rattle.manifest.specs.Rows.{label};
 use crate::fault::LineFault;
 use crate::field::Field;
 use crate::item::{Item, part, parts};
-use crate::reading::{named, texted};
+use crate::reading::{name_from, text_from};
 use quant::{Label, Name};
 use serde_json::Value;
 
@@ -18,8 +18,8 @@ impl Item for Label {
         let found = parts(item, field, 2)?;
         let key = part(found, 0, field)?;
         let value = part(found, 1, field)?;
-        let key = named(key, field)?;
-        let value = texted(value, field)?;
+        let key = name_from(key, field)?;
+        let value = text_from(value, field)?;
         if has_key(before, &key) {
             return Err(LineFault::BadField(field));
         }

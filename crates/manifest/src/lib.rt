@@ -1,4 +1,9 @@
-//! The lines of a script: each is one JSON object that spells one command.
+//! The lines of a script: each is one JSON object that spells one command, or has a first fault.
+//!
+//! `read_line` is the door. Behind it `line` has the fields of each operation in their order, and
+//! `members` reads one field; a field that is an array fills its row in place by `item`, and
+//! `label`, `taint`, `toleration` and `container` say what one item is. What is read is defined in
+//! `specs/Line.antt`, in the same order, over the value that the reader of JSON makes of a line.
 #![tactic(auto)]
 
 mod command;
@@ -20,7 +25,6 @@ pub use fault::LineFault;
 pub use field::Field;
 pub use laws::longest_line_is_this;
 pub use line::{MAX_LINE, read_line};
-pub use operation::Operation;
 
 #[cfg(test)]
 mod tests;

@@ -5,7 +5,7 @@ ghost use Rattle.manifest.specs.Reading.{Gives, Answers, at, at_or, text, natura
 
 use crate::fault::LineFault;
 use crate::field::Field;
-use crate::reading::{cpu_spelled, flag, member, memory_spelled, named, natural, signed, text};
+use crate::reading::{cpu_from, flag, member, memory_from, name_from, natural, signed, text};
 use quant::{Bytes, Cpu, Name};
 use serde_json::Value;
 
@@ -21,7 +21,7 @@ pub(crate) fn text_at(object: &Value, field: Field) -> Result<&str, LineFault>
 pub(crate) fn name_at(object: &Value, field: Field) -> Result<Name, LineFault>
     ensures { Answers result (at field name (view object.now)) }
 {
-    named(text_at(object, field)?, field)
+    name_from(text_at(object, field)?, field)
 }
 
 // The number in a field, from low to high.
@@ -43,7 +43,7 @@ pub(crate) fn cpu_at(object: &Value) -> Result<Cpu, LineFault>
     ensures value { Answers result (at Field.Cpu cpu (view object.now)) }
     ensures bounded { IfOk result (λ cpu. cpu.0 ≤ 2 ^ 30) }
 {
-    cpu_spelled(text_at(object, Field::Cpu)?, Field::Cpu)
+    cpu_from(text_at(object, Field::Cpu)?, Field::Cpu)
 }
 
 // The amount of memory in the field `mem`.
@@ -52,7 +52,7 @@ pub(crate) fn memory_at(object: &Value) -> Result<Bytes, LineFault>
     ensures value { Answers result (at Field.Memory memory (view object.now)) }
     ensures bounded { IfOk result (λ mem. mem.0 ≤ 2 ^ 44) }
 {
-    memory_spelled(text_at(object, Field::Memory)?, Field::Memory)
+    memory_from(text_at(object, Field::Memory)?, Field::Memory)
 }
 
 // The number of 32 bits in a field, or 0.

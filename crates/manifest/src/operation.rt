@@ -4,7 +4,7 @@ ghost use Rattle.manifest.specs.Operation.{operation_named};
 
 /// What a line may ask for.
 #[derive(Clone, Copy, Debug, PartialEq, Eq)]
-pub enum Operation {
+pub(crate) enum Operation {
     /// A node is there, or it has changed.
     Node,
     /// A node is no longer there.

@@ -1,7 +1,7 @@
 //! From a JSON value to what one field says.
 ghost use Rattle.std.specs.Prelude.{◌≡◌, ◌≤◌, ◌^◌, IfOk};
 ghost use Rattle.serde_json.specs.View.{view, number_view};
-ghost use Rattle.manifest.specs.Reading.{Gives, Answers, parsed, member, text, integer, natural, signed, flag, named, texted, name, cpu_spelled, memory_spelled};
+ghost use Rattle.manifest.specs.Reading.{Gives, Answers, parsed, member, text, integer, natural, signed, flag, name_from, text_from, name, cpu_from, memory_from};
 
 use crate::fault::LineFault;
 use crate::field::Field;
@@ -81,34 +81,34 @@ pub(crate) fn flag(value: &Value, field: Field) -> Result<bool, LineFault>
 }
 
 // The name that a text is.
-#[tactic(auto, unfolding(crate::specs::Reading::named))]
-pub(crate) fn named(text: &str, field: Field) -> Result<Name, LineFault>
-    ensures { Answers result (named field text.now) }
+#[tactic(auto, unfolding(crate::specs::Reading::name_from))]
+pub(crate) fn name_from(text: &str, field: Field) -> Result<Name, LineFault>
+    ensures { Answers result (name_from field text.now) }
 {
     Name::new(text.as_bytes()).map_err(|_| LineFault::BadField(field))
 }
 
 // The text beside a key that a text is.
-#[tactic(auto, unfolding(crate::specs::Reading::texted))]
-pub(crate) fn texted(text: &str, field: Field) -> Result<Text, LineFault>
-    ensures { Answers result (texted field text.now) }
+#[tactic(auto, unfolding(crate::specs::Reading::text_from))]
+pub(crate) fn text_from(text: &str, field: Field) -> Result<Text, LineFault>
+    ensures { Answers result (text_from field text.now) }
 {
     Text::new(text.as_bytes()).map_err(|_| LineFault::BadField(field))
 }
 
 // The amount of CPU that a text spells.
-#[tactic(auto, unfolding(crate::specs::Reading::cpu_spelled))]
-pub(crate) fn cpu_spelled(text: &str, field: Field) -> Result<Cpu, LineFault>
-    ensures value { Answers result (cpu_spelled field text.now) }
+#[tactic(auto, unfolding(crate::specs::Reading::cpu_from))]
+pub(crate) fn cpu_from(text: &str, field: Field) -> Result<Cpu, LineFault>
+    ensures value { Answers result (cpu_from field text.now) }
     ensures bounded { IfOk result (λ cpu. cpu.0 ≤ 2 ^ 30) }
 {
     read_cpu(text.as_bytes()).map_err(|_| LineFault::Quantity(field))
 }
 
 // The amount of memory that a text spells.
-#[tactic(auto, unfolding(crate::specs::Reading::memory_spelled))]
-pub(crate) fn memory_spelled(text: &str, field: Field) -> Result<Bytes, LineFault>
-    ensures value { Answers result (memory_spelled field text.now) }
+#[tactic(auto, unfolding(crate::specs::Reading::memory_from))]
+pub(crate) fn memory_from(text: &str, field: Field) -> Result<Bytes, LineFault>
+    ensures value { Answers result (memory_from field text.now) }
     ensures bounded { IfOk result (λ mem. mem.0 ≤ 2 ^ 44) }
 {
     read_bytes(text.as_bytes()).map_err(|_| LineFault::Quantity(field))

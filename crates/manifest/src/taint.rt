@@ -6,7 +6,7 @@ ghost use Rattle.manifest.specs.Rows.{taint, effect_named, same_effect};
 use crate::fault::LineFault;
 use crate::field::Field;
 use crate::item::{Item, part, parts};
-use crate::reading::{named, texted};
+use crate::reading::{name_from, text_from};
 use quant::{Effect, Name, Taint};
 use serde_json::Value;
 
@@ -19,8 +19,8 @@ impl Item for Taint {
         let key = part(found, 0, field)?;
         let value = part(found, 1, field)?;
         let effect = part(found, 2, field)?;
-        let key = named(key, field)?;
-        let value = texted(value, field)?;
+        let key = name_from(key, field)?;
+        let value = text_from(value, field)?;
         let effect = effect_named(effect).ok_or(LineFault::BadField(field))?;
         if has_taint(before, &key, effect) {
             return Err(LineFault::BadField(field));

@@ -5,7 +5,7 @@ ghost use Rattle.manifest.specs.Rows.{toleration, operator_named, effect_or_none
 use crate::fault::LineFault;
 use crate::field::Field;
 use crate::item::{Item, part, parts};
-use crate::reading::texted;
+use crate::reading::text_from;
 use crate::taint::effect_named;
 use quant::{Effect, Operator, Text, Toleration};
 use serde_json::Value;
@@ -20,9 +20,9 @@ impl Item for Toleration {
         let operator = part(found, 1, field)?;
         let value = part(found, 2, field)?;
         let effect = part(found, 3, field)?;
-        let key = texted(key, field)?;
+        let key = text_from(key, field)?;
         let operator = operator_named(operator).ok_or(LineFault::BadField(field))?;
-        let value = texted(value, field)?;
+        let value = text_from(value, field)?;
         let effect = effect_or_none(effect).ok_or(LineFault::BadField(field))?;
         if !is_lawful(operator, &key, &value) {
             return Err(LineFault::BadField(field));
