@@ -130,6 +130,7 @@ fn pod_of(alloc: Global, object: &Value) -> Result<Command, LineFault>
     fill_at(&mut containers, object, Field::Containers)?;
     let mut init: ArrayVec<Request, MAX_INIT_CONTAINERS> = ArrayVec::new();
     fill_at_or_leave(&mut init, object, Field::Init)?;
+    // The row is filled where it stands, and what it asks is known last.
     let mut pod = Pod {
         uid,
         priority,
