@@ -5,3 +5,4 @@ pub mod History
 pub mod Calm
 pub mod Laws
 pub mod Codes
+pub mod Done
