@@ -26,7 +26,8 @@ pub record Cluster : Type 0 where
   pub version : ℕ  -- of the last accepted event, and 0 before the first
   pub nodes : Nodes
   pub places : Places
+  pub ticket : ℕ  -- the last that was given, and 0 before the first: the next one is one more
 
 -- the state before any step
 abbrev pub opening : Limits → Cluster
-opening limits = record { limits = limits; version = 0; nodes = empty; places = empty }
+opening limits = record { limits = limits; version = 0; nodes = empty; places = empty; ticket = 0 }

@@ -17,8 +17,8 @@ held_code {X} x =
 -- and so is a cluster's state, as the tuple of its fields
 abbrev pub cluster_code : Coded Cluster
 cluster_code =
-    code_by (Limits × (ℕ × (Nodes × Places)))
-    (coded× limits.the_row.coded (coded× coded_ℕ (coded× (code (coded_list coded_ℕ) node.the_row.coded) (code (coded_list coded_ℕ) place.the_row.coded))))
-    (λ c. (c.limits, (c.version, (c.nodes, c.places))))
-    (λ p. record { limits = p.0; version = p.1.0; nodes = p.1.1.0; places = p.1.1.1 })
+    code_by (Limits × (ℕ × (Nodes × (Places × ℕ))))
+    (coded× limits.the_row.coded (coded× coded_ℕ (coded× (code (coded_list coded_ℕ) node.the_row.coded) (coded× (code (coded_list coded_ℕ) place.the_row.coded) coded_ℕ))))
+    (λ c. (c.limits, (c.version, (c.nodes, (c.places, c.ticket)))))
+    (λ p. record { limits = p.0; version = p.1.0; nodes = p.1.1.0; places = p.1.1.1.0; ticket = p.1.1.1.1 })
     (λ _. refl)

@@ -2,21 +2,19 @@
 use Rattle.std.specs.Prelude.{◌≡◌, ℕ, ◌<◌, List, map, length, IsTrue}
 use Rattle.std.specs.declared.cmp.Ordering.{Ordering}
 use Rattle.std.specs.declared.cmp.Ordering.TheVariants.{Less, Equal, Greater}
-use Rattle.std.specs.declared.sync.Arc.{Arc}
-use Rattle.std.specs.declared.alloc.Global.{Global}
 use Rattle.std.specs.List.{HoldsAt}
 use Rattle.std.specs.List.Sorted.{IsPartitionPoint}
 use Rattle.std.specs.FinMap.{is_sorted}
 use Rattle.quant.specs.declared.objects.Node.{Node}
 use Rattle.book.specs.Cluster.{name_cmp}
 
--- rows that are shared
+-- rows, wherever they lie in memory
 abbrev pub Rows : Type 0
-Rows = List (Arc Node Global)
+Rows = List Node
 
 -- a row with its name
-abbrev pub named_row : Arc Node Global → List ℕ × Node
-named_row row = (row.value.name, row.value)
+abbrev pub named_row : Node → List ℕ × Node
+named_row row = (row.name, row)
 
 -- the rows with their names
 abbrev pub named : Rows → List (List ℕ × Node)
@@ -27,8 +25,8 @@ abbrev pub IsInOrder : Rows → Type 0
 IsInOrder rows = IsTrue (is_sorted name_cmp (named rows))
 
 -- how a row's name compares with a name
-abbrev pub compared : List ℕ → Arc Node Global → Ordering
-compared name row = name_cmp row.value.name name
+abbrev pub compared : List ℕ → Node → Ordering
+compared name row = name_cmp row.name name
 
 -- the row at this place has the name
 pub record IsRowOf (rows : Rows) (name : List ℕ) (at : ℕ) : Type 0 where

@@ -1,12 +1,10 @@
 -- The totals that the book keeps, and what ties them to the places.
-use Rattle.std.specs.Prelude.{◌≡◌, ℕ, ◌+◌, ◌*◌, ◌≤◌, List, if◌then◌else◌, unwrap_or}
+use Rattle.std.specs.Prelude.{◌≡◌, ℕ, ◌+◌, ◌*◌, ◌≤◌, List, Some, if◌then◌else◌, unwrap_or, sum_by}
 use Rattle.std.specs.Str.{bytes_eq}
-use Rattle.std.specs.FinMap.{FinMap, get, len}
+use Rattle.std.specs.FinMap.{FinMap, get, len, values}
 use Rattle.quant.specs.declared.amount.Res.{Res}
 use Rattle.quant.specs.declared.amount.Request.{Request}
-use Rattle.book.specs.declared.place.Place.{Place}
-use Rattle.book.specs.Cluster.{name_cmp}
-use Rattle.book.specs.Tables.{Held}
+use Rattle.book.specs.Cluster.{name_cmp, Places}
 use Rattle.book.specs.Used.{nothing, used, assumed}
 
 -- the totals of nodes, by name
@@ -39,10 +37,20 @@ pub record IsWithin (a b : Res) : Type 0 where
 abbrev pub most_of : ℕ → Res
 most_of pods = record { cpu = record { 0 = pods * 1073741824 }; mem = record { 0 = pods * 17592186044416 }; pods = pods }
 
--- the kept numbers are those of the places, and there is room for more of them
-pub record IsCounted (places : Held Place) (totals : Held Res) (kept : ℕ) : Type 0 where
-  pub each : (node : List ℕ) → total_at totals.map node ≡ used places.map node
-  pub assumed : kept ≡ assumed places.map
-  pub few : len places.map ≤ places.room
-  pub small : places.room ≤ 150000
-  pub room : totals.room ≡ 2 * places.room + 1
+-- how many pods the totals count together
+abbrev pub pods_in : Totals → ℕ
+pods_in totals = sum_by (λ r. r.pods) (values totals)
+
+-- each total counts a pod
+abbrev pub AllInUse : Totals → Type 0
+AllInUse totals = (node : List ℕ) (r : Res) → get totals node ≡ Some r → 1 ≤ r.pods
+
+-- the kept numbers are those of the places, and there is room for a total for each
+pub record IsCounted (places : Places) (most : ℕ) (totals : Totals) (totals_most : ℕ) (kept : ℕ) : Type 0 where
+  pub each : (node : List ℕ) → total_at totals node ≡ used places node
+  pub assumed : kept ≡ assumed places
+  pub pods : pods_in totals ≡ len places
+  pub in_use : AllInUse totals
+  pub few : len places ≤ most
+  pub small : most ≤ 150000
+  pub same : totals_most ≡ most

@@ -1,5 +1,6 @@
-//! The book: the nodes, the places, and the version of the last event.
-ghost use Rattle.std.specs.Prelude.{◌≡◌, IfOk, nat_le};
+//! The book: the nodes, the places, the version of the last event and the last ticket.
+ghost use Rattle.std.specs.Prelude.{◌≡◌, IfOk, nat_le, Bool, not, ◌∷◌, [], Ok, Err, if◌then◌else◌};
+ghost use Rattle.std.specs.Result.{result_err};
 ghost use Rattle.std.specs.FinMap as fin;
 
 use crate::NoMemory;
@@ -8,11 +9,12 @@ use crate::nodes::Nodes;
 use crate::place::{Place, Status};
 use crate::places::Places;
 use crate::refusal::Refusal;
-use crate::step::{ClusterStep, Reply};
-use quant::{Name, Node, Request, Res, Version};
+use crate::step::{ClusterStep, Entry, Reply};
+use fit::fits;
+use quant::{Event, MAX_TICKET, Name, Request, Res, SharedNode, SharedPod, Ticket, Version};
 use std::alloc::Global;
+use std::hash::RandomState;
 use std::marker::Model;
-use std::sync::Arc;
 
 /// What is known of a cluster: its nodes, and where its pods are placed.
 ///
@@ -23,6 +25,7 @@ pub struct Book {
     version: Version,
     nodes: Nodes,
     places: Places,
+    ticket: Ticket,
 }
 
 impl Model for Book {
@@ -36,31 +39,34 @@ impl Model for Book {
 
     ghost use Rattle.std.specs.Prelude.{◌≡◌};
 
-    ghost view = { λ b. record { limits = b.limits; version = b.version.0; nodes = b.nodes.map; places = b.places.map } };
+    ghost view = { λ b. record { limits = b.limits; version = b.version.0; nodes = b.nodes.map; places = b.places.map; ticket = b.ticket.0 } };
 
     ghost invariant = { λ b. (b.nodes.room ≡ b.limits.nodes) × (b.places.room ≡ b.limits.placed) };
 }
 
 impl Book {
+    ghost use Rattle.quant.specs.declared.event.Event.TheVariants as event;
     ghost use Rattle.book.specs.Cluster.{opening};
     ghost use Rattle.book.specs.Rows.{named};
     ghost use Rattle.book.specs.Used.{used, assumed, bound};
-    ghost use Rattle.book.specs.Step.{after, reply, IsTaken};
-    ghost use Rattle.book.specs.declared.step.ClusterStep.TheVariants.{NodeSet, PodBound};
+    ghost use Rattle.book.specs.Step.{after, reply, IsTaken, first_of, is_placed, is_there, fits_row, refusal_by_ticket};
+    ghost use Rattle.book.specs.declared.step.ClusterStep.TheVariants.{Event, Assume, BindDone, Forget};
 
     /// An empty book, with room for as much as the limits say. It is the one call of a book that takes memory.
+    /// The keys are of the hash by which names are found, and nobody who chooses names is to know them.
     ///
     /// Errors: `NoMemory`.
-    pub fn new(alloc: Global, limits: Limits) -> Result<Self, NoMemory>
+    pub fn new(alloc: Global, keys: RandomState, limits: Limits) -> Result<Self, NoMemory>
         ensures { IfOk result (λ book. book ≡ opening limits) }
     {
         let nodes = Nodes::new(alloc, limits.nodes)?;
-        let places = Places::new(alloc, limits.placed)?;
+        let places = Places::new(alloc, keys, limits.placed)?;
         Ok(Book {
             limits,
             version: Version(0),
             nodes,
             places,
+            ticket: Ticket(0),
         })
     }
 
@@ -73,36 +79,91 @@ impl Book {
         ensures after { self.new ≡ after self.old step }
     {
         let taken = match step {
-            ClusterStep::NodeSet { version, node } => self.set_node(version, node),
-            ClusterStep::PodBound {
+            ClusterStep::Event {
+                event,
+                queued,
+                queue_full,
+            } => self.take_event(event, queued, queue_full),
+            ClusterStep::Assume { uid, node, entry } => self.assume(uid, node, entry),
+            ClusterStep::BindDone {
+                uid,
+                ticket,
+                queued,
+            } => self.finish(&uid, ticket, queued),
+            ClusterStep::Forget {
+                uid,
+                ticket,
+                queued,
+            } => self.forget(&uid, ticket, queued),
+        };
+        taken.unwrap_or_else(Reply::Refused)
+    }
+
+    // Takes what the watch tells.
+    fn take_event(&mut self, event: Event, queued: bool, queue_full: bool) -> Result<Reply, Refusal>
+        ensures { IsTaken self.old (Event event queued queue_full) result self.new }
+    {
+        match event {
+            Event::NodeSet { version, node } => self.set_node(version, node),
+            Event::NodeGone { version, name } => self.remove_node(version, &name),
+            Event::PodPending { version, pod } => self.await_pod(version, pod, queued, queue_full),
+            Event::PodBound {
                 version,
                 uid,
                 node,
                 request,
             } => self.bind_pod(version, uid, node, request),
-        };
-        match taken {
-            Ok(()) => Reply::Done,
-            Err(why) => Reply::Refused(why),
+            Event::PodGone { version, uid } => self.remove_pod(version, &uid, queued),
         }
     }
 
-    // Whether an event of this version comes too late.
-    fn is_old(&self, version: Version) -> bool
-        ensures { result ≡ nat_le version.0 self.now.version }
+    // An event that comes too late is refused.
+    fn is_newer(&self, version: Version) -> Result<(), Refusal>
+        ensures { result ≡ (if nat_le version.0 self.now.version then Err Refusal.Old else Ok tt) }
     {
-        version <= self.version
-    }
-
-    fn set_node(&mut self, version: Version, node: Arc<Node>) -> Result<(), Refusal>
-        ensures { IsTaken self.old (NodeSet version node) result self.new }
-    {
-        if self.is_old(version) {
+        if version <= self.version {
             return Err(Refusal::Old);
         }
+        Ok(())
+    }
+
+    fn set_node(&mut self, version: Version, node: SharedNode) -> Result<Reply, Refusal>
+        ensures { (queued queue_full : Bool) → IsTaken self.old (Event (event.NodeSet version node) queued queue_full) result self.new }
+    {
+        self.is_newer(version)?;
         self.nodes.set(node)?;
         self.version = version;
-        Ok(())
+        Ok(Reply::Done)
+    }
+
+    fn remove_node(&mut self, version: Version, name: &Name) -> Result<Reply, Refusal>
+        ensures { (queued queue_full : Bool) → IsTaken self.old (Event (event.NodeGone version name.now) queued queue_full) result self.new }
+    {
+        self.is_newer(version)?;
+        self.nodes.remove(name)?;
+        self.version = version;
+        Ok(Reply::Done)
+    }
+
+    // The queue keeps the pod.
+    fn await_pod(
+        &mut self,
+        version: Version,
+        pod: SharedPod,
+        queued: bool,
+        queue_full: bool,
+    ) -> Result<Reply, Refusal>
+        ensures { IsTaken self.old (Event (event.PodPending version pod) queued queue_full) result self.new }
+    {
+        self.is_newer(version)?;
+        if queued || self.places.has(&pod.uid) {
+            return Err(Refusal::Known);
+        }
+        if queue_full {
+            return Err(Refusal::Full);
+        }
+        self.version = version;
+        Ok(Reply::Queue(pod))
     }
 
     fn bind_pod(
@@ -111,25 +172,104 @@ impl Book {
         uid: Name,
         node: Name,
         request: Request,
-    ) -> Result<(), Refusal>
-        ensures { IsTaken self.old (PodBound version uid node request) result self.new }
+    ) -> Result<Reply, Refusal>
+        ensures { (queued queue_full : Bool) → IsTaken self.old (Event (event.PodBound version uid node request) queued queue_full) result self.new }
     {
-        if self.is_old(version) {
-            return Err(Refusal::Old);
+        self.is_newer(version)?;
+        let place = Place {
+            node,
+            request,
+            status: Status::Bound,
+        };
+        self.places.put(uid, place)?;
+        self.version = version;
+        Ok(Reply::Done)
+    }
+
+    fn remove_pod(&mut self, version: Version, uid: &Name, queued: bool) -> Result<Reply, Refusal>
+        ensures { (queue_full : Bool) → IsTaken self.old (Event (event.PodGone version uid.now) queued queue_full) result self.new }
+    {
+        self.is_newer(version)?;
+        if !self.places.remove(uid) && !queued {
+            return Err(Refusal::Gone);
         }
-        if self.places.is_full_for(&uid) {
+        self.version = version;
+        Ok(Reply::Done)
+    }
+
+    // A pod that a pass holds is placed on a node where it fits now.
+    fn assume(&mut self, uid: Name, node: Name, entry: Entry) -> Result<Reply, Refusal>
+        ensures { IsTaken self.old (Assume uid node entry) result self.new }
+    {
+        if self.places.has(&uid) {
+            return Err(Refusal::Placed);
+        }
+        let request = match entry {
+            Entry::Missing => return Err(Refusal::Gone),
+            Entry::Elsewhere => return Err(Refusal::NotInFlight),
+            Entry::Held(request) => request,
+        };
+        self.check_fit(&node, request)?;
+        if self.ticket.0 >= MAX_TICKET {
             return Err(Refusal::Full);
         }
+        let ticket = Ticket(self.ticket.0 + 1);
         self.places.put(
             uid,
             Place {
                 node,
                 request,
-                status: Status::Bound,
+                status: Status::Assumed {
+                    ticket,
+                    finished: false,
+                },
             },
-        );
-        self.version = version;
-        Ok(())
+        )?;
+        self.ticket = ticket;
+        Ok(Reply::Ticket(ticket))
+    }
+
+    // Whether a pod with this request fits on a node now, by what the places there use.
+    fn check_fit(&self, node: &Name, request: Request) -> Result<(), Refusal>
+        ensures { result_err result ≡ first_of ((not (is_there self.now node.now), Refusal.NoNode) ∷ (not (fits_row self.now node.now request (fin.get self.now.nodes node.now)), Refusal.NoRoom) ∷ []) }
+    {
+        let row = self.nodes.get(node).ok_or(Refusal::NoNode)?;
+        let used = self.places.used(node);
+        fits(row.allocatable, used, request).map_err(|_| Refusal::NoRoom)
+    }
+
+    // Whether the pod has an assumed place that this ticket names, and whose bind wasn't reported done.
+    fn check_ticket(&self, uid: &Name, ticket: Ticket, queued: bool) -> Result<(), Refusal>
+        ensures { result_err result ≡ refusal_by_ticket self.now uid.now ticket queued }
+    {
+        match self.places.get(uid) {
+            None if queued => Err(Refusal::StaleTicket),
+            None => Err(Refusal::Gone),
+            Some(place) => place.status.check(ticket),
+        }
+    }
+
+    fn finish(&mut self, uid: &Name, ticket: Ticket, queued: bool) -> Result<Reply, Refusal>
+        ensures { IsTaken self.old (BindDone uid.now ticket queued) result self.new }
+    {
+        self.check_ticket(uid, ticket, queued)?;
+        self.places.finish(uid);
+        Ok(Reply::Done)
+    }
+
+    fn forget(&mut self, uid: &Name, ticket: Ticket, queued: bool) -> Result<Reply, Refusal>
+        ensures { IsTaken self.old (Forget uid.now ticket queued) result self.new }
+    {
+        self.check_ticket(uid, ticket, queued)?;
+        self.places.remove(uid);
+        Ok(Reply::Done)
+    }
+
+    /// Whether a pod has a place.
+    pub fn is_placed(&self, uid: &Name) -> bool
+        ensures { result ≡ is_placed self.now uid.now }
+    {
+        self.places.has(uid)
     }
 
     /// The limits that the book was made with.
@@ -147,7 +287,7 @@ impl Book {
     }
 
     /// The rows of the nodes, in the order of their names' bytes.
-    pub fn rows(&self) -> &[Arc<Node>]
+    pub fn rows(&self) -> &[SharedNode]
         ensures { named result.now ≡ fin.entries self.now.nodes }
     {
         self.nodes.rows()

@@ -10,16 +10,13 @@ mod place;
 mod places;
 mod refusal;
 mod step;
-mod table;
-#[cfg(test)]
-mod tests;
 
 pub use book::Book;
-pub use limits::{Limits, MAX_NODES, MAX_PLACED, MAX_QUEUED};
+pub use limits::Limits;
 pub use place::{Place, Status};
 pub use refusal::Refusal;
 use std::alloc::AllocError;
-pub use step::{ClusterStep, Reply};
+pub use step::{ClusterStep, Entry, Reply};
 use thiserror::Error;
 
 /// Memory was asked for and refused.

@@ -1,35 +1,29 @@
 //! How large a scheduler may grow. All its room is made before its first step.
 ghost use Rattle.std.specs.Prelude.{◌≡◌, ◌≤◌};
+ghost use Rattle.quant.specs.declared.limits.TheConstants.{MAX_NODES, MAX_PLACED, MAX_QUEUED};
 
-/// The most nodes.
-pub const MAX_NODES: usize = 1_000;
-
-/// The most pods with a place.
-pub const MAX_PLACED: usize = 150_000;
-
-/// The most pods in the queue, those in flight and assumed included.
-pub const MAX_QUEUED: usize = 10_000;
+use quant::{MAX_NODES, MAX_PLACED, MAX_QUEUED};
 
 /// How many nodes, placed pods and queued pods there is room for. Each may be 0.
 #[derive(Clone, Copy, Debug, PartialEq, Eq)]
 pub struct Limits {
-    /// Nodes, at most 1,000.
+    /// Nodes, at most `MAX_NODES`.
     pub nodes: usize,
-    /// Pods with a place, at most 150,000.
+    /// Pods with a place, at most `MAX_PLACED`.
     pub placed: usize,
-    /// Pods in the queue, at most 10,000.
+    /// Pods in the queue, at most `MAX_QUEUED`.
     pub queued: usize,
-    pub ghost few_nodes: { nodes ≤ 1000 },
-    pub ghost few_placed: { placed ≤ 150000 },
-    pub ghost few_queued: { queued ≤ 10000 },
+    pub ghost few_nodes: { nodes ≤ MAX_NODES },
+    pub ghost few_placed: { placed ≤ MAX_PLACED },
+    pub ghost few_queued: { queued ≤ MAX_QUEUED },
 }
 
 impl Limits {
     /// The greatest limits.
     pub fn greatest() -> Self
-        ensures nodes { result.nodes ≡ 1000 }
-        ensures placed { result.placed ≡ 150000 }
-        ensures queued { result.queued ≡ 10000 }
+        ensures nodes { result.nodes ≡ MAX_NODES }
+        ensures placed { result.placed ≡ MAX_PLACED }
+        ensures queued { result.queued ≡ MAX_QUEUED }
     {
         Limits {
             nodes: MAX_NODES,

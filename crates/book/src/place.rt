@@ -1,4 +1,8 @@
 //! Where a pod is placed.
+ghost use Rattle.std.specs.Prelude.{◌≡◌, not, ◌∷◌, []};
+ghost use Rattle.std.specs.Result.{result_err};
+
+use crate::refusal::Refusal;
 use quant::{Name, Request, Ticket};
 
 /// How sure a place is.
@@ -24,4 +28,33 @@ pub struct Place {
     pub request: Request,
     /// How sure the place is.
     pub status: Status,
+}
+
+impl Status {
+    ghost use Rattle.book.specs.Step.{first_of, is_bound, has_ticket, is_finished, finished_status};
+
+    // An assumed place is what a ticket names, if it is the place's own, until its bind is reported done.
+    pub(crate) fn check(self, named: Ticket) -> Result<(), Refusal>
+        ensures { result_err result ≡ first_of ((is_bound self, Refusal.Confirmed) ∷ (not (has_ticket named self), Refusal.StaleTicket) ∷ (is_finished self, Refusal.Confirmed) ∷ []) }
+    {
+        match self {
+            Status::Bound => Err(Refusal::Confirmed),
+            Status::Assumed { ticket, .. } if ticket != named => Err(Refusal::StaleTicket),
+            Status::Assumed { finished: true, .. } => Err(Refusal::Confirmed),
+            Status::Assumed { .. } => Ok(()),
+        }
+    }
+
+    // The status once its bind is reported done.
+    pub(crate) fn finished(self) -> Self
+        ensures { result ≡ finished_status self }
+    {
+        match self {
+            Status::Assumed { ticket, .. } => Status::Assumed {
+                ticket,
+                finished: true,
+            },
+            Status::Bound => Status::Bound,
+        }
+    }
 }

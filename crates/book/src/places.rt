@@ -1,27 +1,30 @@
 //! Where pods are placed, with what the pods on each node use together.
-ghost use Rattle.std.specs.Prelude.{◌≡◌, ℕ, ◌+◌, ◌<◌, ◌≤◌, IfOk, false, List};
+ghost use Rattle.std.specs.Prelude.{◌≡◌, ℕ, ◌+◌, ◌<◌, ◌≤◌, IfOk, IfErr, OnOk, OnErr, IsSome, true, false, List, Some, length};
+ghost use Rattle.std.specs.Option.{option_copied};
 ghost use Rattle.std.specs.FinMap as fin;
+ghost use Rattle.name_table.specs.Slots.{map_of};
 ghost use Rattle.book.specs.Tables.{is_full_for};
 ghost use Rattle.book.specs.Used.{used, assumed, bound, assumed_in};
-ghost use Rattle.book.specs.Totals.{total_at, plus, adds, one_pod, most_of, IsWithin};
+ghost use Rattle.book.specs.Totals.{total_at, plus, adds, one_pod, most_of, IsWithin, AllInUse, pods_in};
+ghost use Rattle.quant.specs.declared.limits.TheConstants.{MAX_PLACED};
 
 use crate::NoMemory;
 use crate::place::{Place, Status};
-use crate::table::Table;
-use quant::{Bytes, Cpu, Name, Request, Res};
+use crate::refusal::Refusal;
+use name_table::NameTable;
+use quant::{Bytes, Cpu, MAX_PLACED, Name, Request, Res};
 use std::alloc::Global;
+use std::hash::RandomState;
 use std::marker::Model;
 
 /// The places of pods, by uid. What the pods on a node use is kept, so that neither a look-up nor a change
-/// depends on how many places there are, but for the change that counts anew.
+/// depends on how many places there are.
 ///
-/// A node's total stays when its last pod goes. When the totals have used up their room, which is more than
-/// twice that of the places, they are counted anew, and then those of nodes without pods are gone. That takes
-/// one pass over the places, and comes once at most in as many changes as there is room for places.
+/// A node's total goes with its last pod, so that there are no more totals than places.
 #[derive(Drop)]
 pub(crate) struct Places {
-    by_uid: Table<Place>,
-    totals: Table<Res>,
+    by_uid: NameTable<Place>,
+    totals: NameTable<Res>,
     assumed: usize,
 }
 
@@ -36,21 +39,26 @@ impl Model for Places {
 
     ghost coded = { held_code place.the_row.coded };
 
+    ghost use Rattle.std.specs.Prelude.{length};
+    ghost use Rattle.name_table.specs.Slots.{map_of};
     ghost use Rattle.book.specs.Totals.{IsCounted};
 
-    ghost view = { λ t. t.by_uid };
+    ghost view = { λ t. record { map = map_of t.by_uid; room = length t.by_uid } };
 
-    ghost invariant = { λ t. IsCounted t.by_uid t.totals t.assumed };
+    ghost invariant = { λ t. IsCounted (map_of t.by_uid) (length t.by_uid) (map_of t.totals) (length t.totals) t.assumed };
 }
 
 impl Places {
+    ghost use Rattle.book.specs.declared.place.Place.{Place};
+    ghost use Rattle.book.specs.Step.{finished_status};
+
     /// No places, with room for as many.
-    pub(crate) fn new(alloc: Global, room: usize) -> Result<Self, NoMemory>
-        requires { room ≤ 150000 }
+    pub(crate) fn new(alloc: Global, keys: RandomState, room: usize) -> Result<Self, NoMemory>
+        requires { room ≤ MAX_PLACED }
         ensures { IfOk result (λ t. t ≡ record { map = fin.empty; room = room }) }
     {
-        let by_uid = Table::new(alloc, room)?;
-        let totals = Table::new(alloc, 2 * room + 1)?;
+        let by_uid = NameTable::new(alloc, keys, room)?;
+        let totals = NameTable::new(alloc, keys, room)?;
         Ok(Places {
             by_uid,
             totals,
@@ -76,28 +84,88 @@ impl Places {
     pub(crate) fn used(&self, node: &Name) -> Res
         ensures { result ≡ used self.now.map node.now }
     {
-        total(&self.totals, node)
+        let nothing = Res {
+            cpu: Cpu(0),
+            mem: Bytes(0),
+            pods: 0,
+        };
+        self.totals.get(node).copied().unwrap_or(nothing)
     }
 
-    /// Whether the pod has no place, and there is no room for one more.
-    pub(crate) fn is_full_for(&self, uid: &Name) -> bool
-        ensures { result ≡ is_full_for self.now.map self.now.room uid.now }
+    /// Whether a pod has a place.
+    pub(crate) fn has(&self, uid: &Name) -> bool
+        ensures { result ≡ fin.contains_key self.now.map uid.now }
     {
-        self.by_uid.is_full_for(uid)
+        self.by_uid.find(uid).is_some()
+    }
+
+    /// A pod's place.
+    pub(crate) fn get(&self, uid: &Name) -> Option<&Place>
+        ensures { option_copied result ≡ fin.get self.now.map uid.now }
+    {
+        self.by_uid.get(uid)
     }
 
     /// Gives a pod a place, instead of the one that it may have.
-    pub(crate) fn put(&mut self, uid: Name, place: Place)
-        requires { is_full_for self.old.map self.old.room uid ≡ false }
-        ensures { self.new ≡ record self.old { map = fin.insert self.old.map uid place } }
+    ///
+    /// Errors: `Full` where it has none and there is no room for one more; nothing changes.
+    pub(crate) fn put(&mut self, uid: Name, place: Place) -> Result<(), Refusal>
+        ensures put { OnOk result (self.new ≡ record self.old { map = fin.insert self.old.map uid place }) }
+        ensures room { OnOk result (is_full_for self.old.map self.old.room uid ≡ false) }
+        ensures full { OnErr result (is_full_for self.old.map self.old.room uid ≡ true) }
+        ensures why { IfErr result (λ why. why ≡ Refusal.Full) }
+        ensures unchanged { OnErr result (self.new ≡ self.old) }
     {
-        leave_room(&mut self.totals, &self.by_uid);
-        add(&mut self.totals, &place.node, &place.request);
-        self.assumed += assumed_count(&place.status);
-        if let Some(old) = self.by_uid.put(uid, place) {
-            take(&mut self.totals, old.node, &old.request);
-            self.assumed -= assumed_count(&old.status);
+        match self.by_uid.find(&uid) {
+            Some(slot) => {
+                let old = self.by_uid.value_at(slot);
+                take(&mut self.totals, &old.node, &old.request);
+                self.assumed -= assumed_count(&old.status);
+                add(&mut self.totals, &place.node, &place.request);
+                self.assumed += assumed_count(&place.status);
+                self.by_uid.replace_at(slot, place);
+            }
+            None => {
+                if self.by_uid.is_full() {
+                    return Err(Refusal::Full);
+                }
+                add(&mut self.totals, &place.node, &place.request);
+                self.assumed += assumed_count(&place.status);
+                self.by_uid.insert(uid, place);
+            }
         }
+        Ok(())
+    }
+
+    /// Takes a pod's place away, and tells whether it had one.
+    pub(crate) fn remove(&mut self, uid: &Name) -> bool
+        ensures there { result ≡ fin.contains_key self.old.map uid.now }
+        ensures gone { self.new ≡ record self.old { map = fin.remove self.old.map uid.now } }
+        ensures kept { result ≡ false → self.new ≡ self.old }
+    {
+        let Some(old) = self.by_uid.remove(uid) else {
+            return false;
+        };
+        take(&mut self.totals, &old.node, &old.request);
+        self.assumed -= assumed_count(&old.status);
+        true
+    }
+
+    /// Marks a pod's place as finished, if it is assumed.
+    pub(crate) fn finish(&mut self, uid: &Name)
+        requires { IsSome (fin.get self.old.map uid.now) }
+        ensures { (place : Place) → fin.get self.old.map uid.now ≡ Some place → self.new ≡ record self.old { map = fin.insert self.old.map uid.now (record place { status = finished_status place.status }) } }
+    {
+        let Some(slot) = self.by_uid.find(uid) else {
+            return;
+        };
+        let place = self.by_uid.value_at(slot);
+        let finished = Place {
+            node: place.node.copied(),
+            request: place.request,
+            status: place.status.finished(),
+        };
+        self.by_uid.replace_at(slot, finished);
     }
 }
 
@@ -111,78 +179,60 @@ fn assumed_count(status: &Status) -> usize
     }
 }
 
-// The total that is kept of a node.
-fn total(totals: &Table<Res>, node: &Name) -> Res
-    ensures { result ≡ total_at totals.now.map node.now }
-{
-    let nothing = Res {
-        cpu: Cpu(0),
-        mem: Bytes(0),
-        pods: 0,
-    };
-    totals.get(node).copied().unwrap_or(nothing)
-}
-
 // Adds a pod to its node's total.
-fn add(totals: &mut Table<Res>, node: &Name, request: &Request)
-    requires room { fin.len totals.old.map < totals.old.room }
-    requires small { IsWithin (total_at totals.old.map node.now) (most_of 150000) }
-    ensures each { (other : List ℕ) → total_at totals.new.map other ≡ plus (total_at totals.old.map other) (adds node.now request.now other) }
-    ensures len { fin.len totals.new.map ≤ fin.len totals.old.map + 1 }
-    ensures room { totals.new.room ≡ totals.old.room }
+fn add(totals: &mut NameTable<Res>, node: &Name, request: &Request)
+    requires room { pods_in (map_of totals.old) < length totals.old }
+    requires small { length totals.old ≤ 150000 }
+    requires within { IsWithin (total_at (map_of totals.old) node.now) (most_of 150000) }
+    requires in_use { AllInUse (map_of totals.old) }
+    ensures each { (other : List ℕ) → total_at (map_of totals.new) other ≡ plus (total_at (map_of totals.old) other) (adds node.now request.now other) }
+    ensures pods { pods_in (map_of totals.new) ≡ pods_in (map_of totals.old) + 1 }
+    ensures in_use { AllInUse (map_of totals.new) }
+    ensures room { length totals.new ≡ length totals.old }
 {
-    let had = total(totals, node);
-    totals.put(
-        node.copied(),
-        Res {
-            cpu: Cpu(had.cpu.0 + request.cpu.0),
-            mem: Bytes(had.mem.0 + request.mem.0),
-            pods: had.pods + 1,
-        },
-    );
-}
-
-// Takes a pod out of its node's total.
-fn take(totals: &mut Table<Res>, node: Name, request: &Request)
-    requires { IsWithin (one_pod request.now) (total_at totals.old.map node) }
-    ensures each { (other : List ℕ) → plus (total_at totals.new.map other) (adds node request.now other) ≡ total_at totals.old.map other }
-    ensures room { totals.new.room ≡ totals.old.room }
-{
-    let had = total(totals, &node);
-    totals.put(
-        node,
-        Res {
-            cpu: Cpu(had.cpu.0 - request.cpu.0),
-            mem: Bytes(had.mem.0 - request.mem.0),
-            pods: had.pods - 1,
-        },
-    );
-}
-
-// Sees to it that a name more fits into the totals.
-fn leave_room(totals: &mut Table<Res>, places: &Table<Place>)
-    requires each { (node : List ℕ) → total_at totals.old.map node ≡ used places.now.map node }
-    requires room { fin.len places.now.map < totals.old.room }
-    requires small { fin.len places.now.map ≤ 150000 }
-    ensures each { (node : List ℕ) → total_at totals.new.map node ≡ used places.now.map node }
-    ensures left { fin.len totals.new.map < totals.new.room }
-    ensures room { totals.new.room ≡ totals.old.room }
-{
-    if totals.is_full() {
-        recount(totals, places);
+    match totals.find(node) {
+        Some(slot) => {
+            let had = *totals.value_at(slot);
+            let more = Res {
+                cpu: Cpu(had.cpu.0 + request.cpu.0),
+                mem: Bytes(had.mem.0 + request.mem.0),
+                pods: had.pods + 1,
+            };
+            totals.replace_at(slot, more);
+        }
+        None => {
+            let first = Res {
+                cpu: request.cpu,
+                mem: request.mem,
+                pods: 1,
+            };
+            totals.insert(node.copied(), first);
+        }
     }
 }
 
-// Counts the totals of the places anew, and forgets all others.
-fn recount(totals: &mut Table<Res>, places: &Table<Place>)
-    requires room { fin.len places.now.map < totals.old.room }
-    requires small { fin.len places.now.map ≤ 150000 }
-    ensures each { (node : List ℕ) → total_at totals.new.map node ≡ used places.now.map node }
-    ensures len { fin.len totals.new.map ≤ fin.len places.now.map }
-    ensures room { totals.new.room ≡ totals.old.room }
+// Takes a pod out of its node's total, which goes with the last pod.
+fn take(totals: &mut NameTable<Res>, node: &Name, request: &Request)
+    requires within { IsWithin (one_pod request.now) (total_at (map_of totals.old) node.now) }
+    requires last { (total_at (map_of totals.old) node.now).pods ≡ 1 → total_at (map_of totals.old) node.now ≡ one_pod request.now }
+    requires in_use { AllInUse (map_of totals.old) }
+    ensures each { (other : List ℕ) → plus (total_at (map_of totals.new) other) (adds node.now request.now other) ≡ total_at (map_of totals.old) other }
+    ensures pods { pods_in (map_of totals.new) + 1 ≡ pods_in (map_of totals.old) }
+    ensures in_use { AllInUse (map_of totals.new) }
+    ensures room { length totals.new ≡ length totals.old }
 {
-    totals.clear();
-    for place in places.values() {
-        add(totals, &place.node, &place.request);
+    let Some(slot) = totals.find(node) else {
+        unreachable!();
+    };
+    let had = *totals.value_at(slot);
+    if had.pods == 1 {
+        totals.remove_at(slot);
+        return;
     }
+    let less = Res {
+        cpu: Cpu(had.cpu.0 - request.cpu.0),
+        mem: Bytes(had.mem.0 - request.mem.0),
+        pods: had.pods - 1,
+    };
+    totals.replace_at(slot, less);
 }

@@ -1,36 +1,69 @@
 //! What happens to a cluster, and what is answered.
 use crate::refusal::Refusal;
-use quant::{Name, Node, Request, Version};
-use std::sync::Arc;
+use quant::{Event, Name, Request, SharedPod, Ticket};
 
-/// A step that touches the version, the nodes or the places.
-#[derive(Drop)]
+/// A step that touches the version, the nodes, the places or the tickets, with what its tests need
+/// of the queue.
+#[derive(Debug, Drop)]
 pub enum ClusterStep {
-    /// A node is there, with this row, from now on.
-    NodeSet {
-        /// The event's version.
-        version: Version,
-        /// The row.
-        node: Arc<Node>,
+    /// The watch tells this.
+    Event {
+        /// What it tells.
+        event: Event,
+        /// Whether the queue has an entry of the pod that the event names.
+        queued: bool,
+        /// Whether the queue has no room for one more entry.
+        queue_full: bool,
     },
-    /// A pod runs on a node, whether that node is there or not.
-    PodBound {
-        /// The event's version.
-        version: Version,
+    /// The scheduler chose this node for a pod, which is placed there before the cluster tells so.
+    Assume {
         /// The pod.
         uid: Name,
-        /// The name of the node.
+        /// The node's name.
         node: Name,
-        /// What the pod asks of the node.
-        request: Request,
+        /// What the queue has of the pod.
+        entry: Entry,
+    },
+    /// An assumed place was told to the cluster.
+    BindDone {
+        /// The pod.
+        uid: Name,
+        /// What names the choice of its place.
+        ticket: Ticket,
+        /// Whether the queue has an entry of the pod.
+        queued: bool,
+    },
+    /// An assumed place couldn't be told to the cluster, and is given up.
+    Forget {
+        /// The pod.
+        uid: Name,
+        /// What names the choice of its place.
+        ticket: Ticket,
+        /// Whether the queue has an entry of the pod.
+        queued: bool,
     },
 }
 
-/// The answer to a step.
+/// What the queue has of a pod that a pass wants to place.
 #[derive(Clone, Copy, Debug, PartialEq, Eq)]
+pub enum Entry {
+    /// No entry.
+    Missing,
+    /// An entry that this pass hasn't popped, or has given back since.
+    Elsewhere,
+    /// An entry that this pass has popped, of a pod with this request.
+    Held(Request),
+}
+
+/// The answer to a step.
+#[derive(Debug, Drop)]
 pub enum Reply {
     /// The step was done.
     Done,
+    /// The event was taken, and this pod, which it brought, is the queue's to keep.
+    Queue(SharedPod),
+    /// The pod has its place, and this ticket names the choice from now on.
+    Ticket(Ticket),
     /// The step was refused, and changed nothing.
     Refused(Refusal),
 }

@@ -1,3 +1,1 @@
-pub mod Calm
-pub mod Histories
-pub mod Readings
+

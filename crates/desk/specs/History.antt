@@ -1,21 +1,27 @@
--- Histories of a desk: which are legal, and what is read from them.
-use Rattle.std.specs.Prelude.{◌≡◌, ℕ, ◌+◌, ◌<◌, Bool, true, false, List, [], ◌∷◌, map, filter, length, Option, None, Some, if◌then◌else◌, unwrap_or, ◌==◌, ⊤, slice_index}
+-- Histories of a desk: which are legal, what is read from them, and what a pass learns by its calls.
+use Rattle.std.specs.Prelude.{◌≡◌, ℕ, ◌+◌, ◌<◌, ◌≤◌, Bool, true, false, List, [], ◌∷◌, ◌++◌, map, filter, length, Contains, Option, None, Some, Ok, if◌then◌else◌, unwrap_or, ◌==◌, ⊤, slice_index}
 use Rattle.std.specs.List.{filter_map, range_with_len, AllByRecursion}
 use Rattle.std.specs.Option.{option_or, option_map}
 use Rattle.std.specs.Str.{bytes_eq}
 use Rattle.std.specs.FinMap.{FinMap, from_entries, entries}
+use Rattle.quant.specs.declared.event.Event.TheVariants.{NodeSet, NodeGone, PodPending, PodBound, PodGone}
+use Rattle.quant.specs.declared.amount.Request.{Request}
+use Rattle.quant.specs.declared.name.Name.{Name}
 use Rattle.quant.specs.declared.objects.Node.{Node}
+use Rattle.quant.specs.declared.objects.Pod.{Pod}
+use Rattle.quant.specs.declared.version.Ticket.{Ticket}
+use Rattle.fit.specs.Fit.{fit_of}
 use Rattle.book.specs.declared.limits.Limits.{Limits}
 use Rattle.book.specs.declared.place.Place.{Place}
-use Rattle.book.specs.declared.place.Status.TheVariants.{Bound}
+use Rattle.book.specs.declared.place.Status.TheVariants.{Assumed, Bound}
 use Rattle.book.specs.Cluster.{name_cmp, Nodes, Places}
 use Rattle.book.specs.Used.{used}
 use Rattle.desk.specs.declared.step.Step.{Step}
-use Rattle.desk.specs.declared.step.Step.TheVariants.{NodeSet, PodBound, Count}
+use Rattle.desk.specs.declared.step.Step.TheVariants.{Event, Pop, Assume, BindDone, Forget, Fail, Tick, Count}
 use Rattle.desk.specs.declared.step.Reply.{Reply}
-use Rattle.desk.specs.declared.step.Reply.TheVariants.{Done, Counts, Refused}
+use Rattle.desk.specs.declared.step.Reply.TheVariants.{Done, Idle, Popped, Ticket as Given, Counts, Refused}
 use Rattle.desk.specs.Machine.{State, opening, reply, after}
-use Rattle.desk.specs.Caller.{Caller}
+use Rattle.desk.specs.Caller.{Caller, Opened}
 use Rattle.desk.specs.Shown.{Shown}
 
 -- an answered call
@@ -30,7 +36,7 @@ pub record Call : Type 0 where
 -- each call got the machine's answer
 abbrev pub AreAnswered : State → List Call → Type 0
 AreAnswered s [] = ⊤
-AreAnswered s (c ∷ l) = (c.reply ≡ reply s c.step) × AreAnswered (after s c.pass c.step) l
+AreAnswered s (c ∷ l) = (c.reply ≡ reply s c.pass c.step) × AreAnswered (after s c.pass c.step) l
 
 -- the state after calls
 abbrev pub state_after : State → List Call → State
@@ -49,36 +55,69 @@ one_to n = range_with_len 1 n
 abbrev pub calls_of : ℕ → List Call → ℕ
 calls_of pass l = length (filter (λ c. c.pass == pass) l)
 
+-- each call was made by one of the passes with a number below this
+abbrev pub AreHanded : ℕ → List Call → Type 0
+AreHanded passes l = AllByRecursion (λ c. c.pass < passes) l
+
+-- a history of a desk with these limits, by whatever passes
+pub record IsHistory (limits : Limits) (l : List Call) : Type 0 where
+  pub answered : AreAnswered (opening limits) l
+  pub numbered : (pass : ℕ) → numbers_of pass l ≡ one_to (calls_of pass l)
+
 -- a history of a desk with these limits that handed out as many passes
 pub record Legal (limits : Limits) (passes : ℕ) (l : List Call) : Type 0 where
-  pub answered : AreAnswered (opening limits passes) l
-  pub numbered : (pass : ℕ) → numbers_of pass l ≡ one_to (calls_of pass l)
-  pub handed : AllByRecursion (λ c. c.pass < passes) l
+  pub history : IsHistory limits l
+  pub handed : AreHanded passes l
 
--- a legal history leaves this state
-pub record Leaves (l : List Call) (s : State) : Type 0 where
-  pub legal : Legal s.cluster.limits (length s.calls) l
-  pub state : s ≡ state_after (opening s.cluster.limits (length s.calls)) l
-
--- a pass was handed out, and the history has just the calls that it made
-pub record IsPart (p : Caller) (l : List Call) (s : State) : Type 0 where
-  pub handed : p.number < length s.calls
-  pub calls : p.calls ≡ calls_of p.number l
+-- a legal history leaves a desk so
+pub record Leaves (l : List Call) (desk : Opened) : Type 0 where
+  pub legal : Legal desk.state.cluster.limits desk.handed l
+  pub state : desk.state ≡ state_after (opening desk.state.cluster.limits) l
 
 -- a pass of this desk: it was handed out, and both count its calls alike
-pub record IsOf (p : Caller) (s : State) : Type 0 where
-  pub handed : p.number < length s.calls
-  pub calls : slice_index s.calls p.number ≡ p.calls
+pub record IsOf (p : Caller) (desk : Opened) : Type 0 where
+  pub handed : p.number < desk.handed
+  pub calls : slice_index desk.state.calls p.number ≡ p.calls
+
+-- a history has just the calls that a pass made
+abbrev pub HasCallsOf : Caller → List Call → Type 0
+HasCallsOf p l = calls_of p.number l ≡ p.calls
 
 -- a call of a pass, with its answer
 abbrev pub call : Caller → Step → Reply → Call
-call p step answer = record { pass = p.number; number = p.calls + 1; step = step; reply = answer }
+call p e answer = record { pass = p.number; number = p.calls + 1; step = e; reply = answer }
+
+-- ---- what a pass learns
+
+-- calls of other passes alone
+abbrev pub AreOthers : ℕ → List Call → Type 0
+AreOthers pass l = AllByRecursion (λ c. (c.pass == pass) ≡ false) l
+
+-- a history begins with another, and has no further call of the pass
+abbrev pub GoesOn : ℕ → List Call → List Call → Type 0
+GoesOn pass before l = (between : List Call) × (l ≡ before ++ between) × AreOthers pass between
+
+-- what a pass may have seen of a history: a beginning of it, with all calls that the pass made
+pub record HasSeen (p : Caller) (seen l : List Call) : Type 0 where
+  pub calls : HasCallsOf p seen
+  pub goes_on : GoesOn p.number seen l
+
+-- a step of a pass was answered so: the pass had seen `before` and now has seen `l`, which is legal, begins with
+-- `before`, goes on with calls of other passes, and ends with this call
+pub record Applied (limits : Limits) (passes : ℕ) (p : Caller) (before : List Call) (e : Step) (answer : Reply) (l : List Call) : Type 0 where
+  pub until : List Call  -- the history up to the call
+  pub ends : l ≡ until ++ call p e answer ∷ []
+  pub goes_on : GoesOn p.number before until
+  pub legal : Legal limits passes l
 
 -- ---- what is read from a history
 
 -- whether a step was accepted
 abbrev pub is_accepted : Reply → Bool
 is_accepted Done = true
+is_accepted Idle = true
+is_accepted (Popped pod) = true
+is_accepted (Given ticket) = true
 is_accepted (Counts n) = true
 is_accepted (Refused why) = false
 
@@ -87,43 +126,132 @@ abbrev pub last_said : {X : Type 0} → (Call → Option X) → List Call → Op
 last_said says [] = None
 last_said says (c ∷ l) = option_or (last_said says l) (says c)
 
--- what a step says of a node: that it is there, with this row
-abbrev pub row_in : List ℕ → Step → Option (Option Node)
-row_in name (NodeSet version node) = if bytes_eq node.value.name name then Some (Some node.value) else None
-row_in name (PodBound version uid node request) = None
-row_in name Count = None
-
--- what a step says of a pod's place: that it is on this node, with this request
-abbrev pub place_in : List ℕ → Step → Option (Option Place)
-place_in uid (NodeSet version node) = None
-place_in uid (PodBound version pod node request) = if bytes_eq pod uid then Some (Some (record { node = node; request = request; status = Bound })) else None
-place_in uid Count = None
-
 -- what an accepted call says
 abbrev pub accepted : {X : Type 0} → (Step → Option X) → Call → Option X
 accepted says c = if is_accepted c.reply then says c.step else None
 
+-- what is said, where this is the name
+abbrev pub if_named : {X : Type 0} → Name → Name → X → Option X
+if_named name wanted x = if bytes_eq name wanted then Some x else None
+
+-- what a step says of a node: that it is there, with this row, or that it is gone
+abbrev pub row_in : Name → Step → Option (Option Node)
+row_in name (Event (NodeSet version node)) = if_named node.name name (Some node)
+row_in name (Event (NodeGone version node)) = if_named node name None
+row_in name (Event (PodPending version pod)) = None
+row_in name (Event (PodBound version uid node request)) = None
+row_in name (Event (PodGone version uid)) = None
+row_in name Pop = None
+row_in name (Assume uid node) = None
+row_in name (BindDone uid ticket) = None
+row_in name (Forget uid ticket) = None
+row_in name (Fail uid how) = None
+row_in name (Tick now) = None
+row_in name Count = None
+
 -- the row of a node, by the last accepted step that names it
-abbrev pub row_of : List Call → List ℕ → Option Node
+abbrev pub row_of : List Call → Name → Option Node
 row_of l name = unwrap_or (last_said (accepted (row_in name)) l) None
 
--- the place of a pod, by the last accepted step that names it
-abbrev pub place_of : List Call → List ℕ → Option Place
-place_of l uid = unwrap_or (last_said (accepted (place_in uid)) l) None
+-- the pod that a step brings to wait
+abbrev pub pending_in : Name → Step → Option Pod
+pending_in uid (Event (NodeSet version node)) = None
+pending_in uid (Event (NodeGone version node)) = None
+pending_in uid (Event (PodPending version pod)) = if_named pod.uid uid pod
+pending_in uid (Event (PodBound version other node request)) = None
+pending_in uid (Event (PodGone version other)) = None
+pending_in uid Pop = None
+pending_in uid (Assume other node) = None
+pending_in uid (BindDone other ticket) = None
+pending_in uid (Forget other ticket) = None
+pending_in uid (Fail other how) = None
+pending_in uid (Tick now) = None
+pending_in uid Count = None
 
--- the node and the pod that a step names
-abbrev pub node_in : Step → Option (List ℕ)
-node_in (NodeSet version node) = Some node.value.name
-node_in (PodBound version uid node request) = None
+-- the pod of this uid that last came to wait
+abbrev pub pending_of : List Call → Name → Option Pod
+pending_of l uid = last_said (accepted (pending_in uid)) l
+
+-- where a call puts a pod
+pub data Put : Type 0 where
+  Chosen : Name → Ticket → Put  -- assumed on this node, with this ticket
+  Told : Name → Request → Put  -- bound on this node, with this request
+  Nowhere : Put
+
+-- where an answered step puts a pod
+abbrev pub put_in : Name → Step → Reply → Option Put
+put_in uid (Assume other node) (Given ticket) = if_named other uid (Chosen node ticket)
+put_in uid (Event (PodBound version other node request)) Done = if_named other uid (Told node request)
+put_in uid (Event (PodGone version other)) Done = if_named other uid Nowhere
+put_in uid (Forget other ticket) Done = if_named other uid Nowhere
+put_in uid other answer = None
+
+-- where a pod was last put
+abbrev pub put_of : List Call → Name → Option Put
+put_of l uid = last_said (λ c. put_in uid c.step c.reply) l
+
+-- whether a step reports a pod's bind as done, or puts the pod anew
+abbrev pub finish_in : Name → Step → Option Bool
+finish_in uid (Event (NodeSet version node)) = None
+finish_in uid (Event (NodeGone version node)) = None
+finish_in uid (Event (PodPending version pod)) = None
+finish_in uid (Event (PodBound version other node request)) = if_named other uid false
+finish_in uid (Event (PodGone version other)) = if_named other uid false
+finish_in uid Pop = None
+finish_in uid (Assume other node) = if_named other uid false
+finish_in uid (BindDone other ticket) = if_named other uid true
+finish_in uid (Forget other ticket) = if_named other uid false
+finish_in uid (Fail other how) = None
+finish_in uid (Tick now) = None
+finish_in uid Count = None
+
+-- whether a pod's bind was reported done since it was last put
+abbrev pub is_finished_in : List Call → Name → Bool
+is_finished_in l uid = unwrap_or (last_said (accepted (finish_in uid)) l) false
+
+-- the place that a pod has which was put so, last came to wait as this pod, and whose bind was reported done or not
+abbrev pub place_by : Option Put → Option Pod → Bool → Option Place
+place_by (Some (Chosen node ticket)) (Some pod) finished = Some (record { node = node; request = pod.request; status = Assumed ticket finished })
+place_by (Some (Told node request)) pod finished = Some (record { node = node; request = request; status = Bound })
+place_by put pod finished = None
+
+-- the place of a pod, by the last accepted step that puts it. An assumed one has the request of the pod's last
+-- accepted PodPending
+abbrev pub place_of : List Call → Name → Option Place
+place_of l uid = place_by (put_of l uid) (pending_of l uid) (is_finished_in l uid)
+
+-- the node that a step names
+abbrev pub node_in : Step → Option Name
+node_in (Event (NodeSet version node)) = Some node.name
+node_in (Event (NodeGone version name)) = Some name
+node_in (Event (PodPending version pod)) = None
+node_in (Event (PodBound version uid node request)) = None
+node_in (Event (PodGone version uid)) = None
+node_in Pop = None
+node_in (Assume uid node) = None
+node_in (BindDone uid ticket) = None
+node_in (Forget uid ticket) = None
+node_in (Fail uid how) = None
+node_in (Tick now) = None
 node_in Count = None
 
-abbrev pub pod_in : Step → Option (List ℕ)
-pod_in (NodeSet version node) = None
-pod_in (PodBound version uid node request) = Some uid
+-- the pod that a step names
+abbrev pub pod_in : Step → Option Name
+pod_in (Event (NodeSet version node)) = None
+pod_in (Event (NodeGone version name)) = None
+pod_in (Event (PodPending version pod)) = Some pod.uid
+pod_in (Event (PodBound version uid node request)) = Some uid
+pod_in (Event (PodGone version uid)) = Some uid
+pod_in Pop = None
+pod_in (Assume uid node) = Some uid
+pod_in (BindDone uid ticket) = Some uid
+pod_in (Forget uid ticket) = Some uid
+pod_in (Fail uid how) = Some uid
+pod_in (Tick now) = None
 pod_in Count = None
 
 -- the finite map that has at each of these names what is found there
-abbrev pub found_at : {X : Type 0} → (List ℕ → Option X) → List (List ℕ) → FinMap name_cmp X
+abbrev pub found_at : {X : Type 0} → (Name → Option X) → List Name → FinMap name_cmp X
 found_at find names = from_entries (filter_map (λ name. option_map (λ x. (name, x)) (find name)) names)
 
 -- the rows that a history leaves, of the nodes that it names
@@ -137,3 +265,39 @@ places_of l = found_at (place_of l) (filter_map (λ c. pod_in c.step) l)
 -- the snapshot of a history: its nodes in the order of their names' bytes, each with the sum over the pods that it places there
 abbrev pub snap : List Call → List Shown
 snap l = map (λ e. record { node = e.1; used = used (places_of l) e.0 }) (entries (rows_of l))
+
+-- a look showed these rows: the pass had seen `before` and now has seen `l`, which is legal, begins with `before`
+-- and goes on with calls of other passes; the rows are its snapshot
+pub record Looked (limits : Limits) (passes : ℕ) (p : Caller) (before l : List Call) (rows : List Shown) : Type 0 where
+  pub goes_on : GoesOn p.number before l
+  pub legal : Legal limits passes l
+  pub shows : rows ≡ snap l
+
+-- ---- what a ticket is given for
+
+-- the pod that a call hands to a pass, where it is of this uid
+abbrev pub popped_in : ℕ → Name → ℕ → Reply → Option Pod
+popped_in pass uid caller Done = None
+popped_in pass uid caller Idle = None
+popped_in pass uid caller (Popped pod) = if caller == pass then if_named pod.uid uid pod else None
+popped_in pass uid caller (Given ticket) = None
+popped_in pass uid caller (Counts n) = None
+popped_in pass uid caller (Refused why) = None
+
+-- the pod that the pass's last Pop of this uid gave
+abbrev pub popped_of : List Call → ℕ → Name → Option Pod
+popped_of l pass uid = last_said (λ c. popped_in pass uid c.pass c.reply) l
+
+-- the history shows the node, and the pod that the pass's last Pop of this uid gave fits there
+pub record FitsThere (l : List Call) (pass : ℕ) (uid node : Name) : Type 0 where
+  pub pod : Pod
+  pub popped : popped_of l pass uid ≡ Some pod
+  pub row : Shown
+  pub shown : Contains (snap l) row
+  pub named : row.node.name ≡ node
+  pub fits : fit_of row.node.allocatable row.used pod.request ≡ Ok tt
+
+-- where a step of a pass is answered by a ticket, the pod fits on the node after the calls before it
+abbrev pub IsFairTicket : List Call → ℕ → Step → Reply → Type 0
+IsFairTicket before pass (Assume uid node) (Given ticket) = FitsThere before pass uid node
+IsFairTicket before pass e answer = ⊤

@@ -10,4 +10,4 @@ pub record Shown : Type 0 where
 
 -- a row of a snapshot, without where the node's row lies in memory
 abbrev pub shown : Row → Shown
-shown row = record { node = row.node.value; used = row.used }
+shown row = record { node = row.node; used = row.used }

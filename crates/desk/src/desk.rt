@@ -1,16 +1,14 @@
 //! The desk.
-ghost use Rattle.std.specs.Prelude.{◌≡◌, ◌↔◌, ◌^◌, ◌≤◌, ◌<◌, ◌++◌, ◌∷◌, [], List, IfOk, OnOk, OnErr, IsErr, length, ℕ, ◌+◌, slice_index};
-ghost use Rattle.desk.specs.Machine.{opening, told};
-ghost use Rattle.desk.specs.History.{Call, Legal, state_after, rows_of, places_of};
-ghost use Rattle.book.specs.declared.limits.Limits.{Limits};
+ghost use Rattle.std.specs.Prelude.{◌≡◌, ◌≤◌, ◌<◌, ◌^◌, ◌↔◌, IfOk, OnErr, OnOk, IsErr, slice_index, ◌+◌, length};
 
 use crate::pass::{MAX_CALLS, MAX_PASSES, NoPlace, Pass};
 use crate::snapshot::{Row, Snapshot};
 use crate::step::{Counts, Reply, Step};
-use arrayvec::ArrayVec;
-use book::{Book, ClusterStep, Limits, NoMemory};
-use quant::Moment;
+use book::{Book, ClusterStep, Entry, Limits, NoMemory, Refusal};
+use quant::{Event, LATEST_MOMENT, Moment, Name, Request, SharedPod, Ticket, Version};
+use queue::{Failure, PassNumber, Queue};
 use std::alloc::{AllocError, Global};
+use std::hash::RandomState;
 use std::marker::Model;
 
 /// The one place through which all steps go.
@@ -18,181 +16,264 @@ use std::marker::Model;
 pub struct Desk {
     alloc: Global,
     book: Book,
+    queue: Queue,
     clock: Moment,
-    calls: ArrayVec<u64, MAX_PASSES>,
+    calls: [u64; MAX_PASSES],
+    handed: usize,
 }
 
 impl Model for Desk {
-    ghost use Rattle.desk.specs.Machine.{State};
+    ghost use Rattle.desk.specs.Caller.{Opened};
 
-    ghost Value = { State };
+    ghost Value = { Opened };
 
-    ghost use Rattle.desk.specs.Codes.{state_code};
+    ghost use Rattle.desk.specs.Codes.{opened_code};
 
-    ghost coded = { state_code };
+    ghost coded = { opened_code };
 
-    ghost view = { λ d. record { cluster = d.book; clock = d.clock.0; calls = d.calls.items } };
+    ghost use Rattle.std.specs.Prelude.{◌≡◌, ◌≤◌, length};
+    ghost use Rattle.quant.specs.declared.limits.TheConstants.{LATEST_MOMENT};
+    ghost use Rattle.desk.specs.declared.pass.TheConstants.{MAX_PASSES};
+
+    ghost view = { λ d. record { state = record { cluster = d.book; queue = d.queue; clock = d.clock; calls = d.calls }; handed = d.handed } };
+
+    ghost invariant = { λ d. (length d.calls ≡ MAX_PASSES) × (d.handed ≤ MAX_PASSES) × (d.clock.0 ≤ LATEST_MOMENT) };
 }
 
 impl Desk {
-    ghost use Rattle.desk.specs.Machine.{reply, after, snapshot, counts, with_pass, cluster_after};
-    ghost use Rattle.desk.specs.History.{Leaves, IsPart, IsOf, call, snap};
-    ghost use Rattle.desk.specs.Calm.{IsCalm, HasRoom};
-    ghost use Rattle.std.specs.List.{All};
+    ghost use Rattle.desk.specs.Caller.{new_desk};
+    ghost use Rattle.desk.specs.Machine.{both, of_node, moved, step, entry_for, counts};
+    ghost use Rattle.desk.specs.Done.{IsTold, IsTaken, IsDone, with_state};
+    ghost use Rattle.queue.specs.Queue as queue;
 
-    /// A desk with no nodes and no pods, that has handed out no pass.
+    /// A desk with no nodes and no pods, that has handed out no pass. Names are looked up under the keys, so that nobody
+    /// can choose names that are slow to look up.
     ///
     /// Errors: `NoMemory`.
-    pub fn new(alloc: Global, limits: Limits) -> Result<Self, NoMemory>
-        ensures opening { IfOk result (λ desk. desk ≡ opening limits 0) }
-        ensures history { IfOk result (Leaves []) }
+    pub fn new(alloc: Global, keys: RandomState, limits: Limits) -> Result<Self, NoMemory>
+        ensures { IfOk result (λ desk. desk ≡ new_desk limits) }
     {
-        let book = Book::new(alloc, limits)?;
+        let book = Book::new(alloc, keys, limits)?;
+        let queue = Queue::new(alloc, limits.queued)?;
         Ok(Desk {
             alloc,
             book,
+            queue,
             clock: Moment(0),
-            calls: ArrayVec::new(),
+            calls: [0; MAX_PASSES],
+            handed: 0,
         })
     }
 
-    /// Hands out a pass.
-    ///
-    /// Errors: `NoPlace` where all were handed out; nothing changes.
-    pub fn pass(&mut self) -> Result<Pass, NoPlace>
-        ensures pass { IfOk result (λ pass. pass ≡ record { number = length self.old.calls; calls = 0 }) }
-        ensures handed { OnOk result (self.new ≡ with_pass self.old) }
-        ensures all_handed { IsErr result ↔ (length self.old.calls ≡ 1) }
-        ensures err { OnErr result (self.new ≡ self.old) }
-        ensures of { IfOk result (λ pass. IsOf pass self.new) }
-
-        // The history stays, and has no call of the new pass.
-        ensures history { (l : List Call) → Leaves l self.old → IfOk result (λ pass. Leaves l self.new × IsPart pass l self.new) }
+    // The book takes its part of a step, or refuses it.
+    fn tell_book(&mut self, part: ClusterStep) -> Result<book::Reply, Refusal>
+        ensures { IsTold self.old part result self.new }
     {
-        if self.calls.is_full() {
-            return Err(NoPlace);
+        match self.book.step(part) {
+            book::Reply::Refused(why) => Err(why),
+            said => Ok(said),
         }
-        let number = self.calls.len();
-        self.calls.push(0);
-        Ok(Pass::new(number))
     }
 
-    /// Does a step, or refuses it and changes nothing but the pass's count of calls.
-    ///
-    /// Errors: `NoMemory` where 10^18 calls of the pass were answered; nothing changes.
-    pub fn apply(&mut self, pass: &mut Pass, step: Step) -> Result<Reply, NoMemory>
-        requires { IsOf pass.old self.old }
-        ensures reply { IfOk result (λ answer. answer ≡ reply self.old step) }
-        ensures after { OnOk result (self.new ≡ after self.old pass.old.number step) }
-        ensures counted { OnOk result (pass.new ≡ record pass.old { calls = pass.old.calls + 1 }) }
-        ensures used_up { IsErr result ↔ (10 ^ 18 ≤ pass.old.calls) }
-        ensures err { OnErr result (self.new ≡ self.old) }
-        ensures pass_err { OnErr result (pass.new ≡ pass.old) }
-        ensures of { IsOf pass.new self.new }
-
-        // The desk stood where a legal history left it, and stands where that history and this call leave it.
-        ensures history { (l : List Call) → Leaves l self.old → IsPart pass.old l self.old
-            → IfOk result (λ answer. Leaves (l ++ call pass.old step answer ∷ []) self.new
-            × IsPart pass.new (l ++ call pass.old step answer ∷ []) self.new) }
+    // The watch tells of a node: the book takes it or not, and where it does there may be a move.
+    fn take_node(&mut self, event: Event) -> Result<(), Refusal>
+        ensures { IsTaken self.old (of_node self.old.state event) result self.new }
     {
-        if pass.calls() >= MAX_CALLS {
-            return Err(NoMemory);
+        let queue_full = self.queue.is_full();
+        let queued = false;
+        self.tell_book(ClusterStep::Event {
+            event,
+            queued,
+            queue_full,
+        })?;
+        Ok(())
+    }
+
+    // A node's row is set, and there is a move.
+    fn set_node(&mut self, event: Event) -> Result<Reply, Refusal>
+        ensures { IsDone self.old (both self.old.state (of_node self.old.state event) (moved self.old.state self.old.state.queue)) result self.new }
+    {
+        self.take_node(event)?;
+        self.queue.move_all(self.clock);
+        Ok(Reply::Done)
+    }
+
+    // A node is gone, and there is no move.
+    fn drop_node(&mut self, event: Event) -> Result<Reply, Refusal>
+        ensures { IsDone self.old (both self.old.state (of_node self.old.state event) self.old.state.queue) result self.new }
+    {
+        self.take_node(event)?;
+        Ok(Reply::Done)
+    }
+
+    // A pod waits for a place: it has an entry from now on.
+    fn add_pod(&mut self, version: Version, pod: SharedPod) -> Result<Reply, Refusal>
+        ensures { IsDone self.old (step self.old.state 0 (Step.Event (Event.PodPending version pod))) result self.new }
+    {
+        let part = ClusterStep::Event {
+            queued: self.queue.has(&pod.uid),
+            queue_full: self.queue.is_full(),
+            event: Event::PodPending { version, pod },
+        };
+        if let book::Reply::Queue(pod) = self.tell_book(part)? {
+            let _ = self.queue.add(pod, self.clock);
         }
-        let answer = self.answer_call(pass.number(), step);
-        pass.count();
-        Ok(answer)
+        Ok(Reply::Done)
     }
 
-    // Does a step for a pass of this number, and counts the call.
-    fn answer_call(&mut self, pass: usize, step: Step) -> Reply
-        requires handed { pass < length self.old.calls }
-        requires fits { slice_index self.old.calls pass < 10 ^ 18 }
-        ensures reply { result ≡ reply self.old step }
-        ensures after { self.new ≡ after self.old pass step }
+    // A pod is bound: it is there, in place of where it was, and its entry goes.
+    fn bind_pod(
+        &mut self,
+        version: Version,
+        uid: Name,
+        node: Name,
+        request: Request,
+    ) -> Result<Reply, Refusal>
+        ensures { IsDone self.old (step self.old.state 0 (Step.Event (Event.PodBound version uid node request))) result self.new }
     {
-        let answer = self.do_step(step);
-        self.calls[pass] += 1;
-        answer
-    }
-
-    // Does a step, and counts no call.
-    fn do_step(&mut self, step: Step) -> Reply
-        ensures reply { result ≡ reply self.old step }
-        ensures after { self.new ≡ record self.old { cluster = cluster_after self.old.cluster step } }
-    {
-        match step {
-            Step::NodeSet { version, node } => {
-                told(self.book.step(ClusterStep::NodeSet { version, node }))
-            }
-            Step::PodBound {
+        let bound = uid.copied();
+        let part = ClusterStep::Event {
+            queued: self.queue.has(&uid),
+            queue_full: self.queue.is_full(),
+            event: Event::PodBound {
                 version,
                 uid,
                 node,
                 request,
-            } => told(
-                self.book.step(ClusterStep::PodBound {
-                    version,
-                    uid,
-                    node,
-                    request,
-                }),
-            ),
-            Step::Count => Reply::Counts(self.counts()),
+            },
+        };
+        self.tell_book(part)?;
+        self.queue.remove(&bound);
+        Ok(Reply::Done)
+    }
+
+    // A pod is gone: its place and its entry go, with a move if it had a place.
+    fn drop_pod(&mut self, version: Version, uid: Name) -> Result<Reply, Refusal>
+        ensures { IsDone self.old (step self.old.state 0 (Step.Event (Event.PodGone version uid))) result self.new }
+    {
+        let gone = uid.copied();
+        let was_placed = self.book.is_placed(&uid);
+        let part = ClusterStep::Event {
+            queued: self.queue.has(&uid),
+            queue_full: self.queue.is_full(),
+            event: Event::PodGone { version, uid },
+        };
+        self.tell_book(part)?;
+        self.queue.remove(&gone);
+        if was_placed {
+            self.queue.move_all(self.clock);
+        }
+        Ok(Reply::Done)
+    }
+
+    // What the queue has of a pod that a pass wants to place.
+    fn entry_of(&self, pass: PassNumber, uid: &Name) -> Entry
+        ensures { result ≡ entry_for pass (queue.entry_of self.now.state.queue uid.now) }
+    {
+        match self.queue.pod_of(uid) {
+            None => Entry::Missing,
+            Some(pod) if self.queue.is_in_flight(uid, pass) => Entry::Held(pod.request),
+            Some(_) => Entry::Elsewhere,
         }
     }
 
-    fn counts(&self) -> Counts
-        ensures { result ≡ counts self.now }
+    // A pod that the pass popped is assumed on a node, and its entry stays in flight.
+    fn assume(&mut self, pass: usize, uid: Name, node: Name) -> Result<Reply, Refusal>
+        ensures { IsDone self.old (step self.old.state pass (Step.Assume uid node)) result self.new }
     {
+        let entry = self.entry_of(PassNumber(pass as u64), &uid);
+        match self.tell_book(ClusterStep::Assume { uid, node, entry })? {
+            book::Reply::Ticket(ticket) => Ok(Reply::Ticket(ticket)),
+            _ => Ok(Reply::Done),
+        }
+    }
+
+    // An assumed place is marked as finished.
+    fn finish_bind(&mut self, uid: Name, ticket: Ticket) -> Result<Reply, Refusal>
+        ensures { IsDone self.old (step self.old.state 0 (Step.BindDone uid ticket)) result self.new }
+    {
+        let queued = self.queue.has(&uid);
+        self.tell_book(ClusterStep::BindDone {
+            uid,
+            ticket,
+            queued,
+        })?;
+        Ok(Reply::Done)
+    }
+
+    // An assumed place is given up: its entry backs off, and there is a move.
+    fn forget(&mut self, uid: Name, ticket: Ticket) -> Result<Reply, Refusal>
+        ensures { IsDone self.old (step self.old.state 0 (Step.Forget uid ticket)) result self.new }
+    {
+        let forgotten = uid.copied();
+        let queued = self.queue.has(&uid);
+        self.tell_book(ClusterStep::Forget {
+            uid,
+            ticket,
+            queued,
+        })?;
+        let _ = self.queue.forget_back(&forgotten, self.clock);
+        self.queue.move_all(self.clock);
+        Ok(Reply::Done)
+    }
+
+    // A pass gives a pod back that it popped and found no place for.
+    fn fail(&mut self, pass: usize, uid: Name, how: Failure) -> Result<Reply, Refusal>
+        ensures { IsDone self.old (step self.old.state pass (Step.Fail uid how)) result self.new }
+    {
+        let is_placed = self.book.is_placed(&uid);
+        if !is_placed && !self.queue.has(&uid) {
+            return Err(Refusal::Gone);
+        }
+        if is_placed {
+            return Err(Refusal::Placed);
+        }
+        match self.queue.fail(&uid, PassNumber(pass as u64), how, self.clock) {
+            Ok(()) => Ok(Reply::Done),
+            Err(_) => Err(Refusal::NotInFlight),
+        }
+    }
+
+    // Time goes on to this moment.
+    fn tick(&mut self, now: Moment) -> Result<Reply, Refusal>
+        requires { now.0 ≤ LATEST_MOMENT }
+        ensures { IsDone self.old (step self.old.state 0 (Step.Tick now)) result self.new }
+    {
+        if now < self.clock {
+            return Err(Refusal::ClockBack);
+        }
+        self.clock = now;
+        self.queue.tick(now);
+        Ok(Reply::Done)
+    }
+
+    // The pod that goes first is the pass's now. What can fail, a further owner of the pod, goes first.
+    fn pop(&mut self, pass: usize) -> Result<Reply, NoMemory>
+        ensures popped { IfOk result (λ reply. (step self.old.state pass Step.Pop ≡ record { state = self.new.state; reply = reply }) × (self.new ≡ with_state self.old self.new.state)) }
+        ensures err { OnErr result (self.new ≡ self.old) }
+    {
+        let Some(first) = self.queue.peek() else {
+            return Ok(Reply::Idle);
+        };
+        let pod = first.share()?;
+        self.queue.pop(PassNumber(pass as u64));
+        Ok(Reply::Popped(pod))
+    }
+
+    fn counts(&self) -> Counts
+        ensures { result ≡ counts self.now.state }
+    {
+        let queued = self.queue.counts();
+        let assumed = self.book.assumed();
         Counts {
             bound: self.book.bound(),
-            assumed: self.book.assumed(),
-            active: 0,
-            backoff: 0,
-            unschedulable: 0,
-            in_flight: 0,
+            assumed,
+            active: queued.active,
+            backoff: queued.backoff,
+            unschedulable: queued.unschedulable,
+            in_flight: queued.in_flight.saturating_sub(assumed),
             clock: self.clock,
             version: self.book.version(),
         }
     }
-
-    /// Shows the nodes and what is used of them. It copies a pointer and the totals of each node.
-    ///
-    /// Errors: `NoMemory`; nothing changes.
-    pub fn look(&self, pass: &mut Pass) -> Result<Snapshot, NoMemory>
-        ensures snapshot { IfOk result (λ shown. shown ≡ snapshot self.now.cluster) }
-        ensures pass { pass.new ≡ pass.old }
-
-        // It is the snapshot of the history that left the desk so.
-        ensures history { (l : List Call) → Leaves l self.now → IfOk result (λ shown. shown ≡ snap l) }
-
-        // Where that history is calm, no node has more used than it has.
-        ensures calm { (l : List Call) → Leaves l self.now → IsCalm l → IfOk result (All HasRoom) }
-    {
-        let nodes = self.book.rows();
-        let mut rows = Vec::with_capacity(self.alloc, nodes.len())?;
-        for node in nodes {
-            let used = self.book.used(&node.name);
-            let node = node.clone()?;
-            rows.push(Row { node, used }).map_err(AllocError::from)?;
-        }
-        Ok(Snapshot::new(rows))
-    }
 }
-
-// What the book answered, as the desk's answer.
-fn told(answer: book::Reply) -> Reply
-    ensures { result ≡ told answer }
-{
-    match answer {
-        book::Reply::Done => Reply::Done,
-        book::Reply::Refused(why) => Reply::Refused(why),
-    }
-}
-
-/// Whatever legal history came before, the nodes that are there and the places of pods are those that the
-/// history tells, by the last accepted step that names each.
-pub fn history_tells_the_state()
-    ensures nodes { (limits : Limits) (passes : ℕ) (l : List Call) → Legal limits passes l → (state_after (opening limits passes) l).cluster.nodes ≡ rows_of l }
-    ensures places { (limits : Limits) (passes : ℕ) (l : List Call) → Legal limits passes l → (state_after (opening limits passes) l).cluster.places ≡ places_of l }
-{}

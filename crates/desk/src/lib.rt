@@ -5,11 +5,9 @@ mod desk;
 mod pass;
 mod snapshot;
 mod step;
-#[cfg(test)]
-mod tests;
 
 pub use book::{Limits, NoMemory, Refusal};
-pub use desk::{Desk, history_tells_the_state};
+pub use desk::Desk;
 pub use pass::{MAX_CALLS, MAX_PASSES, NoPlace, Pass};
 pub use snapshot::{Row, Snapshot};
 pub use step::{Counts, Reply, Step};

@@ -5,7 +5,7 @@ use std::marker::Model;
 use thiserror::Error;
 
 /// How many passes a desk hands out.
-pub const MAX_PASSES: usize = 1;
+pub const MAX_PASSES: usize = 64;
 
 /// How many calls of one pass are answered.
 pub const MAX_CALLS: u64 = 1_000_000_000_000_000_000;

@@ -2,15 +2,14 @@
 ghost use Rattle.std.specs.Prelude.{◌≡◌, map};
 ghost use Rattle.desk.specs.Shown.{shown};
 
-use quant::{Node, Res};
+use quant::{Res, SharedNode};
 use std::marker::Model;
-use std::sync::Arc;
 
 /// A node, with what the pods on it use together.
 #[derive(Drop)]
 pub struct Row {
     /// The node's row.
-    pub node: Arc<Node>,
+    pub node: SharedNode,
     /// What the pods on the node use together.
     pub used: Res,
 }

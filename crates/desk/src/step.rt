@@ -1,29 +1,45 @@
 //! What a caller may ask of the desk, and what is answered.
 use book::Refusal;
-use quant::{Moment, Name, Node, Request, Version};
-use std::sync::Arc;
+use quant::{Event, Moment, Name, SharedPod, Ticket, Version};
+use queue::Failure;
 
 /// A step.
-#[derive(Drop)]
+#[derive(Debug, Drop)]
 pub enum Step {
-    /// A node is there, with this row, from now on.
-    NodeSet {
-        /// The event's version.
-        version: Version,
-        /// The row.
-        node: Arc<Node>,
-    },
-    /// A pod runs on a node, whether that node is there or not.
-    PodBound {
-        /// The event's version.
-        version: Version,
+    /// The watch tells this.
+    Event(Event),
+    /// The caller wants a pod to place.
+    Pop,
+    /// The caller chose this node for a pod that it popped.
+    Assume {
         /// The pod.
         uid: Name,
-        /// The name of the node.
+        /// The node's name.
         node: Name,
-        /// What the pod asks of the node.
-        request: Request,
     },
+    /// An assumed place was told to the cluster.
+    BindDone {
+        /// The pod.
+        uid: Name,
+        /// What names the choice of its place.
+        ticket: Ticket,
+    },
+    /// An assumed place couldn't be told to the cluster, and is given up.
+    Forget {
+        /// The pod.
+        uid: Name,
+        /// What names the choice of its place.
+        ticket: Ticket,
+    },
+    /// The caller found no place for a pod that it popped.
+    Fail {
+        /// The pod.
+        uid: Name,
+        /// Whether it is to be tried again.
+        how: Failure,
+    },
+    /// Time goes on to this moment, at most `LATEST_MOMENT`.
+    Tick(Moment),
     /// Nothing changes; the desk tells its numbers.
     Count,
 }
@@ -50,10 +66,16 @@ pub struct Counts {
 }
 
 /// The answer to a step.
-#[derive(Clone, Copy, Debug, PartialEq, Eq)]
+#[derive(Debug, Drop)]
 pub enum Reply {
     /// The step was done.
     Done,
+    /// The answer to `Pop` where no pod waits to be popped.
+    Idle,
+    /// The answer to `Pop`: this pod is the caller's, until it is placed, fails or goes.
+    Popped(SharedPod),
+    /// The answer to `Assume`: the pod has its place, and this ticket names the choice.
+    Ticket(Ticket),
     /// The answer to `Count`.
     Counts(Counts),
     /// The step was refused, and changed nothing but the caller's count of calls.

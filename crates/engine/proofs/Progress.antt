@@ -5,7 +5,8 @@ use Rattle.std.proofs.lemmas.Bool.{ne_eqb, lt-leb, cases_lt}
 use Rattle.std.proofs.lemmas.List.{length-take, append-nil, take_all}
 use Rattle.std.specs.Io.KnownBytes.{Appends, Consumes, IsAtEnd, prepend_known}
 use Rattle.manifest.specs.declared.fault.LineFault.{LineFault}
-use Rattle.manifest.specs.Line.{Asked, meaning}
+use Rattle.desk.specs.declared.step.Step.{Step}
+use Rattle.manifest.specs.Line.{meaning}
 use Rattle.engine.specs.Device.{AppendsFront, WritesSome}
 use Rattle.engine.specs.Lines.{lines_of, kept, TakesLine}
 use Rattle.engine.specs.Answers.{State, opening, after, text_of, answers}
@@ -110,21 +111,21 @@ front-now (Some script) (Some rest) old now pending state number so_far =
 -- ---- one line more
 
 -- what the line asks for is what is kept of it asks for
-says-whole : (line text : List ℕ) (says : Result (Option Asked) LineFault) → line ≡ kept text → asked_by line ≡ says → asked_by text ≡ says
+says-whole : (line text : List ℕ) (says : Result (Option Step) LineFault) → line ≡ kept text → asked_by line ≡ says → asked_by text ≡ says
 says-whole line text says stored told = sym (asked_by-kept text) ∙ ap asked_by (sym stored) ∙ told
 
 -- what is left asks for what its first line does, and then what the later lines do
-asked-first : (rest later line text : List ℕ) (says : Result (Option Asked) LineFault) → line ≡ kept text → lines_of rest ≡ text ∷ lines_of later → asked_by line ≡ says → asked_in (lines_of rest) ≡ asked_then says (asked_in (lines_of later))
+asked-first : (rest later line text : List ℕ) (says : Result (Option Step) LineFault) → line ≡ kept text → lines_of rest ≡ text ∷ lines_of later → asked_by line ≡ says → asked_in (lines_of rest) ≡ asked_then says (asked_in (lines_of later))
 asked-first rest later line text says stored cut told =
     ap asked_in cut ∙ ap (λ r. asked_then r (asked_in (lines_of later))) (says-whole line text says stored told)
 
 -- the first fault of what is left is that of its first line, or else of the later ones
-fault-first : (number : ℕ) (rest later line text : List ℕ) (says : Result (Option Asked) LineFault) → line ≡ kept text → lines_of rest ≡ text ∷ lines_of later → asked_by line ≡ says → fault_from number (lines_of rest) ≡ fault_or number says (fault_from (number + 1) (lines_of later))
+fault-first : (number : ℕ) (rest later line text : List ℕ) (says : Result (Option Step) LineFault) → line ≡ kept text → lines_of rest ≡ text ∷ lines_of later → asked_by line ≡ says → fault_from number (lines_of rest) ≡ fault_or number says (fault_from (number + 1) (lines_of later))
 fault-first number rest later line text says stored cut told =
     ap (fault_from number) cut ∙ ap (λ r. fault_or number r (fault_from (number + 1) (lines_of later))) (says-whole line text says stored told)
 
 -- the answer to a line waits
-pub IsRunning-asked : (script rest later old now : Option (List ℕ)) (pending new line : List ℕ) (state : State) (number : ℕ) (asked : Asked) → TakesLine rest later line → asked_by line ≡ Ok (Some asked) → new ≡ pending ++ text_of state asked → IsRunning script rest old now pending state number → IsRunning script later old now new (after state asked) (number + 1)
+pub IsRunning-asked : (script rest later old now : Option (List ℕ)) (pending new line : List ℕ) (state : State) (number : ℕ) (asked : Step) → TakesLine rest later line → asked_by line ≡ Ok (Some asked) → new ≡ pending ++ text_of state asked → IsRunning script rest old now pending state number → IsRunning script later old now new (after state asked) (number + 1)
 IsRunning-asked None rest later old now pending new line state number asked took says waits so_far = tt
 IsRunning-asked (Some script) None later old now pending new line state number asked took says waits so_far = absurd so_far
 IsRunning-asked (Some script) (Some rest) None old now pending new line state number asked took says waits so_far = absurd took
@@ -156,7 +157,7 @@ IsRunning-empty (Some script) (Some rest) (Some later) old now pending line stat
 )
 
 -- a line is answered
-pub IsRunning-answered : (script rest later old now : Option (List ℕ)) (pending new line : List ℕ) (state next : State) (number : ℕ) (says : Result (Option Asked) LineFault) → asked_by line ≡ says → TakesLine rest later line → IsAnswered says state next pending new → IsRunning script rest old now pending state number → IsRunning script later old now new next (number + 1)
+pub IsRunning-answered : (script rest later old now : Option (List ℕ)) (pending new line : List ℕ) (state next : State) (number : ℕ) (says : Result (Option Step) LineFault) → asked_by line ≡ says → TakesLine rest later line → IsAnswered says state next pending new → IsRunning script rest old now pending state number → IsRunning script later old now new next (number + 1)
 IsRunning-answered script rest later old now pending new line state next number (Ok None) says took done so_far =
     rw (done.0, done.1) (IsRunning-empty script rest later old now pending line state number took says so_far)
 IsRunning-answered script rest later old now pending new line state next number (Ok (Some asked)) says took done so_far =

@@ -9,7 +9,7 @@ use Rattle.engine.specs.Answers.{snapshot_lines}
 
 -- the line of a row
 abbrev pub row_line : Row → List ℕ
-row_line row = node_line row.node.value row.used
+row_line row = node_line row.node row.used
 
 -- the lines of the rows are those of what they show
 pub flat_map-shown : (rows : List Row) → flat_map row_line rows ≡ snapshot_lines (map shown rows)

@@ -1,26 +1,9 @@
--- Limits and requests are told by their numbers.
+-- Limits are told by their numbers.
 use Rattle.std.proofs.Common.{◌≡◌, ℕ, ◌^◌, ◌≤◌, min, ap, subst, ◌∙◌, lit≤}
 use Rattle.std.proofs.Math.Nat.{min-le_right, min-eq_left}
 use Rattle.std.proofs.Math.Bridge.{le_prop}
-use Rattle.quant.specs.declared.amount.Request.{Request}
 use Rattle.book.specs.declared.limits.Limits.{Limits}
-use Rattle.engine.specs.Answers.{limits, request_of}
-
--- the request of these numbers
-requested : (c : ℕ) (m : ℕ) → c ≤ 2 ^ 30 → m ≤ 2 ^ 44 → Request
-requested c m p q = record { cpu = record { 0 = c }; mem = record { 0 = m }; within_cpu = p; within_mem = q }
-
--- requests of equal numbers are equal
-requested-same : (c d m n : ℕ) (p : c ≤ 2 ^ 30) (p' : d ≤ 2 ^ 30) (q : m ≤ 2 ^ 44) (q' : n ≤ 2 ^ 44) → c ≡ d → m ≡ n → requested c m p q ≡ requested d n p' q'
-requested-same c d m n p p' q q' e f =
-    subst (λ x. (h : x ≤ 2 ^ 30) → requested c m p q ≡ requested x n h q') e
-    (λ h. subst (λ y. (k : y ≤ 2 ^ 44) → requested c m p q ≡ requested c y h k) f (λ k. ap (λ z. requested c m z q) (le_prop p h) ∙ ap (λ z. requested c m h z) (le_prop q k)) q')
-    p'
-
--- a request is that of its amounts
-pub request_of_same : (r : Request) → request_of r.cpu r.mem ≡ r
-unfolding requested
-request_of_same r = requested-same (min r.cpu.0 (2 ^ 30)) r.cpu.0 (min r.mem.0 (2 ^ 44)) r.mem.0 (min-le_right r.cpu.0 (2 ^ 30)) r.within_cpu (min-le_right r.mem.0 (2 ^ 44)) r.within_mem (min-eq_left r.within_cpu) (min-eq_left r.within_mem)
+use Rattle.engine.specs.Answers.{limits}
 
 -- the limits of these numbers
 limited : (a b c : ℕ) → a ≤ 1000 → b ≤ 150000 → c ≤ 10000 → Limits

@@ -1,23 +1,23 @@
--- What is answered to the commands of a script, by the machine of a desk that has one pass.
-use denote.RawPtr.{null_ptr}
-use Rattle.std.specs.Prelude.{ℕ, ◌^◌, min, List, [], ◌∷◌, ◌++◌}
+-- What is answered to the lines of a script, by the machine of a desk that has one pass.
+use Rattle.std.specs.Prelude.{ℕ, List, [], ◌∷◌, ◌++◌, Result, Ok, Err}
 use Rattle.std.specs.List.{flat_map}
 use Rattle.std.proofs.Common.{lit≤}
-use Rattle.std.proofs.Math.Nat.{min-le_right}
-use Rattle.quant.specs.declared.amount.Cpu.{Cpu}
-use Rattle.quant.specs.declared.amount.Bytes.{Bytes}
-use Rattle.quant.specs.declared.amount.Request.{Request}
+use Rattle.quant.specs.declared.event.Event.TheVariants.{NodeSet, NodeGone, PodPending, PodBound, PodGone}
 use Rattle.book.specs.declared.limits.Limits.{Limits}
 use Rattle.desk.specs.declared.step.Step.{Step}
-use Rattle.desk.specs.declared.step.Step.TheVariants.{NodeSet, PodBound, Count}
+use Rattle.desk.specs.declared.step.Step.TheVariants as steps
 use Rattle.desk.specs.declared.step.Reply.{Reply}
-use Rattle.desk.specs.declared.step.Reply.TheVariants.{Done, Counts, Refused}
+use Rattle.desk.specs.declared.step.Reply.TheVariants.{Done, Idle, Popped, Ticket, Counts, Refused}
 use Rattle.desk.specs.Machine as machine
 use Rattle.desk.specs.Shown.{Shown}
-use Rattle.manifest.specs.Line.{Asked, node_set, pod_bound, dump}
+use Rattle.manifest.specs.declared.command.Command.{Command}
+use Rattle.manifest.specs.declared.command.Command.TheVariants as commands
+use Rattle.manifest.specs.declared.field.Field.TheVariants.{Op}
+use Rattle.manifest.specs.declared.fault.LineFault.{LineFault}
+use Rattle.manifest.specs.declared.fault.LineFault.TheVariants.{BadField}
 use Rattle.engine.specs.Text.{ok_line, refused_line, node_line, places_line, queue_line, clock_line}
 
--- the state in which commands are done
+-- the state in which steps are done
 abbrev pub State : Type 0
 State = machine.State
 
@@ -25,32 +25,34 @@ State = machine.State
 abbrev pub limits : Limits
 limits = record { nodes = 1000; placed = 150000; queued = 10000; few_nodes = lit≤ tt; few_placed = lit≤ tt; few_queued = lit≤ tt }
 
--- the state before the first command: one pass was handed out
+-- the state before the first line
 abbrev pub opening : State
-opening = machine.opening limits 1
+opening = machine.opening limits
 
--- what a pod asks for: no amount is above what a request may have
-abbrev pub request_of : Cpu → Bytes → Request
-request_of cpu mem = record {
-  cpu = record { 0 = min cpu.0 (2 ^ 30) };
-  mem = record { 0 = min mem.0 (2 ^ 44) };
-  within_cpu = min-le_right cpu.0 (2 ^ 30);
-  within_mem = min-le_right mem.0 (2 ^ 44);
-}
+-- the step that a command asks of the desk, a dump's after its look. The others aren't served yet: their operation is
+-- told as one that isn't known
+abbrev pub served : Command → Result Step LineFault
+served (commands.Event (NodeSet version node)) = Ok (steps.Event (NodeSet version node))
+served (commands.Event (NodeGone version name)) = Err (BadField Op)
+served (commands.Event (PodPending version pod)) = Err (BadField Op)
+served (commands.Event (PodBound version uid node request)) = Ok (steps.Event (PodBound version uid node request))
+served (commands.Event (PodGone version uid)) = Err (BadField Op)
+served (commands.Tick now) = Err (BadField Op)
+served commands.Cycle = Err (BadField Op)
+served (commands.BindDone uid ticket) = Err (BadField Op)
+served (commands.Forget uid ticket) = Err (BadField Op)
+served commands.Dump = Ok steps.Count
 
--- the step that a command asks for, a dump's first; a step reads a node's row, and not where the row lies in memory
-abbrev pub step_of : Asked → Step
-step_of (node_set version row) = NodeSet (record { 0 = version }) (record { ptr = null_ptr; value = row })
-step_of (pod_bound version uid node cpu mem) = PodBound (record { 0 = version }) uid node (request_of cpu mem)
-step_of dump = Count
+-- the state after a step, which is by pass 0; a look changes nothing
+unfoldable pub after : State → Step → State
+after state step = machine.after state 0 step
 
--- the state after a command, whose one step is by pass 0; a look changes nothing
-unfoldable pub after : State → Asked → State
-after state asked = machine.after state 0 (step_of asked)
-
--- the lines that answer a step
+-- the lines that answer a step. No step that a line asks for yet gives a pod or a ticket
 unfoldable pub reply_lines : Reply → List ℕ
 reply_lines Done = ok_line
+reply_lines Idle = ok_line
+reply_lines (Popped pod) = ok_line
+reply_lines (Ticket ticket) = ok_line
 reply_lines (Counts n) = places_line n.bound n.assumed ++ queue_line n.active n.backoff n.unschedulable n.in_flight ++ clock_line n.clock.0 n.version.0
 reply_lines (Refused why) = refused_line why
 
@@ -58,17 +60,16 @@ reply_lines (Refused why) = refused_line why
 abbrev pub snapshot_lines : List Shown → List ℕ
 snapshot_lines rows = flat_map (λ row. node_line row.node row.used) rows
 
--- what a command shows besides: a dump shows the nodes
-abbrev pub look_lines : State → Asked → List ℕ
-look_lines state (node_set version row) = []
-look_lines state (pod_bound version uid node cpu mem) = []
-look_lines state dump = snapshot_lines (machine.snapshot state.cluster)
+-- what is shown besides: where the desk's numbers are asked for, the nodes
+abbrev pub look_lines : State → Step → List ℕ
+look_lines state steps.Count = snapshot_lines (machine.snapshot state.cluster)
+look_lines state _ = []
 
--- the answer to a command: what it shows, and the lines that answer its step
-unfoldable pub text_of : State → Asked → List ℕ
-text_of state asked = look_lines state asked ++ reply_lines (machine.reply state (step_of asked))
+-- the answer to a step: what is shown, and the lines that answer it
+unfoldable pub text_of : State → Step → List ℕ
+text_of state step = look_lines state step ++ reply_lines (machine.reply state 0 step)
 
--- the answers to commands, one after another
-abbrev pub answers : State → List Asked → List ℕ
+-- the answers to steps, one after another
+abbrev pub answers : State → List Step → List ℕ
 answers state [] = []
-answers state (asked ∷ later) = text_of state asked ++ answers (after state asked) later
+answers state (step ∷ later) = text_of state step ++ answers (after state step) later

@@ -3,4 +3,4 @@ use Rattle.engine.specs.declared.session.Session.{Session}
 use Rattle.engine.specs.Answers.{State}
 
 abbrev pub state_of : Session → State
-state_of session = session.desk
+state_of session = session.desk.state

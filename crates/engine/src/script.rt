@@ -1,19 +1,23 @@
 //! A script from its first line to its last.
-ghost use Rattle.std.specs.Prelude.{◌≡◌, ◌≢◌, ℕ, ◌^◌, ◌<◌, Some, None, Ok, Err, [], option_map, vec_len, IsTrue, IfSome, OnOk, OnErr, IfErr};
+ghost use Rattle.std.specs.Prelude.{◌≡◌, ◌≢◌, ℕ, ◌^◌, ◌<◌, Some, None, Ok, Err, [], vec_len, IsTrue, IfSome, IfOk, OnOk, OnErr, IfErr};
 ghost use Rattle.std.specs.Io.KnownBytes.{Appends};
 ghost use Rattle.engine.specs.Device.{AppendsFront, WritesSome, CountsFailure};
-ghost use Rattle.manifest.specs.Line.{shown};
-ghost use Rattle.manifest.specs.Reading.{Gives};
+ghost use Rattle.manifest.specs.Reading.{Answers};
 ghost use Rattle.manifest.specs.declared.fault.LineFault.{LineFault};
 ghost use Rattle.engine.specs.Output.{asked_by, first_fault, output, IsAnswered, IsLineFault};
+ghost use Rattle.engine.specs.Answers.{served};
 ghost use Rattle.engine.specs.Session.{state_of};
+ghost use Rattle.desk.specs.Caller.{IsTimely};
 
 use crate::device::{Sink, Source, write_all};
 use crate::fault::RunFault;
 use crate::lines::LineReader;
 use crate::session::Session;
-use manifest::{Command, LineFault, read_line};
+use desk::Step;
+use manifest::{Command, Field, LineFault, read_line};
+use quant::Event;
 use std::alloc::Global;
+use std::hash::RandomState;
 
 // So much output may wait before it is written, while whole lines are there to be answered. One
 // piece of input can ask for thousands of dumps, each as long as all nodes' lines.
@@ -49,16 +53,52 @@ fn flush_if<W: Sink>(sink: &mut W, pending: &mut Vec<u8>, due: bool) -> Result<(
     Ok(())
 }
 
+// The step that a command asks of the desk, where the program serves it.
+fn step_for(command: Command) -> Result<Step, LineFault>
+    ensures step { result ≡ served command }
+    ensures timely { IfOk result IsTimely }
+{
+    match command {
+        Command::Dump => Ok(Step::Count),
+        Command::Event(event) => step_of(event),
+        _ => Err(LineFault::BadField(Field::Op)),
+    }
+}
+
+// The step that an event asks for.
+fn step_of(event: Event) -> Result<Step, LineFault>
+    ensures step { result ≡ served (Command.Event event) }
+    ensures timely { IfOk result IsTimely }
+{
+    match event {
+        Event::NodeSet { version, node } => Ok(Step::Event(Event::NodeSet { version, node })),
+        Event::PodBound {
+            version,
+            uid,
+            node,
+            request,
+        } => Ok(Step::Event(Event::PodBound {
+            version,
+            uid,
+            node,
+            request,
+        })),
+        _ => Err(LineFault::BadField(Field::Op)),
+    }
+}
+
 // What a line asks for: nothing, where it is empty.
 #[tactic(auto, unfolding(crate::specs::Output::asked_by))]
-fn command_of(alloc: Global, line: &[u8]) -> Result<Option<Command>, LineFault>
-    ensures { Gives (option_map shown) result (asked_by line.now) }
+fn step_in(alloc: Global, line: &[u8]) -> Result<Option<Step>, LineFault>
+    ensures step { Answers result (asked_by line.now) }
+    ensures timely { IfOk result (λ asked. IfSome asked IsTimely) }
 {
     if line.is_empty() {
         return Ok(None);
     }
     let command = read_line(alloc, line)?;
-    Ok(Some(command))
+    let step = step_for(command)?;
+    Ok(Some(step))
 }
 
 // Does what a line asks for, and adds the answer to what waits, so that no more waits than the most
@@ -76,16 +116,16 @@ fn answer_line(
     ensures kept { OnErr result (pending.new.items ≡ pending.old.items) }
     ensures faults { IfErr result (IsLineFault number (asked_by line.now)) }
 {
-    match command_of(alloc, line) {
+    match step_in(alloc, line) {
         Ok(None) => Ok(()),
-        Ok(Some(command)) => session.answer(command, pending),
+        Ok(Some(step)) => session.answer(step, pending),
         Err(LineFault::NoMemory) => Err(RunFault::NoMemory),
         Err(fault) => Err(RunFault::Line(number, fault)),
     }
 }
 
 /// Reads a script to its end or its first faulty line, does what its lines ask of a new desk with
-/// one pass, and writes the answers. A line ends at a newline, which the last one may lack; an
+/// one pass, and writes the answers. Names are looked up under the keys. A line ends at a newline, which the last one may lack; an
 /// empty line is passed over and counted.
 ///
 /// Before more is read, all answers so far are written, so that a peer that waits for them goes on.
@@ -94,7 +134,12 @@ fn answer_line(
 /// Errors: `Line` with the number of the first faulty line and its fault, when the answers to all
 /// lines before it are written; `NoMemory`, `Read` and `Write`, when a beginning of the output is
 /// written; `NoPlace`, when nothing is read or written.
-pub fn run<R: Source, W: Sink>(alloc: Global, source: &mut R, sink: &mut W) -> Result<(), RunFault>
+pub fn run<R: Source, W: Sink>(
+    alloc: Global,
+    keys: RandomState,
+    source: &mut R,
+    sink: &mut W,
+) -> Result<(), RunFault>
     requires reads { R.failure_count source.old < 10 ^ 18 }
     requires writes { W.failure_count sink.old < 10 ^ 18 }
     requires finite { R.bytes_left source.old < 2 ^ 64 }
@@ -123,7 +168,7 @@ pub fn run<R: Source, W: Sink>(alloc: Global, source: &mut R, sink: &mut W) -> R
 
     ensures no_place { result ≡ Err RunFault.NoPlace → (source.new ≡ source.old) × (sink.new ≡ sink.old) }
 {
-    let mut session = Session::new(alloc)?;
+    let mut session = Session::new(alloc, keys)?;
     let mut reader = LineReader::new(alloc)?;
     let mut line = Vec::new(alloc);
     let mut pending = Vec::new(alloc);

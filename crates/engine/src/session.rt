@@ -1,14 +1,14 @@
 //! What a script's commands are done on.
 ghost use Rattle.std.specs.Prelude.{◌≡◌, ◌++◌, ◌⊎◌, length, slice_index, OnOk, OnErr, IfOk, IfErr};
+ghost use Rattle.desk.specs.Caller.{IsTimely};
 ghost use Rattle.desk.specs.Machine as machine;
-ghost use Rattle.manifest.specs.Line.{shown};
 ghost use Rattle.engine.specs.Answers.{after, text_of, opening, reply_lines, snapshot_lines};
 
 use crate::fault::RunFault;
 use crate::text::{push_clock, push_node, push_places, push_queue, push_refused};
 use desk::{Counts, Desk, Limits, Pass, Reply, Snapshot, Step};
-use manifest::Command;
 use std::alloc::{AllocError, Global};
+use std::hash::RandomState;
 
 // A desk with its one pass, and room for an answer.
 #[derive(Drop)]
@@ -17,8 +17,8 @@ pub(crate) struct Session {
     pass: Pass,
     text: Vec<u8>,
     ghost first: { pass.number ≡ 0 },
-    ghost only: { length desk.calls ≡ 1 },
-    ghost counted: { slice_index desk.calls 0 ≡ pass.calls },
+    ghost only: { desk.handed ≡ 1 },
+    ghost counted: { slice_index desk.state.calls 0 ≡ pass.calls },
 }
 
 impl Session {
@@ -26,11 +26,11 @@ impl Session {
 
     // A new desk, with room for as much as the program allows.
     #[tactic(auto, using(crate::proofs::Steps::limits_same))]
-    pub(crate) fn new(alloc: Global) -> Result<Session, RunFault>
+    pub(crate) fn new(alloc: Global, keys: RandomState) -> Result<Session, RunFault>
         ensures opening { IfOk result (λ session. state_of session ≡ opening) }
         ensures faults { IfErr result (λ e. (e ≡ RunFault.NoMemory) ⊎ (e ≡ RunFault.NoPlace)) }
     {
-        let mut desk = Desk::new(alloc, Limits::greatest())?;
+        let mut desk = Desk::new(alloc, keys, Limits::greatest())?;
         let pass = desk.pass()?;
         Ok(Session {
             desk,
@@ -39,42 +39,29 @@ impl Session {
         })
     }
 
-    // Does what a command asks, and adds the answer to the output.
-    #[tactic(auto, using(crate::proofs::Steps::request_of_same), unfolding(crate::specs::Answers::after, crate::specs::Answers::text_of))]
-    pub(crate) fn answer(&mut self, command: Command, out: &mut Vec<u8>) -> Result<(), RunFault>
-        ensures state { OnOk result (state_of self.new ≡ after (state_of self.old) (shown command)) }
-        ensures text { OnOk result (out.new.items ≡ out.old.items ++ text_of (state_of self.old) (shown command)) }
+    // Does a step, shows the nodes where the desk's numbers are asked for, and adds the answer to the output.
+    #[tactic(auto, unfolding(crate::specs::Answers::after, crate::specs::Answers::text_of))]
+    pub(crate) fn answer(&mut self, step: Step, out: &mut Vec<u8>) -> Result<(), RunFault>
+        requires { IsTimely step }
+        ensures state { OnOk result (state_of self.new ≡ after (state_of self.old) step) }
+        ensures text { OnOk result (out.new.items ≡ out.old.items ++ text_of (state_of self.old) step) }
         ensures kept { OnErr result (out.new.items ≡ out.old.items) }
         ensures faults { IfErr result (λ e. e ≡ RunFault.NoMemory) }
     {
         self.text.clear();
-        let step = match command {
-            Command::NodeSet { version, node } => Step::NodeSet { version, node },
-            Command::PodBound {
-                version,
-                uid,
-                node,
-                request,
-            } => Step::PodBound {
-                version,
-                uid,
-                node,
-                request,
-            },
-            Command::Dump => {
-                self.show()?;
-                Step::Count
-            }
-        };
+        if let Step::Count = step {
+            self.show()?;
+        }
         self.apply(step)?;
         add(out, &self.text)
     }
 
     // Takes a step, and adds the lines that answer it to the text.
     fn apply(&mut self, step: Step) -> Result<(), RunFault>
+        requires { IsTimely step }
         ensures state { OnOk result (state_of self.new ≡ machine.after (state_of self.old) 0 step) }
         ensures text { OnOk result (self.new.text.items ≡ self.old.text.items
-            ++ reply_lines (machine.reply (state_of self.old) step)) }
+            ++ reply_lines (machine.reply (state_of self.old) 0 step)) }
         ensures faults { IfErr result (λ e. e ≡ RunFault.NoMemory) }
     {
         let reply = self.desk.apply(&mut self.pass, step)?;
@@ -111,7 +98,9 @@ fn push_reply(out: &mut Vec<u8>, reply: Reply) -> Result<(), AllocError>
     ensures { OnOk result (out.new.items ≡ out.old.items ++ reply_lines reply) }
 {
     match reply {
-        Reply::Done => out.extend_from_slice(b"ok\n"),
+        Reply::Done | Reply::Idle | Reply::Popped(_) | Reply::Ticket(_) => out.extend_from_slice(
+            b"ok\n",
+        ),
         Reply::Counts(counts) => push_numbers(out, counts),
         Reply::Refused(why) => push_refused(out, why),
     }

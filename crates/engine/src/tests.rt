@@ -2,6 +2,7 @@
 use super::*;
 use std::alloc::Global;
 use std::cell::Cell;
+use std::hash::RandomState;
 use std::test::Fail;
 
 // A script that comes in pieces, one a read. Read i fails where the output is not `answered[i]` bytes
@@ -89,7 +90,7 @@ struct Ended {
     longest: usize,
 }
 
-fn run_pieces(alloc: Global, pieces: &[&[u8]], answered: &[usize]) -> Ended {
+fn run_pieces(alloc: Global, keys: RandomState, pieces: &[&[u8]], answered: &[usize]) -> Ended {
     let written = Cell::new(0);
     let mut source = Peer {
         pieces,
@@ -105,7 +106,7 @@ fn run_pieces(alloc: Global, pieces: &[&[u8]], answered: &[usize]) -> Ended {
         failures: 0,
         written: &written,
     };
-    let result = run(alloc, &mut source, &mut sink);
+    let result = run(alloc, keys, &mut source, &mut sink);
     Ended {
         result,
         output: sink.bytes,
@@ -114,7 +115,8 @@ fn run_pieces(alloc: Global, pieces: &[&[u8]], answered: &[usize]) -> Ended {
 }
 
 #[test]
-fn every_answer_is_written_before_the_next_read(rt: HostRuntime) {
+fn every_answer_is_written_before_the_next_read(rt: HostRuntime) -> Result<(), Fail> {
+    let keys = RandomState::new(&rt)?;
     let pieces = [
         b"{\"op\":\"node\",\"v\":1,\"name\":\"a\",\"cpu\":\"4\",\"mem\":\"8Gi\",\"pods\":110}\n\n".as_slice(),
         b"{\"op\":\"node\",\"v\":1,\"name\":\"a\",".as_slice(),
@@ -128,9 +130,10 @@ queue active 0 backoff 0 unschedulable 0 inflight 0
 clock 0 version 1
 ";
     // The end is read twice: behind the last line, which has no newline, and behind its answer.
-    let ended = run_pieces(rt.alloc(), &pieces, &[0, 3, 3, 17, output.len()]);
+    let ended = run_pieces(rt.alloc(), keys, &pieces, &[0, 3, 3, 17, output.len()]);
     assert_eq!(rt; ended.result, Ok(()));
     assert_eq!(rt; ended.output.as_slice(), output.as_slice());
+    Ok(())
 }
 
 #[test]
@@ -140,13 +143,14 @@ queue active 0 backoff 0 unschedulable 0 inflight 0
 clock 0 version 0
 "
         .len();
+    let keys = RandomState::new(&rt)?;
     // As many dumps as one read gives.
     let mut script = Vec::new(rt.alloc());
     for _ in 0..4681 {
         script.extend_from_slice(b"{\"op\":\"dump\"}\n")?;
     }
     assert_eq!(rt; script.len(), 65_534);
-    let ended = run_pieces(rt.alloc(), &[script.as_slice()], &[0, 4681 * answer]);
+    let ended = run_pieces(rt.alloc(), keys, &[script.as_slice()], &[0, 4681 * answer]);
     assert_eq!(rt; ended.result, Ok(()));
     assert!(rt; ended.longest < 65_536 + answer, "at {}", ended.longest);
     Ok(())

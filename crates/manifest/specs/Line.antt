@@ -1,73 +1,140 @@
 -- What a line asks for.
-use Rattle.std.specs.Prelude.{ℕ, ◌^◌, false, List, [], length, codes, bytes_eq, Result, Ok, Err, nat_le, if◌then◌else◌}
-use Rattle.std.specs.Arc.{arc_value}
+use Rattle.std.specs.Prelude.{ℕ, pos, false, List, [], length, Result, Ok, Err, nat_le, if◌then◌else◌}
+use Rattle.std.specs.Option.{ok_or}
 use Rattle.serde_json.specs.Data.{Data}
-use Rattle.quant.specs.declared.amount.Cpu.{Cpu}
-use Rattle.quant.specs.declared.amount.Bytes.{Bytes}
-use Rattle.quant.specs.declared.objects.Node.{Node}
+use Rattle.quant.specs.Request.{pod_request}
+use Rattle.quant.specs.declared.limits.TheConstants.{MAX_LABELS, MAX_TAINTS, MAX_TOLERATIONS, MAX_CONTAINERS, MAX_INIT_CONTAINERS, MAX_PLACED, MAX_VERSION, MAX_TICKET, LATEST_MOMENT}
+use Rattle.quant.specs.declared.version.Version.{Version}
+use Rattle.quant.specs.declared.version.Ticket.{Ticket}
+use Rattle.quant.specs.declared.event.Event.TheVariants.{NodeSet, NodeGone, PodPending, PodBound, PodGone}
+use Rattle.manifest.specs.declared.line.TheConstants.{MAX_LINE}
 use Rattle.manifest.specs.declared.command.Command.{Command}
-use Rattle.manifest.specs.declared.command.Command.TheVariants.{NodeSet, PodBound, Dump}
-use Rattle.manifest.specs.declared.field.Field.TheVariants.{Op, Version, Name, Pods, Uid, Node as PodNode}
+use Rattle.manifest.specs.declared.command.Command.TheVariants as commands
+use Rattle.manifest.specs.declared.operation.Operation.{Operation}
+use Rattle.manifest.specs.declared.operation.Operation.TheVariants as operations
+use Rattle.manifest.specs.declared.field.Field.TheVariants as fields
 use Rattle.manifest.specs.declared.fault.LineFault.{LineFault}
 use Rattle.manifest.specs.declared.fault.LineFault.TheVariants.{BadField, OverLimit}
-use Rattle.manifest.specs.Reading.{◌>>=◌, parsed, text_at, name_at, integer_at, cpu_at, memory_at}
+use Rattle.manifest.specs.Operation.{operation_named}
+use Rattle.manifest.specs.Reading.{◌>>=◌, parsed, at, at_or, text, natural, signed, flag, name, cpu, memory, request, amount}
+use Rattle.manifest.specs.Item.{list}
+use Rattle.manifest.specs.Rows.{label, taint, toleration, container}
 
--- what a line asks for: a node as it is from some version on, a pod's place and what it takes there, or a dump
-pub data Asked : Type 0 where
-  node_set : (version : ℕ) (node : Node) → Asked
-  pod_bound : (version : ℕ) (uid node : List ℕ) (cpu : Cpu) (mem : Bytes) → Asked
-  dump : Asked
+-- the version of an event, from 1 on
+unfoldable pub version_in : Data → Result Version LineFault
+version_in json = do
+  v ← at fields.Version (natural 1 MAX_VERSION) json
+  Ok (record { 0 = v })
 
--- what a command asks for, without where it lies in memory
-abbrev pub shown : Command → Asked
-shown (NodeSet version node) = node_set version.0 (arc_value node)
-shown (PodBound version uid node request) = pod_bound version.0 uid node request.cpu request.mem
-shown Dump = dump
-
--- a node of this name that has these amounts, with no labels and no taints, and open to new pods
-abbrev pub node_row : (name : List ℕ) (cpu : Cpu) (mem : Bytes) (pods : ℕ) → Node
-node_row name cpu mem pods = record {
-  name = name;
-  allocatable = record { cpu = cpu; mem = mem; pods = pods };
-  labels = record { items = [] };
-  taints = record { items = [] };
-  unschedulable = false;
-}
+-- the ticket of an assumed place, from 1 on
+unfoldable pub ticket_in : Data → Result Ticket LineFault
+ticket_in json = do
+  ticket ← at fields.Ticket (natural 1 MAX_TICKET) json
+  Ok (record { 0 = ticket })
 
 -- the fields of `node`, in their order
-unfoldable pub node_in : Data → Result Asked LineFault
-node_in value = do
-  version ← integer_at Version 1 (10 ^ 18) value
-  name ← name_at Name value
-  cpu ← cpu_at value
-  mem ← memory_at value
-  pods ← integer_at Pods 0 150000 value
-  Ok (node_set version (node_row name cpu mem pods))
+unfoldable pub node_in : Data → Result Command LineFault
+node_in json = do
+  version ← version_in json
+  name ← at fields.Name name json
+  cpu ← at fields.Cpu cpu json
+  mem ← at fields.Memory memory json
+  pods ← at fields.Pods (natural 0 MAX_PLACED) json
+  labels ← at_or fields.Labels [] (list 0 MAX_LABELS label) json
+  taints ← at_or fields.Taints [] (list 0 MAX_TAINTS taint) json
+  unschedulable ← at_or fields.Unschedulable false flag json
+  Ok (commands.Event (NodeSet version (record {
+    name = name;
+    allocatable = record { cpu = cpu; mem = mem; pods = pods };
+    labels = record { items = labels };
+    taints = record { items = taints };
+    unschedulable = unschedulable;
+  })))
+
+-- the fields of `gone`, in their order
+unfoldable pub gone_in : Data → Result Command LineFault
+gone_in json = do
+  version ← version_in json
+  name ← at fields.Name name json
+  Ok (commands.Event (NodeGone version name))
+
+-- the fields of `pod`, in their order, and then what all its containers ask
+unfoldable pub pod_in : Data → Result Command LineFault
+pod_in json = do
+  version ← version_in json
+  uid ← at fields.Uid name json
+  priority ← at_or fields.Priority (pos 0) signed json
+  containers ← at fields.Containers (list 1 MAX_CONTAINERS container) json
+  init ← at_or fields.Init [] (list 0 MAX_INIT_CONTAINERS container) json
+  labels ← at_or fields.Labels [] (list 0 MAX_LABELS label) json
+  tolerations ← at_or fields.Tolerations [] (list 0 MAX_TOLERATIONS toleration) json
+  whole ← amount fields.Containers (pod_request containers init)
+  Ok (commands.Event (PodPending version (record {
+    uid = uid;
+    priority = priority;
+    request = whole;
+    labels = record { items = labels };
+    tolerations = record { items = tolerations };
+  })))
 
 -- the fields of `bound`, in their order
-unfoldable pub bound_in : Data → Result Asked LineFault
-bound_in value = do
-  version ← integer_at Version 1 (10 ^ 18) value
-  uid ← name_at Uid value
-  node ← name_at PodNode value
-  cpu ← cpu_at value
-  mem ← memory_at value
-  Ok (pod_bound version uid node cpu mem)
+unfoldable pub bound_in : Data → Result Command LineFault
+bound_in json = do
+  version ← version_in json
+  uid ← at fields.Uid name json
+  node ← at fields.Node name json
+  cpu ← at fields.Cpu cpu json
+  mem ← at fields.Memory memory json
+  whole ← request fields.Memory cpu mem
+  Ok (commands.Event (PodBound version uid node whole))
 
--- what an operation's name asks for
-unfoldable pub operation : List ℕ → Data → Result Asked LineFault
-operation op value =
-    if bytes_eq op (codes "node") then node_in value
-    else if bytes_eq op (codes "bound") then bound_in value
-    else if bytes_eq op (codes "dump") then Ok dump
-    else Err (BadField Op)
+-- the fields of `deleted`, in their order
+unfoldable pub deleted_in : Data → Result Command LineFault
+deleted_in json = do
+  version ← version_in json
+  uid ← at fields.Uid name json
+  Ok (commands.Event (PodGone version uid))
+
+-- the field of `tick`
+unfoldable pub tick_in : Data → Result Command LineFault
+tick_in json = do
+  moment ← at fields.At (natural 0 LATEST_MOMENT) json
+  Ok (commands.Tick (record { 0 = moment }))
+
+-- the fields of `done`, in their order
+unfoldable pub done_in : Data → Result Command LineFault
+done_in json = do
+  uid ← at fields.Uid name json
+  ticket ← ticket_in json
+  Ok (commands.BindDone uid ticket)
+
+-- the fields of `forget`, in their order
+unfoldable pub forget_in : Data → Result Command LineFault
+forget_in json = do
+  uid ← at fields.Uid name json
+  ticket ← ticket_in json
+  Ok (commands.Forget uid ticket)
+
+-- what an operation asks for
+unfoldable pub fields_of : Operation → Data → Result Command LineFault
+fields_of operations.Node json = node_in json
+fields_of operations.Gone json = gone_in json
+fields_of operations.Pod json = pod_in json
+fields_of operations.Bound json = bound_in json
+fields_of operations.Deleted json = deleted_in json
+fields_of operations.Tick json = tick_in json
+fields_of operations.Cycle json = Ok commands.Cycle
+fields_of operations.Done json = done_in json
+fields_of operations.Forget json = forget_in json
+fields_of operations.Dump json = Ok commands.Dump
 
 -- what an object asks for: its operation is read first
-unfoldable pub command_in : Data → Result Asked LineFault
-command_in value = do
-  op ← text_at Op value
-  operation op value
+unfoldable pub command_in : Data → Result Command LineFault
+command_in json = do
+  op ← at fields.Op text json
+  operation ← ok_or (operation_named op) (BadField fields.Op)
+  fields_of operation json
 
 -- what a line asks for, or its first fault; a line that is too long is not read
-unfoldable pub meaning : List ℕ → Result Asked LineFault
-meaning line = if nat_le (length line) 65536 then parsed line >>= command_in else Err (OverLimit Op)
+unfoldable pub meaning : List ℕ → Result Command LineFault
+meaning line = if nat_le (length line) MAX_LINE then parsed line >>= command_in else Err (OverLimit fields.Op)

@@ -1,27 +1,28 @@
 //! What a line asks for.
-use quant::{Name, Node, Request, Version};
-use std::sync::Arc;
+use quant::{Event, Moment, Name, Ticket};
 
 /// What a line asks for.
 #[derive(Debug, Drop)]
 pub enum Command {
-    /// A watch event: a node is there, or it has changed.
-    NodeSet {
-        /// The event's version, 1 to 10^18.
-        version: Version,
-        /// The node as it is from now on.
-        node: Arc<Node>,
-    },
-    /// A watch event: a pod stands on a node.
-    PodBound {
-        /// The event's version, 1 to 10^18.
-        version: Version,
+    /// What the cluster's watch tells.
+    Event(Event),
+    /// The scheduler's clock stands at this moment from now on, 0 to 10^15 milliseconds.
+    Tick(Moment),
+    /// The next pod of the queue is to be placed.
+    Cycle,
+    /// The pod that was assumed under this ticket now runs on its node.
+    BindDone {
         /// Which pod it is.
         uid: Name,
-        /// The node's name. The node itself need not be known.
-        node: Name,
-        /// What the pod takes of the node.
-        request: Request,
+        /// The ticket under which its place was assumed, 1 to 10^18.
+        ticket: Ticket,
+    },
+    /// The pod that was assumed under this ticket could not be bound, and loses its place.
+    Forget {
+        /// Which pod it is.
+        uid: Name,
+        /// The ticket under which its place was assumed, 1 to 10^18.
+        ticket: Ticket,
     },
     /// A look at the nodes, the places and the queue.
     Dump,

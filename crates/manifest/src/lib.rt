@@ -1,16 +1,30 @@
-//! The lines of a script: each is one JSON object that spells one command.
+//! The lines of a script: each is one JSON object that spells one command, or has a first fault.
+//!
+//! `read_line` is the door. Behind it `line` has the fields of each operation in their order, and
+//! `members` reads one field; a field that is an array fills its row in place by `item`, and
+//! `label`, `taint`, `toleration` and `container` say what one item is. What is read is defined in
+//! `specs/Line.antt`, in the same order, over the value that the reader of JSON makes of a line.
 #![tactic(auto)]
 
 mod command;
+mod container;
 mod fault;
 mod field;
+mod item;
+mod label;
+mod laws;
 mod line;
+mod members;
+mod operation;
 mod reading;
+mod taint;
+mod toleration;
 
 pub use command::Command;
 pub use fault::LineFault;
 pub use field::Field;
-pub use line::{MAX_LINE, MAX_PODS, MAX_VERSION, read_line};
+pub use laws::longest_line_is_this;
+pub use line::{MAX_LINE, read_line};
 
 #[cfg(test)]
 mod tests;

@@ -1,42 +1,56 @@
 //! From a line to its command.
 ghost use Rattle.std.specs.Prelude.{◌≡◌};
 ghost use Rattle.serde_json.specs.View.{view};
-ghost use Rattle.manifest.specs.Reading.{Gives};
-ghost use Rattle.manifest.specs.Line.{shown, node_row, node_in, bound_in, command_in, meaning};
+ghost use Rattle.manifest.specs.Reading.{Answers};
+ghost use Rattle.manifest.specs.Line.{version_in, ticket_in, node_in, gone_in, pod_in, bound_in, deleted_in, tick_in, done_in, forget_in, command_in, meaning};
 
 use crate::command::Command;
+use crate::container::request_within;
 use crate::fault::LineFault;
 use crate::field::Field;
-use crate::reading::{cpu_at, integer_at, memory_at, name_at, parse, text_at};
+use crate::item::{fill_at, fill_at_or_leave};
+use crate::members::{cpu_at, flag_at, memory_at, name_at, natural_at, signed_at, text_at};
+use crate::operation::Operation;
+use crate::reading::parse;
 use arrayvec::ArrayVec;
-use quant::{Bytes, Cpu, Name, Node, Request, Res, Version};
+use quant::{
+    Event, LATEST_MOMENT, MAX_CONTAINERS, MAX_INIT_CONTAINERS, MAX_PLACED, MAX_TICKET, MAX_VERSION,
+    Moment, Node, Pod, Request, Res, SharedNode, SharedPod, Ticket, Version, request,
+};
 use serde_json::Value;
 use std::alloc::Global;
-use std::sync::Arc;
 
 /// The most bytes of a line, its newline not counted.
 pub const MAX_LINE: usize = 65_536;
 
-/// The greatest version of a watch event.
-pub const MAX_VERSION: u64 = 1_000_000_000_000_000_000;
-
-/// The most pods that a node takes.
-pub const MAX_PODS: u64 = 150_000;
-
 /// The command that a line spells, without its newline, or the line's first fault.
 ///
-/// A line is one JSON object. `op` is read first: `node` has the fields `v`, `name`, `cpu`, `mem`
-/// and `pods`, `bound` has `v`, `uid`, `node`, `cpu` and `mem`, and `dump` has none. They are
-/// read in this order, in each its type before its value. Other keys are passed over.
+/// A line is one JSON object. `op` is read first, and then the operation's fields in this order;
+/// those in brackets may be absent. Other keys are passed over.
+///
+/// | `op` | Fields | Command |
+/// |---|---|---|
+/// | `node` | `v`, `name`, `cpu`, `mem`, `pods`, [`labels`], [`taints`], [`unschedulable`] | a node's row |
+/// | `gone` | `v`, `name` | the node is gone |
+/// | `pod` | `v`, `uid`, [`priority`], `containers`, [`init`], [`labels`], [`tolerations`] | a pod that waits |
+/// | `bound` | `v`, `uid`, `node`, `cpu`, `mem` | a pod that runs |
+/// | `deleted` | `v`, `uid` | the pod is gone |
+/// | `tick` | `at` | the clock |
+/// | `cycle` | | the next pod is placed |
+/// | `done` | `uid`, `ticket` | the pod was bound |
+/// | `forget` | `uid`, `ticket` | the pod could not be bound |
+/// | `dump` | | the state is printed |
 ///
 /// Errors: `OverLimit` of `op` for a line that is too long, which is not read as JSON; `NotJson`
 /// where the line is not JSON or nests deeper than 127; `BadField` of `op` for a line that is no
 /// object or has no known `op`; `BadField` of a field that is missing, has another type, is not
-/// an integer of 64 bits or is no name; `OverLimit` of an integer out of its range; `Quantity` of
-/// an amount that `quant` refuses; `NoMemory`, which may come in place of any other answer.
+/// an integer of 64 bits, or has a text that is no name, text, effect or operator; `OverLimit` of
+/// an integer out of its range and of an array with too many items or too few; `Quantity` of an
+/// amount that `quant` refuses, and of `containers` where the pod's whole request is too large,
+/// which is told last; `NoMemory`, which may come in place of any other answer.
 #[tactic(auto, unfolding(crate::specs::Line::meaning))]
 pub fn read_line(alloc: Global, line: &[u8]) -> Result<Command, LineFault>
-    ensures { Gives shown result (meaning line.now) }
+    ensures { Answers result (meaning line.now) }
 {
     if line.len() > MAX_LINE {
         return Err(LineFault::OverLimit(Field::Op));
@@ -46,62 +60,162 @@ pub fn read_line(alloc: Global, line: &[u8]) -> Result<Command, LineFault>
 }
 
 // The command that an object spells.
-#[tactic(auto, unfolding(crate::specs::Line::command_in, crate::specs::Line::operation))]
-fn command_of(alloc: Global, value: &Value) -> Result<Command, LineFault>
-    ensures { Gives shown result (command_in (view value.now)) }
+#[tactic(auto, unfolding(crate::specs::Line::command_in, crate::specs::Line::fields_of))]
+fn command_of(alloc: Global, object: &Value) -> Result<Command, LineFault>
+    ensures { Answers result (command_in (view object.now)) }
 {
-    match text_at(value, Field::Op)?.as_bytes() {
-        b"node" => node_of(alloc, value),
-        b"bound" => bound_of(value),
-        b"dump" => Ok(Command::Dump),
-        _ => Err(LineFault::BadField(Field::Op)),
+    let op = text_at(object, Field::Op)?;
+    let operation = Operation::named(op).ok_or(LineFault::BadField(Field::Op))?;
+    match operation {
+        Operation::Node => node_of(alloc, object),
+        Operation::Gone => gone_of(object),
+        Operation::Pod => pod_of(alloc, object),
+        Operation::Bound => bound_of(object),
+        Operation::Deleted => deleted_of(object),
+        Operation::Tick => tick_of(object),
+        Operation::Cycle => Ok(Command::Cycle),
+        Operation::Done => done_of(object),
+        Operation::Forget => forget_of(object),
+        Operation::Dump => Ok(Command::Dump),
     }
 }
 
 // The node that an object tells of.
 #[tactic(auto, unfolding(crate::specs::Line::node_in))]
-fn node_of(alloc: Global, value: &Value) -> Result<Command, LineFault>
-    ensures { Gives shown result (node_in (view value.now)) }
+fn node_of(alloc: Global, object: &Value) -> Result<Command, LineFault>
+    ensures { Answers result (node_in (view object.now)) }
 {
-    let version = Version(integer_at(value, Field::Version, 1, MAX_VERSION)?);
-    let name = name_at(value, Field::Name)?;
-    let cpu = cpu_at(value)?;
-    let mem = memory_at(value)?;
-    let pods = integer_at(value, Field::Pods, 0, MAX_PODS)?;
-    let node = open_node(name, cpu, mem, pods as u32);
-    match Arc::new(alloc, node) {
-        Ok(node) => Ok(Command::NodeSet { version, node }),
-        Err(_) => Err(LineFault::NoMemory),
-    }
-}
-
-// A node of this name that has these amounts, with no labels and no taints, and open to new pods.
-fn open_node(name: Name, cpu: Cpu, mem: Bytes, pods: u32) -> Node
-    ensures { result ≡ node_row name cpu mem pods }
-{
-    Node {
+    let version = version_at(object)?;
+    let name = name_at(object, Field::Name)?;
+    let cpu = cpu_at(object)?;
+    let mem = memory_at(object)?;
+    let pods = natural_at(object, Field::Pods, 0, MAX_PLACED as u64)?;
+    let mut node = Node {
         name,
-        allocatable: Res { cpu, mem, pods },
+        allocatable: Res {
+            cpu,
+            mem,
+            pods: pods as u32,
+        },
         labels: ArrayVec::new(),
         taints: ArrayVec::new(),
         unschedulable: false,
-    }
+    };
+    fill_at_or_leave(&mut node.labels, object, Field::Labels)?;
+    fill_at_or_leave(&mut node.taints, object, Field::Taints)?;
+    node.unschedulable = flag_at(object, Field::Unschedulable)?;
+    let node = SharedNode::new(alloc, node).map_err(|_| LineFault::NoMemory)?;
+    Ok(Command::Event(Event::NodeSet { version, node }))
+}
+
+// The node that an object says is gone.
+#[tactic(auto, unfolding(crate::specs::Line::gone_in))]
+fn gone_of(object: &Value) -> Result<Command, LineFault>
+    ensures { Answers result (gone_in (view object.now)) }
+{
+    let version = version_at(object)?;
+    let name = name_at(object, Field::Name)?;
+    Ok(Command::Event(Event::NodeGone { version, name }))
+}
+
+// The pod that an object tells of.
+#[tactic(auto, unfolding(crate::specs::Line::pod_in))]
+fn pod_of(alloc: Global, object: &Value) -> Result<Command, LineFault>
+    ensures { Answers result (pod_in (view object.now)) }
+{
+    let version = version_at(object)?;
+    let uid = name_at(object, Field::Uid)?;
+    let priority = signed_at(object, Field::Priority)?;
+    let mut containers: ArrayVec<Request, MAX_CONTAINERS> = ArrayVec::new();
+    fill_at(&mut containers, object, Field::Containers)?;
+    let mut init: ArrayVec<Request, MAX_INIT_CONTAINERS> = ArrayVec::new();
+    fill_at_or_leave(&mut init, object, Field::Init)?;
+    // The row is filled where it stands, and what it asks is known last.
+    let mut pod = Pod {
+        uid,
+        priority,
+        request: Request::default(),
+        labels: ArrayVec::new(),
+        tolerations: ArrayVec::new(),
+    };
+    fill_at_or_leave(&mut pod.labels, object, Field::Labels)?;
+    fill_at_or_leave(&mut pod.tolerations, object, Field::Tolerations)?;
+    pod.request = request(containers.as_slice(), init.as_slice()).map_err(|_| LineFault::Quantity(
+        Field::Containers,
+    ))?;
+    let pod = SharedPod::new(alloc, pod).map_err(|_| LineFault::NoMemory)?;
+    Ok(Command::Event(Event::PodPending { version, pod }))
 }
 
 // The place that an object tells of.
-#[tactic(auto, unfolding(crate::specs::Line::bound_in))]
-fn bound_of(value: &Value) -> Result<Command, LineFault>
-    ensures { Gives shown result (bound_in (view value.now)) }
+#[tactic(auto, unfolding(crate::specs::Line::bound_in, crate::specs::Reading::request))]
+fn bound_of(object: &Value) -> Result<Command, LineFault>
+    ensures { Answers result (bound_in (view object.now)) }
 {
-    let version = Version(integer_at(value, Field::Version, 1, MAX_VERSION)?);
-    let uid = name_at(value, Field::Uid)?;
-    let node = name_at(value, Field::Node)?;
-    let cpu = cpu_at(value)?;
-    let mem = memory_at(value)?;
-    Ok(Command::PodBound {
+    let version = version_at(object)?;
+    let uid = name_at(object, Field::Uid)?;
+    let node = name_at(object, Field::Node)?;
+    let cpu = cpu_at(object)?;
+    let mem = memory_at(object)?;
+    Ok(Command::Event(Event::PodBound {
         version,
         uid,
         node,
-        request: Request { cpu, mem },
-    })
+        request: request_within(cpu, mem),
+    }))
+}
+
+// The pod that an object says is gone.
+#[tactic(auto, unfolding(crate::specs::Line::deleted_in))]
+fn deleted_of(object: &Value) -> Result<Command, LineFault>
+    ensures { Answers result (deleted_in (view object.now)) }
+{
+    let version = version_at(object)?;
+    let uid = name_at(object, Field::Uid)?;
+    Ok(Command::Event(Event::PodGone { version, uid }))
+}
+
+// The moment that an object tells of.
+#[tactic(auto, unfolding(crate::specs::Line::tick_in))]
+fn tick_of(object: &Value) -> Result<Command, LineFault>
+    ensures { Answers result (tick_in (view object.now)) }
+{
+    let moment = natural_at(object, Field::At, 0, LATEST_MOMENT)?;
+    Ok(Command::Tick(Moment(moment)))
+}
+
+// The pod that an object says was bound.
+#[tactic(auto, unfolding(crate::specs::Line::done_in))]
+fn done_of(object: &Value) -> Result<Command, LineFault>
+    ensures { Answers result (done_in (view object.now)) }
+{
+    let uid = name_at(object, Field::Uid)?;
+    let ticket = ticket_at(object)?;
+    Ok(Command::BindDone { uid, ticket })
+}
+
+// The pod that an object says could not be bound.
+#[tactic(auto, unfolding(crate::specs::Line::forget_in))]
+fn forget_of(object: &Value) -> Result<Command, LineFault>
+    ensures { Answers result (forget_in (view object.now)) }
+{
+    let uid = name_at(object, Field::Uid)?;
+    let ticket = ticket_at(object)?;
+    Ok(Command::Forget { uid, ticket })
+}
+
+// The version of an event.
+#[tactic(auto, unfolding(crate::specs::Line::version_in))]
+fn version_at(object: &Value) -> Result<Version, LineFault>
+    ensures { Answers result (version_in (view object.now)) }
+{
+    Ok(Version(natural_at(object, Field::Version, 1, MAX_VERSION)?))
+}
+
+// The ticket of an assumed place.
+#[tactic(auto, unfolding(crate::specs::Line::ticket_in))]
+fn ticket_at(object: &Value) -> Result<Ticket, LineFault>
+    ensures { Answers result (ticket_in (view object.now)) }
+{
+    Ok(Ticket(natural_at(object, Field::Ticket, 1, MAX_TICKET)?))
 }

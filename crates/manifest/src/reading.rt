@@ -1,12 +1,12 @@
-//! From a JSON value to what its fields say.
-ghost use Rattle.std.specs.Prelude.{◌≡◌, ◌^◌, ◌≤◌, IfOk};
-ghost use Rattle.serde_json.specs.View.{view};
-ghost use Rattle.manifest.specs.Reading.{Gives, parsed, text_at, name_at, integer_at, cpu_at, memory_at};
+//! From a JSON value to what one field says.
+ghost use Rattle.std.specs.Prelude.{◌≡◌, ◌≤◌, ◌^◌, IfOk};
+ghost use Rattle.serde_json.specs.View.{view, number_view};
+ghost use Rattle.manifest.specs.Reading.{Gives, Answers, parsed, member, text, integer, natural, signed, flag, name_from, text_from, name, cpu_from, memory_from};
 
 use crate::fault::LineFault;
 use crate::field::Field;
-use quant::{Bytes, Cpu, Name, read_bytes, read_cpu};
-use serde_json::Value;
+use quant::{Bytes, Cpu, Name, Text, read_bytes, read_cpu};
+use serde_json::{Number, Value};
 use std::alloc::Global;
 
 // The value that a line is.
@@ -21,70 +21,95 @@ pub(crate) fn parse(alloc: Global, line: &[u8]) -> Result<Value, LineFault>
     }
 }
 
-// The text of a field.
-#[tactic(auto, unfolding(crate::specs::Reading::text_at))]
-pub(crate) fn text_at(value: &Value, field: Field) -> Result<&str, LineFault>
-    ensures { Gives (λ s. s.now) result (text_at field (view value.now)) }
+// The value of a field that has to be there.
+#[tactic(auto, unfolding(crate::specs::Reading::member))]
+pub(crate) fn member(object: &Value, field: Field) -> Result<&Value, LineFault>
+    ensures { Gives (λ value. view value.now) result (member field (view object.now)) }
 {
-    value
-        .get(field.key())
-        .and_then(Value::as_str)
-        .ok_or(LineFault::BadField(field))
+    object.get(field.key()).ok_or(LineFault::BadField(field))
 }
 
-// The number of a field that takes the integers from low to high.
-#[tactic(auto, unfolding(crate::specs::Reading::integer_at))]
-pub(crate) fn integer_at(value: &Value, field: Field, low: u64, high: u64) -> Result<u64, LineFault>
-    ensures value { Gives (λ n. n) result (integer_at field low high (view value.now)) }
+// A text.
+#[tactic(auto, unfolding(crate::specs::Reading::text))]
+pub(crate) fn text(value: &Value, field: Field) -> Result<&str, LineFault>
+    ensures { Gives (λ s. s.now) result (text field (view value.now)) }
+{
+    value.as_str().ok_or(LineFault::BadField(field))
+}
+
+// A number from low to high.
+#[tactic(auto, unfolding(crate::specs::Reading::natural))]
+pub(crate) fn natural(value: &Value, field: Field, low: u64, high: u64) -> Result<u64, LineFault>
+    ensures value { Answers result (natural low high field (view value.now)) }
     ensures bounded { IfOk result (λ n. n ≤ high) }
 {
-    let number = value
-        .get(field.key())
-        .and_then(Value::as_number)
-        .ok_or(LineFault::BadField(field))?;
-    if number.is_f64() {
-        return Err(LineFault::BadField(field));
-    }
-    match number.as_u64() {
+    match integer(value, field)?.as_u64() {
         Some(n) if low <= n && n <= high => Ok(n),
         _ => Err(LineFault::OverLimit(field)),
     }
 }
 
-// The name in a field.
-#[tactic(auto, unfolding(crate::specs::Reading::name_at))]
-pub(crate) fn name_at(value: &Value, field: Field) -> Result<Name, LineFault>
-    ensures { Gives (λ name. name) result (name_at field (view value.now)) }
+// A number of 32 bits, which may be below 0.
+#[tactic(auto, unfolding(crate::specs::Reading::signed))]
+pub(crate) fn signed(value: &Value, field: Field) -> Result<i32, LineFault>
+    ensures { Answers result (signed field (view value.now)) }
 {
-    let text = text_at(value, field)?;
-    match Name::new(text.as_bytes()) {
-        Ok(name) => Ok(name),
-        Err(_) => Err(LineFault::BadField(field)),
+    match integer(value, field)?.as_i64() {
+        Some(n) if i64::from(i32::MIN) <= n && n <= i64::from(i32::MAX) => Ok(n as i32),
+        _ => Err(LineFault::OverLimit(field)),
     }
 }
 
-// The amount of CPU in the field `cpu`.
-#[tactic(auto, unfolding(crate::specs::Reading::cpu_at))]
-pub(crate) fn cpu_at(value: &Value) -> Result<Cpu, LineFault>
-    ensures value { Gives (λ cpu. cpu) result (cpu_at (view value.now)) }
+// A number that is an integer of 64 bits.
+#[tactic(auto, unfolding(crate::specs::Reading::integer))]
+fn integer(value: &Value, field: Field) -> Result<&Number, LineFault>
+    ensures { Gives (λ number. number_view number.now) result (integer field (view value.now)) }
+{
+    let number = value.as_number().ok_or(LineFault::BadField(field))?;
+    if number.is_f64() {
+        return Err(LineFault::BadField(field));
+    }
+    Ok(number)
+}
+
+// Yes or no.
+#[tactic(auto, unfolding(crate::specs::Reading::flag))]
+pub(crate) fn flag(value: &Value, field: Field) -> Result<bool, LineFault>
+    ensures { Answers result (flag field (view value.now)) }
+{
+    value.as_bool().ok_or(LineFault::BadField(field))
+}
+
+// The name that a text is.
+#[tactic(auto, unfolding(crate::specs::Reading::name_from))]
+pub(crate) fn name_from(text: &str, field: Field) -> Result<Name, LineFault>
+    ensures { Answers result (name_from field text.now) }
+{
+    Name::new(text.as_bytes()).map_err(|_| LineFault::BadField(field))
+}
+
+// The text beside a key that a text is.
+#[tactic(auto, unfolding(crate::specs::Reading::text_from))]
+pub(crate) fn text_from(text: &str, field: Field) -> Result<Text, LineFault>
+    ensures { Answers result (text_from field text.now) }
+{
+    Text::new(text.as_bytes()).map_err(|_| LineFault::BadField(field))
+}
+
+// The amount of CPU that a text spells.
+#[tactic(auto, unfolding(crate::specs::Reading::cpu_from))]
+pub(crate) fn cpu_from(text: &str, field: Field) -> Result<Cpu, LineFault>
+    ensures value { Answers result (cpu_from field text.now) }
     ensures bounded { IfOk result (λ cpu. cpu.0 ≤ 2 ^ 30) }
 {
-    let text = text_at(value, Field::Cpu)?;
-    match read_cpu(text.as_bytes()) {
-        Ok(cpu) => Ok(cpu),
-        Err(_) => Err(LineFault::Quantity(Field::Cpu)),
-    }
+    read_cpu(text.as_bytes()).map_err(|_| LineFault::Quantity(field))
 }
 
-// The amount of memory in the field `mem`.
-#[tactic(auto, unfolding(crate::specs::Reading::memory_at))]
-pub(crate) fn memory_at(value: &Value) -> Result<Bytes, LineFault>
-    ensures value { Gives (λ mem. mem) result (memory_at (view value.now)) }
+// The amount of memory that a text spells.
+#[tactic(auto, unfolding(crate::specs::Reading::memory_from))]
+pub(crate) fn memory_from(text: &str, field: Field) -> Result<Bytes, LineFault>
+    ensures value { Answers result (memory_from field text.now) }
     ensures bounded { IfOk result (λ mem. mem.0 ≤ 2 ^ 44) }
 {
-    let text = text_at(value, Field::Memory)?;
-    match read_bytes(text.as_bytes()) {
-        Ok(mem) => Ok(mem),
-        Err(_) => Err(LineFault::Quantity(Field::Memory)),
-    }
+    read_bytes(text.as_bytes()).map_err(|_| LineFault::Quantity(field))
 }

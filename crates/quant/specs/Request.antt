@@ -34,3 +34,8 @@ request_both cpu mem _ _ = Err TooLarge
 -- the request of these amounts, which is too large above 2^30 thousandths of a core or 2^44 bytes
 unfoldable pub request_of : Cpu → Bytes → Result Request QuantFault
 request_of cpu mem = request_both cpu mem (within cpu.0 (2 ^ 30)) (within mem.0 (2 ^ 44))
+
+-- what a pod asks in all
+unfoldable pub pod_request : List Request → List Request → Result Request QuantFault
+pod_request containers init =
+    request_of (record { 0 = asked (λ r. r.cpu.0) containers init }) (record { 0 = asked (λ r. r.mem.0) containers init })

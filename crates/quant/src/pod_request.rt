@@ -1,6 +1,6 @@
 //! What a pod asks of a node, by what its containers ask.
 ghost use Rattle.std.specs.Prelude.{◌≡◌, ◌^◌, ◌≤◌, ◌↔◌, length, max, sum_by, IsOk, IfOk, IfErr};
-ghost use Rattle.quant.specs.Request.{asked, greatest_by, request_of};
+ghost use Rattle.quant.specs.Request.{asked, greatest_by, request_of, pod_request};
 
 use crate::amount::{Bytes, Cpu, Request};
 use crate::fault::QuantFault;
@@ -24,12 +24,24 @@ impl Request {
     }
 }
 
+/// A request of nothing, which stands in the unused places of a list of requests.
+impl Default for Request {
+    ghost is_default = { λ request. (request.cpu.0 ≡ 0) × (request.mem.0 ≡ 0) };
+
+    fn default() -> Self {
+        Request {
+            cpu: Cpu(0),
+            mem: Bytes(0),
+        }
+    }
+}
+
 /// What a pod asks of a node: for each resource the greater of the sum over its containers and
 /// the greatest of its init containers, which run one after the other before them (the Kubernetes
 /// page "Init Containers", "Resource sharing within containers"). No container asks 0.
 ///
 /// Errors: `TooLarge` above 2^30 thousandths of a core or above 2^44 bytes.
-#[tactic(auto, unfolding(crate::specs::Request::asked))]
+#[tactic(auto, unfolding(crate::specs::Request::asked, crate::specs::Request::pod_request))]
 pub fn request(containers: &[Request], init: &[Request]) -> Result<Request, QuantFault>
     requires containers { length containers.now ≤ 16 }
     requires init { length init.now ≤ 16 }
@@ -38,6 +50,7 @@ pub fn request(containers: &[Request], init: &[Request]) -> Result<Request, Quan
     ensures cpu { IfOk result (λ request. request.cpu.0 ≡ asked (λ r. r.cpu.0) containers.now init.now) }
     ensures mem { IfOk result (λ request. request.mem.0 ≡ asked (λ r. r.mem.0) containers.now init.now) }
     ensures fault { IfErr result (λ fault. fault ≡ QuantFault.TooLarge) }
+    ensures value { result ≡ pod_request containers.now init.now }
 {
     let cpu = sum_of_cpu(containers).max(greatest_cpu(init));
     let mem = sum_of_mem(containers).max(greatest_mem(init));

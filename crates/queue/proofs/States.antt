@@ -17,7 +17,7 @@ use Rattle.queue.specs.declared.refusal.Refusal.{Refusal}
 use Rattle.queue.specs.declared.refusal.Refusal.TheVariants.{Known, Full, NotInFlight}
 use Rattle.queue.specs.Entry.{Entry, new_entry, is_active, is_backoff, is_unschedulable, is_in_flight, popped}
 use Rattle.queue.specs.Order.{Item, item_of, comes_before}
-use Rattle.queue.specs.Queue.{Entries, QueueState, entry_of, has_entry, is_full_queue, stands, next_of, counts_in, counts_of, with_entry, with_change, changed_at, with_popped, all_changed, unless_refused, refusal_to_add, after_add, after_pop, after_remove}
+use Rattle.queue.specs.Queue.{Entries, QueueState, entry_of, has_entry, is_full_queue, IsQueue, stands, next_of, counts_in, counts_of, with_entry, with_change, changed_at, with_popped, all_changed, unless_refused, refusal_to_add, after_add, after_pop, after_remove}
 use Rattle.queue.specs.Slots.{has_uid, state_of, are_apart, IsFirstBelow, IsNextBelow}
 use Rattle.queue.proofs.Uids.{same, same_laws, same_is}
 use Rattle.queue.proofs.Members.{nothing, same_some}
@@ -100,6 +100,14 @@ found_place p (y ∷ ys) e is =
       | true ↦ λ h found. let here : y ≡ e = same_some y e found in (0, omega arith, sym here, sym (ap p here) ∙ h)
       | false ↦ λ h found. let rest = found_place p ys e found in (suc rest.0, omega (arith, rest.1), rest.2, rest.3)
     ] refl is
+
+-- the list of a queue is one
+pub is_queue : (limit : ℕ) (es : List Entry) → are_apart es ≡ true → length es ≤ limit → limit ≤ 10000 → IsQueue (state_of limit es)
+is_queue limit es apart within limited = record {
+  own_uid = λ uid e there. sym (same_is uid e.pod.uid (found_place (has_uid uid) es e (sym (get-by_uid es uid) ∙ there)).3);
+  within = omega (arith, len-by_uid es apart);
+  limited = limited;
+}
 
 -- no other active entry comes before the one that goes first in the list
 first_elsewhere : (es : List Entry) (i : ℕ) (x : Entry) (other : Item) → IsFirstBelow es (length es) i → x ≡ get_or es i x → (k : ℕ) × (k < length es) × (other.1 ≡ get_or es k other.1) × (has_uid other.0 other.1 ≡ true) → is_active other.1.state ≡ true → comes_before other (item_of x) ≡ false

@@ -1,5 +1,6 @@
 pub mod Entry
 pub mod Order
+pub mod Refusal
 pub mod Queue
 pub mod Slots
 pub mod Calls

@@ -1,5 +1,5 @@
 -- The queue as a plain set of entries under their uids, and what each call makes of it.
-use Rattle.std.specs.Prelude.{ℕ, List, Bool, false, nat_le, if◌then◌else◌, map, count_by, Option, Some, None, is_some}
+use Rattle.std.specs.Prelude.{ℕ, List, Bool, false, nat_le, if◌then◌else◌, map, count_by, Option, Some, None, is_some, ◌≡◌, ◌≤◌}
 use Rattle.std.specs.FinMap as table
 use Rattle.std.specs.Ordering.{nat_cmp}
 use Rattle.std.specs.Cmp.Lexicographic.{slice_cmp}
@@ -34,6 +34,12 @@ entry_of q uid = table.get q.entries uid
 -- whether there is an entry of this uid
 abbrev pub has_entry : QueueState → Name → Bool
 has_entry q uid = is_some (entry_of q uid)
+
+-- what is so of every queue: each entry stands under its own pod's uid, there are no more entries than there may be, and no more than 10,000 may be
+pub record IsQueue (q : QueueState) : Type 0 where
+  pub own_uid : (uid : Name) (entry : Entry) → entry_of q uid ≡ Some entry → entry.pod.uid ≡ uid
+  pub within : table.len q.entries ≤ q.limit
+  pub limited : q.limit ≤ 10000
 
 -- whether there is no room for one more
 abbrev pub is_full_queue : QueueState → Bool

@@ -29,10 +29,11 @@ abbrev pub are_apart : List Entry → Bool
 are_apart [] = true
 are_apart (entry ∷ slots) = is_none (find (has_uid entry.pod.uid) slots) && are_apart slots
 
--- what holds of the list of a queue: uids apart, no more entries than there may be, and room for as many
+-- what holds of the list of a queue: uids apart, no more entries than there may be, no more than 10,000 may be, and room for as many
 pub record IsKept (slots : Vec Entry Global) (limit : ℕ) : Type 0 where
   pub apart : are_apart slots.items ≡ true
   pub within : vec_len slots ≤ limit
+  pub limited : limit ≤ 10000
   pub room : limit ≤ vec_capacity slots
 
 -- the place of an active entry among the first n, before which no other active one of these comes

@@ -27,7 +27,6 @@ mod tests;
 
 pub use counts::Counts;
 pub use laws::{loses_none, pops_once, pops_the_first, ticks_once};
-pub use queue::{MAX_QUEUED, Queue};
+pub use queue::Queue;
 pub use refusal::Refusal;
-pub use slot::LATEST_MOMENT;
 pub use state::{Failure, PassNumber, State};

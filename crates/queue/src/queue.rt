@@ -1,21 +1,16 @@
 //! The queue: its entries, each under its pod's uid, and the calls that change them.
 ghost use Rattle.std.specs.Prelude.{◌≡◌, ◌≤◌, IfOk, option_map, option_copied};
-ghost use Rattle.std.specs.Arc.{arc_value};
 ghost use Rattle.std.specs.Result.{result_err};
-ghost use Rattle.queue.specs.Queue.{no_entries, entry_of, has_entry, is_full_queue, holds_in_flight, next_of, counts_of, refusal_to_add, refusal_to_fail, refusal_to_forget, after_add, after_pop, after_fail, after_forget, after_tick, after_move, after_remove};
+ghost use Rattle.queue.specs.Queue.{no_entries, entry_of, has_entry, is_full_queue, IsQueue, holds_in_flight, next_of, counts_of, refusal_to_add, refusal_to_fail, refusal_to_forget, after_add, after_pop, after_fail, after_forget, after_tick, after_move, after_remove};
 
 use crate::counts::Counts;
 use crate::refusal::Refusal;
-use crate::slot::{LATEST_MOMENT, Slot};
+use crate::slot::Slot;
 use crate::slots::{count_each, move_each, next_place, place_of, tick_each};
 use crate::state::{Failure, PassNumber};
-use quant::{Moment, Name, Pod};
+use quant::{LATEST_MOMENT, MAX_QUEUED, Moment, Name, SharedPod};
 use std::alloc::{AllocError, Global};
 use std::marker::Model;
-use std::sync::Arc;
-
-/// The most entries that a queue may be made for.
-pub const MAX_QUEUED: usize = 10_000;
 
 /// The scheduling queue: entries under their pods' uids, at most as many as it was made for.
 /// Contracts see it as a plain set of entries, however it keeps them.
@@ -46,7 +41,7 @@ impl Queue {
     /// A queue with no entry, and with room for `limit` of them. The only call that may find no
     /// memory.
     pub fn new(alloc: Global, limit: usize) -> Result<Queue, AllocError>
-        requires { limit ≤ 10000 }
+        requires { limit ≤ MAX_QUEUED }
         ensures { IfOk result (λ queue. queue ≡ no_entries limit) }
     {
         let slots = Vec::with_capacity(alloc, limit)?;
@@ -55,21 +50,23 @@ impl Queue {
 
     /// Whether there is an entry of this uid.
     pub fn has(&self, uid: &Name) -> bool
-        ensures { result ≡ has_entry self.now uid.now }
+        ensures answer { result ≡ has_entry self.now uid.now }
+        ensures shape { IsQueue self.now }
     {
         place_of(&self.slots, uid).is_some()
     }
 
     /// Whether there are as many entries as there may be, those in flight among them.
     pub fn is_full(&self) -> bool
-        ensures { result ≡ is_full_queue self.now }
+        ensures answer { result ≡ is_full_queue self.now }
+        ensures shape { IsQueue self.now }
     {
         self.slots.len() >= self.limit
     }
 
     /// The pod of this uid, if there is an entry of it.
-    pub fn pod_of(&self, uid: &Name) -> Option<&Arc<Pod>>
-        ensures { option_map arc_value (option_copied result) ≡ option_map (λ entry. entry.pod) (entry_of self.now uid.now) }
+    pub fn pod_of(&self, uid: &Name) -> Option<&SharedPod>
+        ensures { option_copied result ≡ option_map (λ entry. entry.pod) (entry_of self.now uid.now) }
     {
         let place = place_of(&self.slots, uid)?;
         Some(self.slots[place].pod())
@@ -88,24 +85,25 @@ impl Queue {
 
     /// How many entries stand where.
     pub fn counts(&self) -> Counts
-        ensures { result ≡ counts_of self.now }
+        ensures answer { result ≡ counts_of self.now }
+        ensures shape { IsQueue self.now }
     {
         count_each(&self.slots)
     }
 
     /// The pod that `pop` pops next, if any is active. A pop hands out no pod, since another owner
     /// of it may not be had: take one from here first.
-    pub fn peek(&self) -> Option<&Arc<Pod>>
-        ensures { option_map arc_value (option_copied result) ≡ option_map (λ item. item.1.pod) (next_of self.now) }
+    pub fn peek(&self) -> Option<&SharedPod>
+        ensures { option_copied result ≡ option_map (λ item. item.1.pod) (next_of self.now) }
     {
         let first = next_place(&self.slots)?;
         Some(self.slots[first].pod())
     }
 
     /// A pod comes. It is active, and came now. `Known` is told before `Full`.
-    pub fn add(&mut self, pod: Arc<Pod>, now: Moment) -> Result<(), Refusal>
-        ensures answer { result_err result ≡ refusal_to_add self.old (arc_value pod).uid }
-        ensures after { self.new ≡ after_add self.old (arc_value pod) now }
+    pub fn add(&mut self, pod: SharedPod, now: Moment) -> Result<(), Refusal>
+        ensures answer { result_err result ≡ refusal_to_add self.old pod.uid }
+        ensures after { self.new ≡ after_add self.old pod now }
     {
         if self.has(&pod.uid) {
             return Err(Refusal::Known);
@@ -186,8 +184,8 @@ impl Queue {
     }
 
     /// The pod of this uid goes, if there is an entry of it, and is handed out.
-    pub fn remove(&mut self, uid: &Name) -> Option<Arc<Pod>>
-        ensures answer { option_map arc_value result ≡ option_map (λ entry. entry.pod) (entry_of self.old uid.now) }
+    pub fn remove(&mut self, uid: &Name) -> Option<SharedPod>
+        ensures answer { result ≡ option_map (λ entry. entry.pod) (entry_of self.old uid.now) }
         ensures after { self.new ≡ after_remove self.old uid.now }
     {
         let place = place_of(&self.slots, uid)?;

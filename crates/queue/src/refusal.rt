@@ -1,16 +1,27 @@
 //! Why a call of the queue is refused.
-use thiserror::Error;
+ghost use Rattle.std.specs.Prelude.{◌≡◌};
+ghost use Rattle.queue.specs.Refusal.{name_of};
 
 /// A refusal. The queue is then as it was.
-#[derive(Clone, Copy, Debug, PartialEq, Eq, Error)]
+#[derive(Clone, Copy, Debug, PartialEq, Eq)]
 pub enum Refusal {
     /// There is an entry of this uid.
-    #[error("Known")]
     Known,
     /// There are as many entries as there may be.
-    #[error("Full")]
     Full,
     /// The pod is not in flight, or not for this pass.
-    #[error("NotInFlight")]
     NotInFlight,
+}
+
+impl Refusal {
+    /// The refusal's name, as output lines tell it.
+    pub fn name(self) -> &'static str
+        ensures { result.now ≡ name_of self }
+    {
+        match self {
+            Refusal::Known => "Known",
+            Refusal::Full => "Full",
+            Refusal::NotInFlight => "NotInFlight",
+        }
+    }
 }

@@ -1,18 +1,13 @@
 //! One entry of the queue.
 ghost use Rattle.std.specs.Prelude.{◌≡◌, ◌≤◌};
-ghost use Rattle.std.specs.Arc.{arc_value};
 ghost use Rattle.std.specs.Ordering.{nat_cmp, eq_by_cmp};
 ghost use Rattle.std.specs.Cmp.Lexicographic.{slice_cmp};
 ghost use Rattle.queue.specs.Entry.{new_entry, backoff, backed_off, is_active, is_in_flight, is_in_flight_for, popped, sent_back, failed, ticked, moved_on};
 ghost use Rattle.queue.specs.Order.{item_of, comes_before};
 
 use crate::state::{Failure, PassNumber, State};
-use quant::{Moment, Name, Pod};
+use quant::{LATEST_MOMENT, Moment, Name, SharedPod};
 use std::marker::Model;
-use std::sync::Arc;
-
-/// The latest moment of a clock, in milliseconds.
-pub const LATEST_MOMENT: u64 = 1_000_000_000_000_000;
 
 /// How long a pod backs off after its first attempt, in milliseconds.
 const FIRST_BACKOFF: u64 = 1_000;
@@ -32,19 +27,18 @@ const MOST_ATTEMPTS: u32 = 1_000_000;
 /// A pod that waits, with what the queue knows of it.
 #[derive(Drop)]
 pub(crate) struct Slot {
-    pod: Arc<Pod>,
+    pod: SharedPod,
     arrival: Moment,
     attempts: u32,
     state: State,
 }
 
 impl Model for Slot {
-    ghost use Rattle.std.specs.Arc.{arc_value};
     ghost use Rattle.queue.specs.Entry.{Entry, IsTimely};
 
     ghost Value = { Entry };
 
-    ghost view = { λ s. record { pod = arc_value s.pod; arrival = s.arrival; attempts = s.attempts; state = s.state } };
+    ghost view = { λ s. record { pod = s.pod; arrival = s.arrival; attempts = s.attempts; state = s.state } };
 
     ghost invariant = { λ s. IsTimely s.state };
 }
@@ -68,8 +62,8 @@ fn end_of_backoff(failed: Moment, attempts: u32) -> Moment
 
 impl Slot {
     /// A pod that comes now.
-    pub(crate) fn new(pod: Arc<Pod>, now: Moment) -> Slot
-        ensures { result ≡ new_entry (arc_value pod) now }
+    pub(crate) fn new(pod: SharedPod, now: Moment) -> Slot
+        ensures { result ≡ new_entry pod now }
     {
         Slot {
             pod,
@@ -80,8 +74,8 @@ impl Slot {
     }
 
     /// The pod.
-    pub(crate) fn pod(&self) -> &Arc<Pod>
-        ensures { arc_value result.now ≡ self.now.pod }
+    pub(crate) fn pod(&self) -> &SharedPod
+        ensures { result.now ≡ self.now.pod }
     {
         &self.pod
     }
@@ -94,8 +88,8 @@ impl Slot {
     }
 
     /// The pod, out of its entry.
-    pub(crate) fn into_pod(self) -> Arc<Pod>
-        ensures { arc_value result ≡ self.pod }
+    pub(crate) fn into_pod(self) -> SharedPod
+        ensures { result ≡ self.pod }
     {
         self.pod
     }

@@ -1,8 +1,7 @@
 //! The worked examples of the queue's rules.
 use crate::{Counts, Failure, PassNumber, Queue, Refusal};
-use quant::{Bytes, Cpu, Moment, Name, Pod, Request};
+use quant::{Bytes, Cpu, Moment, Name, Pod, Request, SharedPod};
 use std::alloc::Global;
-use std::sync::Arc;
 use std::test::Fail;
 
 /// The pass of these tests, and another one.
@@ -10,7 +9,7 @@ const MINE: PassNumber = PassNumber(1);
 
 const OTHER: PassNumber = PassNumber(2);
 
-fn pod(alloc: Global, uid: &[u8], priority: i32) -> Result<Arc<Pod>, Fail> {
+fn pod(alloc: Global, uid: &[u8], priority: i32) -> Result<SharedPod, Fail> {
     let pod = Pod {
         uid: Name::new(uid)?,
         priority,
@@ -18,7 +17,7 @@ fn pod(alloc: Global, uid: &[u8], priority: i32) -> Result<Arc<Pod>, Fail> {
         labels: Default::default(),
         tolerations: Default::default(),
     };
-    Ok(Arc::new(alloc, pod)?)
+    Ok(SharedPod::new(alloc, pod)?)
 }
 
 /// Forgotten at 0 after one attempt, a pod is not popped at 999 ms, and is at 1,000 ms.
@@ -190,18 +189,5 @@ fn refusals_and_a_move_in_flight(rt: HostRuntime) -> Result<(), Fail> {
     assert_eq!(rt; queue.remove(&p2).is_none(), true);
     assert_eq!(rt; queue.remove(&p1).map(|pod| pod.uid.copied()), Some(p1));
     assert_eq!(rt; queue.counts(), Counts::default());
-    Ok(())
-}
-
-/// A refusal prints as its name.
-#[test]
-fn printed_refusals(rt: HostRuntime) -> Result<(), Fail> {
-    for (why, name) in [
-        (Refusal::Known, "Known"),
-        (Refusal::Full, "Full"),
-        (Refusal::NotInFlight, "NotInFlight"),
-    ] {
-        assert_eq!(rt; format!(in rt.alloc(); "{why}")?.as_str(), name);
-    }
     Ok(())
 }

@@ -3,7 +3,7 @@ use Rattle.std.proofs.Common.{◌≤◌, length, lit≤}
 use Rattle.manifest.specs.Field.{key}
 use Rattle.manifest.specs.Fault as line
 use Rattle.manifest.specs.declared.field.Field.{Field}
-use Rattle.manifest.specs.declared.field.Field.TheVariants.{Op, Version, Name, Cpu, Memory, Pods, Uid, Node}
+use Rattle.manifest.specs.declared.field.Field.TheVariants.{Op, Version, Name, Cpu, Memory, Pods, Labels, Taints, Unschedulable, Uid, Priority, Containers, Init, Tolerations, Node, At, Ticket}
 use Rattle.manifest.specs.declared.fault.LineFault.{LineFault}
 use Rattle.manifest.specs.declared.fault.LineFault.TheVariants as line_fault
 use Rattle.engine.specs.Fault as run
@@ -22,15 +22,25 @@ line_name_short (line_fault.OverLimit field) = lit≤ tt
 line_name_short line_fault.NoMemory = lit≤ tt
 
 -- the key of a field
-pub key_short : (field : Field) → length (key field) ≤ 8
+pub key_short : (field : Field) → length (key field) ≤ 13
+unfolding key
 key_short Op = lit≤ tt
 key_short Version = lit≤ tt
 key_short Name = lit≤ tt
 key_short Cpu = lit≤ tt
 key_short Memory = lit≤ tt
 key_short Pods = lit≤ tt
+key_short Labels = lit≤ tt
+key_short Taints = lit≤ tt
+key_short Unschedulable = lit≤ tt
 key_short Uid = lit≤ tt
+key_short Priority = lit≤ tt
+key_short Containers = lit≤ tt
+key_short Init = lit≤ tt
+key_short Tolerations = lit≤ tt
 key_short Node = lit≤ tt
+key_short At = lit≤ tt
+key_short Ticket = lit≤ tt
 
 -- the name of a run's fault
 pub run_name_short : (fault : RunFault) → length (run.name_of fault) ≤ 10

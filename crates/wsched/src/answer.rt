@@ -15,17 +15,20 @@ use crate::command_line::words;
 use crate::faults::{Fault, WordFault};
 use crate::message::report;
 use crate::serve::serve;
-use engine::{Sink, Source};
+use engine::{RunFault, Sink, Source};
 use std::alloc::Global;
 use std::convert::AsStr;
+use std::hash::RandomState;
 
 /// Does what the words that follow the program's name ask for, and gives the exit status. Words that
 /// could not be read, or that ask for nothing, are told on `err`, and nothing is read or written.
-/// Else it is what `serve` does.
+/// Else it is what `serve` does under the keys; that there are none, since the system gave no random
+/// bytes, is told as a failed read.
 #[tactic(auto, using(crate::proofs::Quiet::nothing_written, crate::proofs::Quiet::no_memory_told))]
 pub fn answer<S: AsStr + Drop, R: Source, W: Sink, E: Sink>(
     alloc: Global,
     args: Result<Vec<S>, WordFault>,
+    keys: Option<RandomState>,
     source: &mut R,
     out: &mut W,
     err: &mut E,
@@ -71,10 +74,10 @@ pub fn answer<S: AsStr + Drop, R: Source, W: Sink, E: Sink>(
         (E.failure_count err.new) (message_of (faults.Run run_fault.NoPlace))
         × (source.new ≡ source.old) × (out.new ≡ out.old)) }
 
-    // A read or a write failed meanwhile, and that is told.
+    // No keys were given, or a read or a write failed meanwhile, and that is told.
     ensures failed { result ≡ 4 → Tells (E.written err.old) (E.written err.new) (E.failure_count err.old)
         (E.failure_count err.new) (message_of (faults.Run run_fault.Read))
-        × (R.failure_count source.old < R.failure_count source.new)
+        × ((keys ≡ None) ⊎ (R.failure_count source.old < R.failure_count source.new))
         ⊎ (Tells (E.written err.old) (E.written err.new) (E.failure_count err.old)
         (E.failure_count err.new) (message_of (faults.Run run_fault.Write))
         × (W.failure_count out.old < W.failure_count out.new)) }
@@ -88,7 +91,10 @@ pub fn answer<S: AsStr + Drop, R: Source, W: Sink, E: Sink>(
         AppendsFront (W.written out.old) (W.written out.new) (output script)) }
 {
     match asked(alloc, args) {
-        Ok(words) => serve(alloc, &words, source, out, err),
+        Ok(words) => match keys {
+            Some(keys) => serve(alloc, keys, &words, source, out, err),
+            None => report(Fault::Run(RunFault::Read), err),
+        },
         Err(fault) => report(Fault::Words(fault), err),
     }
 }

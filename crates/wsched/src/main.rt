@@ -20,6 +20,7 @@ mod serve;
 use crate::answer::answer;
 use crate::command_line::arguments;
 use crate::device::{Input, Output};
+use std::hash::RandomState;
 use std::process::ExitCode;
 
 fn main(rt: HostRuntime) -> ExitCode {
@@ -27,7 +28,8 @@ fn main(rt: HostRuntime) -> ExitCode {
     let mut out = Output::new(rt.stdout());
     let mut err = Output::new(rt.stderr());
     let args = arguments(&rt);
-    ExitCode::from(answer(rt.alloc(), args, &mut source, &mut out, &mut err))
+    let keys = RandomState::new(&rt).ok();
+    ExitCode::from(answer(rt.alloc(), args, keys, &mut source, &mut out, &mut err))
 }
 
 #[cfg(test)]

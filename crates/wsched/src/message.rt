@@ -10,7 +10,7 @@ use itoa::Buffer;
 use manifest::LineFault;
 
 // Room for the longest message: a number has up to 20 digits, a fault's name up to 10 bytes, and a
-// field's key up to 8. Each `push_..` below says how much of the room it wants at most.
+// field's key up to 13. Each `push_..` below says how much of the room it wants at most.
 const MAX_MESSAGE: usize = 96;
 
 // A message takes no memory, so that want of memory can be told.
@@ -49,9 +49,9 @@ fn push_fault(message: &mut Message, number: u8, name: &str)
 // Adds a line's fault, with the field in which it stands.
 #[tactic(auto, using(crate::proofs::Lengths::line_name_short, crate::proofs::Lengths::key_short), unfolding(crate::specs::Message::line_fault_text))]
 fn push_line_fault(message: &mut Message, fault: LineFault)
-    requires { length message.old.items + 40 ≤ 96 }
+    requires { length message.old.items + 45 ≤ 96 }
     ensures text { message.new.items ≡ message.old.items ++ line_fault_text fault }
-    ensures len { length message.new.items ≤ length message.old.items + 40 }
+    ensures len { length message.new.items ≤ length message.old.items + 45 }
 {
     push_fault(message, fault.number(), fault.name());
     if let Some(field) = fault.field() {

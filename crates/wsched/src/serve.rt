@@ -13,12 +13,14 @@ use crate::faults::Fault;
 use crate::message::report;
 use engine::{Sink, Source, run};
 use std::alloc::Global;
+use std::hash::RandomState;
 
 /// Does what the words ask for, and gives the exit status. `run` reads a script from `source` and
 /// writes the answers to `out`; a fault goes to `err` as one line, and a failed write of that line
-/// changes nothing.
+/// changes nothing. Names are looked up under the keys, which whoever writes the script can't know.
 pub fn serve<R: Source, W: Sink, E: Sink>(
     alloc: Global,
+    keys: RandomState,
     words: &Words,
     source: &mut R,
     out: &mut W,
@@ -71,7 +73,7 @@ pub fn serve<R: Source, W: Sink, E: Sink>(
         AppendsFront (W.written out.old) (W.written out.new) (output script)) }
 {
     match words {
-        Words::Run => match run(alloc, source, out) {
+        Words::Run => match run(alloc, keys, source, out) {
             Ok(()) => 0,
             Err(fault) => report(Fault::Run(fault), err),
         },

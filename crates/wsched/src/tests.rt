@@ -7,6 +7,7 @@ use crate::faults::{Fault, WordFault};
 use engine::RunFault;
 use std::alloc::{AllocError, Global};
 use std::env::FillError;
+use std::hash::RandomState;
 use std::io;
 use std::io::{Read, Write};
 use std::process::Abort;
@@ -148,7 +149,7 @@ struct Ended {
     err: Vec<u8>,
 }
 
-fn run_program(alloc: Global, given: Given) -> Result<Ended, AllocError> {
+fn run_program(alloc: Global, keys: RandomState, given: Given) -> Result<Ended, AllocError> {
     let args = Vec::from_slice(alloc, given.args)?;
     let mut source = Input::new(Pieces {
         rest: given.script,
@@ -165,7 +166,7 @@ fn run_program(alloc: Global, given: Given) -> Result<Ended, AllocError> {
         most: given.most,
         calls: Calls::failing(0),
     });
-    let status = answer(alloc, Ok(args), &mut source, &mut out, &mut err);
+    let status = answer(alloc, Ok(args), Some(keys), &mut source, &mut out, &mut err);
     Ok(Ended {
         status,
         out: out.into_inner().text,
@@ -179,12 +180,13 @@ fn run_program(alloc: Global, given: Given) -> Result<Ended, AllocError> {
 fn assert_ends(
     rt: &impl Abort,
     alloc: Global,
+    keys: RandomState,
     given: Given,
     want: (u8, &str, &str),
     name: &str,
 ) -> Result<(), AllocError> {
     let (status, out, err) = want;
-    let ended = run_program(alloc, given)?;
+    let ended = run_program(alloc, keys, given)?;
     assert_eq!(rt; ended.err.as_slice(), err.as_bytes(), "{name}");
     assert!(rt; out.as_bytes().starts_with(ended.out.as_slice()), "{name}");
     assert!(rt; status == 4 || ended.out.len() == out.len(), "{name}");
@@ -194,6 +196,7 @@ fn assert_ends(
 
 #[test]
 fn words_and_scripts_have_their_statuses_and_texts(rt: HostRuntime) -> Result<(), Fail> {
+    let keys = RandomState::new(&rt)?;
     let run = ["run"].as_slice();
     let rows = [
         ("the first run", run, FIRST_RUN, 65_536, 0, FIRST_OUTPUT, ""),
@@ -244,6 +247,24 @@ fn words_and_scripts_have_their_statuses_and_texts(rt: HostRuntime) -> Result<()
             1,
             "",
             "wsched: line 1: 2 BadField op\n",
+        ),
+        (
+            "an operation that isn't served yet",
+            run,
+            "{\"op\":\"tick\",\"at\":1}\n",
+            9,
+            1,
+            "",
+            "wsched: line 1: 2 BadField op\n",
+        ),
+        (
+            "a faulty field of an operation that isn't served yet",
+            run,
+            "{\"op\":\"tick\",\"at\":-1}\n",
+            9,
+            1,
+            "",
+            "wsched: line 1: 4 OverLimit at\n",
         ),
         (
             "a fault behind answers",
@@ -299,7 +320,7 @@ fn words_and_scripts_have_their_statuses_and_texts(rt: HostRuntime) -> Result<()
             bad_read: 0,
             bad_write: 0,
         };
-        assert_ends(&rt, rt.alloc(), given, (status, out, err), name)?;
+        assert_ends(&rt, rt.alloc(), keys, given, (status, out, err), name)?;
     }
     Ok(())
 }
@@ -308,6 +329,7 @@ fn words_and_scripts_have_their_statuses_and_texts(rt: HostRuntime) -> Result<()
 // the 158 bytes, so there are as many.
 #[test]
 fn each_failed_read_and_write_is_told(rt: HostRuntime) -> Result<(), Fail> {
+    let keys = RandomState::new(&rt)?;
     for n in 1..17 {
         let read = Given {
             args: &["run"],
@@ -319,6 +341,7 @@ fn each_failed_read_and_write_is_told(rt: HostRuntime) -> Result<(), Fail> {
         assert_ends(
             &rt,
             rt.alloc(),
+            keys,
             read,
             (4, FIRST_OUTPUT, "wsched: 3 Read\n"),
             "read",
@@ -333,6 +356,7 @@ fn each_failed_read_and_write_is_told(rt: HostRuntime) -> Result<(), Fail> {
         assert_ends(
             &rt,
             rt.alloc(),
+            keys,
             write,
             (4, FIRST_OUTPUT, "wsched: 4 Write\n"),
             "write",

@@ -17,6 +17,7 @@ invariant_of-self c =
     record {
       apart = apart-set c.self.inside.slots.items c.in-Some.place c.index_mut.result.now c.fail.new.self c.self.invariant.apart here.0 (ap (λ (e : Entry). e.pod.uid) c.fail.ensures ∙ ap (λ (e : Entry). e.pod.uid) c.index_mut.ensures.value);
       within = c.self.invariant.within;
+      limited = c.self.invariant.limited;
       room = c.self.invariant.room;
     }
 

@@ -1,6 +1,5 @@
 use Rattle.std.proofs.Common.{List, length, Some, None, sym, ap, ◌∙◌, subst}
 use Rattle.std.specs.Prelude.{option_copied, option_map}
-use Rattle.std.specs.Arc.{arc_value}
 use Rattle.queue.specs.Entry.{Entry}
 use Rattle.queue.specs.Order.{Item}
 use Rattle.queue.specs.Queue.{next_of}
@@ -11,7 +10,7 @@ use Rattle.queue.proofs.queue.Queue.peek.Goals as goal
 pub returns-in_err-first : goal.returns-in_err-first
 returns-in_err-first c =
     let none = subst (λ (es : List Entry). IsNextBelow es (length es) None) c.deref.ensures.value (subst (IsNextBelow c.deref.result.now (length c.deref.result.now)) c.in_err-first.was c.next_place.ensures) in
-    ap (λ o. option_map arc_value (option_copied o)) c.from_residual.ensures
+    ap option_copied c.from_residual.ensures
     ∙ sym (ap (option_map (λ (item : Item). item.1.pod)) (next_nowhere c.self.inside.limit c.self.inside.slots.items none))
     ∙ ap (λ q. option_map (λ (item : Item). item.1.pod) (next_of q)) c.self.view_is
 

@@ -28,6 +28,7 @@ invariant_of-self c =
     record {
       apart = apart-set c.self.inside.slots.items c.in_ok-place.place c.index_mut.result.now c.pop.new.self c.self.invariant.apart first.inside (ap (λ (e : Entry). e.pod.uid) c.pop.ensures ∙ ap (λ (e : Entry). e.pod.uid) c.index_mut.ensures.value);
       within = c.self.invariant.within;
+      limited = c.self.invariant.limited;
       room = c.self.invariant.room;
     }
 

@@ -1,6 +1,5 @@
 use Rattle.std.proofs.Common.{Some, arith, sym, ap, ◌∙◌}
 use Rattle.std.specs.Prelude.{position, option_map}
-use Rattle.std.specs.Arc.{arc_value}
 use Rattle.std.proofs.lemmas.List.Quantifiers.{position-Some}
 use Rattle.queue.specs.Entry.{Entry}
 use Rattle.queue.specs.Queue.{entry_of, after_remove}
@@ -12,7 +11,7 @@ use Rattle.queue.proofs.queue.Queue.remove.Goals as goal
 pub returns-in_err-place-clause-answer : goal.returns-in_err-place-clause-answer
 returns-in_err-place-clause-answer c =
     let at = sym (ap (position (has_uid c.args.uid.now)) c.deref.ensures.value) ∙ sym c.place_of.ensures ∙ c.in_err-place.was in
-    ap (λ o. option_map arc_value o) c.from_residual.ensures
+    c.from_residual.ensures
     ∙ sym (ap (option_map (λ (e : Entry). e.pod)) (entry_nowhere c.self.inside.limit c.self.inside.slots.items c.args.uid.now at))
     ∙ ap (λ q. option_map (λ (e : Entry). e.pod) (entry_of q c.args.uid.now)) c.self.view_is
 
@@ -30,6 +29,7 @@ invariant_of-self c =
     record {
       apart = ap are_apart c.remove.ensures.items ∙ apart-remove c.self.inside.slots.items c.in_ok-place.place c.self.invariant.apart here.0;
       within = omega (arith, c.remove.ensures.len, c.self.invariant.within);
+      limited = c.self.invariant.limited;
       room = omega (arith, c.remove.ensures.capacity, c.self.invariant.room);
     }
 

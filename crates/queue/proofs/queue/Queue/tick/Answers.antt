@@ -9,6 +9,7 @@ pub invariant_of-self : goal.invariant_of-self
 invariant_of-self c = record {
   apart = all_apart c.self.inside.slots.len c.self.inside.slots.items c.tick_each.new.slots (ticked c.args.now) (λ e. refl) c.self.invariant.apart c.self.inside.slots.ok.0 (c.tick_each.ensures ∙ ap (map (ticked c.args.now)) c.deref_mut.ensures.value);
   within = c.self.invariant.within;
+  limited = c.self.invariant.limited;
   room = c.self.invariant.room;
 }
 

@@ -1,0 +1,129 @@
+//! Fields that are arrays, and the items in them.
+ghost use Rattle.std.specs.Prelude.{◌≡◌, ◌+◌, ◌≤◌, [], List, Result, length, IfOk, option_map};
+ghost use Rattle.arrayvec.specs.ArrayVec.{array_vec_len};
+ghost use Rattle.serde_json.specs.Data.{Data};
+ghost use Rattle.serde_json.specs.Find.{get_item};
+ghost use Rattle.serde_json.specs.View.{view, items_view};
+ghost use Rattle.manifest.specs.declared.field.Field.{Field};
+ghost use Rattle.manifest.specs.declared.fault.LineFault.{LineFault};
+ghost use Rattle.manifest.specs.Reading.{Gives, Answers, at, at_or};
+ghost use Rattle.manifest.specs.Item.{items, each, list, parts, part};
+
+use crate::fault::LineFault;
+use crate::field::Field;
+use crate::reading::{member, text};
+use arrayvec::ArrayVec;
+use serde_json::Value;
+
+// What stands in an array, one a place.
+pub(crate) trait Item: Drop + Sized {
+    // What an item says beside those before it.
+    ghost reading: { Field → List Self → Data → Result Self LineFault };
+
+    // One item of a field, beside those before it.
+    fn read(item: &Value, before: &[Self], field: Field) -> Result<Self, LineFault>
+        ensures { Answers result (reading field before.now (view item.now)) };
+}
+
+// Fills an empty row from a field that has to be there, and holds an item at least.
+#[tactic(auto, unfolding(crate::specs::Reading::member))]
+pub(crate) fn fill_at<T: Item, const N: usize>(
+    row: &mut ArrayVec<T, N>,
+    object: &Value,
+    field: Field,
+) -> Result<(), LineFault>
+    requires { row.old.items ≡ [] }
+    ensures { Gives (λ _. row.new.items) result (at field (list 1 N T.reading) (view object.now)) }
+{
+    fill_from(row, member(object, field)?, field, 1)
+}
+
+// Fills an empty row from a field that may be absent.
+pub(crate) fn fill_at_or_leave<T: Item, const N: usize>(
+    row: &mut ArrayVec<T, N>,
+    object: &Value,
+    field: Field,
+) -> Result<(), LineFault>
+    requires { row.old.items ≡ [] }
+    ensures { Gives (λ _. row.new.items) result (at_or field [] (list 0 N T.reading) (view object.now)) }
+{
+    match object.get(field.key()) {
+        Some(value) => fill_from(row, value, field, 0),
+        None => Ok(()),
+    }
+}
+
+// Fills an empty row from an array of so many items or more, as many as the row has places.
+#[tactic(auto, unfolding(crate::specs::Item::list))]
+fn fill_from<T: Item, const N: usize>(
+    row: &mut ArrayVec<T, N>,
+    value: &Value,
+    field: Field,
+    least: usize,
+) -> Result<(), LineFault>
+    requires { row.old.items ≡ [] }
+    ensures { Gives (λ _. row.new.items) result (list least N T.reading field (view value.now)) }
+{
+    let found = items(value, field, least, N)?;
+    fill(row, found, field)
+}
+
+// Puts the items of an array behind those of a row, each read beside those before it.
+fn fill<T: Item, const N: usize>(
+    row: &mut ArrayVec<T, N>,
+    found: &[Value],
+    field: Field,
+) -> Result<(), LineFault>
+    requires { array_vec_len row.old + length found.now ≤ N }
+    ensures { Gives (λ _. row.new.items) result (each (T.reading field) row.old.items (items_view found.now)) }
+{
+    for item in found {
+        let next = T::read(item, row.as_slice(), field)?;
+        row.push(next);
+    }
+    Ok(())
+}
+
+// The items of an array that has from least to most of them.
+#[tactic(auto, unfolding(crate::specs::Item::items), using(crate::proofs::Items::count_of_items_view))]
+fn items(value: &Value, field: Field, least: usize, most: usize) -> Result<&[Value], LineFault>
+    ensures value { Gives (λ found. items_view found.now) result (items least most field (view value.now)) }
+    ensures few { IfOk result (λ found. length found.now ≤ most) }
+{
+    let found = value.as_array().ok_or(LineFault::BadField(field))?;
+    if found.len() < least || most < found.len() {
+        return Err(LineFault::OverLimit(field));
+    }
+    Ok(found.as_slice())
+}
+
+// The parts of an item that is an array of so many.
+#[tactic(auto, unfolding(crate::specs::Item::parts), using(crate::proofs::Items::count_of_items_view))]
+pub(crate) fn parts(item: &Value, field: Field, count: usize) -> Result<&[Value], LineFault>
+    ensures { Gives (λ found. items_view found.now) result (parts count field (view item.now)) }
+{
+    let found = item.as_array().ok_or(LineFault::BadField(field))?;
+    if found.len() != count {
+        return Err(LineFault::BadField(field));
+    }
+    Ok(found.as_slice())
+}
+
+// The text that is the part at a place.
+#[tactic(auto, unfolding(crate::specs::Item::part))]
+pub(crate) fn part(found: &[Value], place: usize, field: Field) -> Result<&str, LineFault>
+    ensures { Gives (λ s. s.now) result (part place field (items_view found.now)) }
+{
+    text(
+        item_at(found, place).ok_or(LineFault::BadField(field))?,
+        field,
+    )
+}
+
+// The item at a place.
+#[tactic(auto, using(crate::proofs::Items::get_item_of_get))]
+fn item_at(found: &[Value], place: usize) -> Option<&Value>
+    ensures { option_map (λ v. view v.now) result ≡ get_item place (items_view found.now) }
+{
+    found.get(place)
+}

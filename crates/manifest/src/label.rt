@@ -1,0 +1,37 @@
+//! The labels of a node or a pod.
+ghost use Rattle.std.specs.Prelude.{◌≡◌, bytes_eq};
+ghost use Rattle.std.specs.List.{list_any};
+ghost use Rattle.manifest.specs.Rows.{label};
+
+use crate::fault::LineFault;
+use crate::field::Field;
+use crate::item::{Item, part, parts};
+use crate::reading::{name_from, text_from};
+use quant::{Label, Name};
+use serde_json::Value;
+
+impl Item for Label {
+    ghost reading = { label };
+
+    #[tactic(auto, unfolding(crate::specs::Rows::label))]
+    fn read(item: &Value, before: &[Label], field: Field) -> Result<Label, LineFault> {
+        let found = parts(item, field, 2)?;
+        let key = part(found, 0, field)?;
+        let value = part(found, 1, field)?;
+        let key = name_from(key, field)?;
+        let value = text_from(value, field)?;
+        if has_key(before, &key) {
+            return Err(LineFault::BadField(field));
+        }
+        Ok(Label { key, value })
+    }
+}
+
+// Whether one of the labels has this key.
+fn has_key(labels: &[Label], key: &Name) -> bool
+    ensures { result ≡ list_any (λ label. bytes_eq label.key key.now) labels.now }
+{
+    labels
+        .iter()
+        .any(|label| label.key.as_bytes() == key.as_bytes())
+}

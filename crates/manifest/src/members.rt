@@ -1,0 +1,76 @@
+//! The fields of an object that hold one value.
+ghost use Rattle.std.specs.Prelude.{◌≡◌, ◌≤◌, ◌^◌, IfOk, pos, false};
+ghost use Rattle.serde_json.specs.View.{view};
+ghost use Rattle.manifest.specs.Reading.{Gives, Answers, at, at_or, text, natural, signed, flag, name, cpu, memory};
+
+use crate::fault::LineFault;
+use crate::field::Field;
+use crate::reading::{cpu_from, flag, member, memory_from, name_from, natural, signed, text};
+use quant::{Bytes, Cpu, Name};
+use serde_json::Value;
+
+// The text of a field.
+pub(crate) fn text_at(object: &Value, field: Field) -> Result<&str, LineFault>
+    ensures { Gives (λ s. s.now) result (at field text (view object.now)) }
+{
+    text(member(object, field)?, field)
+}
+
+// The name in a field.
+#[tactic(auto, unfolding(crate::specs::Reading::name))]
+pub(crate) fn name_at(object: &Value, field: Field) -> Result<Name, LineFault>
+    ensures { Answers result (at field name (view object.now)) }
+{
+    name_from(text_at(object, field)?, field)
+}
+
+// The number in a field, from low to high.
+pub(crate) fn natural_at(
+    object: &Value,
+    field: Field,
+    low: u64,
+    high: u64,
+) -> Result<u64, LineFault>
+    ensures value { Answers result (at field (natural low high) (view object.now)) }
+    ensures bounded { IfOk result (λ n. n ≤ high) }
+{
+    natural(member(object, field)?, field, low, high)
+}
+
+// The amount of CPU in the field `cpu`.
+#[tactic(auto, unfolding(crate::specs::Reading::cpu))]
+pub(crate) fn cpu_at(object: &Value) -> Result<Cpu, LineFault>
+    ensures value { Answers result (at Field.Cpu cpu (view object.now)) }
+    ensures bounded { IfOk result (λ cpu. cpu.0 ≤ 2 ^ 30) }
+{
+    cpu_from(text_at(object, Field::Cpu)?, Field::Cpu)
+}
+
+// The amount of memory in the field `mem`.
+#[tactic(auto, unfolding(crate::specs::Reading::memory))]
+pub(crate) fn memory_at(object: &Value) -> Result<Bytes, LineFault>
+    ensures value { Answers result (at Field.Memory memory (view object.now)) }
+    ensures bounded { IfOk result (λ mem. mem.0 ≤ 2 ^ 44) }
+{
+    memory_from(text_at(object, Field::Memory)?, Field::Memory)
+}
+
+// The number of 32 bits in a field, or 0.
+pub(crate) fn signed_at(object: &Value, field: Field) -> Result<i32, LineFault>
+    ensures { Answers result (at_or field (pos 0) signed (view object.now)) }
+{
+    match object.get(field.key()) {
+        Some(value) => signed(value, field),
+        None => Ok(0),
+    }
+}
+
+// Whether a field says yes. An absent one does not.
+pub(crate) fn flag_at(object: &Value, field: Field) -> Result<bool, LineFault>
+    ensures { Answers result (at_or field false flag (view object.now)) }
+{
+    match object.get(field.key()) {
+        Some(value) => flag(value, field),
+        None => Ok(false),
+    }
+}

@@ -1,0 +1,51 @@
+//! The taints of a node, and the effects that they may have.
+ghost use Rattle.std.specs.Prelude.{◌≡◌, ◌&&◌, bytes_eq};
+ghost use Rattle.std.specs.List.{list_any};
+ghost use Rattle.manifest.specs.Rows.{taint, effect_named, same_effect};
+
+use crate::fault::LineFault;
+use crate::field::Field;
+use crate::item::{Item, part, parts};
+use crate::reading::{name_from, text_from};
+use quant::{Effect, Name, Taint};
+use serde_json::Value;
+
+impl Item for Taint {
+    ghost reading = { taint };
+
+    #[tactic(auto, unfolding(crate::specs::Rows::taint))]
+    fn read(item: &Value, before: &[Taint], field: Field) -> Result<Taint, LineFault> {
+        let found = parts(item, field, 3)?;
+        let key = part(found, 0, field)?;
+        let value = part(found, 1, field)?;
+        let effect = part(found, 2, field)?;
+        let key = name_from(key, field)?;
+        let value = text_from(value, field)?;
+        let effect = effect_named(effect).ok_or(LineFault::BadField(field))?;
+        if has_taint(before, &key, effect) {
+            return Err(LineFault::BadField(field));
+        }
+        Ok(Taint { key, value, effect })
+    }
+}
+
+// Whether one of the taints has both this key and this effect.
+fn has_taint(taints: &[Taint], key: &Name, effect: Effect) -> bool
+    ensures { result ≡ list_any
+        (λ taint. bytes_eq taint.key key.now && same_effect taint.effect effect) taints.now }
+{
+    taints.iter().any(|taint| taint.key.as_bytes() == key.as_bytes() && taint.effect == effect)
+}
+
+// The effect of this name.
+#[tactic(auto, unfolding(crate::specs::Rows::effect_named))]
+pub(crate) fn effect_named(name: &str) -> Option<Effect>
+    ensures { result ≡ effect_named name.now }
+{
+    match name {
+        "NoSchedule" => Some(Effect::NoSchedule),
+        "PreferNoSchedule" => Some(Effect::PreferNoSchedule),
+        "NoExecute" => Some(Effect::NoExecute),
+        _ => None,
+    }
+}

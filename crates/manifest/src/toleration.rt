@@ -1,0 +1,70 @@
+//! The tolerations of a pod.
+ghost use Rattle.std.specs.Prelude.{◌≡◌};
+ghost use Rattle.manifest.specs.Rows.{toleration, operator_named, effect_or_none, lawful};
+
+use crate::fault::LineFault;
+use crate::field::Field;
+use crate::item::{Item, part, parts};
+use crate::reading::text_from;
+use crate::taint::effect_named;
+use quant::{Effect, Operator, Text, Toleration};
+use serde_json::Value;
+
+impl Item for Toleration {
+    ghost reading = { toleration };
+
+    #[tactic(auto, unfolding(crate::specs::Rows::toleration))]
+    fn read(item: &Value, _before: &[Toleration], field: Field) -> Result<Toleration, LineFault> {
+        let found = parts(item, field, 4)?;
+        let key = part(found, 0, field)?;
+        let operator = part(found, 1, field)?;
+        let value = part(found, 2, field)?;
+        let effect = part(found, 3, field)?;
+        let key = text_from(key, field)?;
+        let operator = operator_named(operator).ok_or(LineFault::BadField(field))?;
+        let value = text_from(value, field)?;
+        let effect = effect_or_none(effect).ok_or(LineFault::BadField(field))?;
+        if !is_lawful(operator, &key, &value) {
+            return Err(LineFault::BadField(field));
+        }
+        Ok(Toleration {
+            key,
+            operator,
+            value,
+            effect,
+        })
+    }
+}
+
+// Whether there is a key, under `Equal`, or no value, under `Exists`.
+fn is_lawful(operator: Operator, key: &Text, value: &Text) -> bool
+    ensures { result ≡ lawful operator key.now value.now }
+{
+    match operator {
+        Operator::Equal => !key.as_bytes().is_empty(),
+        Operator::Exists => value.as_bytes().is_empty(),
+    }
+}
+
+// The operator of this name. No name is that of `Equal`.
+#[tactic(auto, unfolding(crate::specs::Rows::operator_named))]
+fn operator_named(name: &str) -> Option<Operator>
+    ensures { result ≡ operator_named name.now }
+{
+    match name {
+        "" | "Equal" => Some(Operator::Equal),
+        "Exists" => Some(Operator::Exists),
+        _ => None,
+    }
+}
+
+// The effect of this name. No name is that of no effect, which stands for every one.
+#[tactic(auto, unfolding(crate::specs::Rows::effect_or_none))]
+fn effect_or_none(name: &str) -> Option<Option<Effect>>
+    ensures { result ≡ effect_or_none name.now }
+{
+    if name.is_empty() {
+        return Some(None);
+    }
+    effect_named(name).map(Some)
+}
