@@ -1,4 +1,4 @@
-use Rattle.std.proofs.Common.{◌≡◌, ◌+◌, ◌≤◌, None, Some, ap, sym, ◌∙◌, refl, arith}
+use Rattle.std.proofs.Common.{◌+◌, ap, sym, ◌∙◌, arith}
 use Rattle.std.specs.FinMap as fin
 use Rattle.quant.specs.declared.amount.Res.{Res}
 use Rattle.name_table.specs.Slots.{map_of}

@@ -1,5 +1,4 @@
-use Rattle.std.proofs.Common.{◌≡◌, Some, ap, sym, ◌∙◌}
-use Rattle.std.specs.FinMap as fin
+use Rattle.std.proofs.Common.{Some, ap, sym, ◌∙◌}
 use Rattle.book.specs.Rows.{IsRowOf, IsGapFor}
 use Rattle.book.proofs.RowLemmas.{get_row, get_no_row}
 use Rattle.book.proofs.nodes.Nodes.get.Goals as goal

@@ -1,4 +1,4 @@
-use Rattle.std.proofs.Common.{◌≡◌, ap, sym, ◌∙◌, is_some, arith}
+use Rattle.std.proofs.Common.{ap, ◌∙◌, arith}
 use Rattle.std.specs.FinMap.{from_sorted}
 use Rattle.book.specs.Rows.{named, IsRowOf, IsGapFor}
 use Rattle.book.proofs.RowLemmas.{remove_row, with_nodes, after_gone, has_row, has_no_row}

@@ -1,4 +1,4 @@
-use Rattle.std.proofs.Common.{◌≡◌, length, refl, ap, sym, ◌∙◌}
+use Rattle.std.proofs.Common.{length, refl, ap, ◌∙◌}
 use Rattle.name_table.specs.Slots.{map_of}
 use Rattle.book.specs.Used.{assumed_in}
 use Rattle.book.specs.declared.place.Place.{Place}

@@ -1,7 +1,6 @@
-use Rattle.std.proofs.Common.{◌≡◌, ℕ, zero, suc, List, [], ◌∷◌, Option, None, Some, length, replicate, refl, sym, ap, subst, ◌∙◌}
+use Rattle.std.proofs.Common.{◌≡◌, ℕ, zero, suc, [], None, length, replicate, refl, sym, ap, subst, ◌∙◌}
 use Rattle.std.proofs.lemmas.List.{length-replicate}
 use Rattle.std.specs.FinMap as fin
-use Rattle.name_table.specs.declared.entry.Entry.{Entry}
 use Rattle.name_table.specs.Slots.{Slots, map_of, filled}
 use Rattle.book.specs.Totals.{IsCounted}
 use Rattle.book.specs.declared.place.Place.{Place}

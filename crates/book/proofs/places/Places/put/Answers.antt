@@ -1,9 +1,7 @@
-use Rattle.std.proofs.Common.{◌≡◌, ◌+◌, ◌-◌, ◌≤◌, length, Some, None, refl, ap, sym, ◌∙◌, arith}
+use Rattle.std.proofs.Common.{◌+◌, ◌-◌, length, refl, ap, sym, ◌∙◌, arith}
 use Rattle.std.specs.FinMap as fin
 use Rattle.std.proofs.lemmas.Bool.{leb-false}
 use Rattle.name_table.specs.Slots.{map_of}
-use Rattle.book.specs.Used.{used}
-use Rattle.book.specs.Totals.{IsCounted}
 use Rattle.book.proofs.SumLemmas.{get_removed, insert_over}
 use Rattle.book.proofs.TotalLemmas.{counted_more, counted_less, old_within, old_alone, most_used, assumed_le, assumed_less, assumed_one, each_less, len_less}
 use Rattle.book.proofs.places.Places.put.Goals as goal

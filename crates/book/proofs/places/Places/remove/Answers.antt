@@ -1,5 +1,4 @@
-use Rattle.std.proofs.Common.{◌≡◌, ◌+◌, ◌-◌, ◌≤◌, length, Some, None, refl, ap, sym, ◌∙◌, arith}
-use Rattle.std.specs.FinMap as fin
+use Rattle.std.proofs.Common.{◌-◌, length, ap, sym, ◌∙◌, arith}
 use Rattle.name_table.specs.Slots.{map_of}
 use Rattle.book.proofs.SumLemmas.{remove_absent}
 use Rattle.book.proofs.TableLemmas.{held}
