@@ -7,6 +7,7 @@ use Rattle.std.proofs.lemmas.Bool.{eqb-true, eqb-false}
 use Rattle.std.proofs.lemmas.List.{length-map}
 use Rattle.std.proofs.lemmas.List.Sums.{sum_by-cons}
 use Rattle.quant.specs.declared.amount.Res.{Res}
+use Rattle.quant.specs.declared.limits.TheConstants.{MAX_PLACED}
 use Rattle.quant.specs.declared.amount.Request.{Request}
 use Rattle.book.specs.declared.place.Place.{Place}
 use Rattle.book.specs.declared.place.Status.{Status}
@@ -77,7 +78,7 @@ used_most (p ∷ ps) node =
     rw (used_cons p ps node) (record { cpu = omega (arith, rest.cpu, first.cpu); mem = omega (arith, rest.mem, first.mem); pods = omega (arith, rest.pods, first.pods) })
 
 -- a part of what n pods can use is at most what the greatest number of pods can use
-pub part_within : (a b c : Res) (n : ℕ) → plus a b ≡ c → IsWithin c (most_of n) → n ≤ 150000 → IsWithin a (most_of 150000)
+pub part_within : (a b c : Res) (n : ℕ) → plus a b ≡ c → IsWithin c (most_of n) → n ≤ MAX_PLACED → IsWithin a (most_of MAX_PLACED)
 part_within a b c n e within le =
     let cpu : a.cpu.0 + b.cpu.0 ≡ c.cpu.0 = ap (λ r. r.cpu.0) e in
     let mem : a.mem.0 + b.mem.0 ≡ c.mem.0 = ap (λ r. r.mem.0) e in
@@ -85,7 +86,7 @@ part_within a b c n e within le =
     record { cpu = omega (arith, within.cpu); mem = omega (arith, within.mem); pods = omega (arith, within.pods) }
 
 -- and so is the whole
-pub whole_within : (a c : Res) (n : ℕ) → a ≡ c → IsWithin c (most_of n) → n ≤ 150000 → IsWithin a (most_of 150000)
+pub whole_within : (a c : Res) (n : ℕ) → a ≡ c → IsWithin c (most_of n) → n ≤ MAX_PLACED → IsWithin a (most_of MAX_PLACED)
 whole_within a c n e within le = part_within a nothing c n (plus_nothing a ∙ e) within le
 
 -- no node has a total in no totals
@@ -165,7 +166,7 @@ few_totals m e = omega (arith, few_listed (fin.values m), length-map (fin.entrie
 -- ---- places, and what they add up to
 
 -- no places are counted by no totals
-pub counted_empty : (most : ℕ) → most ≤ 150000 → IsCounted fin.empty most fin.empty most 0
+pub counted_empty : (most : ℕ) → most ≤ MAX_PLACED → IsCounted fin.empty most fin.empty most 0
 counted_empty most le =
     let no_values : fin.values (fin.empty {X = Place} {R = name_cmp}) ≡ [] = ap (map (λ e. e.1)) (entries_empty Place) in
     let no_totals : fin.values (fin.empty {X = Res} {R = name_cmp}) ≡ [] = ap (map (λ e. e.1)) (entries_empty Res) in
@@ -298,7 +299,7 @@ assumed_finished (Assumed ticket finished) = refl
 assumed_finished Bound = refl
 
 -- what the places on a node use is at most what the greatest number of pods can use
-pub most_used : (m : Places) (total : Res) (node : List ℕ) → total ≡ used m node → fin.len m ≤ 150000 → IsWithin total (most_of 150000)
+pub most_used : (m : Places) (total : Res) (node : List ℕ) → total ≡ used m node → fin.len m ≤ MAX_PLACED → IsWithin total (most_of MAX_PLACED)
 most_used m total node e le = whole_within total (used m node) (length (fin.values m)) e (used_most (fin.values m) node) (omega (arith, values_len m))
 
 -- ---- the kept numbers after a change

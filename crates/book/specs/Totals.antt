@@ -3,6 +3,7 @@ use Rattle.std.specs.Prelude.{◌≡◌, ℕ, ◌+◌, ◌*◌, ◌≤◌, ◌==
 use Rattle.std.specs.Str.{bytes_eq}
 use Rattle.std.specs.FinMap.{FinMap, get, len, values}
 use Rattle.quant.specs.declared.amount.Res.{Res}
+use Rattle.quant.specs.declared.limits.TheConstants.{MAX_CPU, MAX_MEM, MAX_PLACED}
 use Rattle.quant.specs.declared.amount.Request.{Request}
 use Rattle.book.specs.Cluster.{name_cmp, Places}
 use Rattle.book.specs.Used.{nothing, used, assumed}
@@ -35,7 +36,7 @@ pub record IsWithin (a b : Res) : Type 0 where
 
 -- no more than as many pods can use
 abbrev pub most_of : ℕ → Res
-most_of pods = record { cpu = record { 0 = pods * 1073741824 }; mem = record { 0 = pods * 17592186044416 }; pods = pods }
+most_of pods = record { cpu = record { 0 = pods * MAX_CPU }; mem = record { 0 = pods * MAX_MEM }; pods = pods }
 
 -- how many pods the totals count together
 abbrev pub pods_in : Totals → ℕ
@@ -60,5 +61,5 @@ pub record IsCounted (places : Places) (most : ℕ) (totals : Totals) (totals_mo
   pub pods : pods_in totals ≡ len places
   pub in_use : idle_in totals ≡ 0
   pub few : len places ≤ most
-  pub small : most ≤ 150000
+  pub small : most ≤ MAX_PLACED
   pub same : totals_most ≡ most

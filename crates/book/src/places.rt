@@ -183,8 +183,8 @@ fn assumed_count(status: &Status) -> usize
 // Adds a pod to its node's total.
 fn add(totals: &mut NameTable<Res>, node: &Name, request: &Request)
     requires room { pods_in (map_of totals.old) < length totals.old }
-    requires small { length totals.old ≤ 150000 }
-    requires within { IsWithin (total_at (map_of totals.old) node.now) (most_of 150000) }
+    requires small { length totals.old ≤ MAX_PLACED }
+    requires within { IsWithin (total_at (map_of totals.old) node.now) (most_of MAX_PLACED) }
     requires in_use { idle_in (map_of totals.old) ≡ 0 }
     ensures each { (other : List ℕ) → total_at (map_of totals.new) other ≡ plus (total_at (map_of totals.old) other) (adds node.now request.now other) }
     ensures pods { pods_in (map_of totals.new) ≡ pods_in (map_of totals.old) + 1 }
