@@ -1,8 +1,8 @@
 -- Lists that links spell, and what they are after a slot is taken out or put first.
-use Rattle.std.proofs.Common.{◌≡◌, ◌≢◌, ℕ, zero, suc, ◌+◌, ◌-◌, ◌<◌, ◌≤◌, Bool, true, false, cond, List, [], ◌∷◌, ◌++◌, length, get_or, set, refl, sym, ap, subst, ◌∙◌, inl, inr, arith, get_or-set_same, get_or-set_other}
+use Rattle.std.proofs.Common.{◌≡◌, ℕ, zero, suc, ◌+◌, ◌-◌, ◌<◌, ◌≤◌, Bool, true, false, cond, List, [], ◌∷◌, ◌++◌, length, get_or, set, refl, sym, ap, subst, ◌∙◌, inl, inr, arith, get_or-set_same, get_or-set_other}
 use Rattle.std.proofs.Math.Dec.{eqb, ltb}
 use Rattle.std.proofs.lemmas.List.{length-set}
-use Rattle.std.proofs.lemmas.Bool.{lt-ltb, le-ltb, eq-eqb, ne_eqb, eqb-true, eqb-false, cases_lt, cases_eq, cases_Bool, or_cases}
+use Rattle.std.proofs.lemmas.Bool.{lt-ltb, le-ltb, eq-eqb, ne_eqb, eqb-true, cases_lt, cases_Bool, or_cases}
 use Rattle.std.proofs.lemmas.Map.Steps.{length-le_from_distinct_below}
 use Rattle.std.specs.List.{IsDistinct, AllByRecursion, list_any}
 use Rattle.name_table.specs.Woven.{nowhere, IsSpelled, times, IsAllOf, walk, chain, Ends}
@@ -47,7 +47,7 @@ ends_step links s ends lt =
     let more : walk links n s ≡ s ∷ walk links (n - 1) (get_or links s 0) = walk_more links n s lt (omega arith) in
     let spelled : IsSpelled links s (s ∷ walk links (n - 1) (get_or links s 0)) = subst (IsSpelled links s) more ends in
     let same : walk links n (get_or links s 0) ≡ walk links (n - 1) (get_or links s 0) =
-        walk_spelled links n (get_or links s 0) _ spelled.2 (omega (arith, length_walk links (n - 1) (get_or links s 0))) in
+    walk_spelled links n (get_or links s 0) _ spelled.2 (omega (arith, length_walk links (n - 1) (get_or links s 0))) in
     (subst (IsSpelled links (get_or links s 0)) (sym same) spelled.2, more ∙ ap (λ ys. s ∷ ys) (sym same))
 
 -- where it stands is among what a list spells
@@ -76,11 +76,10 @@ apart_all x (y ∷ ys) h =
 distinct_once : (xs : List ℕ) → ((i : ℕ) → times i xs ≤ 1) → IsDistinct eqb xs
 unfolding IsDistinct
 distinct_once [] once = tt
-distinct_once (x ∷ xs) once =
-    (
-      apart_all x xs (omega (arith, once x, times_here x x xs refl)),
-      distinct_once xs (λ i. omega (arith, once i)),
-    )
+distinct_once (x ∷ xs) once = (
+  apart_all x xs (omega (arith, once x, times_here x x xs refl)),
+  distinct_once xs (λ i. omega (arith, once i)),
+)
 
 -- what a list spells are slots
 spelled_below : (links : List ℕ) (s : ℕ) (xs : List ℕ) → IsSpelled links s xs → (q : ℕ) → list_any (eqb q) xs ≡ true → q < length links
@@ -112,8 +111,7 @@ pub spelled_outside : (links : List ℕ) (p w s : ℕ) (xs : List ℕ) → times
 spelled_outside links p w s [] none h = omega (arith, length-set links p w)
 spelled_outside links p w s (x ∷ xs) none h =
     let apart : s ≡ p → ⊥ = λ e. omega (arith, times_here p x xs (sym e ∙ h.0)) in
-    let lt = h.1 in
-    (
+    let lt = h.1 in (
       h.0,
       omega (arith, length-set links p w),
       subst (λ t. IsSpelled (set links p w) t xs) (sym (get_or-set_other links p s w 0 apart)) (spelled_outside links p w (get_or links s 0) xs (omega arith) h.2),
@@ -128,8 +126,7 @@ spelled_without links p x s [] back once h =
     let next : get_or links s 0 ≡ x = h.2.0 in
     let rest : IsSpelled links w back = subst (λ t. IsSpelled links (get_or links t 0) back) next h.2.2 in
     let within : p < length links = omega arith in
-    let after : get_or (set links p w) s 0 ≡ w = ap (λ t. get_or (set links p w) t 0) here ∙ get_or-set_same links p w 0 within in
-    (
+    let after : get_or (set links p w) s 0 ≡ w = ap (λ t. get_or (set links p w) t 0) here ∙ get_or-set_same links p w 0 within in (
       here,
       omega (arith, length-set links p w),
       subst (λ t. IsSpelled (set links p w) t back) (sym after) (spelled_outside links p w w back (omega (arith, times_here p p (x ∷ back) refl)) rest),
@@ -138,8 +135,7 @@ spelled_without links p x s (y ∷ front) back once h =
     let w = get_or links x 0 in
     let lt : s < length links = h.1 in
     let split : times p (front ++ p ∷ x ∷ back) ≡ times p front + times p (p ∷ x ∷ back) = times_append p front (p ∷ x ∷ back) in
-    let apart : s ≡ p → ⊥ = λ e. omega (arith, split, times_here p p (x ∷ back) refl, times_here p y (front ++ p ∷ x ∷ back) (sym e ∙ h.0)) in
-    (
+    let apart : s ≡ p → ⊥ = λ e. omega (arith, split, times_here p p (x ∷ back) refl, times_here p y (front ++ p ∷ x ∷ back) (sym e ∙ h.0)) in (
       h.0,
       omega (arith, length-set links p w),
       subst (λ t. IsSpelled (set links p w) t (front ++ p ∷ back)) (sym (get_or-set_other links p s w 0 apart)) (spelled_without links p x (get_or links s 0) front back (omega arith) h.2),

@@ -1,11 +1,11 @@
 -- What each chain is after a slot is taken out of one, or put first in one.
-use Rattle.std.proofs.Common.{◌≡◌, ℕ, zero, suc, ◌+◌, ◌-◌, ◌<◌, ◌≤◌, Bool, true, false, cond, List, [], ◌∷◌, ◌++◌, length, get_or, set, replicate, refl, sym, ap, subst, ◌∙◌, inl, inr, arith, get_or-set_same, get_or-set_other}
+use Rattle.std.proofs.Common.{◌≡◌, ℕ, zero, suc, ◌+◌, ◌<◌, ◌≤◌, Bool, cond, List, [], ◌∷◌, ◌++◌, length, get_or, set, replicate, refl, sym, ap, subst, ◌∙◌, inl, inr, arith, get_or-set_same, get_or-set_other}
 use Rattle.std.proofs.Math.Dec.{eqb}
 use Rattle.std.proofs.lemmas.List.{length-set, get_or-replicate, get_or_past, length-replicate}
-use Rattle.std.proofs.lemmas.Bool.{eq-eqb, ne_eqb, eqb-true, cases_lt, cases_eq, cases_Bool}
+use Rattle.std.proofs.lemmas.Bool.{eq-eqb, ne_eqb, cases_lt, cases_eq}
 use Rattle.std.specs.List.{range_with_len}
-use Rattle.name_table.specs.Woven.{nowhere, IsSpelled, times, IsAllOf, walk, chain, Ends}
-use Rattle.name_table.proofs.ChainLemmas.{settle, spelled_outside, spelled_without, times_here, times_other, times_append, ends_step, chain_over}
+use Rattle.name_table.specs.Woven.{nowhere, IsSpelled, times, IsAllOf, chain, Ends}
+use Rattle.name_table.proofs.ChainLemmas.{settle, spelled_outside, spelled_without, times_here, times_other, times_append, ends_step}
 
 -- a test as a number
 abbrev pub one_where : ℕ → ℕ → ℕ
@@ -73,18 +73,18 @@ module _ (heads links homes : List ℕ) (x a : ℕ) (same : length homes ≡ len
             ) in
             at_head (set heads a x) (set links x w) (set homes x a) k x here
             (
-              settle (set links x w) (set homes x a) x k (x ∷ chain links s) first
-              (
-                all_moved homes x a k (chain links s) (x ∷ chain links s) a_slot old.1
-                (omega (arith, times_here x x (chain links s) refl, out, one_at a k (sym e)))
-                (λ i ne. times_other i x (chain links s) ne)
-              )
+            settle (set links x w) (set homes x a) x k (x ∷ chain links s) first
+            (
+            all_moved homes x a k (chain links s) (x ∷ chain links s) a_slot old.1
+            (omega (arith, times_here x x (chain links s) refl, out, one_at a k (sym e)))
+            (λ i ne. times_other i x (chain links s) ne)
+            )
             )
         | inr ne ↦
             at_head (set heads a x) (set links x w) (set homes x a) k s (get_or-set_other heads a k x 0 ne)
             (
-              settle (set links x w) (set homes x a) s k (chain links s) outside
-              (all_moved homes x a k (chain links s) (chain links s) a_slot old.1 (out ∙ sym (none_at a k (λ e. ne (sym e)))) (λ i other. refl))
+            settle (set links x w) (set homes x a) s k (chain links s) outside
+            (all_moved homes x a k (chain links s) (chain links s) a_slot old.1 (out ∙ sym (none_at a k (λ e. ne (sym e)))) (λ i other. refl))
             )
       ]
 
@@ -111,19 +111,19 @@ module _ (heads links homes : List ℕ) (x a : ℕ) (same : length homes ≡ len
               let split : times x (chain links x) ≡ 1 + times x (chain links w) = ap (times x) step.1 ∙ times_here x x (chain links w) refl in
               at_head (set heads a w) links (set homes x nowhere) k w here
               (
-                settle links (set homes x nowhere) w k (chain links w) step.0
-                (
-                  all_moved homes x nowhere k (chain links x) (chain links w) a_slot old_x.1
-                  (omega (arith, one, split, none_at nowhere k (λ f. omega arith)))
-                  (λ i ne. sym (ap (times i) step.1 ∙ times_other i x (chain links w) ne))
-                )
+              settle links (set homes x nowhere) w k (chain links w) step.0
+              (
+              all_moved homes x nowhere k (chain links x) (chain links w) a_slot old_x.1
+              (omega (arith, one, split, none_at nowhere k (λ f. omega arith)))
+              (λ i ne. sym (ap (times i) step.1 ∙ times_other i x (chain links w) ne))
+              )
               )
           | inr ne ↦
               let out : times x (chain links s) ≡ 0 = elsewhere homes a k x (chain links s) old.1 home (λ e. ne (sym e)) in
               at_head (set heads a w) links (set homes x nowhere) k s (get_or-set_other heads a k w 0 ne)
               (
-                settle links (set homes x nowhere) s k (chain links s) old.0
-                (all_moved homes x nowhere k (chain links s) (chain links s) a_slot old.1 (out ∙ sym (none_at nowhere k (λ f. omega arith))) (λ i other. refl))
+              settle links (set homes x nowhere) s k (chain links s) old.0
+              (all_moved homes x nowhere k (chain links s) (chain links s) a_slot old.1 (out ∙ sym (none_at nowhere k (λ f. omega arith))) (λ i other. refl))
               )
         ]
 
@@ -145,9 +145,9 @@ module _ (heads links homes : List ℕ) (x a : ℕ) (same : length homes ≡ len
               let one : times x (front ++ p ∷ x ∷ back) ≡ 1 = all_a x ∙ one_at (get_or homes x nowhere) a home in
               settle (set links p w) (set homes x nowhere) s k (front ++ p ∷ back) (spelled_without links p x s front back (omega arith) spelled)
               (
-                all_moved homes x nowhere k (front ++ p ∷ x ∷ back) (front ++ p ∷ back) a_slot all_k
-                (omega (arith, one, times_append x front (p ∷ x ∷ back), times_append x front (p ∷ back), times_here x x back refl, none_at nowhere k (λ f. omega arith)))
-                (λ i ne. omega (arith, times_append i front (p ∷ x ∷ back), times_append i front (p ∷ back), times_other i x back ne))
+              all_moved homes x nowhere k (front ++ p ∷ x ∷ back) (front ++ p ∷ back) a_slot all_k
+              (omega (arith, one, times_append x front (p ∷ x ∷ back), times_append x front (p ∷ back), times_here x x back refl, none_at nowhere k (λ f. omega arith)))
+              (λ i ne. omega (arith, times_append i front (p ∷ x ∷ back), times_append i front (p ∷ back), times_other i x back ne))
               )
           | inr ne ↦
               let turned : a ≡ k → ⊥ = λ e. ne (sym e) in
@@ -190,19 +190,19 @@ all_free heads links n b long few_b many each last others k k_lt =
       | inl e ↦
           subst (IsKept links homes k) (sym (ap (λ j. get_or heads j 0) e ∙ last))
           (
-            settle links homes 0 k (range_with_len 0 n) (spelled_row links 0 n (omega arith) (λ j lt. each j (omega arith)))
-            (λ i. elim (cases_lt i n) [
-              | inl lt ↦ row_within i 0 n (omega arith) (omega arith) ∙ sym (one_at (get_or homes i nowhere) k (get_or-replicate n i b nowhere lt ∙ sym e))
-              | inr le ↦ row_after i 0 n (omega arith) ∙ sym (none_at (get_or homes i nowhere) k (λ f. let p = past i le in omega arith))
-            ])
+          settle links homes 0 k (range_with_len 0 n) (spelled_row links 0 n (omega arith) (λ j lt. each j (omega arith)))
+          (λ i. elim (cases_lt i n) [
+            | inl lt ↦ row_within i 0 n (omega arith) (omega arith) ∙ sym (one_at (get_or homes i nowhere) k (get_or-replicate n i b nowhere lt ∙ sym e))
+            | inr le ↦ row_after i 0 n (omega arith) ∙ sym (none_at (get_or homes i nowhere) k (λ f. let p = past i le in omega arith))
+          ])
           )
       | inr ne ↦
           subst (IsKept links homes k) (sym (others k (omega arith)))
           (
-            settle links homes n k [] (omega arith)
-            (λ i. elim (cases_lt i n) [
-              | inl lt ↦ sym (none_at (get_or homes i nowhere) k (λ f. ne (sym f ∙ get_or-replicate n i b nowhere lt)))
-              | inr le ↦ sym (none_at (get_or homes i nowhere) k (λ f. let p = past i le in omega arith))
-            ])
+          settle links homes n k [] (omega arith)
+          (λ i. elim (cases_lt i n) [
+            | inl lt ↦ sym (none_at (get_or homes i nowhere) k (λ f. ne (sym f ∙ get_or-replicate n i b nowhere lt)))
+            | inr le ↦ sym (none_at (get_or homes i nowhere) k (λ f. let p = past i le in omega arith))
+          ])
           )
     ]

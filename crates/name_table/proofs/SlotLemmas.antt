@@ -1,5 +1,5 @@
 -- What the finite map of a table's slots is, and what a change in one slot does to it.
-use Rattle.std.proofs.Common.{◌≡◌, ℕ, zero, suc, ◌+◌, ◌<◌, ◌≤◌, Bool, true, false, cond, List, [], ◌∷◌, length, get_or, set, Option, None, Some, is_some, IsSome, sum_by, count_by, refl, sym, ap, subst, ◌∙◌, inl, inr, ◌⊎◌, arith, get_or-set_same, get_or-set_other}
+use Rattle.std.proofs.Common.{◌≡◌, ℕ, zero, suc, ◌+◌, ◌<◌, true, false, cond, List, [], ◌∷◌, length, set, Option, None, Some, is_some, IsSome, sum_by, count_by, refl, sym, ap, ◌∙◌, inl, inr, ◌⊎◌, arith, get_or-set_same, get_or-set_other}
 use Rattle.std.specs.declared.cmp.Ordering.{Ordering}
 use Rattle.std.specs.declared.cmp.Ordering.TheVariants.{Less, Equal, Greater}
 use Rattle.std.specs.Ordering.{is_eq, eq_by_cmp}
@@ -7,14 +7,14 @@ use Rattle.std.specs.Cmp.{tied_itself}
 use Rattle.std.specs.Cmp.Lexicographic.{nat_list_cmp_total, bytes_decides}
 use Rattle.std.specs.Option.{option_map}
 use Rattle.std.specs.Str.{bytes_eq}
-use Rattle.std.specs.List.{position, position_or_len}
+use Rattle.std.specs.List.{position_or_len}
 use Rattle.std.specs.FinMap as fin
-use Rattle.std.specs.FinMap.{FinMap, find, slice_cmp-IsAntisymmetric, nat_cmp-IsAntisymmetric}
+use Rattle.std.specs.FinMap.{find}
 use Rattle.std.proofs.Math.Dec.{ltb}
 use Rattle.std.specs.Map.{values_of}
 use Rattle.std.proofs.lemmas.Bool.{cases_eq, cases_lt, cases_Bool, false_from_ne_true, cond-true, cond-false, lt-ltb, le-ltb}
-use Rattle.std.proofs.lemmas.List.{length-set, get_or_past}
-use Rattle.std.proofs.lemmas.List.Sums.{sum_by-cons, position_or_len_is, count_by-le-length}
+use Rattle.std.proofs.lemmas.List.{get_or_past}
+use Rattle.std.proofs.lemmas.List.Sums.{sum_by-cons, position_or_len_is}
 use Rattle.name_table.specs.declared.entry.Entry.{Entry}
 use Rattle.name_table.specs.Slots.{name_cmp, Slots, entry_in, name_in, value_in, with_value, put_in, has_name, slot_of, filled, map_of, NamesOnce, number_in}
 use Rattle.name_table.proofs.SumLemmas.{sum_insert, of_option, entries_empty, same_name}
@@ -84,9 +84,9 @@ module _ {X : Type 0} where
   cases_slot (Some f ∷ s) q = elim (cases_slot s q) [
     | inl at ↦ inl (suc at.0, at.1)
     | inr lacks ↦ elim (cases_name f.name q) [
-        | inl same ↦ inl (zero, ap Some same)
-        | inr other ↦ inr (no_slot (Some f) s q (λ h. other (cc)) lacks)
-      ]
+      | inl same ↦ inl (zero, ap Some same)
+      | inr other ↦ inr (no_slot (Some f) s q (λ h. other (cc)) lacks)
+    ]
   ]
 
   -- the map has at a slot's name what the slot has
@@ -153,14 +153,14 @@ module _ {X : Type 0} where
       let e = entry_named (entry_in s i) q h in
       let lt : i < length s = within s i e.0 e.1 in
       let at : position_or_len (has_name q) s ≡ i =
-          position_or_len_is (has_name q) s i None (omega arith) (λ k below. has_false q (entry_in s k) (λ hk. let same : k ≡ i = once k i q hk h in omega arith)) (λ _. has_true q (entry_in s i) h) in
+      position_or_len_is (has_name q) s i None (omega arith) (λ k below. has_false q (entry_in s k) (λ hk. let same : k ≡ i = once k i q hk h in omega arith)) (λ _. has_true q (entry_in s i) h) in
       ap (λ n. cond (ltb n (length s)) (Some n) None) at ∙ cond-true _ (Some i) None (lt-ltb i (length s) lt)
 
   -- and that of one that none has
   pub slot_of_none : (s : Slots X) (q : List ℕ) → ((i : ℕ) → name_in s i ≡ Some q → ⊥) → slot_of s q ≡ None
   slot_of_none s q lacks =
       let at : position_or_len (has_name q) s ≡ length s =
-          position_or_len_is (has_name q) s (length s) None (omega arith) (λ k below. has_false q (entry_in s k) (lacks k)) (λ lt. absurd (omega arith)) in
+      position_or_len_is (has_name q) s (length s) None (omega arith) (λ k below. has_false q (entry_in s k) (lacks k)) (λ lt. absurd (omega arith)) in
       ap (λ n. cond (ltb n (length s)) (Some n) None) at ∙ cond-false _ (Some (length s)) None (le-ltb (length s) (length s) (omega arith))
 
   -- the slots after one is given this
@@ -177,13 +177,13 @@ module _ {X : Type 0} where
       let name = option_map (λ (e : Entry X). e.name) in
       elim (after s i o lt j) [
         | inl at_j ↦ elim (after s i o lt k) [
-            | inl at_k ↦ at_j.0 ∙ sym at_k.0
-            | inr off_k ↦ absurd (new k q off_k.0 (ap name (sym at_j.1) ∙ hj) (ap name (sym off_k.1) ∙ hk))
-          ]
+          | inl at_k ↦ at_j.0 ∙ sym at_k.0
+          | inr off_k ↦ absurd (new k q off_k.0 (ap name (sym at_j.1) ∙ hj) (ap name (sym off_k.1) ∙ hk))
+        ]
         | inr off_j ↦ elim (after s i o lt k) [
-            | inl at_k ↦ absurd (new j q off_j.0 (ap name (sym at_k.1) ∙ hk) (ap name (sym off_j.1) ∙ hj))
-            | inr off_k ↦ once j k q (ap name (sym off_j.1) ∙ hj) (ap name (sym off_k.1) ∙ hk)
-          ]
+          | inl at_k ↦ absurd (new j q off_j.0 (ap name (sym at_k.1) ∙ hk) (ap name (sym off_j.1) ∙ hj))
+          | inr off_k ↦ once j k q (ap name (sym off_j.1) ∙ hj) (ap name (sym off_k.1) ∙ hk)
+        ]
       ]
 
   -- they do where the name stays
@@ -302,7 +302,7 @@ module _ {X : Type 0} where
   len_map (Some e ∷ s) once =
       let none : fin.get (map_of s) e.name ≡ None = map_lacks s e.name (λ i h. let z : zero ≡ suc i = once zero (suc i) e.name refl h in omega arith) in
       let longer : fin.len (fin.insert (map_of s) e.name e.value) ≡ fin.len (map_of s) + 1 =
-          fin.len-insert nat_list_cmp_total (map_of s) e.name e.value ∙ ap (λ o. cond (is_some o) (fin.len (map_of s)) (fin.len (map_of s) + 1)) none in
+      fin.len-insert nat_list_cmp_total (map_of s) e.name e.value ∙ ap (λ o. cond (is_some o) (fin.len (map_of s)) (fin.len (map_of s) + 1)) none in
       omega (arith, longer, len_map s (once_later (Some e) s once), sum_by-cons (λ (o : Option (Entry X)). cond {A = ℕ} (is_some o) 1 0) (Some e) s)
 
   -- where not each slot has a name, one is free

@@ -1,18 +1,18 @@
 -- What a table's slots, filed by their buckets, say of a search and of a change.
-use Rattle.std.proofs.Common.{◌≡◌, ℕ, zero, suc, ◌+◌, ◌-◌, ◌<◌, ◌≤◌, Bool, true, false, cond, List, [], ◌∷◌, length, get_or, set, map, replicate, Option, None, Some, is_some, IsSome, IfSome, IfNone, MatchOption, count_by, vec_len, refl, sym, ap, subst, ◌∙◌, inl, inr, arith, get_or-set_same}
+use Rattle.std.proofs.Common.{◌≡◌, ℕ, zero, suc, ◌+◌, ◌-◌, ◌<◌, ◌≤◌, cond, List, ◌∷◌, length, get_or, set, map, replicate, Option, None, Some, is_some, IsSome, IfSome, IfNone, MatchOption, count_by, vec_len, refl, sym, ap, subst, ◌∙◌, arith}
 use Rattle.std.specs.Option.{option_map}
 use Rattle.std.specs.declared.hash.RandomState.{RandomState}
 use Rattle.std.specs.FinMap as fin
 use Rattle.std.proofs.lemmas.Nat.{and_le_r}
 use Rattle.std.proofs.lemmas.List.{get_or-map, length-map, map-set, set-get_or, get_or_read}
-use Rattle.std.proofs.lemmas.List.Sums.{sum_by-set, count_by-le-length}
+use Rattle.std.proofs.lemmas.List.Sums.{sum_by-set}
 use Rattle.name_table.specs.declared.chains.Chains.{Chains}
 use Rattle.name_table.specs.declared.entry.Entry.{Entry}
 use Rattle.name_table.specs.Slots.{Slots, entry_in, name_in, value_in, with_value, slot_of, map_of, NamesOnce}
-use Rattle.name_table.specs.Woven.{nowhere, IsWoven, times, chain, Ends}
+use Rattle.name_table.specs.Woven.{nowhere, IsWoven, times, chain}
 use Rattle.name_table.specs.Buckets.{bucket_of, home_of, IsFiled}
 use Rattle.name_table.proofs.ChainLemmas.{begins, ends_step, times_here}
-use Rattle.name_table.proofs.MoveLemmas.{AreKept, home_there, one_at, one_where}
+use Rattle.name_table.proofs.MoveLemmas.{home_there, one_at}
 use Rattle.name_table.proofs.SlotLemmas.{within, entry_named, map_named, map_lacks, slot_of_at, slot_of_none, some_free, len_map, once_insert, once_remove, once_put}
 use Rattle.name_table.proofs.WovenLemmas.{kept_of, as_many_of}
 
@@ -189,10 +189,10 @@ module _ {X : Type 0} where
       let none_s : IfNone r ((i : ℕ) → name_in s i ≡ Some q → times i (chain links first) ≡ 0) = subst (λ (z : Slots X). IfNone r ((i : ℕ) → name_in z i ≡ Some q → times i (chain links first) ≡ 0)) t_is none in
       subst (λ (z : Slots X). FoundAs z q r) is
       (
-        found_as s q r f.once found_s
-        (
-          if_none r ((i : ℕ) → name_in s i ≡ Some q → times i (chain links first) ≡ 0) ((i : ℕ) → name_in s i ≡ Some q → ⊥)
-          (λ zero_at. absent keys mask c s len f q (λ i h. ap (times i) (sym same) ∙ zero_at i h))
-          none_s
-        )
+      found_as s q r f.once found_s
+      (
+      if_none r ((i : ℕ) → name_in s i ≡ Some q → times i (chain links first) ≡ 0) ((i : ℕ) → name_in s i ≡ Some q → ⊥)
+      (λ zero_at. absent keys mask c s len f q (λ i h. ap (times i) (sym same) ∙ zero_at i h))
+      none_s
+      )
       )

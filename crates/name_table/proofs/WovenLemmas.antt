@@ -29,8 +29,8 @@ woven_after c d w heads links homes kept = record {
 pub woven_new : (d : Chains) (n b : ℕ) → n < nowhere → b + 1 < nowhere → vec_len d.links ≡ n → vec_len d.heads ≡ b + 1 → d.homes.items ≡ replicate n b → ((k : ℕ) → k < n → get_or d.links.items k 0 ≡ k + 1) → get_or d.heads.items b 0 ≡ 0 → ((k : ℕ) → k < b → get_or d.heads.items k 0 ≡ n) → IsWoven d
 woven_new d n b few_n few_b links heads homes each last others =
     let kept : AreKept d.heads.items d.links.items d.homes.items =
-        subst (AreKept d.heads.items d.links.items) (sym homes)
-        (all_free d.heads.items d.links.items n b (sym d.links.ok.0 ∙ links) (omega arith) (sym d.heads.ok.0 ∙ heads) each last others) in
+    subst (AreKept d.heads.items d.links.items) (sym homes)
+    (all_free d.heads.items d.links.items n b (sym d.links.ok.0 ∙ links) (omega arith) (sym d.heads.ok.0 ∙ heads) each last others) in
     record {
       as_many = d.homes.ok.0 ∙ ap length homes ∙ length-replicate n b ∙ sym links;
       few_slots = subst (λ (m : ℕ). m < nowhere) (sym links) few_n;

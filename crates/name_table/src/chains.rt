@@ -4,6 +4,7 @@ ghost use Rattle.name_table.specs.Woven.{nowhere, times, chain, Ends, IsWoven};
 
 use std::alloc::{AllocError, Global};
 
+// The home of a slot that hangs in no chain.
 const NOWHERE: u32 = u32::MAX;
 
 /// Slots in chains. A number past the last slot, in `heads` or `links`, is a chain's end.
@@ -31,7 +32,11 @@ impl Chains {
         heads[buckets] = 0;
         let links = in_a_row(alloc, end)?;
         let homes = Vec::from_elem(alloc, buckets as u32, room)?;
-        Ok(Chains { heads, links, homes })
+        Ok(Chains {
+            heads,
+            links,
+            homes,
+        })
     }
 
     /// Takes a slot out of its chain and puts it first in another.

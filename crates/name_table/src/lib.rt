@@ -7,6 +7,8 @@
 mod chains;
 mod entry;
 mod table;
+#[cfg(test)]
+mod tests;
 
 pub use entry::Entry;
 pub use table::NameTable;

@@ -1,12 +1,11 @@
 //! A table by name.
-ghost use Rattle.std.specs.Prelude.{◌≡◌, ◌≢◌, ℕ, ◌+◌, ◌<◌, ◌≤◌, Bool, IfOk, IsSome, IsSomeAnd, None, Some, is_some, nat_le, length, replicate, slice_set, slice_index_or, vec_len, count_by, bit_and, List, IfSome, IfNone, MatchOption};
+ghost use Rattle.std.specs.Prelude.{◌≡◌, ℕ, ◌<◌, ◌≤◌, List, None, Some, IsSome, IfSome, IfNone, IfOk, MatchOption, is_some, nat_le, length, replicate, slice_set, count_by};
 ghost use Rattle.std.specs.Borrow.{sem};
 ghost use Rattle.std.specs.Option.{option_copied, option_map};
 ghost use Rattle.std.specs.FinMap as fin;
-ghost use Rattle.std.specs.declared.hash.RandomState.{RandomState};
 ghost use Rattle.name_table.specs.Slots.{entry_in, name_in, value_in, has_name, slot_of, map_of, NamesOnce, put_in};
 ghost use Rattle.name_table.specs.Lends.{lends_value, lends_slot};
-ghost use Rattle.name_table.specs.Woven.{Ends, IsSpelled, chain, times};
+ghost use Rattle.name_table.specs.Woven.{Ends, chain, times};
 ghost use Rattle.name_table.specs.Buckets.{bucket_of};
 
 use crate::chains::Chains;
@@ -18,8 +17,10 @@ use std::marker::Model;
 use std::mem;
 
 /// Values by name, as many as there was room for when the table was made. Each entry stays in its slot until it is
-/// removed. A call takes time for the names that share a bucket, of which there are as many as slots or more, under
-/// a hash whose keys nobody outside knows.
+/// removed.
+///
+/// A call goes along the names of one bucket. There are at least as many buckets as slots, and the hash has keys of
+/// its own (SipHash, by `RandomState`), so that nobody who doesn't know them can choose names that share one.
 #[derive(Drop)]
 pub struct NameTable<V> {
     keys: RandomState,
@@ -105,7 +106,12 @@ impl<V: Drop> NameTable<V> {
         ensures once { NamesOnce self.now }
     {
         let bucket = bucket(&self.keys, self.mask, name);
-        find_from(&self.chains.links, &self.entries, self.chains.heads[bucket] as usize, name)
+        find_from(
+            &self.chains.links,
+            &self.entries,
+            self.chains.heads[bucket] as usize,
+            name,
+        )
     }
 
     /// The name in a slot.
@@ -252,7 +258,12 @@ fn holds<V>(slot: &Option<Entry<V>>, name: &Name) -> bool
 }
 
 // The slot of a name in the chain that begins with a slot.
-fn find_from<V>(links: &[u32], entries: &[Option<Entry<V>>], first: usize, name: &Name) -> Option<usize>
+fn find_from<V>(
+    links: &[u32],
+    entries: &[Option<Entry<V>>],
+    first: usize,
+    name: &Name,
+) -> Option<usize>
     requires as_many { length links.now ≡ length entries.now }
     requires ends { Ends links.now first }
     ensures found { IfSome result (λ i. name_in entries.now i ≡ Some name.now) }

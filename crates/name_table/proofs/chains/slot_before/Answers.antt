@@ -1,5 +1,5 @@
 -- The chain ends, and the slot is still to come until the link is found.
-use Rattle.std.proofs.Common.{◌≡◌, ℕ, ◌+◌, ◌<◌, List, [], ◌∷◌, ◌++◌, length, get_or, refl, sym, ap, subst, ◌∙◌, arith, append_assoc}
+use Rattle.std.proofs.Common.{◌≡◌, [], ◌∷◌, ◌++◌, length, get_or, refl, sym, ap, subst, ◌∙◌, arith, append_assoc}
 use Rattle.name_table.specs.Woven.{times, chain, Ends}
 use Rattle.name_table.proofs.ChainLemmas.{begins, in_rest, ends_step}
 use Rattle.name_table.proofs.chains.slot_before.Goals as goal
@@ -46,8 +46,7 @@ returns-clause-linked c =
     let found : get_or links at 0 ≡ c.args.slot = c.loop-at-test.false in
     let there : times c.args.slot (chain links (get_or links at 0)) ≡ 1 = sym (in_rest links at c.args.slot old.ends old.within (λ e. old.later (sym e))) ∙ old.there in
     let here : times c.args.slot (chain links c.args.slot) ≡ 1 = ap (λ s. times c.args.slot (chain links s)) (sym found) ∙ there in
-    let next = ends_step links c.args.slot (subst (Ends links) found step.0) (begins links c.args.slot c.args.slot here) in
-    (
+    let next = ends_step links c.args.slot (subst (Ends links) found step.0) (begins links c.args.slot c.args.slot here) in (
       old.from.0,
       chain links (get_or links c.args.slot 0),
       old.from.1 ∙ ap (λ xs. old.from.0 ++ xs) (step.1 ∙ ap (λ xs. at ∷ xs) (ap (chain links) found ∙ next.1)),

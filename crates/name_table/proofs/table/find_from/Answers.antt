@@ -1,7 +1,7 @@
 -- A slot with the name is still to come, until the chain is over.
-use Rattle.std.proofs.Common.{◌≡◌, ℕ, ◌<◌, true, false, length, get_or, None, Some, is_some, refl, sym, ap, subst, ◌∙◌, arith}
+use Rattle.std.proofs.Common.{◌≡◌, ◌<◌, true, false, length, None, sym, ap, ◌∙◌, arith}
 use Rattle.name_table.specs.Slots.{name_in, entry_in, has_name}
-use Rattle.name_table.specs.Woven.{times, chain, Ends}
+use Rattle.name_table.specs.Woven.{times}
 use Rattle.name_table.proofs.ChainLemmas.{in_rest, ends_step, chain_over}
 use Rattle.name_table.proofs.SlotLemmas.{has_true, has_back}
 use Rattle.std.proofs.lemmas.List.{get_or_read}

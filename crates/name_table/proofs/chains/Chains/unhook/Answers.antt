@@ -1,10 +1,10 @@
 -- The chain goes on without the slot, and the others stay.
-use Rattle.std.proofs.Common.{◌≡◌, ℕ, ◌<◌, ◌∷◌, ◌++◌, length, get_or, set, refl, sym, ap, subst, ◌∙◌, arith}
+use Rattle.std.proofs.Common.{◌≡◌, ℕ, ◌<◌, ◌∷◌, ◌++◌, length, get_or, set, refl, sym, subst, ◌∙◌}
 use Rattle.std.proofs.lemmas.List.{get_or_read}
 use Rattle.std.specs.Vec.{with_item}
 use Rattle.name_table.specs.declared.chains.Chains.{Chains}
 use Rattle.name_table.specs.Woven.{nowhere, IsWoven, chain}
-use Rattle.name_table.proofs.MoveLemmas.{unhooked_first, unhooked_later, there, AreKept}
+use Rattle.name_table.proofs.MoveLemmas.{unhooked_first, unhooked_later, AreKept}
 use Rattle.name_table.proofs.WovenLemmas.{kept_of, as_many_of, woven_after}
 use Rattle.name_table.proofs.chains.Chains.unhook.Goals as goal
 use Rattle.name_table.proofs.chains.Chains.unhook.Goals.{then-first-slot, else-first-slot}
@@ -31,8 +31,8 @@ returns-clause-woven c =
       | then-first-slot v ↦
           subst (λ (s : Chains). IsWoven (record { heads = s.heads; links = s.links; homes = with_item s.homes slot nowhere })) (sym v.self-is)
           (
-            woven_after self (record { heads = with_item self.heads a c.index-next.result.now; links = self.links; homes = with_item self.homes slot nowhere }) w refl refl refl
-            (subst (λ (n : ℕ). AreKept (set heads a n) links (set homes slot nowhere)) (sym next) (unhooked_first heads links homes slot a many a_slot a_chain few kept home (sym first ∙ v.if-first-slot.true)))
+          woven_after self (record { heads = with_item self.heads a c.index-next.result.now; links = self.links; homes = with_item self.homes slot nowhere }) w refl refl refl
+          (subst (λ (n : ℕ). AreKept (set heads a n) links (set homes slot nowhere)) (sym next) (unhooked_first heads links homes slot a many a_slot a_chain few kept home (sym first ∙ v.if-first-slot.true)))
           )
       | else-first-slot v ↦
           let p = v.slot_before-before.result in
@@ -40,7 +40,7 @@ returns-clause-woven c =
           let split : chain links (get_or heads a 0) ≡ linked.0 ++ p ∷ slot ∷ linked.1 = sym (λ t. chain (v.deref.ensures.value t) (first t)) ∙ linked.2 in
           subst (λ (s : Chains). IsWoven (record { heads = s.heads; links = s.links; homes = with_item s.homes slot nowhere })) (sym v.self-is)
           (
-            woven_after self (record { heads = self.heads; links = with_item self.links p c.index-next.result.now; homes = with_item self.homes slot nowhere }) w refl refl refl
-            (subst (λ (n : ℕ). AreKept heads (set links p n) (set homes slot nowhere)) (sym next) (unhooked_later heads links homes slot a many a_slot a_chain few kept home p linked.0 linked.1 split))
+          woven_after self (record { heads = self.heads; links = with_item self.links p c.index-next.result.now; homes = with_item self.homes slot nowhere }) w refl refl refl
+          (subst (λ (n : ℕ). AreKept heads (set links p n) (set homes slot nowhere)) (sym next) (unhooked_later heads links homes slot a many a_slot a_chain few kept home p linked.0 linked.1 split))
           )
     ]

@@ -1,5 +1,5 @@
 -- The first slot of the last chain is free, and moves to the name's bucket.
-use Rattle.std.proofs.Common.{◌≡◌, ℕ, ◌<◌, length, set, None, sym, ap, subst, ◌∙◌, arith}
+use Rattle.std.proofs.Common.{◌≡◌, ◌<◌, length, set, None, sym, ap, subst, ◌∙◌, arith}
 use Rattle.std.specs.FinMap as fin
 use Rattle.name_table.specs.Slots.{Slots, entry_in, map_of}
 use Rattle.name_table.proofs.SlotLemmas.{map_insert, once_insert}

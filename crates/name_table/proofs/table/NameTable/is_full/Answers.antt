@@ -1,5 +1,5 @@
 -- The count is compared with the room.
-use Rattle.std.proofs.Common.{◌≡◌, ℕ, length, nat_le, count_by, is_some, subst, sym, ap, ◌∙◌, arith}
+use Rattle.std.proofs.Common.{◌≡◌, length, nat_le, count_by, is_some, subst, sym, ap, ◌∙◌, arith}
 use Rattle.std.proofs.lemmas.List.Sums.{count_by-le-length}
 use Rattle.std.specs.FinMap as fin
 use Rattle.name_table.specs.Slots.{NamesOnce, map_of}

@@ -1,5 +1,5 @@
 -- The count is kept beside the slots.
-use Rattle.std.proofs.Common.{◌≡◌, count_by, is_some, subst, sym, ap, ◌∙◌, arith}
+use Rattle.std.proofs.Common.{count_by, is_some, subst, sym, ap, ◌∙◌, arith}
 use Rattle.std.proofs.lemmas.List.Sums.{count_by-le-length}
 use Rattle.name_table.specs.Slots.{NamesOnce}
 use Rattle.name_table.proofs.SlotLemmas.{len_map}

@@ -1,5 +1,5 @@
 -- All slots are free.
-use Rattle.std.proofs.Common.{◌≡◌, ℕ, ◌+◌, ◌-◌, ◌≤◌, List, Option, None, replicate, sym, ap, subst, ◌∙◌, arith, rules}
+use Rattle.std.proofs.Common.{◌≡◌, ◌+◌, ◌-◌, ◌≤◌, replicate, sym, ap, subst, ◌∙◌, arith, rules}
 use Rattle.name_table.specs.Slots.{Slots}
 use Rattle.name_table.specs.Buckets.{IsFiled}
 use Rattle.name_table.proofs.TableLemmas.{filed_free}

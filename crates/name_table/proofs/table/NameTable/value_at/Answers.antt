@@ -1,5 +1,5 @@
 -- The map has the value of the slot.
-use Rattle.std.proofs.Common.{◌≡◌, ◌<◌, length, IsSome, None, sym, ap, subst, ◌∙◌}
+use Rattle.std.proofs.Common.{◌≡◌, IsSome, None, sym, ap, subst, ◌∙◌}
 use Rattle.std.proofs.lemmas.List.{get_or_read}
 use Rattle.std.specs.Option.{option_map}
 use Rattle.name_table.specs.declared.entry.Entry.{Entry}

@@ -1,5 +1,5 @@
 -- Another value leaves the names, and so the chains.
-use Rattle.std.proofs.Common.{◌≡◌, ◌<◌, length, set, None, IsSome, Option, sym, ap, subst, ◌∙◌}
+use Rattle.std.proofs.Common.{◌≡◌, ◌<◌, length, set, None, IsSome, Option, sym, subst}
 use Rattle.std.proofs.lemmas.List.{get_or_read}
 use Rattle.name_table.specs.declared.entry.Entry.{Entry}
 use Rattle.name_table.specs.Slots.{Slots, entry_in, with_value}
