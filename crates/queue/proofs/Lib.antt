@@ -1,12 +1,13 @@
 pub mod BackoffLemmas
 pub mod Uids
-pub mod Lookups
-pub mod Apart
 pub mod Tables
-pub mod Tallies
 pub mod Ranks
 pub mod Members
 pub mod Next
-pub mod FirstPlaces
 pub mod States
 pub mod Runs
+pub mod Rows
+pub mod Heaps
+pub mod Powers
+pub mod Indexes
+pub mod Changes

@@ -1,204 +1,42 @@
--- What each call does to the list of entries is what it is to do to the queue.
-use Rattle.std.proofs.Common.{◌≡◌, ℕ, suc, ◌<◌, ◌≤◌, Bool, true, false, cond, List, [], ◌∷◌, ◌++◌, length, get_or, set, take, drop, map, arith, ⊎_elim, refl, sym, ap, ◌∙◌}
-use Rattle.std.specs.Prelude.{Option, Some, None, MatchOption, is_none, is_some, find, position, remove, nat_le, nat_lt}
-use Rattle.std.specs.List.{position_or_len}
-use Rattle.std.proofs.lemmas.List.Folds.{find_at}
-use Rattle.std.proofs.lemmas.List.Quantifiers.{position-Some}
-use Rattle.std.proofs.lemmas.Option.{slice_get_past}
-use Rattle.std.proofs.lemmas.Bool.{cases_lt, leb-false}
-use Rattle.std.proofs.lemmas.Bool.Decides.{nat_tests}
-use Rattle.std.proofs.lemmas.List.{get_or_default, length-map}
-use Rattle.std.proofs.Math.Seq.{take-append_seam}
+-- What each call does to the slots is what it is to do to the queue.
+use Rattle.std.proofs.Common.{◌≡◌, ℕ, ◌<◌, ◌≤◌, Bool, true, false, cond, ⊎_elim, List, [], length, get_or, set, replicate, zero, suc, arith, refl, sym, ap, ◌∙◌, subst}
+use Rattle.std.specs.Prelude.{◌≢◌, Option, Some, None, IsSome, MatchOption, is_some, option_map, nat_le}
+use Rattle.std.specs.Option.{option_map_or, option_cmp}
+use Rattle.std.specs.Ordering.{nat_cmp, is_lt, ordering_then}
+use Rattle.std.specs.FinMap as table
+use Rattle.std.specs.Cmp.Lexicographic.{nat_list_cmp_total}
+use Rattle.name_table.specs.declared.entry.Entry.{Entry as Named}
+use Rattle.std.proofs.lemmas.List.{get_or-set_same, get_or-set_other, length-replicate}
 use Rattle.quant.specs.declared.amount.Moment.{Moment}
 use Rattle.quant.specs.declared.name.Name.{Name}
 use Rattle.quant.specs.declared.objects.Pod.{Pod}
+use Rattle.name_table.specs.Slots.{entry_in, name_in, value_in, filled, map_of, NamesOnce}
+use Rattle.name_table.proofs.SlotLemmas.{map_at, slot_with, len_map, sum_map}
+use Rattle.std.proofs.lemmas.List.Sums.{count_by-le-length}
+use Rattle.queue.specs.declared.state.State.{State}
+use Rattle.queue.specs.declared.state.State.TheVariants.{Active, Backoff, Unschedulable, InFlight}
 use Rattle.queue.specs.declared.state.PassNumber.{PassNumber}
+use Rattle.queue.specs.declared.index.Index.{Index}
 use Rattle.queue.specs.declared.refusal.Refusal.{Refusal}
 use Rattle.queue.specs.declared.refusal.Refusal.TheVariants.{Known, Full, NotInFlight}
-use Rattle.queue.specs.Entry.{Entry, new_entry, is_active, is_backoff, is_unschedulable, is_in_flight, popped}
-use Rattle.queue.specs.Order.{Item, item_of, comes_before}
-use Rattle.queue.specs.Queue.{Entries, QueueState, entry_of, has_entry, is_full_queue, IsQueue, stands, next_of, counts_in, counts_of, with_entry, with_change, changed_at, with_popped, all_changed, unless_refused, refusal_to_add, after_add, after_pop, after_remove}
-use Rattle.queue.specs.Slots.{has_uid, state_of, are_apart, IsFirstBelow, IsNextBelow}
-use Rattle.queue.proofs.Uids.{same, same_laws, same_is}
-use Rattle.queue.proofs.Members.{nothing, same_some}
-use Rattle.queue.proofs.Lookups.{find_at_place}
-use Rattle.queue.proofs.Apart.{apart-push, apart-map}
-use Rattle.queue.proofs.Tables.{get-by_uid, by_uid-set, by_uid-remove, by_uid-push, by_uid-map, remove_absent, len-by_uid}
-use Rattle.queue.proofs.Tallies.{count-by_uid}
+use Rattle.queue.specs.Entry.{Entry, new_entry, is_active, is_backoff, is_unschedulable, is_in_flight, is_in_flight_for, popped}
+use Rattle.queue.specs.Order.{Item, item_cmp, comes_before}
+use Rattle.queue.specs.Queue.{no_entries, counts_of, QueueState, IsQueue, entry_of, has_entry, is_full_queue, stands, next_of, with_entry, with_change, changed_at, with_popped, unless_refused, refusal_to_add, after_add, after_pop, after_remove}
+use Rattle.queue.specs.Row.{at, IsIn}
+use Rattle.queue.specs.Heap.{Pods, moment_of, wait_cmp, item_in, goes_before}
+use Rattle.queue.specs.Index.{stands_in, kept_with, changed_in, IsIndex, IsIndexBut}
+use Rattle.queue.specs.Slots.{state_of, OwnUids, IsKept, one_if, counts_so_far}
+use Rattle.queue.proofs.Rows.{same_or_not}
+use Rattle.queue.proofs.Heaps.{Kept, a_slot, top}
+use Rattle.queue.proofs.Changes.{kept_in, stands_of, none_in_row, once_changed, own_changed, length_changed, map_changed}
+use Rattle.queue.proofs.Indexes.{there_if, changed, written, emptied, free_slot}
+use Rattle.queue.proofs.Tables.{same_entries}
+use Rattle.queue.proofs.Uids.{same, same_is}
 use Rattle.queue.proofs.Next.{only_one_is_next, none_is_next}
-
--- something is not nothing
-some_not_none : (n : ℕ) → Some n ≡ None → ⊥
-some_not_none n h = cc
-
--- a lesser number passes the test
-test_of_lt : (m n : ℕ) → m < n → nat_lt m n ≡ true
-test_of_lt m n h = grind (arith, nat_tests)
-
--- where no place passes, nothing is found
-missing : (p : Entry → Bool) (es : List Entry) → position p es ≡ None → find p es ≡ None
-missing p es none =
-    find_at p es ∙ slice_get_past es (position_or_len p es)
-    (⊎_elim
-    (λ (below : position_or_len p es < length es). absurd (some_not_none _ (sym (ap (λ b. cond b (Some (position_or_len p es)) None) (test_of_lt _ _ below)) ∙ none)))
-    (λ (beyond : length es ≤ position_or_len p es). beyond)
-    (cases_lt (position_or_len p es) (length es)))
-
--- the entry of a uid is the one at its place
-pub entry_at_place : (limit : ℕ) (es : List Entry) (uid : Name) (i : ℕ) (x : Entry) → are_apart es ≡ true → position (has_uid uid) es ≡ Some i → x ≡ get_or es i x → entry_of (state_of limit es) uid ≡ Some x
-entry_at_place limit es uid i x apart at is =
-    let here = position-Some (has_uid uid) es i x at in
-    get-by_uid es uid ∙ find_at_place es i x uid apart here.0 here.1 ∙ ap (λ (e : Entry). Some e) (sym is)
-
--- where there is no place of a uid, there is no entry of it
-pub entry_nowhere : (limit : ℕ) (es : List Entry) (uid : Name) → position (has_uid uid) es ≡ None → entry_of (state_of limit es) uid ≡ None
-entry_nowhere limit es uid none = get-by_uid es uid ∙ missing (has_uid uid) es none
-
--- the uid of the entry at its place
-uid_at_place : (es : List Entry) (uid : Name) (i : ℕ) (x : Entry) → position (has_uid uid) es ≡ Some i → x ≡ get_or es i x → uid ≡ x.pod.uid
-uid_at_place es uid i x at is = let here = position-Some (has_uid uid) es i x at in same_is uid x.pod.uid (ap (has_uid uid) is ∙ here.1)
-
--- nothing is no place
-no_place : (i : ℕ) → None ≡ Some i → ⊥
-no_place i h = cc
-
--- where there is a place there is an entry
-found_somewhere : (limit : ℕ) (es : List Entry) (uid : Name) (i : ℕ) → are_apart es ≡ true → position (has_uid uid) es ≡ Some i → is_some (Some i) ≡ has_entry (state_of limit es) uid
-found_somewhere limit [] uid i apart at = absurd (no_place i at)
-found_somewhere limit (e ∷ es) uid i apart at =
-    let x : Entry = get_or (e ∷ es) i e in
-    let here = position-Some (has_uid uid) (e ∷ es) i e at in
-    sym (ap is_some (entry_at_place limit (e ∷ es) uid i x apart at (get_or_default (e ∷ es) i e x here.0)))
-
--- whether there is a place
-pub has-state : (limit : ℕ) (es : List Entry) (uid : Name) → are_apart es ≡ true → is_some (position (has_uid uid) es) ≡ has_entry (state_of limit es) uid
-has-state limit es uid apart =
-    elim (position (has_uid uid) es) as (λ o. position (has_uid uid) es ≡ o → is_some o ≡ has_entry (state_of limit es) uid) [
-      | None ↦ λ at. sym (ap is_some (entry_nowhere limit es uid at))
-      | Some i ↦ λ at. found_somewhere limit es uid i apart at
-    ] refl
-
--- whether there is room
-pub full-state : (limit : ℕ) (es : List Entry) → are_apart es ≡ true → nat_le limit (length es) ≡ is_full_queue (state_of limit es)
-full-state limit es apart = ap (nat_le limit) (sym (len-by_uid es apart))
-
--- how many stand where
-pub counts-state : (limit : ℕ) (es : List Entry) → are_apart es ≡ true → counts_in es ≡ counts_of (state_of limit es)
-unfolding counts_of
-counts-state limit es apart i = record {
-  active = sym (count-by_uid (λ entry. is_active entry.state) es apart) i;
-  backoff = sym (count-by_uid (λ entry. is_backoff entry.state) es apart) i;
-  unschedulable = sym (count-by_uid (λ entry. is_unschedulable entry.state) es apart) i;
-  in_flight = sym (count-by_uid (λ entry. is_in_flight entry.state) es apart) i;
-}
-
--- what is found stands somewhere
-found_place : (p : Entry → Bool) (es : List Entry) (e : Entry) → find p es ≡ Some e → (k : ℕ) × (k < length es) × (e ≡ get_or es k e) × (p e ≡ true)
-found_place p [] e is = absurd (nothing e is)
-found_place p (y ∷ ys) e is =
-    elim (p y) as (λ b. p y ≡ b → cond b (Some y) (find p ys) ≡ Some e → (k : ℕ) × (k < length (y ∷ ys)) × (e ≡ get_or (y ∷ ys) k e) × (p e ≡ true)) [
-      | true ↦ λ h found. let here : y ≡ e = same_some y e found in (0, omega arith, sym here, sym (ap p here) ∙ h)
-      | false ↦ λ h found. let rest = found_place p ys e found in (suc rest.0, omega (arith, rest.1), rest.2, rest.3)
-    ] refl is
-
--- the list of a queue is one
-pub is_queue : (limit : ℕ) (es : List Entry) → are_apart es ≡ true → length es ≤ limit → limit ≤ 10000 → IsQueue (state_of limit es)
-is_queue limit es apart within limited = record {
-  own_uid = λ uid e there. sym (same_is uid e.pod.uid (found_place (has_uid uid) es e (sym (get-by_uid es uid) ∙ there)).3);
-  within = omega (arith, len-by_uid es apart);
-  limited = limited;
-}
-
--- no other active entry comes before the one that goes first in the list
-first_elsewhere : (es : List Entry) (i : ℕ) (x : Entry) (other : Item) → IsFirstBelow es (length es) i → x ≡ get_or es i x → (k : ℕ) × (k < length es) × (other.1 ≡ get_or es k other.1) × (has_uid other.0 other.1 ≡ true) → is_active other.1.state ≡ true → comes_before other (item_of x) ≡ false
-first_elsewhere es i x other f is at act =
-    let d : Entry = other.1 in
-    let there : d ≡ get_or es at.0 d = at.2 in
-    let here : x ≡ get_or es i d = is ∙ get_or_default es i x d f.inside in
-    let key : other.0 ≡ d.pod.uid = same_is other.0 d.pod.uid at.3 in
-    ap (λ (u : Name). comes_before (u, d) (item_of x)) key
-    ∙ ap (λ (e : Entry). comes_before (item_of e) (item_of x)) there
-    ∙ ap (λ (e : Entry). comes_before (item_of (get_or es at.0 d)) (item_of e)) here
-    ∙ f.first at.0 d at.1 (sym (ap (λ (e : Entry). is_active e.state) there) ∙ act)
-
--- the entry that goes first in the list is what is next in the queue
-pub next_at_place : (limit : ℕ) (es : List Entry) (i : ℕ) (x : Entry) → are_apart es ≡ true → IsFirstBelow es (length es) i → x ≡ get_or es i x → next_of (state_of limit es) ≡ Some (item_of x)
-next_at_place limit es i x apart f is = only_one_is_next (state_of limit es) (item_of x) record {
-  there = get-by_uid es x.pod.uid ∙ find_at_place es i x x.pod.uid apart f.inside (sym (ap (λ (e : Entry). same x.pod.uid e.pod.uid) is) ∙ same_laws.refl x.pod.uid) ∙ ap (λ (e : Entry). Some e) (sym is);
-  active = ap (λ (e : Entry). is_active e.state) is ∙ f.active x;
-  first = λ other there act. first_elsewhere es i x other f is (found_place (has_uid other.0) es other.1 (sym (get-by_uid es other.0) ∙ there)) act;
-}
-
--- where none of the list is active, nothing is next
-pub next_nowhere : (limit : ℕ) (es : List Entry) → IsNextBelow es (length es) None → next_of (state_of limit es) ≡ None
-next_nowhere limit es none = none_is_next (state_of limit es) (λ uid.
-    elim (entry_of (state_of limit es) uid) as (λ o. entry_of (state_of limit es) uid ≡ o → MatchOption o (Unit {0}) (λ entry. is_active entry.state ≡ false)) [
-      | None ↦ λ h. tt
-      | Some e ↦ λ h.
-          let at = found_place (has_uid uid) es e (sym (get-by_uid es uid) ∙ h) in
-          ap (λ (y : Entry). is_active y.state) at.2 ∙ none at.0 e at.1
-    ] refl)
-
--- the entries under a limit
-abbrev with_limit : ℕ → Entries → QueueState
-with_limit limit entries = record { limit = limit; entries = entries }
-
--- a write of an entry of the same uid
-changed_place : (limit : ℕ) (es : List Entry) (i : ℕ) (x y : Entry) (uid : Name) → are_apart es ≡ true → i < length es → x ≡ get_or es i x → uid ≡ x.pod.uid → y.pod.uid ≡ x.pod.uid → state_of limit (set es i y) ≡ with_entry (state_of limit es) uid y
-changed_place limit es i x y uid apart within is key keeps =
-    ap (with_limit limit) (by_uid-set es i x y apart within (keeps ∙ ap (λ (e : Entry). e.pod.uid) is))
-    ∙ ap (λ (u : Name). with_entry (state_of limit es) u y) (keeps ∙ sym key)
-
--- a pop of the entry that goes first
-pub pop_at_place : (limit : ℕ) (es : List Entry) (i : ℕ) (x y : Entry) (pass : PassNumber) → are_apart es ≡ true → IsFirstBelow es (length es) i → x ≡ get_or es i x → y ≡ popped pass x → state_of limit (set es i y) ≡ after_pop (state_of limit es) pass
-unfolding after_pop
-pop_at_place limit es i x y pass apart f is new =
-    ap (λ (e : Entry). state_of limit (set es i e)) new
-    ∙ changed_place limit es i x (popped pass x) x.pod.uid apart f.inside is refl refl
-    ∙ sym (ap (with_popped (state_of limit es) pass) (next_at_place limit es i x apart f is))
-
--- a pop where none is active
-pub pop_nowhere : (limit : ℕ) (es : List Entry) (pass : PassNumber) → IsNextBelow es (length es) None → state_of limit es ≡ after_pop (state_of limit es) pass
-unfolding after_pop
-pop_nowhere limit es pass none = sym (ap (with_popped (state_of limit es) pass) (next_nowhere limit es none))
-
--- a call that is refused where the entry does not pass a test
-abbrev unless_passed : (Entry → Bool) → QueueState → Name → Option Refusal
-unless_passed test q uid = cond (stands test (entry_of q uid)) None (Some NotInFlight)
-
--- the entry at the place of the uid passes
-pub accepted_at_place : (limit : ℕ) (es : List Entry) (uid : Name) (i : ℕ) (x : Entry) (test : Entry → Bool) → are_apart es ≡ true → position (has_uid uid) es ≡ Some i → x ≡ get_or es i x → test x ≡ true → unless_passed test (state_of limit es) uid ≡ None
-accepted_at_place limit es uid i x test apart at is passes =
-    ap (λ o. cond (stands test o) None (Some NotInFlight)) (entry_at_place limit es uid i x apart at is)
-    ∙ ap (λ b. cond b None (Some NotInFlight)) passes
-
--- the entry at the place of the uid fails
-pub refused_at_place : (limit : ℕ) (es : List Entry) (uid : Name) (i : ℕ) (x : Entry) (test : Entry → Bool) → are_apart es ≡ true → position (has_uid uid) es ≡ Some i → x ≡ get_or es i x → test x ≡ false → unless_passed test (state_of limit es) uid ≡ Some NotInFlight
-refused_at_place limit es uid i x test apart at is fails =
-    ap (λ o. cond (stands test o) None (Some NotInFlight)) (entry_at_place limit es uid i x apart at is)
-    ∙ ap (λ b. cond b None (Some NotInFlight)) fails
-
--- there is no entry of the uid
-pub refused_nowhere : (limit : ℕ) (es : List Entry) (uid : Name) (test : Entry → Bool) → position (has_uid uid) es ≡ None → unless_passed test (state_of limit es) uid ≡ Some NotInFlight
-refused_nowhere limit es uid test none = ap (λ o. cond (stands test o) None (Some NotInFlight)) (entry_nowhere limit es uid none)
 
 -- a refused call changes nothing
 pub refused : (r : Option Refusal) (why : Refusal) (old new : QueueState) → r ≡ Some why → old ≡ unless_refused r old new
 refused r why old new is = sym (ap (λ o. unless_refused o old new) is)
-
--- a change of the entry of a uid that passes the test
-pub changed_at_place : (limit : ℕ) (es : List Entry) (uid : Name) (i : ℕ) (x y : Entry) (test : Entry → Bool) (f : Entry → Entry) → ((e : Entry) → (f e).pod.uid ≡ e.pod.uid) → are_apart es ≡ true → position (has_uid uid) es ≡ Some i → x ≡ get_or es i x → test x ≡ true → y ≡ f x → state_of limit (set es i y) ≡ unless_refused (unless_passed test (state_of limit es) uid) (state_of limit es) (changed_at (state_of limit es) uid f)
-changed_at_place limit es uid i x y test f keeps apart at is passes new =
-    let q : QueueState = state_of limit es in
-    let e : entry_of q uid ≡ Some x = entry_at_place limit es uid i x apart at is in
-    ap (λ (z : Entry). state_of limit (set es i z)) new
-    ∙ changed_place limit es i x (f x) uid apart (position-Some (has_uid uid) es i x at).0 is (uid_at_place es uid i x at is) (keeps x)
-    ∙ sym (ap (λ r. unless_refused r q (changed_at q uid f)) (accepted_at_place limit es uid i x test apart at is passes) ∙ ap (with_change q uid f) e)
-
--- what fails the test for something is nothing
-none_of_test : (o : Option Entry) → is_some o ≡ false → o ≡ None
-none_of_test None h = refl
-none_of_test (Some e) h = cc
 
 -- a pod that is not known may be added where there is room
 pub may_add : (q : QueueState) (uid : Name) → has_entry q uid ≡ false → is_full_queue q ≡ false → refusal_to_add q uid ≡ None
@@ -217,45 +55,230 @@ unfolding refusal_to_add
 full_to_add q uid absent full =
     ap (λ b. cond b (Some Known) (cond (is_full_queue q) (Some Full) None)) absent ∙ ap (λ b. cond b (Some Full) None) full
 
--- a pod comes that is not known, where there is room
-pub added_at_end : (limit : ℕ) (es : List Entry) (pod : Pod) (now : Moment) (y : Entry) → are_apart es ≡ true → has_entry (state_of limit es) pod.uid ≡ false → is_full_queue (state_of limit es) ≡ false → y ≡ new_entry pod now → state_of limit (es ++ y ∷ []) ≡ after_add (state_of limit es) pod now
+-- an active pod waits for no moment
+no_moment : (s : State) → is_active s ≡ true → moment_of s ≡ 0
+no_moment Active h = refl
+no_moment (Backoff until) h = cc
+no_moment (Unschedulable since) h = cc
+no_moment (InFlight pass moved) h = cc
+
+-- the heaps' order of active pods is the queue's
+active_order : (pods : Pods) (a b : ℕ) (x y : Kept) → entry_in pods a ≡ Some x → entry_in pods b ≡ Some y → is_active x.value.state ≡ true → is_active y.value.state ≡ true → goes_before pods a b ≡ false → comes_before (x.name, x.value) (y.name, y.value) ≡ false
+unfolding goes_before
+active_order pods a b x y is_x is_y act_x act_y order =
+    let first : item_in pods a ≡ Some (x.name, x.value) = ap (option_map (λ (e : Kept). (e.name, e.value))) is_x in
+    let second : item_in pods b ≡ Some (y.name, y.value) = ap (option_map (λ (e : Kept). (e.name, e.value))) is_y in
+    let p = no_moment x.value.state act_x in
+    let q = no_moment y.value.state act_y in
+    sym (λ i. is_lt (ordering_then (nat_cmp (p i) (q i)) (item_cmp (x.name, x.value) (y.name, y.value))))
+    ∙ sym (λ i. is_lt (option_cmp wait_cmp (first i) (second i)))
+    ∙ order
+
+-- the top of the active heap is in it
+root_in : (xs : List ℕ) (s : ℕ) → 0 < length xs → at xs 0 ≡ s → IsIn xs s
+root_in xs s some root = record { place = 0; within = some; is = root }
+
+-- it has an entry
+pub root_there : (pods : Pods) (index : Index) (s : ℕ) → IsIndex pods index → 0 < length index.active.slots → at index.active.slots 0 ≡ s → IsSome (entry_in pods s)
+root_there pods index s i some root = there_if is_active (entry_in pods s) (i.active.there s (root_in index.active.slots s some root))
+
+-- and that is what is popped next
+pub next_some : (pods : Pods) (index : Index) (s : ℕ) (e : Kept) → IsIndex pods index → NamesOnce pods → 0 < length index.active.slots → at index.active.slots 0 ≡ s → entry_in pods s ≡ Some e → next_of (state_of pods) ≡ Some (e.name, e.value)
+next_some pods index s e i once some root is =
+    let act_e : is_active e.value.state ≡ true = sym (stands_of is_active pods s e is) ∙ i.active.there s (root_in index.active.slots s some root) in
+    only_one_is_next (state_of pods) (e.name, e.value) record {
+      there = map_at pods s e once is;
+      active = act_e;
+      first = λ other there act.
+          let slot = slot_with pods other.0 other.1 once there in
+          let x : Kept = record { name = other.0; value = other.1 } in
+          let inside = i.active.all slot.0 (stands_of is_active pods slot.0 x slot.1 ∙ act) in
+          let order : goes_before pods slot.0 s ≡ false = (λ j. goes_before pods (sym inside.is j) (sym root j)) ∙ top pods index.active.slots inside.place i.by_order inside.within in
+          active_order pods slot.0 s x e slot.1 is act act_e order;
+    }
+
+-- what cannot be true is false
+not_true : (b : Bool) → (b ≡ true → ⊥) → b ≡ false
+not_true true h = absurd (h refl)
+not_true false h = refl
+
+-- where the active heap is empty, nothing is next
+pub next_none : (pods : Pods) (index : Index) → IsIndex pods index → NamesOnce pods → length index.active.slots ≡ 0 → next_of (state_of pods) ≡ None
+next_none pods index i once empty = none_is_next (state_of pods) (λ uid.
+    elim (entry_of (state_of pods) uid) as (λ o. entry_of (state_of pods) uid ≡ o → MatchOption o (Unit {0}) (λ entry. is_active entry.state ≡ false)) [
+      | None ↦ λ h. tt
+      | Some v ↦ λ h.
+          let slot = slot_with pods uid v once h in
+          let x : Kept = record { name = uid; value = v } in
+          not_true (is_active v.state) (λ act. none_in_row is_active pods index.active slot.0 x i.active empty slot.1 act)
+    ] refl)
+
+-- the queue with one pod changed
+pub state_changed : (pods : Pods) (s : ℕ) (e : Kept) (f : Entry → Entry) → NamesOnce pods → entry_in pods s ≡ Some e → state_of (changed_in pods s f) ≡ with_entry (state_of pods) e.name (f e.value)
+state_changed pods s e f once is i = record { limit = length_changed pods s f i; entries = map_changed pods s e f once is i }
+
+-- what holds of a queue's parts still does, where one pod changes
+pub kept_changed : (pods new : Pods) (old_index index : Index) (s old n : ℕ) (f : Entry → Entry) → IsKept pods old_index old → new ≡ changed_in pods s f → ((e : Entry) → (f e).pod.uid ≡ e.pod.uid) → IsSome (entry_in pods s) → IsIndex new index → n ≤ 28 → IsKept new index n
+kept_changed pods new old_index index s old n f kept is keeps there indexed few = record {
+  index = indexed;
+  once = subst (λ (p : Pods). NamesOnce p) (sym is) (once_changed pods s f there kept.once);
+  own_uid = subst (λ (p : Pods). OwnUids p) (sym is) (own_changed pods s f keeps there kept.own_uid);
+  limited = omega (arith, ap (λ (p : Pods). length p) is, length_changed pods s f, kept.limited);
+  few = few;
+}
+
+-- where the pod that changed stands now
+pub stands_changed : (test : State → Bool) (pods : Pods) (s : ℕ) (e : Kept) (f : Entry → Entry) → entry_in pods s ≡ Some e → IsSome (entry_in pods s) → stands_in test (changed_in pods s f) s ≡ test (f e.value).state
+stands_changed test pods s e f is there =
+    ap (λ (o : Option Kept). option_map_or test (option_map (λ (k : Kept). k.value.state) o) false)
+    (get_or-set_same pods s (kept_with f (entry_in pods s)) None (a_slot pods s there) ∙ ap (kept_with f) is)
+
+-- a pop of the top of the active heap
+pub pop_some : (pods new : Pods) (index : Index) (s : ℕ) (e : Kept) (pass : PassNumber) → IsIndex pods index → NamesOnce pods → 0 < length index.active.slots → at index.active.slots 0 ≡ s → entry_in pods s ≡ Some e → new ≡ changed_in pods s (popped pass) → state_of new ≡ after_pop (state_of pods) pass
+unfolding after_pop
+pop_some pods new index s e pass i once some root is new_is =
+    ap (λ (p : Pods). state_of p) new_is
+    ∙ state_changed pods s e (popped pass) once is
+    ∙ sym (ap (with_popped (state_of pods) pass) (next_some pods index s e i once some root is))
+
+-- a pop where none is active
+pub pop_none : (pods : Pods) (index : Index) (pass : PassNumber) → IsIndex pods index → NamesOnce pods → length index.active.slots ≡ 0 → state_of pods ≡ after_pop (state_of pods) pass
+unfolding after_pop
+pop_none pods index pass i once empty = sym (ap (with_popped (state_of pods) pass) (next_none pods index i once empty))
+
+-- a call that is refused where the entry does not pass a test
+abbrev unless_passed : (Entry → Bool) → QueueState → Name → Option Refusal
+unless_passed test q uid = cond (stands test (entry_of q uid)) None (Some NotInFlight)
+
+-- what stands under the uid decides
+pub refusal_by : (test : Entry → Bool) (q : QueueState) (uid : Name) (o : Option Entry) (b : Bool) → entry_of q uid ≡ o → stands test o ≡ b → unless_passed test q uid ≡ cond b None (Some NotInFlight)
+refusal_by test q uid o b is passes = ap (λ p. cond (stands test p) None (Some NotInFlight)) is ∙ ap (λ c. cond c None (Some NotInFlight)) passes
+
+-- a change of the entry of a uid that passes the test
+pub change_accepted : (pods new : Pods) (s : ℕ) (e : Kept) (uid : Name) (test : Entry → Bool) (f : Entry → Entry) → NamesOnce pods → entry_in pods s ≡ Some e → e.name ≡ uid → test e.value ≡ true → new ≡ changed_in pods s f → state_of new ≡ unless_refused (unless_passed test (state_of pods) uid) (state_of pods) (changed_at (state_of pods) uid f)
+change_accepted pods new s e uid test f once is name passes new_is =
+    let q : QueueState = state_of pods in
+    let there : entry_of q uid ≡ Some e.value = ap (table.get (map_of pods)) (sym name) ∙ map_at pods s e once is in
+    ap (λ (p : Pods). state_of p) new_is
+    ∙ state_changed pods s e f once is
+    ∙ ap (λ (u : Name). with_entry q u (f e.value)) name
+    ∙ sym (ap (λ r. unless_refused r q (changed_at q uid f)) (refusal_by test q uid (Some e.value) true there passes) ∙ ap (with_change q uid f) there)
+
+-- what slots stand for is a queue
+pub is_queue : (pods : Pods) (index : Index) (n : ℕ) → IsKept pods index n → IsQueue (state_of pods)
+is_queue pods index n kept = record {
+  own_uid = λ uid entry there. let slot = slot_with pods uid entry kept.once there in kept.own_uid slot.0 record { name = uid; value = entry } slot.1;
+  within = omega (arith, len_map pods kept.once, count_by-le-length is_some pods);
+  limited = kept.limited;
+}
+
+-- the name that was read in a slot
+pub name_of_kept : (pods : Pods) (s : ℕ) (e : Kept) (name : Name) → entry_in pods s ≡ Some e → name_in pods s ≡ Some name → name ≡ e.name
+name_of_kept pods s e name is named =
+    let same : Some name ≡ Some e.name = sym named ∙ ap (option_map (λ (k : Kept). k.name)) is in cc
+
+-- and the value
+pub value_of_kept : (pods : Pods) (s : ℕ) (e : Kept) (value : Entry) → entry_in pods s ≡ Some e → value_in pods s ≡ Some value → value ≡ e.value
+value_of_kept pods s e value is valued =
+    let same : Some value ≡ Some e.value = sym valued ∙ ap (option_map (λ (k : Kept). k.value)) is in cc
+
+-- how many stand where
+pub counts-state : (pods : Pods) → NamesOnce pods → counts_so_far pods ≡ counts_of (state_of pods)
+unfolding counts_of
+counts-state pods once i = record {
+  active = sym (sum_map (one_if is_active) pods once) i;
+  backoff = sym (sum_map (one_if is_backoff) pods once) i;
+  unschedulable = sym (sum_map (one_if is_unschedulable) pods once) i;
+  in_flight = sym (sum_map (one_if is_in_flight) pods once) i;
+}
+
+-- nothing changes where nothing is taken out
+nothing_taken : (b : Bool) (o : Option Entry) → (b ≡ true → o ≡ None) → cond b None o ≡ o
+nothing_taken true o none = sym (none refl)
+nothing_taken false o none = refl
+
+-- the removal of a uid that is not there
+pub remove_none : (pods : Pods) (uid : Name) → table.get (map_of pods) uid ≡ None → state_of pods ≡ after_remove (state_of pods) uid
+unfolding after_remove
+remove_none pods uid none =
+    let same_map : table.remove (map_of pods) uid ≡ map_of pods = same_entries _ _ (λ q.
+    table.get-remove nat_list_cmp_total (map_of pods) uid q
+    ∙ nothing_taken (same q uid) (table.get (map_of pods) q) (λ h. ap (table.get (map_of pods)) (same_is q uid h) ∙ none)) in
+    λ i. record { limit = length pods; entries = sym same_map i }
+
+-- the removal of what a slot has
+pub remove_some : (pods new : Pods) (s : ℕ) (e : Kept) (uid : Name) → entry_in pods s ≡ Some e → name_in pods s ≡ Some uid → length new ≡ length pods → map_of new ≡ table.remove (map_of pods) e.name → state_of new ≡ after_remove (state_of pods) uid
+unfolding after_remove
+remove_some pods new s e uid is named room taken =
+    let name : e.name ≡ uid = let both : Some e.name ≡ Some uid = sym (ap (option_map (λ (k : Kept). k.name)) is) ∙ named in cc in
+    λ i. record { limit = room i; entries = (taken ∙ ap (table.remove (map_of pods)) name) i }
+
+-- and what holds of the parts then
+pub kept_without : (pods new : Pods) (old_index index : Index) (s old n : ℕ) → IsKept pods old_index old → IsSome (entry_in pods s) → new ≡ set pods s None → NamesOnce new → length new ≡ length pods → IsIndexBut pods index s → n ≤ 28 → IsKept new index n
+kept_without pods new old_index index s old n kept there is once room but few =
+    let empty : entry_in (set pods s None) s ≡ None = get_or-set_same pods s None None (a_slot pods s there) in
+    record {
+      index = subst (λ (p : Pods). IsIndex p index) (sym is) (emptied (set pods s None) index s empty (changed pods (set pods s None) index s (written pods s None) but));
+      once = once;
+      own_uid = subst (λ (p : Pods). OwnUids p) (sym is) (λ t e at_t. ⊎_elim
+          (λ (here : t ≡ s). let none : None ≡ Some e = sym (ap (entry_in (set pods s None)) here ∙ empty) ∙ at_t in cc)
+          (λ (other : t ≢ s). kept.own_uid t e (sym (get_or-set_other pods s t None None other) ∙ at_t))
+          (same_or_not t s));
+      limited = omega (arith, room, kept.limited);
+      few = few;
+    }
+
+-- a pod comes into a free slot
+pub add_some : (pods new : Pods) (pod : Pod) (now : Moment) (name : Name) (value : Entry) → has_entry (state_of pods) pod.uid ≡ false → is_full_queue (state_of pods) ≡ false → name ≡ pod.uid → value ≡ new_entry pod now → length new ≡ length pods → map_of new ≡ table.insert (map_of pods) name value → state_of new ≡ after_add (state_of pods) pod now
 unfolding after_add
-added_at_end limit es pod now y apart absent room new =
-    let q : QueueState = state_of limit es in
-    ap (λ (e : Entry). state_of limit (es ++ e ∷ [])) new
-    ∙ ap (with_limit limit) (by_uid-push es (new_entry pod now) (none_of_test _ (sym (ap is_some (get-by_uid es pod.uid)) ∙ absent)))
+add_some pods new pod now name value absent room is_name is_value same_room put =
+    let q : QueueState = state_of pods in
+    (λ i. record { limit = same_room i; entries = (put ∙ (λ j. table.insert (map_of pods) (is_name j) (is_value j))) i })
     ∙ sym (ap (λ r. unless_refused r q (with_entry q pod.uid (new_entry pod now))) (may_add q pod.uid absent room))
 
--- the pod of a uid goes
-pub removed_at_place : (limit : ℕ) (es : List Entry) (uid : Name) (i : ℕ) (x : Entry) → are_apart es ≡ true → position (has_uid uid) es ≡ Some i → x ≡ get_or es i x → state_of limit (remove es i) ≡ after_remove (state_of limit es) uid
-unfolding after_remove
-removed_at_place limit es uid i x apart at is =
-    ap (with_limit limit) (by_uid-remove es i x uid apart (position-Some (has_uid uid) es i x at).0 (uid_at_place es uid i x at is ∙ ap (λ (e : Entry). e.pod.uid) is))
+-- the index before a pod enters that came into a free slot
+pub index_added : (pods new : Pods) (index : Index) (s : ℕ) (o : Option Kept) → IsIndex pods index → entry_in pods s ≡ None → new ≡ set pods s o → IsIndexBut new index s
+index_added pods new index s o i none is = subst (λ (p : Pods). IsIndexBut p index s) (sym is) (changed pods (set pods s o) index s (written pods s o) (free_slot pods index s none i))
 
--- nothing goes where there is no entry of the uid
-pub removed_nowhere : (limit : ℕ) (es : List Entry) (uid : Name) → position (has_uid uid) es ≡ None → state_of limit es ≡ after_remove (state_of limit es) uid
-unfolding after_remove
-removed_nowhere limit es uid none = ap (with_limit limit) (sym (remove_absent es uid (missing (has_uid uid) es none)))
+-- slots that have no pod have no name twice
+pub once_free : (room : ℕ) → NamesOnce {X = Entry} (replicate room None)
+unfolding NamesOnce
+once_free room i j name p q = let none : None ≡ Some name = sym (ap (option_map (λ (k : Kept). k.name)) (none_in room i)) ∙ p in cc
+  where
+    none_in : (room t : ℕ) → entry_in {X = Entry} (replicate room None) t ≡ None
+    none_in zero t = refl
+    none_in (suc room) zero = refl
+    none_in (suc room) (suc t) = none_in room t
 
--- each entry is changed
-pub all_changed-state : (limit : ℕ) (es ys : List Entry) (f : Entry → Entry) → ((e : Entry) → (f e).pod.uid ≡ e.pod.uid) → ys ≡ map f es → state_of limit ys ≡ all_changed (state_of limit es) f
-all_changed-state limit es ys f keeps new = ap (state_of limit) new ∙ ap (with_limit limit) (by_uid-map f keeps es)
+-- nor a pod of another uid
+pub own_free : (room : ℕ) → OwnUids (replicate room None)
+own_free room s e is = let none : None ≡ Some e = sym (none_in room s) ∙ is in cc
+  where
+    none_in : (room t : ℕ) → entry_in {X = Entry} (replicate room None) t ≡ None
+    none_in zero t = refl
+    none_in (suc room) zero = refl
+    none_in (suc room) (suc t) = none_in room t
 
--- where there is room, the list is shorter than it may be
-pub room_left : (limit : ℕ) (es : List Entry) → are_apart es ≡ true → is_full_queue (state_of limit es) ≡ false → length es < limit
-room_left limit es apart room = leb-false limit (length es) (full-state limit es apart ∙ room)
+-- the entry of a uid is what its slot has
+pub entry_of_kept : (pods : Pods) (s : ℕ) (e : Kept) (uid : Name) → NamesOnce pods → entry_in pods s ≡ Some e → e.name ≡ uid → entry_of (state_of pods) uid ≡ Some e.value
+entry_of_kept pods s e uid once is name = ap (table.get (map_of pods)) (sym name) ∙ map_at pods s e once is
 
--- a list with one entry more, of a uid that had none, keeps its uids apart
-pub added_apart : (limit : ℕ) (es : List Entry) (pod : Pod) (now : Moment) (y : Entry) → are_apart es ≡ true → has_entry (state_of limit es) pod.uid ≡ false → y ≡ new_entry pod now → are_apart (es ++ y ∷ []) ≡ true
-added_apart limit es pod now y apart absent new =
-    ap (λ (e : Entry). are_apart (es ++ e ∷ [])) new
-    ∙ apart-push es (new_entry pod now) apart (ap is_none (none_of_test _ (sym (ap is_some (get-by_uid es pod.uid)) ∙ absent)))
+-- what a pass has popped, some pass has popped
+pub is_in_flight_of : (pass : PassNumber) (s : State) → is_in_flight_for pass s ≡ true → is_in_flight s ≡ true
+is_in_flight_of pass Active h = cc
+is_in_flight_of pass (Backoff until) h = cc
+is_in_flight_of pass (Unschedulable since) h = cc
+is_in_flight_of pass (InFlight holder moved) h = refl
 
--- the items of a `Vec` once all of them are written over
-pub refilled : (len : ℕ) (es ws : List Entry) → len ≡ length es → length ws ≡ length es → take len (ws ++ drop (length ws) es) ≡ ws
-refilled len es ws full same_length = ap (λ n. take n (ws ++ drop (length ws) es)) (full ∙ sym same_length) ∙ take-append_seam ws (drop (length ws) es)
+-- slots that have no pod have nothing under any name
+filled_none : (room : ℕ) → filled {X = Entry} (replicate room None) ≡ []
+filled_none zero = refl
+filled_none (suc room) = filled_none room
 
--- uids stay apart as each entry is changed
-pub all_apart : (len : ℕ) (es ws : List Entry) (f : Entry → Entry) → ((e : Entry) → (f e).pod.uid ≡ e.pod.uid) → are_apart es ≡ true → len ≡ length es → ws ≡ map f es → are_apart (take len (ws ++ drop (length ws) es)) ≡ true
-all_apart len es ws f keeps apart full new =
-    ap are_apart (refilled len es ws full (ap length new ∙ length-map es f)) ∙ ap are_apart new ∙ apart-map f keeps es apart
+-- as many slots as there is room for
+pub length_free : (room : ℕ) → length {A = Option Kept} (replicate room None) ≡ room
+length_free room = length-replicate room None
+
+-- so they are a queue with no entry
+pub free_state : (room : ℕ) → state_of (replicate room None) ≡ no_entries room
+free_state room i = record { limit = length_free room i; entries = table.from_entries (filled_none room i) }

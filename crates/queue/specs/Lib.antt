@@ -3,4 +3,7 @@ pub mod Order
 pub mod Refusal
 pub mod Queue
 pub mod Slots
+pub mod Row
+pub mod Heap
+pub mod Index
 pub mod Calls

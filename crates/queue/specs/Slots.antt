@@ -1,51 +1,31 @@
--- What a list of entries, in any order, stands for.
-use Rattle.std.specs.Prelude.{◌≡◌, ℕ, ◌+◌, ◌<◌, ◌≤◌, Bool, true, false, ◌&&◌, List, [], ◌∷◌, map, find, is_none, Option, Some, None, slice_index_or, Vec, vec_len, vec_capacity}
-use Rattle.std.specs.FinMap as table
-use Rattle.std.specs.Global.{Global}
-use Rattle.std.specs.Ordering.{nat_cmp, eq_by_cmp}
-use Rattle.std.specs.Cmp.Lexicographic.{slice_cmp}
-use Rattle.quant.specs.declared.name.Name.{Name}
+-- For the representation alone: what the slots of a queue stand for, and how many pods stand where.
+use Rattle.std.specs.Prelude.{◌≡◌, ℕ, ◌+◌, ◌≤◌, List, length, Some, Bool, if◌then◌else◌, sum_by}
+use Rattle.name_table.specs.declared.entry.Entry.{Entry as Named}
+use Rattle.name_table.specs.Slots.{entry_in, map_of, NamesOnce, number_in}
 use Rattle.queue.specs.declared.counts.Counts.{Counts}
+use Rattle.queue.specs.declared.index.Index.{Index}
 use Rattle.queue.specs.declared.state.State.{State}
 use Rattle.queue.specs.declared.state.State.TheVariants.{Active, Backoff, Unschedulable, InFlight}
-use Rattle.queue.specs.Entry.{Entry, is_active}
-use Rattle.queue.specs.Order.{item_of, comes_before}
-use Rattle.queue.specs.Queue.{Entries, QueueState}
+use Rattle.queue.specs.Entry.{Entry, is_active, is_backoff, is_unschedulable, is_in_flight}
+use Rattle.queue.specs.Queue.{QueueState}
+use Rattle.queue.specs.Heap.{Pods}
+use Rattle.queue.specs.Index.{IsIndex}
 
--- whether the entry is of this uid
-abbrev pub has_uid : Name → Entry → Bool
-has_uid uid entry = eq_by_cmp (slice_cmp nat_cmp) uid entry.pod.uid
+-- the queue that slots stand for
+abbrev pub state_of : Pods → QueueState
+state_of pods = record { limit = length pods; entries = map_of pods }
 
--- the entries of a list, each under its pod's uid
-abbrev pub by_uid : List Entry → Entries
-by_uid slots = table.from_entries (map item_of slots)
+-- each pod is in the slot of its own uid
+abbrev pub OwnUids : Pods → Type 0
+OwnUids pods = (s : ℕ) (e : Named Entry) → entry_in pods s ≡ Some e → e.value.pod.uid ≡ e.name
 
--- the queue that a list of entries stands for
-abbrev pub state_of : ℕ → List Entry → QueueState
-state_of limit slots = record { limit = limit; entries = by_uid slots }
-
--- whether no two entries of a list are of one uid
-abbrev pub are_apart : List Entry → Bool
-are_apart [] = true
-are_apart (entry ∷ slots) = is_none (find (has_uid entry.pod.uid) slots) && are_apart slots
-
--- what holds of the list of a queue: uids apart, no more entries than there may be, no more than 10,000 may be, and room for as many
-pub record IsKept (slots : Vec Entry Global) (limit : ℕ) : Type 0 where
-  pub apart : are_apart slots.items ≡ true
-  pub within : vec_len slots ≤ limit
-  pub limited : limit ≤ 10000
-  pub room : limit ≤ vec_capacity slots
-
--- the place of an active entry among the first n, before which no other active one of these comes
-pub record IsFirstBelow (slots : List Entry) (n place : ℕ) : Type 0 where
-  pub inside : place < n
-  pub active : (d : Entry) → is_active (slice_index_or slots place d).state ≡ true
-  pub first : (k : ℕ) (d : Entry) → k < n → is_active (slice_index_or slots k d).state ≡ true → comes_before (item_of (slice_index_or slots k d)) (item_of (slice_index_or slots place d)) ≡ false
-
--- such a place, or none of the first n is active
-abbrev pub IsNextBelow : List Entry → ℕ → Option ℕ → Type 0
-IsNextBelow slots n None = (k : ℕ) (d : Entry) → k < n → is_active (slice_index_or slots k d).state ≡ false
-IsNextBelow slots n (Some place) = IsFirstBelow slots n place
+-- what holds of a queue's parts: the index is of its slots, each uid is there once, and the last call compared few
+pub record IsKept (pods : Pods) (ways : Index) (compared : ℕ) : Type 0 where
+  pub index : IsIndex pods ways
+  pub once : NamesOnce pods
+  pub own_uid : OwnUids pods
+  pub limited : length pods ≤ 10000
+  pub few : compared ≤ 28
 
 -- with one more entry, in this state
 abbrev pub counted : State → Counts → Counts
@@ -57,3 +37,16 @@ counted (InFlight pass moved) counts = record counts { in_flight = counts.in_fli
 -- all that are counted
 abbrev pub total_of : Counts → ℕ
 total_of counts = counts.active + counts.backoff + counts.unschedulable + counts.in_flight
+
+-- 1 for an entry that stands there, else 0
+abbrev pub one_if : (State → Bool) → Entry → ℕ
+one_if test entry = if test entry.state then 1 else 0
+
+-- how many pods of these slots stand where
+abbrev pub counts_so_far : Pods → Counts
+counts_so_far pods = record {
+  active = sum_by (number_in (one_if is_active)) pods;
+  backoff = sum_by (number_in (one_if is_backoff)) pods;
+  unschedulable = sum_by (number_in (one_if is_unschedulable)) pods;
+  in_flight = sum_by (number_in (one_if is_in_flight)) pods;
+}

@@ -16,9 +16,12 @@
 #![tactic(auto)]
 
 mod counts;
+mod heap;
+mod index;
 mod laws;
 mod queue;
 mod refusal;
+mod row;
 mod slot;
 mod slots;
 mod state;

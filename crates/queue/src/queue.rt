@@ -4,20 +4,25 @@ ghost use Rattle.std.specs.Result.{result_err};
 ghost use Rattle.queue.specs.Queue.{no_entries, entry_of, has_entry, is_full_queue, IsQueue, holds_in_flight, next_of, counts_of, refusal_to_add, refusal_to_fail, refusal_to_forget, after_add, after_pop, after_fail, after_forget, after_tick, after_move, after_remove};
 
 use crate::counts::Counts;
+use crate::index::Index;
 use crate::refusal::Refusal;
-use crate::slot::Slot;
-use crate::slots::{count_each, move_each, next_place, place_of, tick_each};
-use crate::state::{Failure, PassNumber};
+use crate::slot::{Change, Slot};
+use crate::slots::{change, count_each, move_each, tick_each};
+use crate::state::{Failure, PassNumber, State};
+use name_table::NameTable;
 use quant::{LATEST_MOMENT, MAX_QUEUED, Moment, Name, SharedPod};
 use std::alloc::{AllocError, Global};
+use std::hash::RandomState;
 use std::marker::Model;
 
 /// The scheduling queue: entries under their pods' uids, at most as many as it was made for.
 /// Contracts see it as a plain set of entries, however it keeps them.
 #[derive(Drop)]
 pub struct Queue {
-    slots: Vec<Slot>,
-    limit: usize,
+    pods: NameTable<Slot>,
+    index: Index,
+    // The comparisons of entries that the last call made.
+    compared: u32,
 }
 
 impl Model for Queue {
@@ -32,20 +37,25 @@ impl Model for Queue {
 
     ghost coded = { code_by (ℕ × Entries) (coded× coded_ℕ (table.code (coded_list coded_ℕ) slot.the_row.coded)) (λ q. (q.limit, q.entries)) (λ p. record { limit = p.0; entries = p.1 }) (λ _. refl) };
 
-    ghost view = { λ q. state_of q.limit q.slots.items };
+    ghost view = { λ q. state_of q.pods };
 
-    ghost invariant = { λ q. IsKept q.slots q.limit };
+    ghost invariant = { λ q. IsKept q.pods q.index q.compared };
 }
 
 impl Queue {
-    /// A queue with no entry, and with room for `limit` of them. The only call that may find no
-    /// memory.
-    pub fn new(alloc: Global, limit: usize) -> Result<Queue, AllocError>
+    /// A queue with no entry, and with room for `limit` of them. The keys are those of the hash by
+    /// which uids are found. The only call that may find no memory.
+    pub fn new(alloc: Global, keys: RandomState, limit: usize) -> Result<Queue, AllocError>
         requires { limit ≤ MAX_QUEUED }
         ensures { IfOk result (λ queue. queue ≡ no_entries limit) }
     {
-        let slots = Vec::with_capacity(alloc, limit)?;
-        Ok(Queue { slots, limit })
+        let pods = NameTable::new(alloc, keys, limit)?;
+        let index = Index::new(alloc, limit)?;
+        Ok(Queue {
+            pods,
+            index,
+            compared: 0,
+        })
     }
 
     /// Whether there is an entry of this uid.
@@ -53,7 +63,7 @@ impl Queue {
         ensures answer { result ≡ has_entry self.now uid.now }
         ensures shape { IsQueue self.now }
     {
-        place_of(&self.slots, uid).is_some()
+        self.pods.find(uid).is_some()
     }
 
     /// Whether there are as many entries as there may be, those in flight among them.
@@ -61,15 +71,15 @@ impl Queue {
         ensures answer { result ≡ is_full_queue self.now }
         ensures shape { IsQueue self.now }
     {
-        self.slots.len() >= self.limit
+        self.pods.is_full()
     }
 
     /// The pod of this uid, if there is an entry of it.
     pub fn pod_of(&self, uid: &Name) -> Option<&SharedPod>
         ensures { option_copied result ≡ option_map (λ entry. entry.pod) (entry_of self.now uid.now) }
     {
-        let place = place_of(&self.slots, uid)?;
-        Some(self.slots[place].pod())
+        let slot = self.pods.get(uid)?;
+        Some(slot.pod())
     }
 
     /// Whether this pass has popped the pod of this uid and not given it back. `fail` by this pass
@@ -77,8 +87,8 @@ impl Queue {
     pub fn is_in_flight(&self, uid: &Name, pass: PassNumber) -> bool
         ensures { result ≡ holds_in_flight self.now pass uid.now }
     {
-        match place_of(&self.slots, uid) {
-            Some(place) => self.slots[place].is_in_flight_for(pass),
+        match self.pods.get(uid) {
+            Some(slot) => slot.is_in_flight_for(pass),
             None => false,
         }
     }
@@ -88,7 +98,15 @@ impl Queue {
         ensures answer { result ≡ counts_of self.now }
         ensures shape { IsQueue self.now }
     {
-        count_each(&self.slots)
+        count_each(self.pods.slots())
+    }
+
+    /// How many comparisons of entries the last call of `add`, `pop`, `fail`, `forget_back` or
+    /// `remove` made: none of a new queue, and never more than 28.
+    pub fn compared(&self) -> u32
+        ensures { result ≤ 28 }
+    {
+        self.compared
     }
 
     /// The pod that `pop` pops next, if any is active. A pop hands out no pod, since another owner
@@ -96,8 +114,8 @@ impl Queue {
     pub fn peek(&self) -> Option<&SharedPod>
         ensures { option_copied result ≡ option_map (λ item. item.1.pod) (next_of self.now) }
     {
-        let first = next_place(&self.slots)?;
-        Some(self.slots[first].pod())
+        let slot = self.index.first()?;
+        Some(self.pods.value_at(slot).pod())
     }
 
     /// A pod comes. It is active, and came now. `Known` is told before `Full`.
@@ -105,16 +123,18 @@ impl Queue {
         ensures answer { result_err result ≡ refusal_to_add self.old pod.uid }
         ensures after { self.new ≡ after_add self.old pod now }
     {
-        if self.has(&pod.uid) {
+        self.compared = 0;
+        if self.pods.find(&pod.uid).is_some() {
             return Err(Refusal::Known);
         }
-        if self.is_full() {
+        if self.pods.is_full() {
             return Err(Refusal::Full);
         }
-        match self.slots.push(Slot::new(pod, now)) {
-            Ok(()) => Ok(()),
-            Err(_) => unreachable!(),
-        }
+        let uid = pod.uid.copied();
+        let slot = self.pods.insert(uid, Slot::new(pod, now));
+        self.index
+            .enter(self.pods.slots(), slot, State::Active, &mut self.compared);
+        Ok(())
     }
 
     /// A pass pops the active pod that goes first, if any is active, and is told its uid.
@@ -123,9 +143,10 @@ impl Queue {
         ensures answer { result ≡ option_map (λ item. item.0) (next_of self.old) }
         ensures after { self.new ≡ after_pop self.old pass }
     {
-        let place = next_place(&self.slots)?;
-        let uid = self.slots[place].uid().copied();
-        self.slots[place].pop(pass);
+        self.compared = 0;
+        let slot = self.index.first()?;
+        let uid = self.pods.name_at(slot).copied();
+        self.compared = change(&mut self.pods, &mut self.index, slot, Change::Pop(pass));
         Some(uid)
     }
 
@@ -142,9 +163,11 @@ impl Queue {
         ensures answer { result_err result ≡ refusal_to_fail self.old uid.now pass }
         ensures after { self.new ≡ after_fail self.old uid.now pass how now }
     {
-        match place_of(&self.slots, uid) {
-            Some(place) if self.slots[place].is_in_flight_for(pass) => {
-                self.slots[place].fail(how, now);
+        self.compared = 0;
+        match self.pods.find(uid) {
+            Some(slot) if self.pods.value_at(slot).is_in_flight_for(pass) => {
+                let fail = Change::Fail(how, now);
+                self.compared = change(&mut self.pods, &mut self.index, slot, fail);
                 Ok(())
             }
             _ => Err(Refusal::NotInFlight),
@@ -158,9 +181,11 @@ impl Queue {
         ensures answer { result_err result ≡ refusal_to_forget self.old uid.now }
         ensures after { self.new ≡ after_forget self.old uid.now now }
     {
-        match place_of(&self.slots, uid) {
-            Some(place) if self.slots[place].is_in_flight() => {
-                self.slots[place].send_back(now);
+        self.compared = 0;
+        match self.pods.find(uid) {
+            Some(slot) if self.pods.value_at(slot).is_in_flight() => {
+                let back = Change::SendBack(now);
+                self.compared = change(&mut self.pods, &mut self.index, slot, back);
                 Ok(())
             }
             _ => Err(Refusal::NotInFlight),
@@ -172,7 +197,7 @@ impl Queue {
     pub fn tick(&mut self, now: Moment)
         ensures { self.new ≡ after_tick self.old now }
     {
-        tick_each(&mut self.slots, now);
+        tick_each(&mut self.pods, &mut self.index, now);
     }
 
     /// Something moved that may let unschedulable pods in: each is active if it has backed off since
@@ -180,7 +205,7 @@ impl Queue {
     pub fn move_all(&mut self, now: Moment)
         ensures { self.new ≡ after_move self.old now }
     {
-        move_each(&mut self.slots, now);
+        move_each(&mut self.pods, &mut self.index, now);
     }
 
     /// The pod of this uid goes, if there is an entry of it, and is handed out.
@@ -188,7 +213,11 @@ impl Queue {
         ensures answer { result ≡ option_map (λ entry. entry.pod) (entry_of self.old uid.now) }
         ensures after { self.new ≡ after_remove self.old uid.now }
     {
-        let place = place_of(&self.slots, uid)?;
-        Some(self.slots.remove(place).into_pod())
+        self.compared = 0;
+        let slot = self.pods.find(uid)?;
+        let state = self.pods.value_at(slot).state();
+        self.index
+            .leave(self.pods.slots(), slot, state, &mut self.compared);
+        Some(self.pods.remove_at(slot).value.into_pod())
     }
 }

@@ -1,9 +1,8 @@
 //! One entry of the queue.
 ghost use Rattle.std.specs.Prelude.{◌≡◌, ◌≤◌};
-ghost use Rattle.std.specs.Ordering.{nat_cmp, eq_by_cmp};
-ghost use Rattle.std.specs.Cmp.Lexicographic.{slice_cmp};
 ghost use Rattle.queue.specs.Entry.{new_entry, backoff, backed_off, is_active, is_in_flight, is_in_flight_for, popped, sent_back, failed, ticked, moved_on};
-ghost use Rattle.queue.specs.Order.{item_of, comes_before};
+ghost use Rattle.queue.specs.Heap.{moment_of};
+ghost use Rattle.queue.specs.Index.{applied, is_due, IsTimelyChange};
 
 use crate::state::{Failure, PassNumber, State};
 use quant::{LATEST_MOMENT, Moment, Name, SharedPod};
@@ -24,23 +23,41 @@ const UNSCHEDULABLE_FOR: u64 = 300_000;
 /// How far attempts are counted.
 const MOST_ATTEMPTS: u32 = 1_000_000;
 
+/// What becomes of a pod.
+#[derive(Clone, Copy)]
+pub(crate) enum Change {
+    /// A pass pops it.
+    Pop(PassNumber),
+    /// It comes back to back off from this moment on.
+    SendBack(Moment),
+    /// Its attempt has failed at this moment.
+    Fail(Failure, Moment),
+    /// Time goes on to this moment.
+    Tick(Moment),
+    /// Something moved at this moment.
+    Move(Moment),
+}
+
 /// A pod that waits, with what the queue knows of it.
 #[derive(Drop)]
 pub(crate) struct Slot {
     pod: SharedPod,
+    // The pod's, beside the rest: a look at the pod itself is slow.
+    priority: i32,
     arrival: Moment,
     attempts: u32,
     state: State,
 }
 
 impl Model for Slot {
+    ghost use Rattle.std.specs.Prelude.{◌≡◌};
     ghost use Rattle.queue.specs.Entry.{Entry, IsTimely};
 
     ghost Value = { Entry };
 
     ghost view = { λ s. record { pod = s.pod; arrival = s.arrival; attempts = s.attempts; state = s.state } };
 
-    ghost invariant = { λ s. IsTimely s.state };
+    ghost invariant = { λ s. IsTimely s.state × (s.priority ≡ s.pod.priority) };
 }
 
 /// How long a pod backs off after so many attempts, in milliseconds.
@@ -66,6 +83,7 @@ impl Slot {
         ensures { result ≡ new_entry pod now }
     {
         Slot {
+            priority: pod.priority,
             pod,
             arrival: now,
             attempts: 0,
@@ -80,13 +98,6 @@ impl Slot {
         &self.pod
     }
 
-    /// The pod's uid.
-    pub(crate) fn uid(&self) -> &Name
-        ensures { result.now ≡ self.now.pod.uid }
-    {
-        &self.pod.uid
-    }
-
     /// The pod, out of its entry.
     pub(crate) fn into_pod(self) -> SharedPod
         ensures { result ≡ self.pod }
@@ -94,18 +105,36 @@ impl Slot {
         self.pod
     }
 
+    /// The pod's priority.
+    pub(crate) fn priority(&self) -> i32
+        ensures { result ≡ self.now.pod.priority }
+    {
+        self.priority
+    }
+
+    /// When the pod came.
+    pub(crate) fn arrival(&self) -> Moment
+        ensures { result ≡ self.now.arrival }
+    {
+        self.arrival
+    }
+
+    /// The moment that the pod waits for, or has waited since.
+    pub(crate) fn moment(&self) -> Moment
+        ensures { result.0 ≡ moment_of self.now.state }
+    {
+        match self.state {
+            State::Backoff(until) => until,
+            State::Unschedulable(since) => since,
+            State::Active | State::InFlight { .. } => Moment(0),
+        }
+    }
+
     /// Where the pod stands.
     pub(crate) fn state(&self) -> State
         ensures { result ≡ self.now.state }
     {
         self.state
-    }
-
-    /// Whether the pod waits to be popped.
-    pub(crate) fn is_active(&self) -> bool
-        ensures { result ≡ is_active self.now.state }
-    {
-        self.state.is_active()
     }
 
     /// Whether some pass has popped the pod.
@@ -120,23 +149,6 @@ impl Slot {
         ensures { result ≡ is_in_flight_for pass self.now.state }
     {
         self.state.is_in_flight_for(pass)
-    }
-
-    /// Whether this is the pod's uid.
-    pub(crate) fn has_uid(&self, uid: &Name) -> bool
-        ensures { result ≡ eq_by_cmp (slice_cmp nat_cmp) uid.now self.now.pod.uid }
-    {
-        uid.cmp(&self.pod.uid).is_eq()
-    }
-
-    /// Whether this entry goes first of the two.
-    pub(crate) fn comes_before(&self, other: &Slot) -> bool
-        ensures { result ≡ comes_before (item_of self.now) (item_of other.now) }
-    {
-        let by_priority = other.pod.priority.cmp(&self.pod.priority);
-        let by_arrival = self.arrival.0.cmp(&other.arrival.0);
-        let by_uid = self.pod.uid.cmp(&other.pod.uid);
-        by_priority.then(by_arrival.then(by_uid)).is_lt()
     }
 
     /// A pass pops the pod.
@@ -168,16 +180,22 @@ impl Slot {
         };
     }
 
+    /// Whether the pod is released at this moment.
+    pub(crate) fn is_due(&self, now: Moment) -> bool
+        ensures { result ≡ is_due now self.now.state }
+    {
+        match self.state {
+            State::Backoff(until) => until.0 <= now.0,
+            State::Unschedulable(since) => now.0.saturating_sub(since.0) >= UNSCHEDULABLE_FOR,
+            State::Active | State::InFlight { .. } => false,
+        }
+    }
+
     /// Time goes on to this moment.
     pub(crate) fn tick(&mut self, now: Moment)
         ensures { self.new ≡ ticked now self.old }
     {
-        let over = match self.state {
-            State::Backoff(until) => until.0 <= now.0,
-            State::Unschedulable(since) => now.0.saturating_sub(since.0) >= UNSCHEDULABLE_FOR,
-            State::Active | State::InFlight { .. } => false,
-        };
-        if over {
+        if self.is_due(now) {
             self.state = State::Active;
         }
     }
@@ -197,6 +215,20 @@ impl Slot {
             }
             State::InFlight { pass, .. } => self.state = State::InFlight { pass, moved: true },
             State::Active | State::Backoff(_) => {}
+        }
+    }
+
+    /// What a change makes of the pod.
+    pub(crate) fn apply(&mut self, change: Change)
+        requires { IsTimelyChange change }
+        ensures { self.new ≡ applied change self.old }
+    {
+        match change {
+            Change::Pop(pass) => self.pop(pass),
+            Change::SendBack(now) => self.send_back(now),
+            Change::Fail(how, now) => self.fail(how, now),
+            Change::Tick(now) => self.tick(now),
+            Change::Move(now) => self.move_on(now),
         }
     }
 }

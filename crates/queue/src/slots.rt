@@ -1,78 +1,84 @@
-//! The entries as a plain list: where an entry stands in it, and changes of all of them.
-ghost use Rattle.std.specs.Prelude.{◌≡◌, ◌+◌, ◌<◌, length, map, position};
-ghost use Rattle.queue.specs.Entry.{ticked, moved_on};
-ghost use Rattle.queue.specs.Queue.{counts_in};
-ghost use Rattle.queue.specs.Slots.{has_uid, IsNextBelow};
+//! The pods in their slots: changes of one and of all, and how many stand where.
+ghost use Rattle.std.specs.Prelude.{◌≡◌, ◌≤◌, true, length, IsSome};
+ghost use Rattle.name_table.specs.Slots.{entry_in, map_of, NamesOnce};
+ghost use Rattle.queue.specs.Entry.{is_in_flight, ticked, moved_on};
+ghost use Rattle.queue.specs.Queue.{each_changed};
+ghost use Rattle.queue.specs.Index.{stands_in, IsIndex, applied, IsTimelyChange, changed_in};
+ghost use Rattle.queue.specs.Slots.{OwnUids, counts_so_far};
 
 use crate::counts::Counts;
-use crate::slot::Slot;
-use quant::{Moment, Name};
+use crate::index::Index;
+use crate::slot::{Change, Slot};
+use name_table::{Entry, NameTable};
+use quant::Moment;
 
-/// The place of the entry of this uid.
-pub(crate) fn place_of(slots: &[Slot], uid: &Name) -> Option<usize>
-    ensures { result ≡ position (has_uid uid.now) slots.now }
+/// The pod in a slot changes, and with it where the slot stands. It answers how many entries were compared.
+pub(crate) fn change(
+    pods: &mut NameTable<Slot>,
+    index: &mut Index,
+    slot: usize,
+    change: Change,
+) -> u32
+    requires index { IsIndex pods.old index.old }
+    requires there { IsSome (entry_in pods.old slot) }
+    requires timely { IsTimelyChange change }
+    ensures index { IsIndex pods.new index.new }
+    ensures after { pods.new ≡ changed_in pods.old slot (applied change) }
+    ensures from_flight { stands_in is_in_flight pods.old slot ≡ true → result ≤ 26 }
+    ensures to_flight { stands_in is_in_flight pods.new slot ≡ true → result ≤ 26 }
 {
-    slots.iter().position(|slot| slot.has_uid(uid))
+    let mut count = 0;
+    let before = pods.value_at(slot).state();
+    index.leave(pods.slots(), slot, before, &mut count);
+    let value = pods.value_at_mut(slot);
+    value.apply(change);
+    let after = pods.value_at(slot).state();
+    index.enter(pods.slots(), slot, after, &mut count);
+    count
 }
 
-/// The place of the active entry that goes first, once one more entry is looked at.
-fn first_with(slots: &[Slot], first: Option<usize>, place: usize) -> Option<usize>
-    requires inside { place < length slots.now }
-    requires first { IsNextBelow slots.now place first }
-    ensures { IsNextBelow slots.now (place + 1) result }
-{
-    let slot = &slots[place];
-    if !slot.is_active() {
-        return first;
-    }
-    match first {
-        None => Some(place),
-        Some(at) => {
-            if slot.comes_before(&slots[at]) {
-                Some(place)
-            } else {
-                Some(at)
-            }
-        }
-    }
-}
-
-/// The place of the active entry that goes first, if any is active.
-pub(crate) fn next_place(slots: &[Slot]) -> Option<usize>
-    ensures { IsNextBelow slots.now (length slots.now) result }
-{
-    let mut first = None;
-    for place in 0..slots.len() {
-        first = first_with(slots, first, place);
-    }
-    first
-}
-
-/// How many entries stand where.
-pub(crate) fn count_each(slots: &[Slot]) -> Counts
-    ensures { result ≡ counts_in slots.now }
+/// How many pods stand where.
+pub(crate) fn count_each(slots: &[Option<Entry<Slot>>]) -> Counts
+    requires { length slots.now ≤ 10000 }
+    ensures { result ≡ counts_so_far slots.now }
 {
     let mut counts = Counts::default();
     for slot in slots {
-        counts.add(slot.state());
+        if let Some(entry) = slot {
+            counts.add(entry.value.state());
+        }
     }
     counts
 }
 
 /// Time goes on to this moment.
-pub(crate) fn tick_each(slots: &mut [Slot], now: Moment)
-    ensures { slots.new ≡ map (ticked now) slots.old }
+pub(crate) fn tick_each(pods: &mut NameTable<Slot>, index: &mut Index, now: Moment)
+    requires index { IsIndex pods.old index.old }
+    requires once { NamesOnce pods.old }
+    requires own { OwnUids pods.old }
+    ensures index { IsIndex pods.new index.new }
+    ensures once { NamesOnce pods.new }
+    ensures own { OwnUids pods.new }
+    ensures room { length pods.new ≡ length pods.old }
+    ensures after { map_of pods.new ≡ each_changed (ticked now) (map_of pods.old) }
 {
-    for slot in slots.iter_mut() {
-        slot.tick(now);
+    while let Some(slot) = index.due(pods.slots(), now) {
+        change(pods, index, slot, Change::Tick(now));
     }
 }
 
 /// Something moved that may let unschedulable pods in.
-pub(crate) fn move_each(slots: &mut [Slot], now: Moment)
-    ensures { slots.new ≡ map (moved_on now) slots.old }
+pub(crate) fn move_each(pods: &mut NameTable<Slot>, index: &mut Index, now: Moment)
+    requires index { IsIndex pods.old index.old }
+    requires once { NamesOnce pods.old }
+    requires own { OwnUids pods.old }
+    ensures index { IsIndex pods.new index.new }
+    ensures once { NamesOnce pods.new }
+    ensures own { OwnUids pods.new }
+    ensures room { length pods.new ≡ length pods.old }
+    ensures after { map_of pods.new ≡ each_changed (moved_on now) (map_of pods.old) }
 {
-    for slot in slots.iter_mut() {
-        slot.move_on(now);
+    while let Some(slot) = index.unmoved() {
+        change(pods, index, slot, Change::Move(now));
     }
 }

@@ -1,7 +1,21 @@
-use Rattle.std.proofs.Common.{◌≡◌, ◌++◌, map, take, drop}
+use Rattle.std.proofs.Common.{◌≡◌, length}
+use Rattle.name_table.specs.Slots.{map_of, NamesOnce}
 use Rattle.queue.specs.Entry.{moved_on}
+use Rattle.queue.specs.Queue.{each_changed}
+use Rattle.queue.specs.Index.{is_due, is_unmoved, IsIndex}
+use Rattle.queue.specs.Slots.{OwnUids}
+use Rattle.queue.proofs.Changes.{tally}
 use Rattle.queue.proofs.slots.move_each.Given as goal
 
--- the slots so far are changed, and the others are not yet
+-- what is still to be changed may be changed as at first
 abbrev pub invariant-loop-slot : goal.invariant-loop-slot
-invariant-loop-slot l = l.slots ≡ map (moved_on l.now) (take l.slot-index l.fn.slots) ++ drop l.slot-index l.fn.slots
+invariant-loop-slot l = record {
+  index : IsIndex l.pods l.index;
+  once : NamesOnce l.pods;
+  own : OwnUids l.pods;
+  room : length l.pods ≡ length l.fn.pods;
+  after : each_changed (moved_on l.now) (map_of l.pods) ≡ each_changed (moved_on l.now) (map_of l.fn.pods);
+}
+
+abbrev pub decreases-loop-slot : goal.decreases-loop-slot
+decreases-loop-slot l = tally (is_unmoved) l.pods

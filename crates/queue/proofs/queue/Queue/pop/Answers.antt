@@ -1,46 +1,54 @@
-use Rattle.std.proofs.Common.{List, length, Some, None, sym, ap, ◌∙◌, subst}
-use Rattle.std.specs.Prelude.{option_map}
-use Rattle.queue.specs.Entry.{Entry}
+use Rattle.std.proofs.Common.{◌≡◌, ℕ, ◌<◌, ◌≤◌, true, length, arith, refl, sym, ap, ◌∙◌}
+use Rattle.std.specs.Prelude.{Some, IsSome, option_map}
+use Rattle.quant.specs.declared.name.Name.{Name}
+use Rattle.name_table.specs.Slots.{entry_in}
+use Rattle.queue.specs.Entry.{is_in_flight, popped}
 use Rattle.queue.specs.Order.{Item}
 use Rattle.queue.specs.Queue.{next_of, after_pop}
-use Rattle.queue.specs.Slots.{IsNextBelow}
-use Rattle.queue.proofs.Apart.{apart-set}
-use Rattle.queue.proofs.States.{next_at_place, next_nowhere, pop_at_place, pop_nowhere}
+use Rattle.queue.specs.Heap.{Pods}
+use Rattle.queue.specs.Index.{stands_in}
+use Rattle.queue.proofs.Heaps.{Kept}
+use Rattle.queue.proofs.Changes.{kept_in}
+use Rattle.queue.proofs.States.{root_there, next_some, next_none, kept_changed, stands_changed, pop_some, pop_none, name_of_kept}
 use Rattle.queue.proofs.queue.Queue.pop.Goals as goal
 
-pub returns-in_err-place-clause-answer : goal.returns-in_err-place-clause-answer
-returns-in_err-place-clause-answer c =
-    let none = subst (λ (es : List Entry). IsNextBelow es (length es) None) c.deref.ensures.value (subst (IsNextBelow c.deref.result.now (length c.deref.result.now)) c.in_err-place.was c.next_place.ensures) in
+pub returns-in_err-slot-clause-answer : goal.returns-in_err-slot-clause-answer
+returns-in_err-slot-clause-answer c =
     c.from_residual.ensures
-    ∙ sym (ap (option_map (λ (item : Item). item.0)) (next_nowhere c.self.inside.limit c.self.inside.slots.items none))
+    ∙ sym (ap (option_map (λ (item : Item). item.0)) (next_none c.self.inside.pods c.self.inside.index c.self.invariant.index c.self.invariant.once c.in_err-slot.ensures))
     ∙ ap (λ q. option_map (λ (item : Item). item.0) (next_of q)) c.self.view_is
 
-pub returns-in_err-place-clause-after : goal.returns-in_err-place-clause-after
-returns-in_err-place-clause-after c =
-    let none = subst (λ (es : List Entry). IsNextBelow es (length es) None) c.deref.ensures.value (subst (IsNextBelow c.deref.result.now (length c.deref.result.now)) c.in_err-place.was c.next_place.ensures) in
-    sym c.self.view_is
-    ∙ pop_nowhere c.self.inside.limit c.self.inside.slots.items c.args.pass none
+pub returns-in_err-slot-clause-after : goal.returns-in_err-slot-clause-after
+returns-in_err-slot-clause-after c =
+    pop_none c.self.inside.pods c.self.inside.index c.args.pass c.self.invariant.index c.self.invariant.once c.in_err-slot.ensures
     ∙ ap (λ q. after_pop q c.args.pass) c.self.view_is
 
-pub invariant_of-self : goal.invariant_of-self
-invariant_of-self c =
-    let first = subst (λ (es : List Entry). IsNextBelow es (length es) (Some c.in_ok-place.place)) c.deref.ensures.value (subst (IsNextBelow c.deref.result.now (length c.deref.result.now)) c.in_ok-place.was c.next_place.ensures) in
-    record {
-      apart = apart-set c.self.inside.slots.items c.in_ok-place.place c.index_mut.result.now c.pop.new.self c.self.invariant.apart first.inside (ap (λ (e : Entry). e.pod.uid) c.pop.ensures ∙ ap (λ (e : Entry). e.pod.uid) c.index_mut.ensures.value);
-      within = c.self.invariant.within;
-      limited = c.self.invariant.limited;
-      room = c.self.invariant.room;
-    }
+pub invariant_of-self-2 : goal.invariant_of-self-2
+invariant_of-self-2 c =
+    let kept = c.self.invariant in
+    let pods = c.self.inside.pods in
+    let slot = c.in_ok-slot.slot in
+    let there : IsSome (entry_in pods slot) = root_there pods c.self.inside.index slot kept.index c.in_ok-slot.ensures.0 c.in_ok-slot.ensures.1 in
+    let e = kept_in pods slot there in
+    let flies : stands_in is_in_flight c.change-self-inside.new.pods slot ≡ true = ap (λ (p : Pods). stands_in is_in_flight p slot) c.change-self-inside.ensures.after ∙ stands_changed is_in_flight pods slot e.0 (popped c.args.pass) e.1 there in
+    kept_changed pods c.change-self-inside.new.pods c.self.inside.index c.change-self-inside.new.index slot c.self.inside.compared c.change-self-inside.result (popped c.args.pass) kept c.change-self-inside.ensures.after (λ e. refl) there c.change-self-inside.ensures.index
+    (omega (arith, c.change-self-inside.ensures.to_flight flies))
 
 pub returns-clause-answer : goal.returns-clause-answer
 returns-clause-answer c =
-    let first = subst (λ (es : List Entry). IsNextBelow es (length es) (Some c.in_ok-place.place)) c.deref.ensures.value (subst (IsNextBelow c.deref.result.now (length c.deref.result.now)) c.in_ok-place.was c.next_place.ensures) in
-    ap (λ u. Some u) (c.copied-uid.ensures ∙ c.uid.ensures)
-    ∙ sym (ap (option_map (λ (item : Item). item.0)) (next_at_place c.self.inside.limit c.self.inside.slots.items c.in_ok-place.place c.index.result.now c.self.invariant.apart first c.index.ensures))
+    let kept = c.self.invariant in
+    let pods = c.self.inside.pods in
+    let slot = c.in_ok-slot.slot in
+    let e = kept_in pods slot (root_there pods c.self.inside.index slot kept.index c.in_ok-slot.ensures.0 c.in_ok-slot.ensures.1) in
+    ap (λ (u : Name). Some u) (c.copied-uid.ensures ∙ name_of_kept pods slot e.0 c.name_at.result.now e.1 c.name_at.ensures)
+    ∙ sym (ap (option_map (λ (item : Item). item.0)) (next_some pods c.self.inside.index slot e.0 kept.index kept.once c.in_ok-slot.ensures.0 c.in_ok-slot.ensures.1 e.1))
     ∙ ap (λ q. option_map (λ (item : Item). item.0) (next_of q)) c.self.view_is
 
 pub returns-clause-after : goal.returns-clause-after
 returns-clause-after c =
-    let first = subst (λ (es : List Entry). IsNextBelow es (length es) (Some c.in_ok-place.place)) c.deref.ensures.value (subst (IsNextBelow c.deref.result.now (length c.deref.result.now)) c.in_ok-place.was c.next_place.ensures) in
-    pop_at_place c.self.inside.limit c.self.inside.slots.items c.in_ok-place.place c.index_mut.result.now c.pop.new.self c.args.pass c.self.invariant.apart first c.index_mut.ensures.value c.pop.ensures
+    let kept = c.self.invariant in
+    let pods = c.self.inside.pods in
+    let slot = c.in_ok-slot.slot in
+    let e = kept_in pods slot (root_there pods c.self.inside.index slot kept.index c.in_ok-slot.ensures.0 c.in_ok-slot.ensures.1) in
+    pop_some pods c.change-self-inside.new.pods c.self.inside.index slot e.0 c.args.pass kept.index kept.once c.in_ok-slot.ensures.0 c.in_ok-slot.ensures.1 e.1 c.change-self-inside.ensures.after
     ∙ ap (λ q. after_pop q c.args.pass) c.self.view_is

@@ -1,22 +1,9 @@
-use Rattle.std.proofs.Common.{map, length, refl, ap, ◌∙◌}
-use Rattle.std.proofs.lemmas.List.{length-map}
-use Rattle.queue.specs.Entry.{ticked}
+use Rattle.std.proofs.Common.{ap, ◌∙◌}
 use Rattle.queue.specs.Queue.{after_tick}
-use Rattle.queue.proofs.States.{all_apart, all_changed-state, refilled}
 use Rattle.queue.proofs.queue.Queue.tick.Goals as goal
-
-pub invariant_of-self : goal.invariant_of-self
-invariant_of-self c = record {
-  apart = all_apart c.self.inside.slots.len c.self.inside.slots.items c.tick_each.new.slots (ticked c.args.now) (λ e. refl) c.self.invariant.apart c.self.inside.slots.ok.0 (c.tick_each.ensures ∙ ap (map (ticked c.args.now)) c.deref_mut.ensures.value);
-  within = c.self.invariant.within;
-  limited = c.self.invariant.limited;
-  room = c.self.invariant.room;
-}
 
 pub returns : goal.returns
 unfolding after_tick
 returns c =
-    let new = c.tick_each.ensures ∙ ap (map (ticked c.args.now)) c.deref_mut.ensures.value in
-    all_changed-state c.self.inside.limit c.self.inside.slots.items _ (ticked c.args.now) (λ e. refl)
-    (refilled c.self.inside.slots.len c.self.inside.slots.items c.tick_each.new.slots c.self.inside.slots.ok.0 (ap length new ∙ length-map c.self.inside.slots.items (ticked c.args.now)) ∙ new)
+    (λ i. record { limit = c.tick_each.ensures.room i; entries = c.tick_each.ensures.after i })
     ∙ ap (λ q. after_tick q c.args.now) c.self.view_is

@@ -1,0 +1,96 @@
+-- What becomes of a row of slots.
+use Rattle.std.proofs.Common.{◌≡◌, ℕ, ◌+◌, ◌<◌, ◌≤◌, ◌⊎◌, inl, inr, ⊎_elim, List, ◌++◌, length, get_or, take, drop, arith, refl, sym, ap, ◌∙◌, subst}
+use Rattle.std.specs.Prelude.{◌≢◌}
+use Rattle.std.proofs.lemmas.Bool.{cases_lt}
+use Rattle.std.proofs.lemmas.List.{length-take, length-take-le, get_or-take}
+use Rattle.std.proofs.Math.Seq.{take-append_seam}
+use Rattle.queue.specs.Row.{SlotRow, at, IsIn, IsSwapped, IsPushed, HasSame, IsWithout, IsWith}
+
+-- two places are one, or not
+pub same_or_not : (a b : ℕ) → (a ≡ b) ⊎ (a ≢ b)
+same_or_not a b =
+    ⊎_elim (λ (less : a < b). inr (omega arith))
+    (λ (more : b ≤ a). ⊎_elim (λ (greater : b < a). inr (omega arith)) (λ (least : a ≤ b). inl (omega arith)) (cases_lt b a))
+    (cases_lt a b)
+
+-- a slot that is not in the row stands behind it
+pub behind : (slots : List ℕ) (len place s : ℕ) → len ≤ length slots → at slots place ≡ s → (IsIn (take len slots) s → ⊥) → len ≤ place
+behind slots len place s within is out =
+    ⊎_elim
+    (λ (low : place < len). absurd (out record {
+      place = place;
+      within = omega (arith, length-take len slots);
+      is = get_or-take len slots place 0 low ∙ is;
+    }))
+    (λ (high : len ≤ place). high)
+    (cases_lt place len)
+
+-- one that stood behind the row now stands at its end
+pub pushed : (xs slots ws : List ℕ) (n len place s : ℕ) → take len slots ≡ xs → n ≡ length slots → len < n → IsSwapped slots ws len place → at slots place ≡ s → len ≤ place → IsPushed xs (take (len + 1) (take n (ws ++ drop (length ws) slots))) s
+pushed xs slots ws n len place s old full room w is high =
+    let whole : take n (ws ++ drop (length ws) slots) ≡ ws = ap (λ (m : ℕ). take m (ws ++ drop (length ws) slots)) (full ∙ sym w.len) ∙ take-append_seam ws (drop (length ws) slots) in
+    subst (λ (l : List ℕ). IsPushed l (take (len + 1) (take n (ws ++ drop (length ws) slots))) s) old
+    (subst (λ (l : List ℕ). IsPushed (take len slots) (take (len + 1) l) s) (sym whole) record {
+      len = omega (arith, length-take len slots, length-take (len + 1) ws, w.len);
+      last = ap (λ (m : ℕ). at (take (len + 1) ws) m) (length-take-le len slots (omega arith)) ∙ get_or-take (len + 1) ws len 0 (omega arith) ∙ w.first ∙ is;
+      others = λ k below.
+          let short : k < len = omega (arith, length-take len slots) in
+          get_or-take (len + 1) ws k 0 (omega arith) ∙ w.others k (omega arith) (omega arith) ∙ sym (get_or-take len slots k 0 short);
+    })
+
+-- a slot of the row stands at one of two places that change, or elsewhere
+moved_in : (xs ys : List ℕ) (i j s : ℕ) → IsSwapped xs ys i j → i < length xs → j < length xs → IsIn xs s → IsIn ys s
+moved_in xs ys i j s w first second there =
+    ⊎_elim
+    (λ (e : there.place ≡ i). record { place = j; within = omega (arith, w.len); is = w.second ∙ ap (at xs) (sym e) ∙ there.is })
+    (λ (u : there.place ≢ i). ⊎_elim
+    (λ (e : there.place ≡ j). record { place = i; within = omega (arith, w.len); is = w.first ∙ ap (at xs) (sym e) ∙ there.is })
+    (λ (v : there.place ≢ j). record { place = there.place; within = omega (arith, w.len, there.within); is = w.others there.place u v ∙ there.is })
+    (same_or_not there.place j))
+    (same_or_not there.place i)
+
+-- places that have changed change back
+swapped_back : (xs ys : List ℕ) (i j : ℕ) → IsSwapped xs ys i j → IsSwapped ys xs i j
+swapped_back xs ys i j w = record { len = sym w.len; first = sym w.second; second = sym w.first; others = λ k u v. sym (w.others k u v) }
+
+-- the same slots are in a row in which two have changed places
+pub same_swapped : (xs ys : List ℕ) (i j : ℕ) → IsSwapped xs ys i j → i < length xs → j < length xs → HasSame xs ys
+same_swapped xs ys i j w first second = record {
+  len = w.len;
+  there = λ s is. moved_in xs ys i j s w first second is;
+  back = λ s is. moved_in ys xs i j s (swapped_back xs ys i j w) (omega (arith, w.len)) (omega (arith, w.len)) is;
+}
+
+-- and after more changes
+pub same_again : (xs ys zs : List ℕ) → HasSame xs ys → HasSame ys zs → HasSame xs zs
+same_again xs ys zs h g = record { len = g.len ∙ h.len; there = λ s is. g.there s (h.there s is); back = λ s is. h.back s (g.back s is) }
+
+-- a row that has lost its last slot, and whose others have changed places
+pub without : (xs ys zs ws : List ℕ) (s : ℕ) → HasSame xs ys → IsPushed zs ys s → (IsIn zs s → ⊥) → HasSame zs ws → IsWithout xs ws s
+without xs ys zs ws s first popped gone second = record {
+  stays = λ t is other.
+      let there = first.there t is in
+      ⊎_elim
+      (λ (low : there.place < length zs). second.there t record { place = there.place; within = low; is = sym (popped.others there.place low) ∙ there.is })
+      (λ (high : length zs ≤ there.place).
+      let end : there.place ≡ length zs = omega (arith, popped.len, there.within) in
+      absurd (other (sym there.is ∙ ap (at ys) end ∙ popped.last)))
+      (cases_lt there.place (length zs));
+  back = λ t is.
+      let there = second.back t is in
+      first.back t record { place = there.place; within = omega (arith, popped.len, there.within); is = popped.others there.place there.within ∙ there.is };
+  gone = λ is. gone (second.back s is);
+}
+
+-- a row with one more behind it has it besides what it had
+pub with_pushed : (xs ys : List ℕ) (s : ℕ) → IsPushed xs ys s → IsWith xs ys s
+with_pushed xs ys s w = record {
+  stays = λ t is. record { place = is.place; within = omega (arith, w.len, is.within); is = w.others is.place is.within ∙ is.is };
+  there = record { place = length xs; within = omega (arith, w.len); is = w.last };
+  back = λ t is other. ⊎_elim
+      (λ (low : is.place < length xs). record { place = is.place; within = low; is = sym (w.others is.place low) ∙ is.is })
+      (λ (high : length xs ≤ is.place).
+      let end : is.place ≡ length xs = omega (arith, w.len, is.within) in
+      absurd (other (sym is.is ∙ ap (at ys) end ∙ w.last)))
+      (cases_lt is.place (length xs));
+}
