@@ -1,24 +1,23 @@
 -- What the desk's own calls do: no public contract speaks of these.
-use Rattle.std.specs.Prelude.{◌≡◌, None, Some, Result, MatchResult}
+use Rattle.std.specs.Prelude.{◌≡◌, ℕ, None, Some, Result, MatchResult}
 use Rattle.book.specs.declared.step.Reply.{Reply as BookReply}
 use Rattle.book.specs.declared.step.ClusterStep.{ClusterStep}
 use Rattle.book.specs.declared.refusal.Refusal.{Refusal}
 use Rattle.book.specs.Step as book_step
 use Rattle.desk.specs.declared.step.Reply.{Reply}
 use Rattle.desk.specs.declared.step.Reply.TheVariants.{Refused}
-use Rattle.desk.specs.Machine.{State, Outcome, told}
-use Rattle.desk.specs.Caller.{Opened}
-
--- a desk with another state
-abbrev pub with_state : Opened → State → Opened
-with_state desk s = record desk { state = s }
+use Rattle.desk.specs.declared.step.Step.{Step}
+use Rattle.desk.specs.Machine.{State, Outcome, step}
+use Rattle.desk.specs.Caller.{Opened, with_state, hands_out}
+use Rattle.std.specs.Bool.{IsTrue}
+use Rattle.book.specs.declared.NoMemory.{NoMemory}
 
 -- the book took its part of a step, and nothing else changed; or it refused, and nothing changed
 abbrev pub IsTold : Opened → ClusterStep → Result BookReply Refusal → Opened → Type 0
 IsTold old part result new =
     MatchResult result
     (λ said. (book_step.refusal old.state.cluster part ≡ None) × (said ≡ book_step.answer old.state.cluster part)
-      × (new ≡ with_state old (record old.state { cluster = book_step.effect old.state.cluster part })))
+    × (new ≡ with_state old (record old.state { cluster = book_step.effect old.state.cluster part })))
     (λ why. (book_step.refusal old.state.cluster part ≡ Some why) × (new ≡ old))
 
 -- the book took its part of a step or refused it, and nothing else changed
@@ -26,7 +25,7 @@ abbrev pub IsTaken : Opened → ClusterStep → Result (Unit {0}) Refusal → Op
 IsTaken old part result new =
     MatchResult result
     (λ said. (book_step.refusal old.state.cluster part ≡ None)
-      × (new ≡ with_state old (record old.state { cluster = book_step.effect old.state.cluster part })))
+    × (new ≡ with_state old (record old.state { cluster = book_step.effect old.state.cluster part })))
     (λ why. (book_step.refusal old.state.cluster part ≡ Some why) × (new ≡ old))
 
 -- what a step left and was answered: a refused one changed nothing
@@ -35,3 +34,10 @@ IsDone old outcome result new =
     MatchResult result
     (λ reply. (outcome ≡ record { state = new.state; reply = reply }) × (new ≡ with_state old new.state))
     (λ why. (outcome ≡ record { state = old.state; reply = Refused why }) × (new ≡ old))
+
+-- a step was done or refused, and no call was counted; or a pod that it hands out could have no further owner, and nothing changed
+abbrev pub IsAnswered : Opened → ℕ → Step → Result Reply NoMemory → Opened → Type 0
+IsAnswered old pass e result new =
+    MatchResult result
+    (λ reply. (step old.state pass e ≡ record { state = new.state; reply = reply }) × (new ≡ with_state old new.state))
+    (λ why. IsTrue (hands_out old.state e) × (new ≡ old))

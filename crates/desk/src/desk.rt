@@ -1,5 +1,5 @@
 //! The desk.
-ghost use Rattle.std.specs.Prelude.{◌≡◌, ◌≤◌, ◌<◌, ◌^◌, ◌↔◌, IfOk, OnErr, OnOk, IsErr, slice_index, ◌+◌, length};
+ghost use Rattle.std.specs.Prelude.{◌≡◌, ◌≤◌, ◌<◌, ◌↔◌, ◌⊎◌, ◌+◌, ◌++◌, ◌∷◌, [], ℕ, List, IfOk, OnErr, OnOk, IsErr, MatchResult, slice_index};
 
 use crate::pass::{MAX_CALLS, MAX_PASSES, NoPlace, Pass};
 use crate::snapshot::{Row, Snapshot};
@@ -37,13 +37,18 @@ impl Model for Desk {
 
     ghost view = { λ d. record { state = record { cluster = d.book; queue = d.queue; clock = d.clock; calls = d.calls }; handed = d.handed } };
 
-    ghost invariant = { λ d. (length d.calls ≡ MAX_PASSES) × (d.handed ≤ MAX_PASSES) × (d.clock.0 ≤ LATEST_MOMENT) };
+    ghost use Rattle.desk.specs.Caller.{HasNoCalls};
+
+    ghost invariant = { λ d. (length d.calls ≡ MAX_PASSES) × (d.handed ≤ MAX_PASSES) × HasNoCalls d.handed d.calls × (d.clock.0 ≤ LATEST_MOMENT) };
 }
 
 impl Desk {
-    ghost use Rattle.desk.specs.Caller.{new_desk};
-    ghost use Rattle.desk.specs.Machine.{both, of_node, moved, step, entry_for, counts};
-    ghost use Rattle.desk.specs.Done.{IsTold, IsTaken, IsDone, with_state};
+    ghost use Rattle.desk.specs.Caller.{new_desk, with_state, with_pass, IsTimely, hands_out};
+    ghost use Rattle.desk.specs.Machine.{both, of_node, moved, step, entry_for, counts, reply, after, snapshot};
+    ghost use Rattle.desk.specs.Machine as machine;
+    ghost use Rattle.desk.specs.Done.{IsTold, IsTaken, IsDone, IsAnswered};
+    ghost use Rattle.desk.specs.History.{Call, Leaves, IsOf, HasSeen, Applied, call};
+    ghost use Rattle.std.specs.Bool.{IsTrue};
     ghost use Rattle.queue.specs.Queue as queue;
 
     /// A desk with no nodes and no pods, that has handed out no pass. Names are looked up under the keys, so that nobody
@@ -51,7 +56,8 @@ impl Desk {
     ///
     /// Errors: `NoMemory`.
     pub fn new(alloc: Global, keys: RandomState, limits: Limits) -> Result<Self, NoMemory>
-        ensures { IfOk result (λ desk. desk ≡ new_desk limits) }
+        ensures opening { IfOk result (λ desk. desk ≡ new_desk limits) }
+        ensures history { IfOk result (Leaves []) }
     {
         let book = Book::new(alloc, keys, limits)?;
         let queue = Queue::new(alloc, limits.queued)?;
@@ -218,17 +224,20 @@ impl Desk {
     }
 
     // A pass gives a pod back that it popped and found no place for.
+    #[tactic(auto, unfolding(queue::specs::Queue::refusal_to_fail, queue::specs::Queue::after_fail))]
     fn fail(&mut self, pass: usize, uid: Name, how: Failure) -> Result<Reply, Refusal>
         ensures { IsDone self.old (step self.old.state pass (Step.Fail uid how)) result self.new }
     {
-        let is_placed = self.book.is_placed(&uid);
-        if !is_placed && !self.queue.has(&uid) {
-            return Err(Refusal::Gone);
-        }
-        if is_placed {
+        if self.book.is_placed(&uid) {
             return Err(Refusal::Placed);
         }
-        match self.queue.fail(&uid, PassNumber(pass as u64), how, self.clock) {
+        if !self.queue.has(&uid) {
+            return Err(Refusal::Gone);
+        }
+        match self
+            .queue
+            .fail(&uid, PassNumber(pass as u64), how, self.clock)
+        {
             Ok(()) => Ok(Reply::Done),
             Err(_) => Err(Refusal::NotInFlight),
         }
@@ -248,9 +257,9 @@ impl Desk {
     }
 
     // The pod that goes first is the pass's now. What can fail, a further owner of the pod, goes first.
+    #[tactic(auto, unfolding(queue::specs::Queue::after_pop))]
     fn pop(&mut self, pass: usize) -> Result<Reply, NoMemory>
-        ensures popped { IfOk result (λ reply. (step self.old.state pass Step.Pop ≡ record { state = self.new.state; reply = reply }) × (self.new ≡ with_state self.old self.new.state)) }
-        ensures err { OnErr result (self.new ≡ self.old) }
+        ensures { IsAnswered self.old pass Step.Pop result self.new }
     {
         let Some(first) = self.queue.peek() else {
             return Ok(Reply::Idle);
@@ -258,6 +267,41 @@ impl Desk {
         let pod = first.share()?;
         self.queue.pop(PassNumber(pass as u64));
         Ok(Reply::Popped(pod))
+    }
+
+    // The watch tells of something.
+    fn take_event(&mut self, event: Event) -> Result<Reply, Refusal>
+        ensures { (pass : ℕ) → IsDone self.old (step self.old.state pass (Step.Event event)) result self.new }
+    {
+        match event {
+            Event::NodeSet { .. } => self.set_node(event),
+            Event::NodeGone { .. } => self.drop_node(event),
+            Event::PodPending { version, pod } => self.add_pod(version, pod),
+            Event::PodBound {
+                version,
+                uid,
+                node,
+                request,
+            } => self.bind_pod(version, uid, node, request),
+            Event::PodGone { version, uid } => self.drop_pod(version, uid),
+        }
+    }
+
+    // Does a step for a pass, or refuses it. No call is counted.
+    fn do_step(&mut self, pass: usize, step: Step) -> Result<Reply, NoMemory>
+        requires { IsTimely step }
+        ensures { IsAnswered self.old pass step result self.new }
+    {
+        match step {
+            Step::Pop => self.pop(pass),
+            Step::Event(event) => Ok(told(self.take_event(event))),
+            Step::Assume { uid, node } => Ok(told(self.assume(pass, uid, node))),
+            Step::BindDone { uid, ticket } => Ok(told(self.finish_bind(uid, ticket))),
+            Step::Forget { uid, ticket } => Ok(told(self.forget(uid, ticket))),
+            Step::Fail { uid, how } => Ok(told(self.fail(pass, uid, how))),
+            Step::Tick(now) => Ok(told(self.tick(now))),
+            Step::Count => Ok(Reply::Counts(self.counts())),
+        }
     }
 
     fn counts(&self) -> Counts
@@ -275,5 +319,103 @@ impl Desk {
             clock: self.clock,
             version: self.book.version(),
         }
+    }
+
+    /// Hands out a pass.
+    ///
+    /// Errors: `NoPlace` where all were handed out; nothing changes.
+    pub fn pass(&mut self) -> Result<Pass, NoPlace>
+        ensures pass { IfOk result (λ pass. pass ≡ record { number = self.old.handed; calls = 0 }) }
+        ensures handed { OnOk result (self.new ≡ with_pass self.old) }
+        ensures all_handed { IsErr result ↔ (self.old.handed ≡ MAX_PASSES) }
+        ensures err { OnErr result (self.new ≡ self.old) }
+        ensures of { IfOk result (λ pass. IsOf pass self.new) }
+
+        // The history stays. The new pass made no call in it, and has seen all of it or nothing.
+        ensures history { (l : List Call) → Leaves l self.old → IfOk result (λ pass. Leaves l self.new × HasSeen pass l l × HasSeen pass [] l) }
+    {
+        if self.handed == MAX_PASSES {
+            return Err(NoPlace);
+        }
+        let pass = Pass::new(self.handed);
+        self.handed += 1;
+        Ok(pass)
+    }
+
+    /// Does a step, or refuses it and changes nothing but the pass's count of calls.
+    ///
+    /// Errors: `NoMemory` where `MAX_CALLS` calls of the pass were answered, and where a popped pod can have no further
+    /// owner; nothing changes.
+    pub fn apply(&mut self, pass: &mut Pass, step: Step) -> Result<Reply, NoMemory>
+        requires of { IsOf pass.old self.old }
+        requires timely { IsTimely step }
+        ensures reply { IfOk result (λ answer. answer ≡ reply self.old.state pass.old.number step) }
+        ensures after { OnOk result (self.new ≡ with_state self.old (after self.old.state pass.old.number step)) }
+        ensures counted { OnOk result (pass.new ≡ record pass.old { calls = pass.old.calls + 1 }) }
+        ensures used_up { MAX_CALLS ≤ pass.old.calls → IsErr result }
+        ensures no_memory { IsErr result → MAX_CALLS ≤ pass.old.calls ⊎ IsTrue (hands_out self.old.state step) }
+        ensures err { OnErr result (self.new ≡ self.old) }
+        ensures pass_err { OnErr result (pass.new ≡ pass.old) }
+        ensures of { IsOf pass.new self.new }
+
+        // Whatever legal history left the desk so, and whatever the pass had seen of it: the desk now stands where that
+        // history and this call leave it, and the pass has seen both.
+        ensures history { (l seen : List Call) → Leaves l self.old → HasSeen pass.old seen l
+            → IfOk result (λ answer. Leaves (l ++ call pass.old step answer ∷ []) self.new
+            × Applied self.old.state.cluster.limits self.old.handed pass.old seen step answer (l ++ call pass.old step answer ∷ [])
+            × HasSeen pass.new (l ++ call pass.old step answer ∷ []) (l ++ call pass.old step answer ∷ [])) }
+    {
+        if pass.calls() >= MAX_CALLS {
+            return Err(NoMemory);
+        }
+        let answer = self.answer_call(pass.number(), step)?;
+        pass.count();
+        Ok(answer)
+    }
+
+    // Does a step for a pass, or refuses it, and counts the call.
+    fn answer_call(&mut self, pass: usize, step: Step) -> Result<Reply, NoMemory>
+        requires handed { pass < self.old.handed }
+        requires fits { slice_index self.old.state.calls pass < MAX_CALLS }
+        requires timely { IsTimely step }
+        ensures reply { IfOk result (λ answer. answer ≡ reply self.old.state pass step) }
+        ensures after { OnOk result (self.new ≡ with_state self.old (after self.old.state pass step)) }
+        ensures no_memory { IsErr result → IsTrue (hands_out self.old.state step) }
+        ensures counted { OnOk result (slice_index self.new.state.calls pass ≡ slice_index self.old.state.calls pass + 1) }
+        ensures err { OnErr result (self.new ≡ self.old) }
+    {
+        // A pass's number is within its desk's counts.
+        let _ = &self.calls;
+        let answer = self.do_step(pass, step)?;
+        self.calls[pass] += 1;
+        Ok(answer)
+    }
+
+    /// Shows the nodes and what is used of them. It copies a pointer and the totals of each node.
+    ///
+    /// Errors: `NoMemory`; nothing changes.
+    pub fn look(&self, pass: &mut Pass) -> Result<Snapshot, NoMemory>
+        ensures snapshot { IfOk result (λ shown. shown ≡ snapshot self.now.state.cluster) }
+        ensures pass { pass.new ≡ pass.old }
+    {
+        let _ = pass;
+        let nodes = self.book.rows();
+        let mut rows = Vec::with_capacity(self.alloc, nodes.len())?;
+        for node in nodes {
+            let used = self.book.used(&node.name);
+            let node = node.share()?;
+            rows.push(Row { node, used }).map_err(AllocError::from)?;
+        }
+        Ok(Snapshot::new(rows))
+    }
+}
+
+// The answer to a step that was done or refused.
+fn told(done: Result<Reply, Refusal>) -> Reply
+    ensures { MatchResult done (λ reply. result ≡ reply) (λ why. result ≡ Reply.Refused why) }
+{
+    match done {
+        Ok(reply) => reply,
+        Err(why) => Reply::Refused(why),
     }
 }

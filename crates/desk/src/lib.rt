@@ -2,12 +2,14 @@
 #![tactic(auto)]
 
 mod desk;
+mod laws;
 mod pass;
 mod snapshot;
 mod step;
 
 pub use book::{Limits, NoMemory, Refusal};
 pub use desk::Desk;
+pub use laws::desk_limits_are_these;
 pub use pass::{MAX_CALLS, MAX_PASSES, NoPlace, Pass};
 pub use snapshot::{Row, Snapshot};
 pub use step::{Counts, Reply, Step};

@@ -1,0 +1,14 @@
+use Rattle.std.proofs.Common.{◌≡◌, ap, ◌∙◌, map, take, sym, subst}
+use Rattle.std.proofs.lemmas.List.{take_all}
+use Rattle.desk.specs.Machine.{snapshot}
+use Rattle.desk.proofs.Rows.{shown_of, shown_all}
+use Rattle.desk.proofs.desk.Desk.look.Goals as goal
+
+-- all rows of the book are shown
+pub returns-clause-snapshot : goal.returns-clause-snapshot
+returns-clause-snapshot c =
+    let nodes = c.rows-nodes.result.now in
+    let book = c.self.inside.book in
+    let all : take c.loop-node.node-index nodes ≡ nodes = take_all c.loop-node.node-index nodes c.loop-node-test.false in
+    c.new.ensures ∙ c.loop-node.invariant ∙ ap (map (shown_of book.places)) all
+    ∙ shown_all nodes book.nodes book.places c.rows-nodes.ensures ∙ ap (λ d. snapshot d.state.cluster) c.self.view_is
