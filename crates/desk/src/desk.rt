@@ -60,7 +60,7 @@ impl Desk {
         ensures history { IfOk result (Leaves []) }
     {
         let book = Book::new(alloc, keys, limits)?;
-        let queue = Queue::new(alloc, limits.queued)?;
+        let queue = Queue::new(alloc, keys, limits.queued)?;
         Ok(Desk {
             alloc,
             book,
