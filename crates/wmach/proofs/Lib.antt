@@ -1,12 +1,4 @@
-pub mod Rows
 pub mod Values
 pub mod TypedExecution
-pub mod Soundness
-pub mod Chains
-pub mod Running
-pub mod Trees
 pub mod Going
-pub mod Follows
-pub mod Calling
-pub mod Results
 pub mod OneEnd

@@ -12,7 +12,8 @@ use Rattle.wcode.specs.declared.value.Value.{Value}
 use Rattle.wcode.specs.declared.value.Value.TheVariants as value
 use Rattle.wbody.specs.Context.{Operands}
 use Rattle.wmach.specs.Operands.{topmost, value_of}
-use Rattle.wmach.specs.Fits.{type_of, types_of}
+use Rattle.wcode.specs.Operators.{type_of}
+use Rattle.wmach.specs.Fits.{types_of}
 
 pub types_of-append : (vs ws : List Value) → types_of (vs ++ ws) ≡ types_of vs ++ types_of ws
 types_of-append vs ws = map-append type_of vs ws

@@ -14,7 +14,8 @@ use Rattle.wmach.specs.declared.export.Export.TheVariants.{Filter, Score, Start}
 use Rattle.wmach.specs.declared.outcome.Outcome.{Outcome}
 use Rattle.wmach.specs.Configuration.{Store, Setting, Configuration}
 use Rattle.wmach.specs.Operands.{value_of}
-use Rattle.wmach.specs.Fits.{StoreFits, page_size}
+use Rattle.wmem.specs.Memory.{page_size}
+use Rattle.wmach.specs.Fits.{StoreFits}
 use Rattle.wmach.specs.Outcome.{Chain, Stuck, call_of, HasOutcome}
 
 -- the function that is called, by its index, if it is there
