@@ -1,4 +1,15 @@
+pub mod TypingDraft
 pub mod Values
 pub mod TypedExecution
+pub mod Sound
+pub mod Callable
+pub mod Sequences
+pub mod SoundNumeric
+pub mod SoundVariables
+pub mod SoundAccess
+pub mod SoundIndirect
+pub mod SoundHost
+pub mod SoundPlain
+pub mod Soundness
 pub mod Going
 pub mod OneEnd
