@@ -1,4 +1,3 @@
-pub mod TypingDraft
 pub mod Values
 pub mod TypedExecution
 pub mod Sound

@@ -2,7 +2,7 @@
 use Rattle.std.proofs.Common.{◌≡◌, List, [], ◌∷◌, ◌++◌, sym, ap, ◌∙◌, subst, append_assoc}
 use Rattle.wcode.specs.Syntax.{Body, done, plain, block, loop, if_else, br_table}
 use Rattle.wbody.specs.Context.{Operands, Context}
-use Rattle.wmach.proofs.TypingDraft.{Rule, Weakened, Typed}
+use Rattle.wbody.specs.Typing.{Rule, Weakened, Typed}
 use Rattle.wmach.specs.Reduction.{followed_by}
 
 -- an instruction with more operands below

@@ -17,7 +17,7 @@ use Rattle.wmem.specs.Memory.{page_size, most_pages, pages_in, zeros}
 use Rattle.wbin.specs.declared.module.Limits.{Limits}
 use Rattle.wbin.specs.Syntax.{ModuleSyntax}
 use Rattle.wbody.specs.Context.{Operands, is_there}
-use Rattle.wmach.proofs.TypingDraft.{Typed}
+use Rattle.wbody.specs.Typing.{Typed}
 use Rattle.wmach.specs.declared.outcome.Trap.TheVariants.{MemoryOutOfBounds}
 use Rattle.wmach.specs.Configuration.{Store, Execution, instructions, trap, Reduction, leads_to}
 use Rattle.wmach.specs.Operands.{value_of, with_one}

@@ -9,7 +9,7 @@ use Rattle.wcode.specs.Syntax.{Body}
 use Rattle.wmem.specs.Access.{with_bytes}
 use Rattle.wbin.specs.Syntax.{ModuleSyntax}
 use Rattle.wbody.specs.Context.{Operands, is_there}
-use Rattle.wmach.proofs.TypingDraft.{Typed}
+use Rattle.wbody.specs.Typing.{Typed}
 use Rattle.wmach.specs.declared.outcome.Trap.TheVariants.{HostOutOfBounds, NoRecord}
 use Rattle.wmach.specs.Configuration.{Store, Setting, Execution, instructions, trap, Reduction, leads_to}
 use Rattle.wmach.specs.Host.{imported_names, record_named, cost_of_bytes, has_room, hand_over, hand_over_given, reduce_host, reduce_import}

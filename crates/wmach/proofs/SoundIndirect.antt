@@ -9,7 +9,7 @@ use Rattle.wcode.specs.Syntax.{Body}
 use Rattle.wbin.specs.declared.module.Limits.{Limits}
 use Rattle.wbin.specs.Syntax.{Signature, ModuleSyntax}
 use Rattle.wbody.specs.Context.{Operands, at_most_one, function_types, is_there}
-use Rattle.wmach.proofs.TypingDraft.{Typed}
+use Rattle.wbody.specs.Typing.{Typed}
 use Rattle.wmach.specs.declared.outcome.Trap.TheVariants.{UndefinedElement, UninitializedElement, SignatureMismatch}
 use Rattle.wmach.specs.Configuration.{Store, Execution, invoke, trap, Reduction, leads_to}
 use Rattle.wmach.specs.Operands.{with_one}

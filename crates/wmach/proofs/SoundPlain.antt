@@ -14,7 +14,7 @@ use Rattle.wcode.specs.Operators.{type_of, load_type, load_bytes, store_type, st
 use Rattle.wcode.specs.Syntax.{Body, done, plain, block, loop, if_else, br_table}
 use Rattle.wbin.specs.Syntax.{Signature, ModuleSyntax}
 use Rattle.wbody.specs.Context.{Operands, Context, at_most_one, results_of, with_label, function_types, is_there}
-use Rattle.wmach.proofs.TypingDraft.{PlainType, takes_gives, ends, of_found, only_where, is_in_range, function_at, call_type, is_aligned, TypeAllows, PlainTyped, BlockTyped, IfTyped, TableTyped, Typed, Then}
+use Rattle.wbody.specs.Typing.{PlainType, takes_gives, ends, of_found, only_where, is_in_range, function_at, call_type, is_aligned, TypeAllows, PlainTyped, BlockTyped, IfTyped, TableTyped, Typed, Then}
 use Rattle.wmach.specs.declared.outcome.Trap.TheVariants.{Unreachable}
 use Rattle.wmach.specs.Configuration.{Store, Setting, Execution, instructions, label, invoke, trap, Reduction, leads_to}
 use Rattle.wmach.specs.Numeric.{converted_from, converted_to, reduce_convert}

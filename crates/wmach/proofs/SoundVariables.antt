@@ -11,7 +11,7 @@ use Rattle.wcode.specs.Syntax.{Body, plain}
 use Rattle.wbin.specs.declared.module.GlobalType.{GlobalType}
 use Rattle.wbin.specs.Syntax.{GlobalSyntax, ModuleSyntax}
 use Rattle.wbody.specs.Context.{Operands, Context}
-use Rattle.wmach.proofs.TypingDraft.{PlainType, takes_gives, of_found, TypeAllows, Typed}
+use Rattle.wbody.specs.Typing.{PlainType, takes_gives, of_found, TypeAllows, Typed}
 use Rattle.wmach.specs.Configuration.{Store, Execution, instructions, Reduction, leads_to}
 use Rattle.wmach.specs.Operands.{with_any}
 use Rattle.wmach.specs.Variables.{reduce_drop, reduce_select, reduce_local_get, reduce_local_set, reduce_local_tee, reduce_global_get, reduce_global_set}

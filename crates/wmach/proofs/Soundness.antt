@@ -11,7 +11,7 @@ use Rattle.wcode.specs.Operators.{type_of}
 use Rattle.wcode.specs.Syntax.{Body, done, plain, block, loop, if_else, br_table}
 use Rattle.wbin.specs.Syntax.{Signature, FunctionSyntax, ModuleSyntax}
 use Rattle.wbody.specs.Context.{Operands, Context, at_most_one, body_context}
-use Rattle.wmach.proofs.TypingDraft.{ends, Typed}
+use Rattle.wbody.specs.Typing.{ends, Typed}
 use Rattle.wmach.specs.declared.outcome.Trap.TheVariants.{CallDepth}
 use Rattle.wmach.specs.Configuration.{Store, Setting, Execution, instructions, label, frame, invoke, trap, Reduction, leads_to}
 use Rattle.wmach.specs.Operands.{value_of}
