@@ -10,5 +10,7 @@ pub mod SoundIndirect
 pub mod SoundHost
 pub mod SoundPlain
 pub mod Soundness
+pub mod AcceptedFunctions
+pub mod Chains
 pub mod Going
 pub mod OneEnd

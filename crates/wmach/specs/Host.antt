@@ -1,5 +1,5 @@
 -- The host functions (WebAssembly Core 1.0, 4.4.7): what the functions that a module imports do.
-use Rattle.std.specs.Prelude.{ℕ, ◌+◌, ◌/◌, ◌%◌, ◌^◌, List, [], ◌∷◌, Bool, true, false, ◌&&◌, Option, Some, None, option_and_then, length, slice_get, nat_lt, nat_le, if◌then◌else◌, codes}
+use Rattle.std.specs.Prelude.{ℕ, ◌+◌, ◌/◌, ◌%◌, ◌^◌, List, [], ◌∷◌, Bool, true, false, ◌&&◌, Option, Some, None, option_and_then, length, slice_get, nat_lt, nat_le, if◌then◌else◌}
 use Rattle.std.specs.Str.{bytes_eq}
 use Rattle.wcode.specs.declared.value.ValueType.TheVariants.{I32}
 use Rattle.wcode.specs.declared.value.Value.{Value}
@@ -10,6 +10,7 @@ use Rattle.wbin.specs.declared.module.ImportKind.{ImportKind}
 use Rattle.wbin.specs.declared.module.ImportKind.TheVariants as imported
 use Rattle.wbin.specs.Syntax.{ImportSyntax, ModuleSyntax}
 use Rattle.wbody.specs.Context.{is_there}
+use Rattle.wtype.specs.Accepted.{pod_name, node_name}
 use Rattle.wmach.specs.declared.outcome.Trap.TheVariants.{HostOutOfBounds, NoRecord}
 use Rattle.wmach.specs.Configuration.{Store, Setting, instructions, trap, Reduction, leads_to}
 use Rattle.wmach.specs.Operands.{with_two}
@@ -29,8 +30,8 @@ imported_names (i ∷ is) = imported_name i.name i.kind (imported_names is)
 -- the record that the host function of this name hands over: 0 is the pod's, 1 the node's
 abbrev pub record_named : List ℕ → Option ℕ
 record_named name =
-    if bytes_eq name (codes "pod") then Some 0
-    else if bytes_eq name (codes "node") then Some 1
+    if bytes_eq name pod_name then Some 0
+    else if bytes_eq name node_name then Some 1
     else None
 
 -- what it costs to write so many bytes: one for each 256 that are begun

@@ -12,5 +12,5 @@ mod outcome;
 
 pub use export::Export;
 pub use host::Host;
-pub use laws::one_outcome;
+pub use laws::{never_stuck, one_outcome};
 pub use outcome::{Outcome, Trap};
