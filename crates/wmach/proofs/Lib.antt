@@ -14,3 +14,8 @@ pub mod AcceptedFunctions
 pub mod Chains
 pub mod Going
 pub mod OneEnd
+pub mod AllOf
+pub mod InRange
+pub mod RangesKept
+pub mod Ranges
+pub mod CallsLeave

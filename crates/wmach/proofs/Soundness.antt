@@ -42,11 +42,11 @@ record ReturnFits (result : Option Operands) (values : List Value) : Type 0 wher
   values_are : types_of values ≡ carries ++ more
 
 -- what a test gives only where it holds
-record Tested (b : Bool) (vs values : List Value) : Type 0 where
-  is : b ≡ true
-  same : vs ≡ values
+pub record Tested (b : Bool) (vs values : List Value) : Type 0 where
+  pub is : b ≡ true
+  pub same : vs ≡ values
 
-tested : (b : Bool) (vs values : List Value) → (if b then Some vs else None) ≡ Some values → Tested b vs values
+pub tested : (b : Bool) (vs values : List Value) → (if b then Some vs else None) ≡ Some values → Tested b vs values
 tested true vs values e = record { is = refl; same = cc }
 tested false vs values e = absurd (cc)
 
