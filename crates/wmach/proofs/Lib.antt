@@ -19,3 +19,8 @@ pub mod InRange
 pub mod RangesKept
 pub mod Ranges
 pub mod CallsLeave
+pub mod Running
+pub mod Rows
+pub mod MemoryRows
+pub mod CallRows
+pub mod FirstStore

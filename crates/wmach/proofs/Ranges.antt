@@ -33,7 +33,7 @@ use Rattle.wmach.proofs.RangesKept.{AllInRange, PlainInRange, BodyInRange, Execu
 
 -- ---- typed code has constants in range
 
-const_in_range : (v : Value) → is_in_range v ≡ true → InRange v
+pub const_in_range : (v : Value) → is_in_range v ≡ true → InRange v
 const_in_range (value.I32 n) e = ltb-true n (2 ^ 32) e
 const_in_range (value.I64 n) e = ltb-true n (2 ^ 64) e
 

@@ -28,11 +28,6 @@ called_function m Filter = option_map (λ e. e.index) (export_named filter_name 
 called_function m Score = option_map (λ e. e.index) (export_named score_name m.exports)
 called_function m Start = m.start
 
--- the function with this index takes nothing, and gives a result or none
-pub record CalledType (m : ModuleSyntax) (function : ℕ) : Type 0 where
-  pub result : Option ValueType
-  pub is : slice_get (function_types m) function ≡ Some (Some (record { parameters = []; result = result }))
-
 -- No chain of reductions of a call leads to where neither a rule applies nor the call has ended: whatever
 -- accepted module, store that fits it, records, and function that can be called.
 abbrev pub NeverStuck : Type 0
@@ -135,3 +130,7 @@ first_store m = record {
   globals = map (λ (g : GlobalSyntax). constant_of g.first g.kind.value) m.globals;
   table = first_table m.tables;
 }
+
+-- The first store of an accepted module fits it.
+abbrev pub FirstStoreFits : Type 0
+FirstStoreFits = (m : ModuleSyntax) → Accepted m → StoreFits m (first_store m)

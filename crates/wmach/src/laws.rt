@@ -1,7 +1,7 @@
 // What holds of every call, whatever machine makes it. These functions do nothing: each promises a law of the definitions by
 // which the contract of a machine's call says how it ends.
 
-ghost use Rattle.wmach.specs.Call.{NeverStuck, WhatACallLeaves, OneOutcome, CostWithinFuel, MoreFuelChangesNothing};
+ghost use Rattle.wmach.specs.Call.{NeverStuck, WhatACallLeaves, OneOutcome, CostWithinFuel, MoreFuelChangesNothing, FirstStoreFits};
 
 /// No call of an accepted module ever gets stuck.
 pub fn never_stuck()
@@ -11,6 +11,11 @@ pub fn never_stuck()
 /// However a call of an accepted module ends, the store fits the module; a function that returned leaves just its result.
 pub fn what_a_call_leaves()
     ensures { WhatACallLeaves }
+{}
+
+/// The store that an accepted module has at first fits it.
+pub fn first_store_fits()
+    ensures { FirstStoreFits }
 {}
 
 /// A call ends in one way: its outcome and the store that it leaves are the only ones.
