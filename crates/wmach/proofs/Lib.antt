@@ -24,3 +24,4 @@ pub mod Rows
 pub mod MemoryRows
 pub mod CallRows
 pub mod FirstStore
+pub mod NumericRows

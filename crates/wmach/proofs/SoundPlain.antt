@@ -107,7 +107,9 @@ module _ (setting : Setting) (right : FunctionsRight (setting.module_syntax)) (s
       let go = λ (condition : ℕ) (others : List Value). if condition == 0 then no_to others else yes_to others in
       let not_taken = to_values m (types_of locals) labels result after e (f.item ++ k.below) 1 store locals one.others rest fits refl one.others_are k.others in
       let taken_on = to_values m (types_of locals) labels result after e (f.item ++ k.below) 1 store locals one.others (plain (instruction.Br l) rest) fits refl one.others_are (br_typed context l rest f.item k.below (f.item ++ k.below) after f.is k.others) in
-      subst (λ on. Sound m (types_of locals) labels result e after on) (sym (one.goes go)) (either m (types_of locals) labels result after e (one.number == 0) (no_to one.others) (yes_to one.others) (λ zero_is. not_taken) taken_on)
+      let on = if one.number == 0 then no_to one.others else yes_to one.others in
+      let sound_on = either m (types_of locals) labels result after e (one.number == 0) (no_to one.others) (yes_to one.others) (λ zero_is. not_taken) taken_on in
+      subst (λ x. Sound m (types_of locals) labels result e after x) {x = on} (sym (one.goes go)) sound_on
 
   call : (function : ℕ) (rest : Body) → Goes (instruction.Call function) rest
   call function rest t =
