@@ -25,3 +25,5 @@ pub mod MemoryRows
 pub mod CallRows
 pub mod FirstStore
 pub mod NumericRows
+pub mod Measure
+pub mod CallsEnd

@@ -73,6 +73,21 @@ WhatACallLeaves =
     called_function (setting.module_syntax) export ≡ Some function →
     (fuel : ℕ) (outcome : Outcome) (after : Store) → HasOutcome setting before function fuel outcome after → CallLeaves (setting.module_syntax) export outcome after
 
+-- an outcome of a call
+pub record SomeOutcome (setting : Setting) (before : Store) (function fuel : ℕ) : Type 0 where
+  pub outcome : Outcome
+  pub after : Store
+  pub is : HasOutcome setting before function fuel outcome after
+
+-- Every call ends: whatever accepted module, store that fits it, records and function that can be called, and however
+-- much fuel.
+abbrev pub CallsEnd : Type 0
+CallsEnd =
+    (setting : Setting) (before : Store) (export : Export) (function : ℕ) →
+    Accepted (setting.module_syntax) → StoreFits (setting.module_syntax) before →
+    called_function (setting.module_syntax) export ≡ Some function →
+    (fuel : ℕ) → SomeOutcome setting before function fuel
+
 -- No call costs more than its fuel.
 abbrev pub CostWithinFuel : Type 0
 CostWithinFuel =

@@ -1,7 +1,7 @@
 // What holds of every call, whatever machine makes it. These functions do nothing: each promises a law of the definitions by
 // which the contract of a machine's call says how it ends.
 
-ghost use Rattle.wmach.specs.Call.{NeverStuck, WhatACallLeaves, OneOutcome, CostWithinFuel, MoreFuelChangesNothing, FirstStoreFits};
+ghost use Rattle.wmach.specs.Call.{NeverStuck, WhatACallLeaves, CallsEnd, OneOutcome, CostWithinFuel, MoreFuelChangesNothing, FirstStoreFits};
 
 /// No call of an accepted module ever gets stuck.
 pub fn never_stuck()
@@ -16,6 +16,11 @@ pub fn what_a_call_leaves()
 /// The store that an accepted module has at first fits it.
 pub fn first_store_fits()
     ensures { FirstStoreFits }
+{}
+
+/// Every call of an accepted module has an outcome, however much fuel it is given.
+pub fn calls_end()
+    ensures { CallsEnd }
 {}
 
 /// A call ends in one way: its outcome and the store that it leaves are the only ones.

@@ -13,7 +13,7 @@ mod outcome;
 pub use export::Export;
 pub use host::Host;
 pub use laws::{
-    cost_within_fuel, first_store_fits, more_fuel_changes_nothing, never_stuck, one_outcome,
-    what_a_call_leaves,
+    calls_end, cost_within_fuel, first_store_fits, more_fuel_changes_nothing, never_stuck,
+    one_outcome, what_a_call_leaves,
 };
 pub use outcome::{Outcome, Trap};
