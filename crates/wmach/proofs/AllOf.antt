@@ -1,6 +1,6 @@
 -- What holds of each element of a list holds of each element of lists made of it.
-use Rattle.std.proofs.Common.{◌≡◌, ℕ, suc, zero, List, [], ◌∷◌, ◌++◌, Option, Some, None, length, take, drop, replicate, reverse, refl, sym, ap, ◌∙◌, subst}
-use Rattle.std.specs.Prelude.{slice_get, slice_set, IfSome}
+use Rattle.std.proofs.Common.{ℕ, suc, zero, List, [], ◌∷◌, ◌++◌, take, drop, reverse, sym, subst}
+use Rattle.std.specs.Prelude.{slice_set}
 use Rattle.std.specs.List.{AllByRecursion}
 use mathlib.Core.List.{reverse-cons}
 

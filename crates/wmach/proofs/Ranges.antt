@@ -1,6 +1,6 @@
 -- Whatever is under way stays in range, and so does what a call leaves.
-use Rattle.std.proofs.Common.{◌≡◌, ℕ, suc, zero, ◌+◌, ◌-◌, ◌<◌, ◌≤◌, List, [], ◌∷◌, ◌++◌, Bool, true, false, Option, Some, None, length, reverse, map, take, drop, ◌^◌, refl, sym, ap, ◌∙◌, subst, arith, lit<}
-use Rattle.std.specs.Prelude.{IfSome, option_map, option_and_then, slice_get, unwrap_or, nat_lt, nat_le, ◌==◌, if◌then◌else◌}
+use Rattle.std.proofs.Common.{◌≡◌, ℕ, suc, zero, ◌+◌, ◌-◌, List, [], ◌∷◌, ◌++◌, Bool, true, false, Option, Some, None, length, reverse, map, take, drop, ◌^◌, refl, sym, subst, lit<}
+use Rattle.std.specs.Prelude.{option_map, option_and_then, slice_get, unwrap_or, nat_lt, nat_le, ◌==◌, if◌then◌else◌}
 use Rattle.std.specs.Option.{option_map_or}
 use Rattle.std.proofs.lemmas.Bool.{ltb-true}
 use Rattle.wcode.specs.declared.value.ValueType.{ValueType}
@@ -20,11 +20,10 @@ use Rattle.wmach.specs.Operands.{InRange, topmost}
 use Rattle.wmach.specs.Host.{reduce_import}
 use Rattle.wmach.specs.Reduction.{followed_by, reduce, reduce_instructions, reduce_label, reduce_frame, branching, returning, inside_label, inside_frame, branch, return_from, zero_of, enter, imported_count, most_frames, reduce_invoke}
 use Rattle.wmach.specs.Fits.{MemoryFits}
-use Rattle.wmach.specs.Outcome.{next, Chain, IsEnd}
+use Rattle.wmach.specs.Outcome.{Chain, IsEnd}
 use Rattle.wmach.specs.Call.{RecordsFit}
 use Rattle.wmach.proofs.Values.{all_at}
 use Rattle.wmach.proofs.AllOf.{all-append, all-take, all-drop, all-reverse}
-use Rattle.wmach.proofs.Sound.{holds}
 use Rattle.wmach.proofs.Soundness.{tested, sound}
 use Rattle.wmach.proofs.Going.{open_label, open_frame}
 use Rattle.wmach.proofs.AcceptedFunctions.{functions_right}

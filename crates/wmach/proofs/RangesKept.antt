@@ -1,6 +1,6 @@
 -- Numbers that are in range stay so: a reduction leads to values, locals, bytes and constants that are in range.
-use Rattle.std.proofs.Common.{◌≡◌, ℕ, suc, zero, ◌+◌, ◌*◌, ◌/◌, ◌%◌, ◌^◌, ◌<◌, ◌≤◌, List, [], ◌∷◌, ◌++◌, Bool, true, false, Option, Some, None, length, refl, sym, ap, ◌∙◌, subst, arith, lit<, mod-lt}
-use Rattle.std.specs.Prelude.{Result, Ok, Err, IfSome, slice_get, slice_set, unwrap_or, option_and_then, nat_lt, nat_le, ◌==◌, if◌then◌else◌}
+use Rattle.std.proofs.Common.{◌≡◌, ℕ, ◌+◌, ◌*◌, ◌/◌, ◌%◌, ◌^◌, ◌<◌, List, [], ◌∷◌, ◌++◌, Bool, true, false, Option, Some, None, length, refl, ap, ◌∙◌, subst, arith, lit<, mod-lt}
+use Rattle.std.specs.Prelude.{Result, Ok, Err, IfSome, slice_get, slice_set, option_and_then, nat_lt, nat_le, ◌==◌, if◌then◌else◌}
 use Rattle.std.specs.List.{AllByRecursion}
 use Rattle.std.proofs.Math.Nat.{mul-div_cancel}
 use Rattle.wnum.specs.declared.trap.Trap.{Trap as Undefined}
@@ -16,7 +16,7 @@ use Rattle.wcode.specs.declared.instruction.MemArg.{MemArg}
 use Rattle.wcode.specs.Operators.{load_type, store_type}
 use Rattle.wcode.specs.Syntax.{Body, done, plain, block, loop, if_else, br_table}
 use Rattle.wmem.specs.Access.{byte_count, with_bytes, reading_of, value_read}
-use Rattle.wmem.specs.Memory.{page_size, most_pages, pages_in, zeros}
+use Rattle.wmem.specs.Memory.{page_size, pages_in, zeros}
 use Rattle.wbin.specs.declared.module.Limits.{Limits}
 use Rattle.wbin.specs.Syntax.{Signature, ModuleSyntax}
 use Rattle.wmach.specs.declared.outcome.Trap.{Trap}
@@ -25,10 +25,9 @@ use Rattle.wmach.specs.Configuration.{Store, Setting, Execution, instructions, l
 use Rattle.wmach.specs.Operands.{InRange, number_of, value_of, width_of, with_any, with_one, with_two}
 use Rattle.wmach.specs.Numeric.{converted_from, converted_to, conversion_gives, after_binary, unary_gives, binary_gives, test_gives, relation_gives}
 use Rattle.wmach.specs.Access.{load_of, with_memory, stored_bytes, stored_width, cap_of, minus_one}
-use Rattle.wmach.specs.Indirect.{same_signature, type_of_function, call_as, call_element, reduce_call_indirect}
+use Rattle.wmach.specs.Indirect.{same_signature, type_of_function, call_element}
 use Rattle.wmach.specs.Host.{cost_of_bytes, has_room, hand_over, hand_over_given, record_named, imported_names, reduce_host, reduce_import}
 use Rattle.wmach.specs.Plain.{reduce_plain}
-use Rattle.wmach.specs.Reduction.{reduce_instructions}
 use Rattle.wmach.specs.Fits.{MemoryFits}
 use Rattle.wmach.specs.Call.{RecordsFit}
 use Rattle.wmach.proofs.Values.{all_at}

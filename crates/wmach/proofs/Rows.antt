@@ -1,13 +1,11 @@
 -- The definitions, computed on small modules.
-use Rattle.std.proofs.Common.{ℕ, List, [], ◌∷◌, Option, Some, None, refl}
-use Rattle.std.specs.Prelude.{codes}
+use Rattle.std.proofs.Common.{ℕ, List, [], ◌∷◌, Some, None, refl}
 use Rattle.wnum.specs.Integer.{iadd, isub, ishl, idiv_s, idiv_u, irem_s, from_quotient, iclz, ieqz, ilt_s, ilt_u}
 use Rattle.wnum.specs.Conversion.{wrap, extend_s, extend_u}
 use Rattle.wnum.specs.Representation.{signed, from_signed, ibits, from_ibits}
 use Rattle.wcode.specs.declared.value.ValueType.{ValueType}
 use Rattle.wcode.specs.declared.value.ValueType.TheVariants.{I32, I64}
 use Rattle.wcode.specs.declared.value.BlockType.TheVariants.{Empty, Result}
-use Rattle.wcode.specs.declared.value.Value.{Value}
 use Rattle.wcode.specs.declared.value.Value.TheVariants as value
 use Rattle.wcode.specs.declared.operator.BinOp.{BinOp}
 use Rattle.wcode.specs.declared.operator.BinOp.TheVariants as binary
@@ -17,9 +15,9 @@ use Rattle.wcode.specs.declared.operator.RelOp.{RelOp}
 use Rattle.wcode.specs.declared.operator.RelOp.TheVariants as relation
 use Rattle.wcode.specs.declared.operator.CvtOp.{CvtOp}
 use Rattle.wcode.specs.declared.operator.CvtOp.TheVariants as conversion
-use Rattle.wcode.specs.declared.instruction.Plain.TheVariants.{Unreachable, Br, BrIf, Call, Drop, LocalGet, LocalSet, LocalTee, GlobalGet, GlobalSet, Select, Const, Unary, Binary, Test, Relation, Convert}
+use Rattle.wcode.specs.declared.instruction.Plain.TheVariants.{Unreachable, Br, BrIf, LocalGet, LocalSet, LocalTee, GlobalGet, GlobalSet, Select, Const, Unary, Binary, Test, Relation, Convert}
 use Rattle.wcode.specs.Syntax.{Body, done, plain, block, loop, br_table}
-use Rattle.wbin.specs.Syntax.{Signature, ModuleSyntax}
+use Rattle.wbin.specs.Syntax.{ModuleSyntax}
 use Rattle.wmach.specs.declared.outcome.Trap.TheVariants as traps
 use Rattle.wmach.specs.declared.outcome.Outcome.{Outcome}
 use Rattle.wmach.specs.declared.outcome.Outcome.TheVariants as outcome

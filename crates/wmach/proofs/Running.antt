@@ -1,12 +1,12 @@
 -- The reductions of a call one after the other, by computing: where it comes to is its outcome.
-use Rattle.std.proofs.Common.{◌≡◌, ℕ, suc, zero, ◌+◌, ◌<◌, ◌≤◌, List, [], ◌∷◌, Bool, true, false, Option, Some, None, refl, sym, ap, ◌∙◌, subst, arith}
+use Rattle.std.proofs.Common.{◌≡◌, ℕ, suc, zero, ◌+◌, ◌<◌, ◌≤◌, List, [], ◌∷◌, Bool, true, false, Option, Some, None, refl, ap, subst, arith}
 use Rattle.std.specs.Prelude.{nat_lt, option_map}
 use Rattle.std.proofs.lemmas.Bool.{ltb-true, ltb-false}
 use Rattle.wcode.specs.declared.value.Value.{Value}
-use Rattle.wcode.specs.Syntax.{Body, done, plain, block, loop, if_else, br_table}
+use Rattle.wcode.specs.Syntax.{done}
 use Rattle.wmach.specs.declared.outcome.Outcome.{Outcome}
 use Rattle.wmach.specs.declared.outcome.Outcome.TheVariants as outcome
-use Rattle.wmach.specs.Configuration.{Store, Setting, Execution, instructions, label, frame, invoke, trap, Configuration, Reduction}
+use Rattle.wmach.specs.Configuration.{Store, Setting, Execution, instructions, trap, Configuration, Reduction}
 use Rattle.wmach.specs.Outcome.{next, Chain, values_of, call_of, cost_of, HasOutcome}
 
 -- the end of a call at this cost, if it is one

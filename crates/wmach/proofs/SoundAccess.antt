@@ -1,5 +1,5 @@
 -- The memory instructions are sound: the size of the memory stays whole pages within its limits.
-use Rattle.std.proofs.Common.{◌≡◌, ℕ, ◌+◌, ◌-◌, ◌*◌, ◌/◌, ◌≤◌, ◌<◌, List, [], ◌∷◌, ◌++◌, Bool, true, false, Option, Some, None, length, take, drop, replicate, min, refl, sym, ap, ◌∙◌, subst, arith, length-append, length-drop}
+use Rattle.std.proofs.Common.{◌≡◌, ℕ, ◌+◌, ◌*◌, ◌/◌, ◌≤◌, List, [], ◌∷◌, ◌++◌, true, Option, Some, None, length, take, drop, refl, sym, ap, ◌∙◌, subst, arith, length-append, length-drop}
 use Rattle.std.specs.Prelude.{nat_le, if◌then◌else◌, IfSome}
 use Rattle.std.proofs.lemmas.List.{length-take-le, length-replicate, nil_from_length}
 use Rattle.std.proofs.lemmas.Bool.{leb-true}
@@ -22,7 +22,7 @@ use Rattle.wmach.specs.declared.outcome.Trap.TheVariants.{MemoryOutOfBounds}
 use Rattle.wmach.specs.Configuration.{Store, Execution, instructions, trap, Reduction, leads_to}
 use Rattle.wmach.specs.Operands.{value_of, with_one}
 use Rattle.wmach.specs.Access.{load_of, stored_bytes, with_memory, most_of, cap_of, minus_one, reduce_load, reduce_store, reduce_size, reduce_grow}
-use Rattle.wmach.specs.Fits.{types_of, MemoryFits, WithinLimits}
+use Rattle.wmach.specs.Fits.{types_of, MemoryFits}
 use Rattle.wmach.proofs.Values.{type_of_value, one_taken}
 use Rattle.wmach.proofs.TypedExecution.{inner_context}
 use Rattle.wmach.proofs.Sound.{StoreTyped, Sound, to_values, to_trap, either}

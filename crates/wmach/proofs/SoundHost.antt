@@ -1,5 +1,5 @@
 -- A host function is sound.
-use Rattle.std.proofs.Common.{◌≡◌, ℕ, ◌+◌, ◌%◌, ◌^◌, List, [], ◌∷◌, ◌++◌, Bool, true, Option, Some, None, length, refl, sym, ap, ◌∙◌, subst}
+use Rattle.std.proofs.Common.{◌≡◌, ℕ, ◌+◌, ◌%◌, ◌^◌, List, ◌∷◌, true, Option, Some, None, length, refl, sym, ap, ◌∙◌, subst}
 use Rattle.std.specs.Prelude.{slice_get, option_and_then, nat_lt, nat_le, if◌then◌else◌}
 use Rattle.std.proofs.lemmas.Bool.{leb-true}
 use Rattle.wcode.specs.declared.value.ValueType.TheVariants.{I32}
@@ -16,7 +16,6 @@ use Rattle.wmach.specs.Host.{imported_names, record_named, cost_of_bytes, has_ro
 use Rattle.wmach.specs.Fits.{types_of}
 use Rattle.wmach.proofs.Values.{two_taken}
 use Rattle.wmach.proofs.TypedExecution.{inner_context}
-use Rattle.wmach.proofs.Callable.{HostFunction}
 use Rattle.wmach.proofs.Sound.{StoreTyped, Sound, to_values, to_trap, either}
 use Rattle.wmach.proofs.SoundAccess.{with_written}
 use Rattle.wmach.proofs.SoundIndirect.{second_holds}

@@ -1,5 +1,5 @@
 -- The numeric instructions are sound.
-use Rattle.std.proofs.Common.{◌≡◌, ℕ, List, [], ◌∷◌, Option, refl, sym, ap, ◌∙◌, subst}
+use Rattle.std.proofs.Common.{◌≡◌, ℕ, List, ◌∷◌, Option, refl, sym, ap, ◌∙◌, subst}
 use Rattle.std.specs.Prelude.{Result, Ok, Err}
 use Rattle.wnum.specs.declared.trap.Trap.{Trap as Undefined}
 use Rattle.wcode.specs.declared.value.ValueType.{ValueType}
@@ -15,7 +15,7 @@ use Rattle.wcode.specs.Syntax.{Body}
 use Rattle.wbin.specs.Syntax.{ModuleSyntax}
 use Rattle.wbody.specs.Context.{Operands}
 use Rattle.wbody.specs.Typing.{Typed}
-use Rattle.wmach.specs.Configuration.{Store, Execution, instructions, trap, Reduction, leads_to}
+use Rattle.wmach.specs.Configuration.{Store, Execution, instructions, Reduction, leads_to}
 use Rattle.wmach.specs.Operands.{value_of, width_of}
 use Rattle.wmach.specs.Numeric.{unary_gives, binary_gives, test_gives, relation_gives, conversion_gives, converted_from, converted_to, trap_where, after_binary, reduce_unary, reduce_binary, reduce_test, reduce_relation, reduce_convert}
 use Rattle.wmach.specs.Fits.{types_of}

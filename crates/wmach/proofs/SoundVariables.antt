@@ -1,5 +1,5 @@
 -- The parametric and the variable instructions are sound.
-use Rattle.std.proofs.Common.{◌≡◌, ℕ, List, [], ◌∷◌, ◌++◌, Option, Some, None, map, refl, sym, ap, ◌∙◌, subst}
+use Rattle.std.proofs.Common.{◌≡◌, ℕ, List, [], ◌∷◌, Option, Some, None, map, refl, sym, ap, ◌∙◌, subst}
 use Rattle.std.specs.Prelude.{slice_get, slice_set, option_map, option_and_then, length, nat_lt, ◌==◌, if◌then◌else◌}
 use Rattle.std.proofs.lemmas.Option.{slice_get-map}
 use Rattle.wcode.specs.declared.value.ValueType.{ValueType}
@@ -10,8 +10,8 @@ use Rattle.wcode.specs.Operators.{type_of}
 use Rattle.wcode.specs.Syntax.{Body, plain}
 use Rattle.wbin.specs.declared.module.GlobalType.{GlobalType}
 use Rattle.wbin.specs.Syntax.{GlobalSyntax, ModuleSyntax}
-use Rattle.wbody.specs.Context.{Operands, Context}
-use Rattle.wbody.specs.Typing.{PlainType, takes_gives, of_found, TypeAllows, Typed}
+use Rattle.wbody.specs.Context.{Operands}
+use Rattle.wbody.specs.Typing.{takes_gives, of_found, TypeAllows, Typed}
 use Rattle.wmach.specs.Configuration.{Store, Execution, instructions, Reduction, leads_to}
 use Rattle.wmach.specs.Operands.{with_any}
 use Rattle.wmach.specs.Variables.{reduce_drop, reduce_select, reduce_local_get, reduce_local_set, reduce_local_tee, reduce_global_get, reduce_global_set}

@@ -1,5 +1,5 @@
 -- Progress and preservation: what is typed and under way is sound, whatever it is.
-use Rattle.std.proofs.Common.{◌≡◌, ℕ, suc, zero, ◌+◌, List, [], ◌∷◌, ◌++◌, Option, Some, None, length, reverse, map, refl, sym, ap, ◌∙◌, subst, append_assoc, arith, add-one, eq-eqb, Bool, true, false, drop, ◌-◌}
+use Rattle.std.proofs.Common.{◌≡◌, ℕ, suc, zero, ◌+◌, List, [], ◌∷◌, ◌++◌, Option, Some, None, length, reverse, map, refl, sym, ap, ◌∙◌, subst, append_assoc, add-one, eq-eqb, Bool, true, false, drop, ◌-◌}
 use Rattle.std.specs.Prelude.{slice_get, option_map, option_and_then, if◌then◌else◌, ◌==◌, nat_lt}
 use Rattle.std.proofs.lemmas.List.{reverse-reverse, length-reverse, length-map, append-nil}
 use Rattle.std.proofs.lemmas.Bool.{le-ltb, lt-ltb, eqb-true}
@@ -9,8 +9,8 @@ use Rattle.wcode.specs.declared.value.Value.{Value}
 use Rattle.wcode.specs.declared.instruction.Plain.TheVariants.{Br, Return}
 use Rattle.wcode.specs.Operators.{type_of}
 use Rattle.wcode.specs.Syntax.{Body, done, plain, block, loop, if_else, br_table}
-use Rattle.wbin.specs.Syntax.{Signature, FunctionSyntax, ModuleSyntax}
-use Rattle.wbody.specs.Context.{Operands, Context, at_most_one, body_context}
+use Rattle.wbin.specs.Syntax.{Signature, FunctionSyntax}
+use Rattle.wbody.specs.Context.{Operands, at_most_one, body_context}
 use Rattle.wbody.specs.Typing.{ends, Typed}
 use Rattle.wmach.specs.declared.outcome.Trap.TheVariants.{CallDepth}
 use Rattle.wmach.specs.Configuration.{Store, Setting, Execution, instructions, label, frame, invoke, trap, Reduction, leads_to}
@@ -21,7 +21,7 @@ use Rattle.wmach.specs.Fits.{types_of}
 use Rattle.wmach.specs.Outcome.{IsEnd}
 use Rattle.wmach.proofs.Values.{types_of-append, types_of-reverse, types_of-zeros, on_top, topmost_is, drop_is}
 use Rattle.wmach.proofs.TypedExecution.{inner_context, ExecutionTyped}
-use Rattle.wmach.proofs.Callable.{FunctionsRight, OwnFunction, HostFunction, Callable, own, host}
+use Rattle.wmach.proofs.Callable.{FunctionsRight, OwnFunction, Callable, own, host}
 use Rattle.wmach.proofs.Sequences.{followed_by-typed}
 use Rattle.wmach.proofs.Sound.{StoreTyped, Sound, goes, ended, branches, returns, found, to_trap}
 use Rattle.wmach.proofs.SoundHost.{sound_import}

@@ -1,5 +1,5 @@
 -- What is called of a module, the laws of all calls, and what a machine is seen as.
-use Rattle.std.specs.Prelude.{◌≡◌, ℕ, ◌*◌, ◌<◌, ◌≤◌, List, [], ◌∷◌, Option, Some, None, IfSome, option_map, map, replicate, slice_get}
+use Rattle.std.specs.Prelude.{◌≡◌, ℕ, ◌*◌, ◌<◌, ◌≤◌, List, [], ◌∷◌, Option, Some, None, IfSome, option_map, map, replicate}
 use Rattle.std.specs.List.{AllByRecursion}
 use Rattle.wcode.specs.declared.value.ValueType.{ValueType}
 use Rattle.wcode.specs.declared.value.ValueType.TheVariants.{I32, I64}
@@ -10,7 +10,6 @@ use Rattle.wcode.specs.Syntax.{Body, done, plain}
 use Rattle.wbin.specs.declared.module.Limits.{Limits}
 use Rattle.wbin.specs.declared.module.Module.{Module}
 use Rattle.wbin.specs.Syntax.{GlobalSyntax, ModuleSyntax, module_of}
-use Rattle.wbody.specs.Context.{function_types}
 use Rattle.wtype.specs.Accepted.{Accepted, export_named, filter_name, score_name}
 use Rattle.wmach.specs.declared.export.Export.{Export}
 use Rattle.wmach.specs.declared.export.Export.TheVariants.{Filter, Score, Start}
