@@ -1,7 +1,7 @@
 -- What was typed from the first instruction to the last has a typing, and its heights and notes are the body's.
-use Rattle.std.proofs.Common.{◌≡◌, ℕ, ◌+◌, ◌≤◌, ◌<◌, List, [], ◌∷◌, ◌++◌, Bool, true, false, Option, Some, None, length, max, refl, sym, ap, ◌∙◌, subst, append_assoc, arith}
+use Rattle.std.proofs.Common.{◌≡◌, ℕ, ◌+◌, ◌^◌, ◌-◌, ◌≤◌, ◌<◌, List, [], ◌∷◌, ◌++◌, Bool, true, false, Option, Some, None, length, max, refl, sym, ap, ◌∙◌, subst, append_assoc, arith}
 use Rattle.std.specs.Prelude.{option_and_then, nat_lt, ◌==◌, ◌&&◌, if◌then◌else◌}
-use Rattle.std.proofs.lemmas.List.{length-append, append-nil}
+use Rattle.std.proofs.lemmas.List.{length-append}
 use Rattle.std.proofs.lemmas.Bool.{ltb-true, eqb-true}
 use Rattle.wcode.specs.declared.value.ValueType.{ValueType}
 use Rattle.wcode.specs.declared.value.ValueType.TheVariants.{I32, I64}
@@ -10,12 +10,13 @@ use Rattle.wcode.specs.declared.value.BlockType.TheVariants.{Empty, Result}
 use Rattle.wcode.specs.declared.value.Value.TheVariants as value
 use Rattle.wcode.specs.declared.operator.BinOp.TheVariants as binary
 use Rattle.wcode.specs.declared.instruction.Plain.{Plain}
-use Rattle.wcode.specs.declared.instruction.Plain.TheVariants.{Const, Binary}
+use Rattle.wcode.specs.declared.instruction.Plain.TheVariants.{Const, Binary, Br, BrIf}
 use Rattle.wcode.specs.Syntax.{Body, done, plain, block, loop, if_else, br_table}
 use Rattle.wbody.specs.Context.{Operands, Context, results_of, with_label}
-use Rattle.wbody.specs.Typing.{PlainTyped, Typed, Weakened}
-use Rattle.wbody.specs.Heights.{height_after, greatest_height}
-use Rattle.wbody.specs.BodyTyped.{branch_notes}
+use Rattle.wbody.specs.Typing.{PlainType, takes_gives, only_where, TypeAllows, PlainTyped, Typed, Weakened}
+use Rattle.wbody.specs.Heights.{height_by, height_after, greatest_height}
+use Rattle.wcode.specs.Grammar.{Word, end, SpellsBody}
+use Rattle.wbody.specs.Branches.{Label, position, plain_branches, branches_of}
 use Rattle.wbody.specs.Walk.{State, same_type, top_is, tail_of, taken_off, left, pushed, walk_plain, walk}
 
 -- a chain of two that gives something, gives something in the middle
@@ -89,6 +90,11 @@ split (y ∷ more) below x xs e short =
     let head : x ≡ y = cc in
     record { more = more; is = ap (λ z. z ∷ more) (sym head); rest = cc }
 
+-- a rule that holds
+allowed : (b : Bool) (x : PlainType) → b ≡ true → only_where b x ≡ x
+allowed true x e = refl
+allowed false x e = absurd (cc)
+
 -- an instruction without others inside it was typed
 record PlainWalked (c : Context) (p : Plain) (floor : ℕ) (s s' : State) (t below : Operands) : Type 0 where
   between : Operands
@@ -100,17 +106,21 @@ record PlainWalked (c : Context) (p : Plain) (floor : ℕ) (s s' : State) (t bel
 
 plain_walked : (c : Context) (p : Plain) (heights : List ℕ) (floor : ℕ) (s s' : State) (t below : Operands) → s.operands ≡ t ++ below → length below ≡ floor → walk_plain c p heights floor s ≡ Some s' → PlainWalked c p floor s s' t below
 plain_walked c (Const (value.I32 n)) heights floor s s' t below is long e =
-    let same : pushed I32 s ≡ s' = cc in
+    let u = under (nat_lt n (2 ^ 32)) (pushed I32 s) s' e in
+    let same : pushed I32 s ≡ s' = u.1 in
+    let type : only_where (nat_lt n (2 ^ 32)) (takes_gives [] (I32 ∷ [])) ≡ takes_gives [] (I32 ∷ []) = allowed (nat_lt n (2 ^ 32)) (takes_gives [] (I32 ∷ [])) u.0 in
+    let higher : height_by (takes_gives [] (I32 ∷ [])) floor (length s.operands) ≡ length s.operands + 1 = omega (arith, ap length is, length-append t below) in
     let operands : I32 ∷ s.operands ≡ s'.operands = ap (λ (x : State). x.operands) same in
     let count : length s.operands + 1 ≡ length s'.operands = omega (arith, ap length operands) in
     record {
       between = I32 ∷ t;
       operands_are = sym operands ∙ ap (λ l. I32 ∷ l) is;
-      first = record { takes = []; gives = I32 ∷ []; below = t; rule = (refl, refl); before_is = refl; after_is = refl };
-      height = sym count;
+      first = record { takes = []; gives = I32 ∷ []; below = t; rule = subst (λ (r : PlainType). TypeAllows r [] (I32 ∷ [])) (sym type) (refl, refl); before_is = refl; after_is = refl };
+      height = sym count ∙ sym higher ∙ ap (λ (r : PlainType). height_by r floor (length s.operands)) (sym type);
       greatest = sym (ap (λ (x : State). x.greatest) same) ∙ ap (λ n. max s.greatest n) count;
       branches = sym (ap (λ (x : State). x.branches) same);
     }
+plain_walked c (Const (value.I64 n)) heights floor s s' t below is long e = absurd (cc)
 plain_walked c (Binary I32 binary.Add) heights floor s s' t below is long e =
     let a = through (λ one. option_and_then (λ two. Some (pushed I32 two)) (taken_off I32 floor one)) (taken_off I32 floor s) s' e in
     let b = through (λ two. Some (pushed I32 two)) (taken_off I32 floor a.mid) s' a.second in
@@ -148,7 +158,7 @@ pub record Walked (c : Context) (e : Body) (heights : List ℕ) (floor : ℕ) (s
   pub typed : Typed c e t leaves
   pub greatest : s'.greatest ≡ max s.greatest (greatest_height c e floor (length s.operands))
   pub enough : length s'.operands ≤ s'.greatest
-  pub branches : s'.branches ≡ s.branches ++ branch_notes c e heights floor (length s.operands)
+  pub branches : s'.branches ≡ s.branches
 
 -- behind a block there are just its results
 pub left_is : (bt : BlockType) (height : ℕ) (s s' : State) (t below : Operands) → s.operands ≡ t ++ below → length below ≡ height → left bt height s ≡ Some s' → (s ≡ s') × (t ≡ results_of bt)
@@ -185,7 +195,7 @@ walked done c heights floor s s' t below is long enough e =
       typed = refl;
       greatest = omega arith;
       enough = enough;
-      branches = sym (append-nil s.branches);
+      branches = refl;
     } in
     subst (λ x. Walked c done heights floor s x t below) same here
 walked (plain p rest) c heights floor s s' t below is long enough e =
@@ -203,7 +213,7 @@ walked (plain p rest) c heights floor s s' t below is long enough e =
       typed = record { between = w.between; first = w.first; others = r.typed };
       greatest = greatest_there ∙ ap (λ n. max s.greatest (max (length s.operands) (greatest_height c rest floor n))) w.height;
       enough = r.enough;
-      branches = r.branches ∙ ap (λ l. l ++ branch_notes c rest heights floor (length m.operands)) w.branches ∙ ap (λ n. s.branches ++ branch_notes c rest heights floor n) w.height;
+      branches = r.branches ∙ w.branches;
     }
 walked (block bt inside rest) c heights floor s s' t below is long enough e =
     let height = length s.operands in
@@ -220,7 +230,7 @@ walked (block bt inside rest) c heights floor s s' t below is long enough e =
     let count : length m.operands ≡ height + length (results_of bt) = omega (arith, ap length operands, length-append (results_of bt) s.operands) in
     let g_mid : m.greatest ≡ max s.greatest (greatest_height inner inside height height) = ap (λ (x : State). x.greatest) (sym l.0) ∙ i.greatest in
     let greatest_there : s'.greatest ≡ max s.greatest (max (greatest_height inner inside height height) (greatest_height c rest floor (length m.operands))) = omega (arith, r.greatest, g_mid) in
-    let branches_mid : m.branches ≡ s.branches ++ branch_notes inner inside (height ∷ heights) height height = ap (λ (x : State). x.branches) (sym l.0) ∙ i.branches in
+    let branches_mid : m.branches ≡ s.branches = ap (λ (x : State). x.branches) (sym l.0) ∙ i.branches in
     record {
       leaves = r.leaves;
       operands_are = r.operands_are;
@@ -231,12 +241,35 @@ walked (block bt inside rest) c heights floor s s' t below is long enough e =
       };
       greatest = greatest_there ∙ ap (λ n. max s.greatest (max (greatest_height inner inside height height) (greatest_height c rest floor n))) count;
       enough = r.enough;
-      branches =
-          r.branches
-          ∙ ap (λ l. l ++ branch_notes c rest heights floor (length m.operands)) branches_mid
-          ∙ append_assoc s.branches (branch_notes inner inside (height ∷ heights) height height) (branch_notes c rest heights floor (length m.operands))
-          ∙ ap (λ n. s.branches ++ (branch_notes inner inside (height ∷ heights) height height ++ branch_notes c rest heights floor n)) count;
+      branches = r.branches ∙ branches_mid;
     }
 walked (loop bt inside rest) c heights floor s s' t below is long enough e = absurd (cc)
 walked (if_else bt then_arm else_arm rest) c heights floor s s' t below is long enough e = absurd (cc)
 walked (br_table labels default rest) c heights floor s s' t below is long enough e = absurd (cc)
+
+none_plain : (c : Context) (p : Plain) (heights : List ℕ) (floor : ℕ) (s s' : State) (labels : List Label) (at : ℕ) → walk_plain c p heights floor s ≡ Some s' → plain_branches labels at p ≡ []
+none_plain c (Br n) heights floor s s' labels at e = absurd (cc)
+none_plain c (BrIf n) heights floor s s' labels at e = absurd (cc)
+none_plain c _ heights floor s s' labels at e = refl
+
+-- a body that was typed has no branches, wherever it is spelled
+pub no_branches : (e : Body) (c : Context) (heights : List ℕ) (floor : ℕ) (s s' : State) → walk c e heights floor s ≡ Some s' → (whole : ℕ) (room : ℕ) (last : Word) (bytes rest : List ℕ) (labels : List Label) (low height : ℕ) (spelled : SpellsBody room last bytes e rest) → branches_of whole c e room last bytes rest labels low height spelled ≡ []
+unfolding SpellsBody branches_of
+no_branches done c heights floor s s' e whole room last bytes rest labels low height spelled = refl
+no_branches (plain p next) c heights floor s s' e whole room last bytes rest labels low height spelled =
+    let a = through (walk c next heights floor) (walk_plain c p heights floor s) s' e in
+    let first : plain_branches labels (position whole bytes) p ≡ [] = none_plain c p heights floor s a.mid labels (position whole bytes) a.first in
+    ap (λ l. l ++ branches_of whole c next room last spelled.0 rest labels low (height_after c p low height) spelled.2) first
+    ∙ no_branches next c heights floor a.mid s' a.second whole room last spelled.0 rest labels low (height_after c p low height) spelled.2
+no_branches (block t inside next) c heights floor s s' e whole room last bytes rest labels low height spelled =
+    let h = length s.operands in
+    let inner = with_label (results_of t) c in
+    let a = through (walk c next heights floor) (option_and_then (left t h) (walk inner inside (h ∷ heights) h s)) s' e in
+    let b = through (left t h) (walk inner inside (h ∷ heights) h s) a.mid a.first in
+    let label : Label = record { target = position whole spelled.2; height = height; arity = length (results_of t) } in
+    let i = no_branches inside inner (h ∷ heights) h s b.mid b.first whole (room - 1) end spelled.1 spelled.2 (label ∷ labels) height height spelled.4 in
+    ap (λ l. l ++ branches_of whole c next room last spelled.2 rest labels low (height + length (results_of t)) spelled.5) i
+    ∙ no_branches next c heights floor a.mid s' a.second whole room last spelled.2 rest labels low (height + length (results_of t)) spelled.5
+no_branches (loop t inside next) c heights floor s s' e whole room last bytes rest labels low height spelled = absurd (cc)
+no_branches (if_else t yes_arm no_arm next) c heights floor s s' e whole room last bytes rest labels low height spelled = absurd (cc)
+no_branches (br_table targets default next) c heights floor s s' e whole room last bytes rest labels low height spelled = absurd (cc)

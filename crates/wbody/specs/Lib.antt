@@ -2,5 +2,6 @@ pub mod Fault
 pub mod Context
 pub mod Typing
 pub mod Heights
+pub mod Branches
 pub mod BodyTyped
 pub mod Walk

@@ -1,9 +1,10 @@
 -- The typing of a body as it is done: from the first instruction to the last, with the operands so far.
-use Rattle.std.specs.Prelude.{ℕ, ◌+◌, List, [], ◌∷◌, Bool, true, false, ◌&&◌, Option, Some, None, option_and_then, length, reverse, max, nat_lt, ◌==◌, if◌then◌else◌}
+use Rattle.std.specs.Prelude.{ℕ, ◌+◌, ◌^◌, List, [], ◌∷◌, Bool, true, false, ◌&&◌, Option, Some, None, option_and_then, length, reverse, max, nat_lt, ◌==◌, if◌then◌else◌}
 use Rattle.wcode.specs.declared.value.ValueType.{ValueType}
 use Rattle.wcode.specs.declared.value.ValueType.TheVariants.{I32, I64}
 use Rattle.wcode.specs.declared.value.BlockType.{BlockType}
 use Rattle.wcode.specs.declared.value.BlockType.TheVariants.{Empty, Result}
+use Rattle.wcode.specs.declared.value.Value.{Value}
 use Rattle.wcode.specs.declared.value.Value.TheVariants as value
 use Rattle.wcode.specs.declared.operator.BinOp.TheVariants as binary
 use Rattle.wcode.specs.declared.instruction.Plain.{Plain}
@@ -52,8 +53,13 @@ abbrev pub left : BlockType → (height : ℕ) → State → Option State
 left Empty height s = if length s.operands == height then Some s else None
 left (Result t) height s = if (length s.operands == height + 1) && top_is t height s.operands then Some s else None
 
+-- a constant
+abbrev pub walk_constant : Value → State → Option State
+walk_constant (value.I32 n) s = if nat_lt n (2 ^ 32) then Some (pushed I32 s) else None
+walk_constant (value.I64 n) s = None
+
 abbrev pub walk_plain : Context → Plain → (heights : List ℕ) → (floor : ℕ) → State → Option State
-walk_plain c (Const (value.I32 n)) heights floor s = Some (pushed I32 s)
+walk_plain c (Const v) heights floor s = walk_constant v s
 walk_plain c (Binary I32 binary.Add) heights floor s =
     option_and_then (λ one. option_and_then (λ two. Some (pushed I32 two)) (taken_off I32 floor one)) (taken_off I32 floor s)
 walk_plain c _ heights floor s = None

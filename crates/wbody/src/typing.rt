@@ -1,12 +1,12 @@
 // The typing of a body, instruction by instruction, with the types of the operands so far.
 
-ghost use Rattle.std.specs.Prelude.{◌≡◌, ℕ, List, ◌<◌, IfOk, IfErr, OnOk, OnErr, Some, None, MatchBool, vec_len};
+ghost use Rattle.std.specs.Prelude.{◌≡◌, ℕ, List, ◌<◌, ◌^◌, IfOk, IfErr, OnOk, OnErr, Some, None, MatchBool, vec_len};
 ghost use Rattle.wcode.specs.Syntax.{Body, with_instr, body_of};
 ghost use Rattle.wbin.specs.Syntax.{module_of};
 ghost use Rattle.wbody.specs.Context.{Context, results_of, at_most_one};
 ghost use Rattle.wbody.specs.BodyTyped.{BodyTyped};
 ghost use Rattle.wbody.specs.Fault.{IsOfBody};
-ghost use Rattle.wbody.specs.Walk.{state_of, walk, walk_plain, pushed, taken_off, left};
+ghost use Rattle.wbody.specs.Walk.{state_of, walk, walk_constant, walk_plain, pushed, taken_off, left};
 
 use crate::fault::TypeFault;
 use crate::notes::{BranchNote, Notes};
@@ -56,13 +56,32 @@ fn take_off(typing: &mut Typing, floor: usize, wanted: ValueType) -> Result<(), 
     }
 }
 
+// A number of 32 bits is one; for the proof alone.
+fn in_range(number: u32)
+    ensures { number < 2 ^ 32 }
+{}
+
+// A constant, which is an i32.
+fn type_constant(typing: &mut Typing, value: Value) -> Result<(), Stop>
+    ensures ok { OnOk result (walk_constant value (state_of typing.old) ≡ Some (state_of typing.new)) }
+    ensures err { result ≡ Err Stop.Untyped → walk_constant value (state_of typing.old) ≡ None }
+{
+    match value {
+        Value::I32(number) => {
+            in_range(number);
+            push(typing, ValueType::I32)
+        }
+        Value::I64(_) => Err(Stop::Untyped),
+    }
+}
+
 // An instruction without others inside it.
 fn type_plain(typing: &mut Typing, plain: &Plain, floor: usize) -> Result<(), Stop>
     ensures ok { OnOk result ((c : Context) (heights : List ℕ) → walk_plain c plain.now heights floor (state_of typing.old) ≡ Some (state_of typing.new)) }
     ensures err { result ≡ Err Stop.Untyped → (c : Context) (heights : List ℕ) → walk_plain c plain.now heights floor (state_of typing.old) ≡ None }
 {
     match plain {
-        Plain::Const(Value::I32(_)) => push(typing, ValueType::I32),
+        Plain::Const(value) => type_constant(typing, *value),
         Plain::Binary(ValueType::I32, BinOp::Add) => {
             take_off(typing, floor, ValueType::I32)?;
             take_off(typing, floor, ValueType::I32)?;

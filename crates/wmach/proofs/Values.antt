@@ -1,9 +1,10 @@
 -- Values and their types.
-use Rattle.std.proofs.Common.{◌≡◌, ℕ, suc, zero, ◌≤◌, List, [], ◌∷◌, ◌++◌, Some, None, length, reverse, map, take, drop, refl, sym, ap, ◌∙◌, subst, arith, true}
-use Rattle.std.specs.Prelude.{slice_get, nat_le, if◌then◌else◌}
+use Rattle.std.proofs.Common.{◌≡◌, ℕ, suc, zero, ◌≤◌, List, [], ◌∷◌, ◌++◌, Option, Some, None, length, reverse, map, take, drop, refl, sym, ap, ◌∙◌, subst, arith, Bool, true, false}
+use Rattle.std.specs.Prelude.{slice_get, slice_set, nat_le, nat_lt, option_map, if◌then◌else◌}
 use Rattle.std.specs.List.{AllByRecursion}
 use Rattle.std.proofs.lemmas.List.{map-append, length-append, length-map}
-use Rattle.std.proofs.lemmas.Bool.{le-leb}
+use Rattle.std.proofs.lemmas.Bool.{le-leb, lt-ltb}
+use Rattle.std.proofs.lemmas.Option.{slice_get-map, slice_get_within}
 use Rattle.std.proofs.Math.Seq.{take-append_seam, drop-append_seam}
 use mathlib.Core.List.{reverse-cons}
 use Rattle.wcode.specs.declared.value.ValueType.{ValueType}
@@ -11,8 +12,10 @@ use Rattle.wcode.specs.declared.value.ValueType.TheVariants.{I32, I64}
 use Rattle.wcode.specs.declared.value.Value.{Value}
 use Rattle.wcode.specs.declared.value.Value.TheVariants as value
 use Rattle.wbody.specs.Context.{Operands}
-use Rattle.wmach.specs.Operands.{topmost, value_of}
-use Rattle.wmach.specs.Fits.{type_of, types_of}
+use Rattle.wmach.specs.Configuration.{Reduction}
+use Rattle.wmach.specs.Operands.{topmost, value_of, with_any, with_one, with_two}
+use Rattle.wcode.specs.Operators.{type_of}
+use Rattle.wmach.specs.Fits.{types_of}
 
 pub types_of-append : (vs ws : List Value) → types_of (vs ++ ws) ≡ types_of vs ++ types_of ws
 types_of-append vs ws = map-append type_of vs ws
@@ -31,34 +34,85 @@ types_of-zeros [] = refl
 types_of-zeros (I32 ∷ ts) = ap (λ l. I32 ∷ l) (types_of-zeros ts)
 types_of-zeros (I64 ∷ ts) = ap (λ l. I64 ∷ l) (types_of-zeros ts)
 
--- a value of type i32 is a number
-pub record IsI32 (v : Value) : Type 0 where
+pub type_of_value : (t : ValueType) (n : ℕ) → type_of (value_of t n) ≡ t
+type_of_value I32 n = refl
+type_of_value I64 n = refl
+
+-- the topmost value of this type, and what lies below it
+pub record OneTaken (t : ValueType) (values : List Value) (below : Operands) : Type 0 where
   pub number : ℕ
-  pub is : v ≡ value.I32 number
-
-pub is_i32 : (v : Value) → type_of v ≡ I32 → IsI32 v
-is_i32 (value.I32 n) e = record { number = n; is = refl }
-is_i32 (value.I64 n) e = absurd (cc)
-
--- two values of type i32 on top
-pub record TwoI32 (vs : List Value) (below : Operands) : Type 0 where
-  pub second : ℕ
-  pub first : ℕ
   pub others : List Value
-  pub is : vs ≡ value.I32 second ∷ value.I32 first ∷ others
   pub others_are : types_of others ≡ below
+  pub goes : (go : ℕ → List Value → Option Reduction) → with_one t values go ≡ go number others
 
-pub two_i32 : (vs : List Value) (below : Operands) → types_of vs ≡ I32 ∷ I32 ∷ below → TwoI32 vs below
-two_i32 [] below e = absurd (cc)
-two_i32 (v ∷ []) below e = absurd (cc)
-two_i32 (v ∷ w ∷ vs) below e =
-    let ev : type_of v ≡ I32 = cc in
-    let ew : type_of w ≡ I32 = cc in
-    let es : types_of vs ≡ below = cc in
-    let a = is_i32 v ev in
-    let b = is_i32 w ew in
-    let is : v ∷ w ∷ vs ≡ value.I32 a.number ∷ value.I32 b.number ∷ vs = cc (a.is, b.is) in
-    record { second = a.number; first = b.number; others = vs; is = is; others_are = es }
+pub one_taken : (t : ValueType) (values : List Value) (below : Operands) → types_of values ≡ t ∷ below → OneTaken t values below
+one_taken t [] below e = absurd (cc)
+one_taken I32 (value.I32 n ∷ vs) below e = record { number = n; others = vs; others_are = cc; goes = λ go. refl }
+one_taken I32 (value.I64 n ∷ vs) below e = absurd (cc)
+one_taken I64 (value.I32 n ∷ vs) below e = absurd (cc)
+one_taken I64 (value.I64 n ∷ vs) below e = record { number = n; others = vs; others_are = cc; goes = λ go. refl }
+
+-- the two topmost values of this type, and what lies below them
+pub record TwoTaken (t : ValueType) (values : List Value) (below : Operands) : Type 0 where
+  pub first : ℕ
+  pub second : ℕ
+  pub others : List Value
+  pub others_are : types_of others ≡ below
+  pub goes : (go : ℕ → ℕ → List Value → Option Reduction) → with_two t values go ≡ go first second others
+
+pub two_taken : (t : ValueType) (values : List Value) (below : Operands) → types_of values ≡ t ∷ t ∷ below → TwoTaken t values below
+two_taken t values below e =
+    let upper = one_taken t values (t ∷ below) e in
+    let lower = one_taken t upper.others below upper.others_are in
+    record {
+      first = lower.number;
+      second = upper.number;
+      others = lower.others;
+      others_are = lower.others_are;
+      goes = λ go. upper.goes (λ second rest. with_one t rest (λ first more. go first second more)) ∙ lower.goes (λ first more. go first upper.number more);
+    }
+
+-- the topmost value, whatever its type
+pub record AnyTaken (t : ValueType) (values : List Value) (below : Operands) : Type 0 where
+  pub value : Value
+  pub others : List Value
+  pub type_is : type_of value ≡ t
+  pub others_are : types_of others ≡ below
+  pub goes : (go : Value → List Value → Option Reduction) → with_any values go ≡ go value others
+
+pub any_taken : (t : ValueType) (values : List Value) (below : Operands) → types_of values ≡ t ∷ below → AnyTaken t values below
+any_taken t [] below e = absurd (cc)
+any_taken t (v ∷ vs) below e = record { value = v; others = vs; type_is = cc; others_are = cc; goes = λ go. refl }
+
+-- one of two values of a type
+pub type_of_either : (t : ValueType) (v w : Value) (b : Bool) → type_of v ≡ t → type_of w ≡ t → type_of (if b then v else w) ≡ t
+type_of_either t v w true first second = first
+type_of_either t v w false first second = second
+
+-- the value at a place, by its type
+pub record ValueAt (t : ValueType) (o : Option Value) : Type 0 where
+  pub value : Value
+  pub is : o ≡ Some value
+  pub type_is : type_of value ≡ t
+
+value_given : (t : ValueType) (o : Option Value) → option_map type_of o ≡ Some t → ValueAt t o
+value_given t None e = absurd (cc)
+value_given t (Some v) e = record { value = v; is = refl; type_is = cc }
+
+pub value_at : (vs : List Value) (k : ℕ) (t : ValueType) → slice_get (types_of vs) k ≡ Some t → ValueAt t (slice_get vs k)
+value_at vs k t e = value_given t (slice_get vs k) (sym (slice_get-map type_of vs k) ∙ e)
+
+-- a value of the same type in its place
+pub types_of-set : (vs : List Value) (k : ℕ) (t : ValueType) (v : Value) → slice_get (types_of vs) k ≡ Some t → type_of v ≡ t → types_of (slice_set vs k v) ≡ types_of vs
+types_of-set [] k t v e is = absurd (cc)
+types_of-set (w ∷ vs) zero t v e is = let same : type_of w ≡ t = cc in ap (λ x. x ∷ types_of vs) (is ∙ sym same)
+types_of-set (w ∷ vs) (suc k) t v e is = ap (λ l. type_of w ∷ l) (types_of-set vs k t v e is)
+
+-- the place is there
+pub within_values : (vs : List Value) (k : ℕ) (t : ValueType) → slice_get (types_of vs) k ≡ Some t → nat_lt k (length vs) ≡ true
+within_values vs k t e =
+    let within = slice_get_within (types_of vs) k t e in
+    lt-ltb k (length vs) (omega (arith, within, length-map vs type_of))
 
 -- values of these types on top of others
 pub record OnTop (vs : List Value) (carries more : Operands) : Type 0 where

@@ -1,37 +1,31 @@
 -- What is called of a module, the laws of all calls, and what a machine is seen as.
-use Rattle.std.specs.Prelude.{◌≡◌, ℕ, ◌*◌, List, [], ◌∷◌, Option, Some, None, option_map, map, replicate, slice_get}
+use Rattle.std.specs.Prelude.{◌≡◌, ℕ, ◌*◌, ◌<◌, ◌≤◌, List, [], ◌∷◌, Option, Some, None, IfSome, option_map, map, replicate}
+use Rattle.std.specs.List.{AllByRecursion}
 use Rattle.wcode.specs.declared.value.ValueType.{ValueType}
+use Rattle.wcode.specs.declared.value.ValueType.TheVariants.{I32, I64}
 use Rattle.wcode.specs.declared.value.Value.{Value}
 use Rattle.wcode.specs.declared.instruction.Plain.TheVariants.{Const}
+use Rattle.wcode.specs.Operators.{type_of}
 use Rattle.wcode.specs.Syntax.{Body, done, plain}
 use Rattle.wbin.specs.declared.module.Limits.{Limits}
 use Rattle.wbin.specs.declared.module.Module.{Module}
 use Rattle.wbin.specs.Syntax.{GlobalSyntax, ModuleSyntax, module_of}
-use Rattle.wbody.specs.Context.{function_types}
 use Rattle.wtype.specs.Accepted.{Accepted, export_named, filter_name, score_name}
 use Rattle.wmach.specs.declared.export.Export.{Export}
 use Rattle.wmach.specs.declared.export.Export.TheVariants.{Filter, Score, Start}
 use Rattle.wmach.specs.declared.outcome.Outcome.{Outcome}
+use Rattle.wmach.specs.declared.outcome.Outcome.TheVariants as outcome
 use Rattle.wmach.specs.Configuration.{Store, Setting, Configuration}
-use Rattle.wmach.specs.Operands.{value_of}
-use Rattle.wmach.specs.Fits.{StoreFits, page_size}
-use Rattle.wmach.specs.Outcome.{Chain, Stuck, call_of, HasOutcome}
+use Rattle.wmach.specs.Operands.{value_of, InRange}
+use Rattle.wmem.specs.Memory.{page_size}
+use Rattle.wmach.specs.Fits.{StoreFits}
+use Rattle.wmach.specs.Outcome.{Chain, Stuck, call_of, cost_of, HasOutcome}
 
 -- the function that is called, by its index, if it is there
 abbrev pub called_function : ModuleSyntax → Export → Option ℕ
 called_function m Filter = option_map (λ e. e.index) (export_named filter_name m.exports)
 called_function m Score = option_map (λ e. e.index) (export_named score_name m.exports)
 called_function m Start = m.start
-
--- the function with this index takes nothing, and gives a result or none
-pub record CalledType (m : ModuleSyntax) (function : ℕ) : Type 0 where
-  pub result : Option ValueType
-  pub is : slice_get (function_types m) function ≡ Some (Some (record { parameters = []; result = result }))
-
--- With so much fuel a call of this function ends so and leaves the store, whatever the store and the records are.
-abbrev pub Ends : ModuleSyntax → (function fuel : ℕ) → Outcome → Type 0
-Ends m function fuel outcome =
-    (records : ℕ → Option (List ℕ)) (store : Store) → HasOutcome (record { module_syntax = m; records = records }) store function fuel outcome store
 
 -- No chain of reductions of a call leads to where neither a rule applies nor the call has ended: whatever
 -- accepted module, store that fits it, records, and function that can be called.
@@ -48,6 +42,68 @@ OneOutcome =
     (setting : Setting) (before : Store) (function fuel : ℕ) (first second : Outcome) (after_first after_second : Store) →
     HasOutcome setting before function fuel first after_first → HasOutcome setting before function fuel second after_second →
     (first ≡ second) × (after_first ≡ after_second)
+
+-- a record is bytes
+abbrev pub RecordsFit : (ℕ → Option (List ℕ)) → Type 0
+RecordsFit records = (import : ℕ) → IfSome (records import) (λ bytes. AllByRecursion (λ byte. byte < 256) bytes)
+
+-- the type of what a call gives
+abbrev pub result_type : Export → Option ValueType
+result_type Filter = Some I32
+result_type Score = Some I64
+result_type Start = None
+
+-- a value of an outcome is of this type and in range, or there is none where none is given
+abbrev pub ResultFits : Option ValueType → Outcome → Type 0
+ResultFits t (outcome.Value result cost) = (option_map type_of result ≡ t) × IfSome result InRange
+ResultFits t (outcome.Trap name cost) = Unit {0}
+ResultFits t (outcome.Exhausted cost) = Unit {0}
+
+-- What a call leaves, however it ends: a store that fits the module, so that it can be called again, and of a function
+-- that returned just its result.
+pub record CallLeaves (m : ModuleSyntax) (export : Export) (outcome : Outcome) (after : Store) : Type 0 where
+  pub store : StoreFits m after
+  pub result : ResultFits (result_type export) outcome
+
+abbrev pub WhatACallLeaves : Type 0
+WhatACallLeaves =
+    (setting : Setting) (before : Store) (export : Export) (function : ℕ) →
+    Accepted (setting.module_syntax) → StoreFits (setting.module_syntax) before → RecordsFit setting.records →
+    called_function (setting.module_syntax) export ≡ Some function →
+    (fuel : ℕ) (outcome : Outcome) (after : Store) → HasOutcome setting before function fuel outcome after → CallLeaves (setting.module_syntax) export outcome after
+
+-- an outcome of a call
+pub record SomeOutcome (setting : Setting) (before : Store) (function fuel : ℕ) : Type 0 where
+  pub outcome : Outcome
+  pub after : Store
+  pub is : HasOutcome setting before function fuel outcome after
+
+-- Every call ends: whatever accepted module, store that fits it, records and function that can be called, and however
+-- much fuel.
+abbrev pub CallsEnd : Type 0
+CallsEnd =
+    (setting : Setting) (before : Store) (export : Export) (function : ℕ) →
+    Accepted (setting.module_syntax) → StoreFits (setting.module_syntax) before →
+    called_function (setting.module_syntax) export ≡ Some function →
+    (fuel : ℕ) → SomeOutcome setting before function fuel
+
+-- No call costs more than its fuel.
+abbrev pub CostWithinFuel : Type 0
+CostWithinFuel =
+    (setting : Setting) (before : Store) (function fuel : ℕ) (outcome : Outcome) (after : Store) →
+    HasOutcome setting before function fuel outcome after → cost_of outcome ≤ fuel
+
+-- the call ended before its fuel did
+abbrev pub HasEnded : Outcome → Type 0
+HasEnded (outcome.Value result cost) = Unit {0}
+HasEnded (outcome.Trap name cost) = Unit {0}
+HasEnded (outcome.Exhausted cost) = ⊥
+
+-- With more fuel a call that ended ends alike, at the same cost.
+abbrev pub MoreFuelChangesNothing : Type 0
+MoreFuelChangesNothing =
+    (setting : Setting) (before : Store) (function fuel more : ℕ) (outcome : Outcome) (after : Store) →
+    fuel ≤ more → HasEnded outcome → HasOutcome setting before function fuel outcome after → HasOutcome setting before function more outcome after
 
 -- no records are given to a start function
 abbrev pub records_for : Export → (ℕ → Option (List ℕ)) → ℕ → Option (List ℕ)
@@ -88,3 +144,7 @@ first_store m = record {
   globals = map (λ (g : GlobalSyntax). constant_of g.first g.kind.value) m.globals;
   table = first_table m.tables;
 }
+
+-- The first store of an accepted module fits it.
+abbrev pub FirstStoreFits : Type 0
+FirstStoreFits = (m : ModuleSyntax) → Accepted m → StoreFits m (first_store m)

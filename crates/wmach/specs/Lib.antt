@@ -1,8 +1,13 @@
 pub mod Configuration
 pub mod Operands
+pub mod Numeric
+pub mod Variables
+pub mod Access
+pub mod Indirect
+pub mod Host
 pub mod Plain
 pub mod Reduction
 pub mod Fits
 pub mod Outcome
 pub mod Call
-pub mod Walk
+pub mod Trap

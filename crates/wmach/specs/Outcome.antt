@@ -38,6 +38,12 @@ values_of (Some v) = v ∷ []
 abbrev pub call_of : Store → ℕ → Configuration
 call_of store function = record { store = store; locals = []; execution = invoke [] function done }
 
+-- what a call cost
+abbrev pub cost_of : Outcome → ℕ
+cost_of (outcome.Value result cost) = cost
+cost_of (outcome.Trap name cost) = cost
+cost_of (outcome.Exhausted cost) = cost
+
 -- The outcome of a call with so much fuel, and the store where its chain stands.
 abbrev pub HasOutcome : Setting → Store → (function fuel : ℕ) → Outcome → (after : Store) → Type 0
 HasOutcome setting before function fuel (outcome.Value result cost) after =

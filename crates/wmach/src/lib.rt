@@ -1,16 +1,19 @@
-//! The machine that runs checked modules (WebAssembly Core 1.0, chapter 4).
+//! What a call of a checked module gives (WebAssembly Core 1.0, chapter 4): its outcome and its cost, by reduction rules,
+//! and what holds of every call.
+//!
+//! The rules stand in the definitions: `Reduction` has one case for each instruction, and `HasOutcome` says how chains of
+//! reductions end. The laws are functions that do nothing and promise what the rules keep.
 #![tactic(auto)]
 
 mod export;
-mod law;
-mod machine;
+mod host;
+mod laws;
 mod outcome;
-mod walk;
 
 pub use export::Export;
-pub use law::{never_stuck, one_outcome};
-pub use machine::{Host, Machine};
+pub use host::Host;
+pub use laws::{
+    calls_end, cost_within_fuel, first_store_fits, more_fuel_changes_nothing, never_stuck,
+    one_outcome, what_a_call_leaves,
+};
 pub use outcome::{Outcome, Trap};
-
-#[cfg(test)]
-mod tests;

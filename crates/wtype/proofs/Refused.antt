@@ -1,6 +1,6 @@
 -- What a part that was refused rules out.
 use Rattle.std.proofs.Common.{◌≡◌, ℕ, zero, suc, ◌+◌, ◌<◌, ◌≤◌, List, [], ◌∷◌, true, false, Option, Some, None, length, get_or, sym, ap, ◌∙◌, subst, arith, vec_len}
-use Rattle.std.specs.Prelude.{slice_get, option_map, ◌==◌}
+use Rattle.std.specs.Prelude.{IfSome, slice_get, option_map, ◌==◌}
 use Rattle.std.specs.declared.vec.Vec.{Vec}
 use Rattle.std.specs.declared.alloc.Global.{Global}
 use Rattle.std.specs.List.{AllByRecursion}
@@ -9,10 +9,9 @@ use Rattle.wbin.specs.declared.module.Function.{Function}
 use Rattle.wbin.specs.declared.module.FunctionType.{FunctionType}
 use Rattle.wbin.specs.Syntax.{Signature, FunctionSyntax, ModuleSyntax, module_of, function_of, signature_of, locals_of}
 use Rattle.wbody.specs.declared.notes.Notes.{Notes}
-use Rattle.wbody.specs.Context.{function_types, body_context}
-use Rattle.wbody.specs.Heights.{greatest_height}
+use Rattle.wbody.specs.Context.{function_types}
 use Rattle.wbody.specs.BodyTyped.{BodyTyped}
-use Rattle.wtype.specs.Accepted.{FunctionAccepted, FunctionFits, most_slots}
+use Rattle.wtype.specs.Accepted.{FunctionSmall, FunctionFits, slots_of, most_slots}
 use Rattle.wtype.proofs.Found.{found, missing, type_at}
 
 -- the function whose size it is
@@ -54,20 +53,18 @@ at_place P [] k x e all = absurd (cc)
 at_place P (y ∷ xs) zero x e all = let same : y ≡ x = cc in subst P same all.0
 at_place P (y ∷ xs) (suc k) x e all = at_place P xs k x e all.1
 
--- an accepted function whose body has these notes is small enough
-pub accepted_fits : (m : ModuleSyntax) (k : ℕ) (n : Notes) → BodyTyped m k n → AllByRecursion (FunctionAccepted m) m.functions → FunctionFits m k n.greatest_height
-accepted_fits m k n typed all =
+-- a function of a module in which all are small enough, whose body has these notes
+pub small_fits : (m : ModuleSyntax) (k : ℕ) (n : Notes) → BodyTyped m k n → AllByRecursion (FunctionSmall m) m.functions → FunctionFits m k n.greatest_height
+small_fits m k n typed all =
     let f = typed.function in
-    let a = at_place (FunctionAccepted m) m.functions k f typed.function_is all in
-    let t_is : typed.type ≡ a.type = cc (a.type_is, typed.type_is) in
-    let height : n.greatest_height ≡ greatest_height (body_context m a.type f.locals) f.body 0 0 =
-    typed.greatest ∙ ap (λ (t : Signature). greatest_height (body_context m t f.locals) f.body 0 0) t_is in
+    let a = at_place (FunctionSmall m) m.functions k f typed.function_is all in
+    let small : slots_of m typed.type f ≤ most_slots = subst (λ o. IfSome o (λ t. slots_of m t f ≤ most_slots)) typed.type_is a in
     record {
       function = f;
       function_is = typed.function_is;
-      type = a.type;
-      type_is = a.type_is;
-      small = subst (λ g. length a.type.parameters + length f.locals + g ≤ most_slots) (sym height) a.small;
+      type = typed.type;
+      type_is = typed.type_is;
+      small = subst (λ g. length typed.type.parameters + length f.locals + g ≤ most_slots) (sym typed.greatest) small;
     }
 
 -- a function whose type is past the types has none

@@ -1,9 +1,8 @@
 // A module that was found acceptable, and the test that finds it so.
 
 ghost use Rattle.std.specs.Prelude.{◌≡◌, ◌≢◌, [], IfOk, MatchBool};
-ghost use Rattle.std.specs.List.{AllByRecursion};
 ghost use Rattle.wbin.specs.Syntax.{module_of};
-ghost use Rattle.wtype.specs.Accepted.{Accepted, HasNoMore, ExportsRight, FunctionAccepted};
+ghost use Rattle.wtype.specs.Accepted.{Accepted, HasNoMore, ExportsRight, ModuleSmall};
 ghost use Rattle.wtype.specs.CheckedModule.{NotesAgree};
 
 use crate::exports::{are_right, name_something};
@@ -58,7 +57,7 @@ pub fn validate(alloc: Global, decoded: Module) -> Result<Checked, TypeFault>
     ensures bad_import { result ≡ Err TypeFault.BadImport → decoded.imports.items ≢ [] }
     ensures imports_first { decoded.imports.items ≢ [] → result ≡ Err TypeFault.BadImport }
     ensures bad_export { result ≡ Err TypeFault.BadExport → ExportsRight (module_of decoded) → ⊥ }
-    ensures over_limit { result ≡ Err TypeFault.OverLimit → AllByRecursion (FunctionAccepted (module_of decoded)) (module_of decoded).functions → ⊥ }
+    ensures over_limit { result ≡ Err TypeFault.OverLimit → ModuleSmall (module_of decoded) → ⊥ }
 {
     let untyped = TypeFault::Untyped {
         function: None,

@@ -1,4 +1,4 @@
-use Rattle.std.proofs.Common.{◌≡◌, [], ◌∷◌, ◌<◌, ◌≤◌, length, Some, map, reverse, ◌++◌, refl, ap, sym, ◌∙◌, subst, arith}
+use Rattle.std.proofs.Common.{◌≡◌, [], ◌∷◌, ◌<◌, ◌≤◌, length, Some, map, reverse, refl, ap, sym, ◌∙◌, subst, arith}
 use Rattle.std.specs.Prelude.{slice_get, option_map}
 use Rattle.std.proofs.lemmas.Option.{slice_get-map, slice_get-get_or}
 use Rattle.wcode.specs.Syntax.{body_of}
@@ -6,9 +6,10 @@ use Rattle.wbin.specs.Syntax.{module_of, function_of, signature_of}
 use Rattle.wbody.specs.Context.{at_most_one, body_context}
 use Rattle.wbody.specs.Typing.{Typed}
 use Rattle.wbody.specs.Heights.{greatest_height}
-use Rattle.wbody.specs.BodyTyped.{branch_notes}
+use Rattle.wcode.specs.Grammar.{end}
+use Rattle.wbody.specs.Branches.{position, notes_of}
 use Rattle.wbody.specs.Walk.{state_of, walk}
-use Rattle.wbody.proofs.Walked.{walked, left_is}
+use Rattle.wbody.proofs.Walked.{walked, left_is, no_branches}
 use Rattle.wbody.proofs.typing.type_body.Goals as goal
 
 pub returns-clause-typed : goal.returns-clause-typed
@@ -48,5 +49,7 @@ returns-clause-typed c =
       type_is = type_is;
       typed = subst (λ o. Typed context body [] o) leaves_are w.typed;
       greatest = greatest_is ∙ ap (λ n. greatest_height context body 0 n) at_zero;
-      branches = w.branches ∙ ap (λ l. l ++ branch_notes context body (0 ∷ []) 0 (length s.operands)) c.new-2.ensures.items ∙ ap (λ n. branch_notes context body (0 ∷ []) 0 n) at_zero;
+      branches = λ whole bytes rest spelled.
+          let none = no_branches body context (0 ∷ []) 0 s after walked_all whole 256 end bytes rest ((record { target = position whole rest; height = 0; arity = length (at_most_one type.result) }) ∷ []) 0 0 spelled in
+          w.branches ∙ c.new-2.ensures.items ∙ ap notes_of (sym none);
     }

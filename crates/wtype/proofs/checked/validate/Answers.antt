@@ -10,7 +10,7 @@ use Rattle.std.proofs.lemmas.Option.{slice_get-get_or}
 use Rattle.wbin.specs.Syntax.{function_of}
 use Rattle.wtype.proofs.Found.{with_last}
 use Rattle.wtype.proofs.Whole.{found_empty, after_push, after_push_len, same_at, accepted}
-use Rattle.wtype.proofs.Refused.{accepted_fits}
+use Rattle.wtype.proofs.Refused.{small_fits}
 use Rattle.wtype.proofs.checked.validate.Goals as goal
 
 pub bodies-preserved : goal.bodies-preserved
@@ -63,4 +63,4 @@ returns-then-not-fits-clause-over_limit c e all =
     let within : k < length notes.items =
     omega (arith, notes.ok.0, c.bodies.invariant.0, c.bodies-test.false, c.bodies.auto.function-end, c.len-function-end.ensures, c.sizes-test.true, c.len-function-end-2.ensures) in
     let at : slice_get notes.items k ≡ Some n = slice_get-get_or notes.items k n within ∙ ap Some (sym c.index.ensures) in
-    c.if-not-fits.ensures (accepted_fits m k n (c.bodies.invariant.1 k n at) all)
+    c.if-not-fits.ensures (small_fits m k n (c.bodies.invariant.1 k n at) all.functions)
