@@ -118,7 +118,7 @@ impl Book {
     }
 
     // An event that comes too late is refused.
-    fn is_newer(&self, version: Version) -> Result<(), Refusal>
+    fn check_version(&self, version: Version) -> Result<(), Refusal>
         ensures { result ≡ (if nat_le version.0 self.now.version then Err Refusal.Old else Ok tt) }
     {
         if version <= self.version {
@@ -130,7 +130,7 @@ impl Book {
     fn set_node(&mut self, version: Version, node: SharedNode) -> Result<Reply, Refusal>
         ensures { (queued queue_full : Bool) → IsTaken self.old (steps.Event (event.NodeSet version node) queued queue_full) result self.new }
     {
-        self.is_newer(version)?;
+        self.check_version(version)?;
         self.nodes.set(node)?;
         self.version = version;
         Ok(Reply::Done)
@@ -139,7 +139,7 @@ impl Book {
     fn remove_node(&mut self, version: Version, name: &Name) -> Result<Reply, Refusal>
         ensures { (queued queue_full : Bool) → IsTaken self.old (steps.Event (event.NodeGone version name.now) queued queue_full) result self.new }
     {
-        self.is_newer(version)?;
+        self.check_version(version)?;
         self.nodes.remove(name)?;
         self.version = version;
         Ok(Reply::Done)
@@ -155,7 +155,7 @@ impl Book {
     ) -> Result<Reply, Refusal>
         ensures { IsTaken self.old (steps.Event (event.PodPending version pod) queued queue_full) result self.new }
     {
-        self.is_newer(version)?;
+        self.check_version(version)?;
         if queued || self.places.has(&pod.uid) {
             return Err(Refusal::Known);
         }
@@ -175,7 +175,7 @@ impl Book {
     ) -> Result<Reply, Refusal>
         ensures { (queued queue_full : Bool) → IsTaken self.old (steps.Event (event.PodBound version uid node request) queued queue_full) result self.new }
     {
-        self.is_newer(version)?;
+        self.check_version(version)?;
         let place = Place {
             node,
             request,
@@ -189,7 +189,7 @@ impl Book {
     fn remove_pod(&mut self, version: Version, uid: &Name, queued: bool) -> Result<Reply, Refusal>
         ensures { (queue_full : Bool) → IsTaken self.old (steps.Event (event.PodGone version uid.now) queued queue_full) result self.new }
     {
-        self.is_newer(version)?;
+        self.check_version(version)?;
         if !self.places.remove(uid) && !queued {
             return Err(Refusal::Gone);
         }
