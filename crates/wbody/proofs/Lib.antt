@@ -1,2 +1,4 @@
 pub mod Trees
 pub mod Walked
+pub mod Operands
+pub mod Passed

@@ -5,3 +5,4 @@ pub mod Heights
 pub mod Branches
 pub mod BodyTyped
 pub mod Walk
+pub mod Pass
