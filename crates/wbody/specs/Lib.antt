@@ -6,3 +6,6 @@ pub mod Branches
 pub mod BodyTyped
 pub mod Walk
 pub mod Pass
+pub mod OperandStack
+pub mod Effect
+pub mod Scope

@@ -1,8 +1,12 @@
 //! The typing of function bodies (WebAssembly Core 1.0, 3.3 and 3.4.1).
 #![tactic(auto)]
 
+mod effect;
 mod fault;
 mod notes;
+mod operand_stack;
+mod scope;
+mod stop;
 mod typing;
 
 pub use fault::TypeFault;
