@@ -4,3 +4,6 @@ pub mod Operands
 pub mod Passed
 pub mod Alignment
 pub mod Found
+pub mod Outcomes
+pub mod Lengths
+pub mod Places

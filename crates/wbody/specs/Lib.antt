@@ -9,3 +9,4 @@ pub mod Pass
 pub mod OperandStack
 pub mod Effect
 pub mod Scope
+pub mod Standing

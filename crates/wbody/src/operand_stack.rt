@@ -1,11 +1,12 @@
 // The operands of a body as far as they are known, where its typing stands.
 
-ghost use Rattle.std.specs.Prelude.{◌≡◌, ◌≤◌, ◌<◌, ◌+◌, [], ◌∷◌, Some, None, IfOk, OnOk, OnErr, MatchOption, MatchResult, vec_len, length, reverse, max};
-ghost use Rattle.wbody.specs.Pass.{fresh, unreached, taken, given, drop_top, join_top, pass_type};
+ghost use Rattle.std.specs.Prelude.{false, ◌≡◌, ◌≤◌, ◌<◌, ◌+◌, [], ◌∷◌, Some, None, IfOk, OnOk, OnErr, MatchOption, MatchResult, vec_len, length, reverse, take, drop, max};
+ghost use Rattle.wbody.specs.Context.{results_of};
+ghost use Rattle.wbody.specs.Pass.{may_be, fits, closed, fresh, unreached, taken, given, drop_top, join_top, pass_type};
 
 use crate::stop::Stop;
 use std::alloc::{AllocError, Global};
-use wcode::ValueType;
+use wcode::{BlockType, ValueType};
 
 // The operands' types, the last one on top, none where one may be of any type. Those from the floor on are the innermost
 // block's; where it isn't reached, there are as many others under these as one likes.
@@ -17,6 +18,16 @@ pub struct OperandStack {
     greatest: usize,
     ghost in_range: { floor ≤ vec_len items },
     ghost enough: { vec_len items ≤ greatest },
+}
+
+// An operand may be of this type.
+fn may_be_of(t: ValueType, operand: Option<ValueType>) -> bool
+    ensures { result ≡ may_be t operand }
+{
+    match operand {
+        None => true,
+        Some(other) => t == other,
+    }
 }
 
 // There is no such operand.
@@ -119,6 +130,58 @@ impl OperandStack {
     {
         self.items.truncate(self.floor);
         self.reached = false;
+    }
+
+    // At the start of a block inside the innermost one.
+    pub fn open(&mut self)
+        ensures stack { stack_of self.new ≡ fresh }
+        ensures floor { self.new.floor ≡ vec_len self.old.items }
+        ensures items { self.new.items ≡ self.old.items }
+        ensures greatest { self.new.greatest ≡ self.old.greatest }
+    {
+        self.floor = self.items.len();
+        self.reached = true;
+    }
+
+    // There can be just the results of a block of this type.
+    fn has_results(&self, block_type: BlockType) -> bool
+        ensures { result ≡ fits (stack_of self.now) (results_of block_type) }
+    {
+        let count = self.items.len() - self.floor;
+        match block_type {
+            BlockType::Empty => count == 0,
+            BlockType::Result(t) => {
+                if count == 0 {
+                    !self.reached
+                } else {
+                    count == 1 && may_be_of(t, self.items[self.floor])
+                }
+            }
+        }
+    }
+
+    // Behind a block of this type, to the block that began at this height: there are just the results.
+    pub fn close(&mut self, block_type: BlockType, floor: usize, reached: bool) -> Result<(), Stop>
+        requires { floor ≤ self.old.floor }
+        ensures ok { OnOk result (closed block_type (record { operands = reverse (drop floor (below_of self.old)); reached = reached }) (stack_of self.old) ≡ Some (stack_of self.new)) }
+        ensures err { result ≡ Err Stop.Untyped → fits (stack_of self.old) (results_of block_type) ≡ false }
+        ensures floor { OnOk result (self.new.floor ≡ floor) }
+        ensures below { OnOk result (below_of self.new ≡ take floor (below_of self.old)) }
+        ensures greatest { OnOk result (self.new.greatest ≡ max self.old.greatest (vec_len self.new.items)) }
+    {
+        if !self.has_results(block_type) {
+            return Err(Stop::Untyped);
+        }
+        self.items.truncate(self.floor);
+        self.floor = floor;
+        self.reached = reached;
+        match block_type {
+            BlockType::Empty => Ok(()),
+            BlockType::Result(t) => {
+                self.give(Some(t))?;
+                Ok(())
+            }
+        }
     }
 
     // Puts an operand on top.

@@ -14,11 +14,14 @@ use crate::operand_stack::Effect;
 use wbin::{Function, FunctionType, GlobalType, GlobalVariable, Import, ImportKind, LocalRun};
 use wcode::{BlockType, CvtOp, MemArg, Plain, Value, ValueType};
 
-// A block whose end is to come: what opened it, and what it leaves.
+// A block whose end is to come: what opened it and what it leaves, and of the block around it where its operands begin and
+// whether the place before this one is reached.
 #[derive(Clone, Copy)]
 pub struct Level {
     pub kind: Opened,
     pub block_type: BlockType,
+    pub floor: usize,
+    pub reached: bool,
 }
 
 // What opened a block: of an `if` which of its arms it is.
