@@ -5,3 +5,4 @@ pub mod Unique
 pub mod Codes
 pub mod Outline
 pub mod Decoded
+pub mod Ids

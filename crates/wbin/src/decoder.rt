@@ -6,6 +6,7 @@ ghost use Rattle.wcode.specs.declared.fault.BinFault.TheVariants.{NoMemory};
 ghost use Rattle.wbin.specs.Syntax.{ModuleSyntax, FunctionSyntax, function_of, module_of};
 ghost use Rattle.wbin.specs.Grammar.{Lists, Starts, contents_of, header, function_with, Assembles, Spells};
 ghost use Rattle.wbin.specs.Codes.{code_of};
+ghost use Rattle.wbin.specs.Ids.{id_of};
 ghost use Rattle.wbin.specs.Outline.{section_of, Within, OutlinesUpTo};
 ghost use Rattle.wbin.specs.Decoded.{ReadsWhole, AssemblesTo};
 
@@ -15,7 +16,7 @@ use crate::module::{
     DataSegment, ElementSegment, Export, Function, FunctionType, GlobalVariable, Import, Limits,
     Module,
 };
-use crate::section::{Stretch, fenced, find_sections};
+use crate::section::{SectionId, Stretch, fenced, find_sections};
 use crate::types::TableType;
 use std::alloc::{AllocError, Global};
 use wcode::{BinFault, Kind};
@@ -41,11 +42,6 @@ pub fn decode(alloc: Global, bytes: &[u8]) -> Result<Module, BinFault>
         Err(fault) => Err(fault),
     }
 }
-
-/// Bytes spell one module at most.
-pub fn one_module()
-    ensures { (bytes : List ℕ) (m n : ModuleSyntax) → Spells bytes m → Spells bytes n → m ≡ n }
-{}
 
 // The length of the bytes, and their first eight.
 fn check_header(bytes: &[u8]) -> Result<(), BinFault>
@@ -82,17 +78,17 @@ fn assemble(
     requires { All (Within bytes.now) sections.now }
     ensures { AssemblesTo (map (section_of bytes.now) sections.now) fault result }
 {
-    let types = read_list::<FunctionType>(alloc, bytes, sections, 1)?;
-    let imports = read_list::<Import>(alloc, bytes, sections, 2)?;
-    let signatures = read_list::<u32>(alloc, bytes, sections, 3)?;
-    let tables = read_list::<TableType>(alloc, bytes, sections, 4)?;
-    let memories = read_list::<Limits>(alloc, bytes, sections, 5)?;
-    let globals = read_list::<GlobalVariable>(alloc, bytes, sections, 6)?;
-    let exports = read_list::<Export>(alloc, bytes, sections, 7)?;
+    let types = read_list::<FunctionType>(alloc, bytes, sections, SectionId::Type)?;
+    let imports = read_list::<Import>(alloc, bytes, sections, SectionId::Import)?;
+    let signatures = read_list::<u32>(alloc, bytes, sections, SectionId::Function)?;
+    let tables = read_list::<TableType>(alloc, bytes, sections, SectionId::Table)?;
+    let memories = read_list::<Limits>(alloc, bytes, sections, SectionId::Memory)?;
+    let globals = read_list::<GlobalVariable>(alloc, bytes, sections, SectionId::Global)?;
+    let exports = read_list::<Export>(alloc, bytes, sections, SectionId::Export)?;
     let start = read_start(alloc, bytes, sections)?;
-    let element_segments = read_list::<ElementSegment>(alloc, bytes, sections, 9)?;
-    let codes = read_list::<FunctionCode>(alloc, bytes, sections, 10)?;
-    let data_segments = read_list::<DataSegment>(alloc, bytes, sections, 11)?;
+    let element_segments = read_list::<ElementSegment>(alloc, bytes, sections, SectionId::Element)?;
+    let codes = read_list::<FunctionCode>(alloc, bytes, sections, SectionId::Code)?;
+    let data_segments = read_list::<DataSegment>(alloc, bytes, sections, SectionId::Data)?;
     no_fault(fault)?;
     if signatures.len() != codes.len() {
         return Err(malformed(Kind::CountMismatch, bytes.len()));
@@ -130,10 +126,10 @@ fn read_list<E: Entry>(
     alloc: Global,
     bytes: &[u8],
     sections: &[Stretch],
-    id: u8,
+    id: SectionId,
 ) -> Result<Vec<E::Out>, BinFault>
     requires { All (Within bytes.now) sections.now }
-    ensures { ReadsWhole (Lists E.spells (contents_of id (map (section_of bytes.now) sections.now))) (λ v. map E.seen v.items) result }
+    ensures { ReadsWhole (Lists E.spells (contents_of (id_of id) (map (section_of bytes.now) sections.now))) (λ v. map E.seen v.items) result }
 {
     match find_section(sections, id) {
         Some(section) => read_filling::<Many<E>>(alloc, bytes, section),
@@ -146,7 +142,7 @@ fn read_start(alloc: Global, bytes: &[u8], sections: &[Stretch]) -> Result<Optio
     requires { All (Within bytes.now) sections.now }
     ensures { ReadsWhole (Starts (contents_of 8 (map (section_of bytes.now) sections.now))) (λ s. s) result }
 {
-    match find_section(sections, 8) {
+    match find_section(sections, SectionId::Start) {
         Some(section) => match read_filling::<u32>(alloc, bytes, section) {
             Ok(index) => Ok(Some(index)),
             Err(fault) => Err(fault),
@@ -156,10 +152,11 @@ fn read_start(alloc: Global, bytes: &[u8], sections: &[Stretch]) -> Result<Optio
 }
 
 // The section of this number.
-fn find_section(sections: &[Stretch], id: u8) -> Option<Stretch>
-    ensures { result ≡ find (λ s. s.id == id) sections.now }
+fn find_section(sections: &[Stretch], id: SectionId) -> Option<Stretch>
+    ensures { result ≡ find (λ s. s.id == id_of id) sections.now }
 {
-    sections.iter().copied().find(|s| s.id == id)
+    let number = id.number();
+    sections.iter().copied().find(|s| s.id == number)
 }
 
 // What fills a section.

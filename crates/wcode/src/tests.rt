@@ -512,29 +512,7 @@ fn nesting(rt: HostRuntime) -> Result<(), Fail> {
 }
 
 #[test]
-fn numbers_and_names(rt: HostRuntime) -> Result<(), Fail> {
-    assert_eq!(rt; Kind::Truncated.number(), 1);
-    assert_eq!(rt; Kind::BadMagic.number(), 2);
-    assert_eq!(rt; Kind::BadVersion.number(), 3);
-    assert_eq!(rt; Kind::BadSection.number(), 4);
-    assert_eq!(rt; Kind::BadNumber.number(), 5);
-    assert_eq!(rt; Kind::BadType.number(), 6);
-    assert_eq!(rt; Kind::BadOpcode.number(), 7);
-    assert_eq!(rt; Kind::BadName.number(), 8);
-    assert_eq!(rt; Kind::CountMismatch.number(), 9);
-    assert_eq!(rt; Kind::TooDeep.number(), 10);
-    assert_eq!(rt; Kind::TooLong.number(), 11);
-    assert_eq!(rt; Kind::Truncated.name(), "Truncated");
-    assert_eq!(rt; Kind::BadMagic.name(), "BadMagic");
-    assert_eq!(rt; Kind::BadVersion.name(), "BadVersion");
-    assert_eq!(rt; Kind::BadSection.name(), "BadSection");
-    assert_eq!(rt; Kind::BadNumber.name(), "BadNumber");
-    assert_eq!(rt; Kind::BadType.name(), "BadType");
-    assert_eq!(rt; Kind::BadOpcode.name(), "BadOpcode");
-    assert_eq!(rt; Kind::BadName.name(), "BadName");
-    assert_eq!(rt; Kind::CountMismatch.name(), "CountMismatch");
-    assert_eq!(rt; Kind::TooDeep.name(), "TooDeep");
-    assert_eq!(rt; Kind::TooLong.name(), "TooLong");
+fn printed_faults(rt: HostRuntime) -> Result<(), Fail> {
     let cut = BinFault::Malformed {
         kind: Kind::Truncated,
         place: 4,
