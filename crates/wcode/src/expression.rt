@@ -242,8 +242,9 @@ fn table_of(labels: Vec<u32>, default: u32) -> Instr
     Instr::BrTable(labels, default)
 }
 
+/// An opcode that can't stand there.
 #[cold]
-fn bad_opcode(place: usize) -> BinFault
+pub fn bad_opcode(place: usize) -> BinFault
     ensures { result ≢ NoMemory }
 {
     BinFault::Malformed {
@@ -252,8 +253,9 @@ fn bad_opcode(place: usize) -> BinFault
     }
 }
 
+/// A block with more around it than there may be.
 #[cold]
-fn too_deep(place: usize) -> BinFault
+pub fn too_deep(place: usize) -> BinFault
     ensures { result ≢ NoMemory }
 {
     BinFault::Malformed {

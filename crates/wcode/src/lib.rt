@@ -3,6 +3,7 @@
 //! instruction and one expression at most.
 #![tactic(auto)]
 
+mod blocks;
 mod expression;
 mod fault;
 mod instruction;
@@ -10,14 +11,17 @@ mod laws;
 mod opcode;
 mod operator;
 mod reading;
+mod skipping;
 mod value;
 
+pub use blocks::Block;
 pub use expression::{NESTING, read_expr};
 pub use fault::{BinFault, Kind, OpFault};
 pub use instruction::{Instr, MemArg, Op, Plain};
-pub use laws::{one_expression, one_word};
+pub use laws::{blocks_are_spelled, blocks_stay, one_body_at, one_expression, one_word};
 pub use operator::{BinOp, CvtOp, LoadOp, RelOp, Sign, StoreOp, TestOp, UnOp};
 pub use reading::{read_label, read_op};
+pub use skipping::{read_constant, skip_expr};
 pub use value::{BlockType, Value, ValueType};
 
 #[cfg(test)]
