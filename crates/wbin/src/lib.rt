@@ -7,6 +7,7 @@ mod decoder;
 mod entry;
 mod laws;
 mod module;
+mod part;
 mod parts;
 mod section;
 mod types;
@@ -14,8 +15,8 @@ mod types;
 pub use decoder::{LONGEST, decode};
 pub use laws::one_module;
 pub use module::{
-    DataSegment, ElementSegment, Export, ExportKind, Function, FunctionType, GlobalType,
-    GlobalVariable, Import, ImportKind, Limits, LocalRun, Module,
+    DataSegment, ElementSegment, Export, ExportKind, FunctionCode, FunctionType, GlobalType,
+    GlobalVariable, Import, ImportKind, Limits, LocalRun, Module, Place, Tables,
 };
 
 #[cfg(test)]

@@ -5,6 +5,7 @@ use super::ValueType::{I32, I64};
 use super::*;
 use crate::expression::read_expr;
 use crate::reading::read_op;
+use crate::skipping::{read_constant, skip_expr};
 use std::process::Abort;
 use std::test::Fail;
 
@@ -438,6 +439,37 @@ fn trees(rt: HostRuntime) -> Result<(), Fail> {
         [Instr::BrTable(labels, 8)] => assert_eq!(rt; labels.as_slice(), [5, 6, 7].as_slice()),
         _ => panic!(rt; "not a table"),
     }
+    Ok(())
+}
+
+// The places of the blocks, counted by hand and as `wasm-objdump -d` shows the opcodes.
+#[test]
+fn blocks_of_expressions(rt: HostRuntime) -> Result<(), Fail> {
+    let bytes = [
+        0x02, 0x40, 0x0B, // a block
+        0x04, 0x40, 0x01, 0x05, 0x03, 0x40, 0x0B, 0x0B, // an if with a loop in its else arm
+        0x0B,
+    ];
+    let wanted = [(None, 3), (Some(7), 11), (None, 10)];
+    let (blocks, end) = skip_expr(rt.alloc(), &bytes, 0)?;
+    assert_eq!(rt; end, 12);
+    assert_eq!(rt; blocks.len(), 3);
+    for (i, (else_arm, after)) in wanted.into_iter().enumerate() {
+        assert_eq!(rt; blocks.get(i).copied(), Some(Block { else_arm, after }));
+    }
+    Ok(())
+}
+
+#[test]
+fn constants_alone(rt: HostRuntime) -> Result<(), Fail> {
+    assert_eq!(rt; read_constant(&[0x41, 0x07, 0x0B], 0), Some(Value::I32(7)));
+    assert_eq!(rt;
+        read_constant(&[0x0B, 0x42, 0x7F, 0x0B], 1),
+        Some(Value::I64(u64::MAX))
+    );
+    assert_eq!(rt; read_constant(&[0x0B], 0), None);
+    assert_eq!(rt; read_constant(&[0x23, 0x00, 0x0B], 0), None);
+    assert_eq!(rt; read_constant(&[0x41, 0x07, 0x01, 0x0B], 0), None);
     Ok(())
 }
 
