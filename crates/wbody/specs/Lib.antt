@@ -4,7 +4,6 @@ pub mod Typing
 pub mod Heights
 pub mod Branches
 pub mod BodyTyped
-pub mod Walk
 pub mod Pass
 pub mod OperandStack
 pub mod Effect

@@ -7,8 +7,6 @@ mod notes;
 mod operand_stack;
 mod scope;
 mod stop;
-mod typing;
 
 pub use fault::TypeFault;
 pub use notes::{BranchNote, Notes};
-pub use typing::type_body;
