@@ -7,3 +7,5 @@ pub mod Lengths
 pub mod Places
 pub mod Steps
 pub mod Results
+pub mod Inside
+pub mod LevelLists

@@ -22,7 +22,8 @@ use Rattle.wbody.specs.Scope.{carried, carried_by, IsScope}
 use Rattle.wbody.specs.declared.scope.Scope.{Scope}
 use Rattle.wbody.specs.OperandStack.{stack_of, below_of, SameBlock}
 use Rattle.wbody.specs.Standing.{Open, inner_context, finish, resume, outcome, second_peak, low_of, outer_peak, Layers, Spelled, GoesOn, Stands}
-use Rattle.wbody.proofs.Operands.{when_true}
+use Rattle.wbody.specs.Steps.{Opens}
+use Rattle.wbody.proofs.Operands.{when_true, under}
 use Rattle.wbody.proofs.Lengths.{height_passed, length-take_types}
 use Rattle.wbody.proofs.Outcomes.{resume_none, outcome_plain, outcome_plain_none, outcome_table, outcome_table_none, opened_block, opened_loop, opened_first, opened_second, outcome_block, outcome_loop, outcome_if, outcome_if_none, outcome_else, outcome_else_none, outcome_left, outcome_left_none}
 use Rattle.wbody.proofs.Places.{plain_next, table_next, block_next, loop_next, if_next, ends_here, else_of, end_of}
@@ -105,15 +106,6 @@ table_stop c total peak final bytes more levels s labels default st w passes =
     st.typed ∙ ap (λ r. outcome c os r (stack_of s)) q.rest_is ∙ outcome_table_none c os labels default q.next (stack_of s) (passes os st.layers)
 
 -- ---- blocks
-
--- what the code keeps of a block that was opened
-pub record Opens (s n : OperandStack) (v : Level) : Type 0 where
-  pub stack : stack_of n ≡ fresh
-  pub floor : n.floor ≡ vec_len s.items
-  pub items : n.items ≡ s.items
-  pub greatest : n.greatest ≡ s.greatest
-  pub outer_floor : v.floor ≡ s.floor
-  pub outer_reached : v.reached ≡ s.reached
 
 -- all operands are below a block that was opened
 below_opened : (s n : OperandStack) (v : Level) → Opens s n v → below_of n ≡ s.items.items
@@ -319,3 +311,120 @@ no_else c total peak final bytes more s st w = none st.blocks st.layers (ends_he
     none : (os : List Open) → Layers [] os (below_of s) → GoesOn os true more final → ⊥
     none [] l g = let e : true ≡ false = g.0 in absurd (cc)
     none (o ∷ os) l g = absurd l
+
+-- behind a block that leaves its results; an if without `else` leaves none
+finish_is : (k : Opened) (c : Context) (t : BlockType) (below inside r : Stack) (second : Body) → (k ≡ opened.First → second ≡ done) → (k ≡ opened.First → t ≡ Empty) → closed t below inside ≡ Some r → finish k c t below second inside ≡ Some r
+finish_is opened.Block c t below inside r second d f e = e
+finish_is opened.Loop c t below inside r second d f e = e
+finish_is opened.Second c t below inside r second d f e = e
+finish_is opened.First c t below inside r second d f e =
+    let there : closed Empty below inside ≡ Some r = subst (λ x. closed x below inside ≡ Some r) (f refl) e in
+    let u = under (fits inside []) (given [] below) r there in
+    ap (λ b. option_and_then (λ arm. option_and_then (closed t below) (pass (with_label (results_of t) c) b fresh)) (closed t below inside)) (d refl)
+    ∙ ap (λ x. option_and_then (λ arm. closed x below fresh) (closed x below inside)) (f refl)
+    ∙ ap (option_and_then (λ arm. closed Empty below fresh)) there
+    ∙ ap Some u.1
+
+finish_none : (k : Opened) (c : Context) (t : BlockType) (below inside : Stack) (second : Body) → closed t below inside ≡ None → finish k c t below second inside ≡ None
+finish_none opened.Block c t below inside second e = e
+finish_none opened.Loop c t below inside second e = e
+finish_none opened.Second c t below inside second e = e
+finish_none opened.First c t below inside second e = ap (option_and_then (λ arm. option_and_then (closed t below) (pass (with_label (results_of t) c) second fresh))) e
+
+-- an if without `else` that has a result leaves nothing
+finish_missing : (c : Context) (t : ValueType) (below inside : Stack) → finish opened.First c (Result t) below done inside ≡ None
+finish_missing c t below inside = both (closed (Result t) below inside)
+  where
+    both : (o : Option Stack) → option_and_then (λ (arm : Stack). closed (Result t) below fresh) o ≡ None
+    both None = refl
+    both (Some x) = refl
+
+-- a second arm that is absent has no more operands than there are before it
+second_low : (k : Opened) (c : Context) (t : BlockType) (second : Body) (low : ℕ) → (k ≡ opened.First → second ≡ done) → second_peak k c t second low ≤ low
+second_low opened.Block c t second low d = omega arith
+second_low opened.Loop c t second low d = omega arith
+second_low opened.Second c t second low d = omega arith
+second_low opened.First c t second low d =
+    let is : greatest_height (with_label (results_of t) c) second low low ≡ low = ap (λ b. greatest_height (with_label (results_of t) c) b low low) (d refl) in omega (arith, is)
+
+-- an `end` of a block that leaves its results
+pub end_step : (c : Context) (total : Option Stack) (peak : ℕ) (final bytes more : List ℕ) (v : Level) (levels : List Level) (s n : OperandStack) → Stands c total peak final bytes (v ∷ levels) s → SpellsWord bytes end more → (v.kind ≡ opened.First → v.block_type ≡ Empty) → closed v.block_type (record { operands = reverse (drop v.floor (below_of s)); reached = v.reached }) (stack_of s) ≡ Some (stack_of n) → n.floor ≡ v.floor → below_of n ≡ take v.floor (below_of s) → n.greatest ≡ max s.greatest (vec_len n.items) → Stands c total peak final more levels n
+end_step c total peak final bytes more v levels s n st w empty closes floor below greatest =
+    let t = top_level c v levels s st.blocks st.layers in
+    let o = t.o in
+    let os = t.others in
+    let here = inner_context c os in
+    let e = ends_here st.blocks st.rest bytes final false more st.spelled w in
+    let g = end_of os o more final (subst (λ l. GoesOn l false more final) t.is e.goes_on) in
+    let len_s = length s.items.items in
+    let len_n = length n.items.items in
+    let closes_o : closed o.type o.below (stack_of s) ≡ Some (stack_of n) = ap (λ x. closed x o.below (stack_of s)) t.type ∙ ap (λ x. closed v.block_type x (stack_of s)) t.below ∙ closes in
+    let leaves = finish_is o.kind here o.type o.below (stack_of s) (stack_of n) o.second g.0 (λ f. t.type ∙ empty (sym t.kind ∙ f)) closes_o in
+    let before : peak ≡ max s.greatest (max len_s (max (max (second_peak o.kind here o.type o.second (low_of o)) (greatest_height here o.next o.floor (low_of o + length (results_of o.type)))) (outer_peak c os))) =
+    st.height
+    ∙ ap (λ l. max s.greatest (max (greatest_height (inner_context c l) st.rest s.floor len_s) (outer_peak c l))) t.is
+    ∙ ap (λ r. max s.greatest (max (greatest_height (inner_context c (o ∷ os)) r s.floor len_s) (outer_peak c (o ∷ os)))) e.rest_is in
+    let floors : n.floor ≡ o.floor = floor ∙ sym t.floor in
+    let u = under (fits (stack_of s) (results_of o.type)) (given (results_of o.type) o.below) (stack_of n) closes_o in
+    let given_long : length (map Some (results_of o.type) ++ o.below.operands) ≡ length (stack_of n).operands = ap (λ (x : Stack). length x.operands) u.1 in
+    let len_is : low_of o + length (results_of o.type) ≡ len_n =
+    omega (arith, given_long, length-append (map Some (results_of o.type)) o.below.operands, length-map (results_of o.type) (λ x. Some x), count_of n, floors) in
+    let next_is : greatest_height here o.next o.floor (low_of o + length (results_of o.type)) ≡ greatest_height here o.next n.floor len_n =
+    ap (λ f. greatest_height here o.next f (low_of o + length (results_of o.type))) (sym floors) ∙ ap (greatest_height here o.next n.floor) len_is in
+    let second = second_low o.kind here o.type o.second (low_of o) g.0 in
+    let least = at_least here o.next n.floor len_n in
+    let enough : vec_len s.items ≤ s.greatest = s.enough in
+    record {
+      blocks = os;
+      rest = o.next;
+      spelled = g.1;
+      layers = subst (Layers levels os) (sym below) t.layers;
+      typed = st.typed ∙ ap (λ l. outcome c l st.rest (stack_of s)) t.is ∙ ap (λ r. outcome c (o ∷ os) r (stack_of s)) e.rest_is ∙ outcome_left c os o (stack_of s) (stack_of n) leaves;
+      height = omega (arith, before, next_is, second, least, len_is, enough, greatest, s.items.ok.0, n.items.ok.0);
+    }
+
+pub end_stop : (c : Context) (total : Option Stack) (peak : ℕ) (final bytes more : List ℕ) (v : Level) (levels : List Level) (s : OperandStack) → Stands c total peak final bytes (v ∷ levels) s → SpellsWord bytes end more → fits (stack_of s) (results_of v.block_type) ≡ false → total ≡ None
+end_stop c total peak final bytes more v levels s st w results =
+    let t = top_level c v levels s st.blocks st.layers in
+    let o = t.o in
+    let os = t.others in
+    let e = ends_here st.blocks st.rest bytes final false more st.spelled w in
+    let results_there : fits (stack_of s) (results_of o.type) ≡ false = subst (λ (b : BlockType). fits (stack_of s) (results_of b) ≡ false) (sym t.type) results in
+    let leaves : closed o.type o.below (stack_of s) ≡ None = ap (λ b. if b then Some (given (results_of o.type) o.below) else None) results_there in
+    st.typed ∙ ap (λ l. outcome c l st.rest (stack_of s)) t.is ∙ ap (λ r. outcome c (o ∷ os) r (stack_of s)) e.rest_is
+    ∙ outcome_left_none c os o (stack_of s) (finish_none o.kind (inner_context c os) o.type o.below (stack_of s) o.second leaves)
+
+-- an `end` of an if without `else` that has a result
+pub missing_stop : (c : Context) (total : Option Stack) (peak : ℕ) (final bytes more : List ℕ) (v : Level) (levels : List Level) (s : OperandStack) (r : ValueType) → Stands c total peak final bytes (v ∷ levels) s → SpellsWord bytes end more → v.kind ≡ opened.First → v.block_type ≡ Result r → total ≡ None
+missing_stop c total peak final bytes more v levels s r st w kind type =
+    let t = top_level c v levels s st.blocks st.layers in
+    let o = t.o in
+    let os = t.others in
+    let here = inner_context c os in
+    let e = ends_here st.blocks st.rest bytes final false more st.spelled w in
+    let g = end_of os o more final (subst (λ l. GoesOn l false more final) t.is e.goes_on) in
+    let first : o.kind ≡ opened.First = t.kind ∙ kind in
+    let leaves : finish o.kind here o.type o.below o.second (stack_of s) ≡ None =
+    ap (λ k. finish k here o.type o.below o.second (stack_of s)) first
+    ∙ ap (λ b. finish opened.First here o.type o.below b (stack_of s)) (g.0 first)
+    ∙ ap (λ x. finish opened.First here x o.below done (stack_of s)) (t.type ∙ type)
+    ∙ finish_missing here r o.below (stack_of s) in
+    st.typed ∙ ap (λ l. outcome c l st.rest (stack_of s)) t.is ∙ ap (λ x. outcome c (o ∷ os) x (stack_of s)) e.rest_is ∙ outcome_left_none c os o (stack_of s) leaves
+
+-- the `end` of the body
+pub record AtEnd (total : Option Stack) (peak : ℕ) (final more : List ℕ) (s : OperandStack) : Type 0 where
+  pub typed : total ≡ Some (stack_of s)
+  pub height : peak ≡ s.greatest
+  pub final_is : more ≡ final
+
+pub last_step : (c : Context) (total : Option Stack) (peak : ℕ) (final bytes more : List ℕ) (s : OperandStack) → Stands c total peak final bytes [] s → SpellsWord bytes end more → AtEnd total peak final more s
+last_step c total peak final bytes more s st w =
+    let e = ends_here st.blocks st.rest bytes final false more st.spelled w in
+    none st.blocks st.layers e.goes_on st.typed st.height e.rest_is
+  where
+    none : (os : List Open) → Layers [] os (below_of s) → GoesOn os false more final → total ≡ outcome c os st.rest (stack_of s) → peak ≡ max s.greatest (max (greatest_height (inner_context c os) st.rest s.floor (length s.items.items)) (outer_peak c os)) → st.rest ≡ done → AtEnd total peak final more s
+    none [] l g typed height d =
+        let last : peak ≡ max s.greatest (max (length s.items.items) 0) = height ∙ ap (λ r. max s.greatest (max (greatest_height c r s.floor (length s.items.items)) 0)) d in
+        let enough : vec_len s.items ≤ s.greatest = s.enough in
+        record { typed = typed ∙ ap (λ r. pass c r (stack_of s)) d; height = omega (arith, last, enough, s.items.ok.0); final_is = g.1 }
+    none (o ∷ os) l g typed height d = absurd l

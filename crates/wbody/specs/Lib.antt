@@ -9,3 +9,4 @@ pub mod OperandStack
 pub mod Effect
 pub mod Scope
 pub mod Standing
+pub mod Steps

@@ -7,6 +7,7 @@ mod notes;
 mod operand_stack;
 mod scope;
 mod stop;
+mod words;
 
 pub use fault::TypeFault;
 pub use notes::{BranchNote, Notes};

@@ -24,6 +24,17 @@ pub struct Level {
     pub reached: bool,
 }
 
+impl Default for Level {
+    fn default() -> Self {
+        Level {
+            kind: Opened::Block,
+            block_type: BlockType::Empty,
+            floor: 0,
+            reached: true,
+        }
+    }
+}
+
 // What opened a block: of an `if` which of its arms it is.
 #[derive(Clone, Copy)]
 pub enum Opened {
