@@ -9,7 +9,7 @@ use Rattle.wcode.specs.declared.value.BlockType.TheVariants.{Empty, Result}
 use Rattle.wcode.specs.declared.instruction.Plain.{Plain}
 use Rattle.wcode.specs.declared.opcode.Opening.TheVariants as openings
 use Rattle.wcode.specs.Syntax.{Body, done, plain, block, loop, if_else, br_table}
-use Rattle.wcode.specs.Grammar.{Word, one, opens, otherwise, end, table, SpellsWord}
+use Rattle.wcode.specs.Grammar.{Word, one, opens, otherwise, end, table, SpellsWord, SpellsExpr}
 use Rattle.wbody.specs.declared.scope.Opened.{Opened}
 use Rattle.wbody.specs.declared.scope.Opened.TheVariants as opened
 use Rattle.wbody.specs.declared.scope.Level.{Level}
@@ -22,7 +22,8 @@ use Rattle.wbody.specs.Scope.{carried, carried_by, IsScope}
 use Rattle.wbody.specs.declared.scope.Scope.{Scope}
 use Rattle.wbody.specs.OperandStack.{stack_of, below_of, SameBlock}
 use Rattle.wbody.specs.Standing.{Open, inner_context, finish, resume, outcome, second_peak, low_of, outer_peak, Layers, Spelled, GoesOn, Stands}
-use Rattle.wbody.specs.Steps.{Opens}
+use Rattle.wbody.specs.Steps.{Opens, IsPassed}
+use Rattle.wbody.proofs.Passed.{body_typed}
 use Rattle.wbody.proofs.Operands.{when_true, under}
 use Rattle.wbody.proofs.Lengths.{height_passed, length-take_types}
 use Rattle.wbody.proofs.Outcomes.{resume_none, outcome_plain, outcome_plain_none, outcome_table, outcome_table_none, opened_block, opened_loop, opened_first, opened_second, outcome_block, outcome_loop, outcome_if, outcome_if_none, outcome_else, outcome_else_none, outcome_left, outcome_left_none}
@@ -428,3 +429,25 @@ last_step c total peak final bytes more s st w =
         let enough : vec_len s.items ≤ s.greatest = s.enough in
         record { typed = typed ∙ ap (λ r. pass c r (stack_of s)) d; height = omega (arith, last, enough, s.items.ok.0); final_is = g.1 }
     none (o ∷ os) l g typed height d = absurd l
+
+-- where a body begins
+pub start : (c : Context) (body : Body) (final bytes : List ℕ) (s : OperandStack) → SpellsExpr bytes body final → stack_of s ≡ fresh → s.floor ≡ 0 → s.greatest ≡ 0 → Stands c (pass c body fresh) (greatest_height c body 0 0) final bytes [] s
+start c body final bytes s spelled stack floor greatest =
+    let few : length (stack_of s).operands ≡ 0 = ap (λ (x : Stack). length x.operands) stack in
+    let none : length s.items.items ≡ 0 = omega (arith, count_of s, few, floor) in
+    let heights : greatest_height c body s.floor (length s.items.items) ≡ greatest_height c body 0 0 =
+    ap (λ f. greatest_height c body f (length s.items.items)) floor ∙ ap (greatest_height c body 0) none in
+    record {
+      blocks = [];
+      rest = body;
+      spelled = record { by_else = false; after = final; here = spelled; goes_on = (refl, refl) };
+      layers = ap (λ f. take f s.items.items) floor;
+      typed = ap (pass c body) (sym stack);
+      height = omega (arith, heights, greatest);
+    }
+
+-- where a body ends
+pub finished : (c : Context) (body : Body) (final bytes more : List ℕ) (s : OperandStack) (t : BlockType) → Stands c (pass c body fresh) (greatest_height c body 0 0) final bytes [] s → SpellsWord bytes end more → fits (stack_of s) (results_of t) ≡ true → IsPassed c body t s.greatest
+finished c body final bytes more s t st w f =
+    let e = last_step c (pass c body fresh) (greatest_height c body 0 0) final bytes more s st w in
+    record { typed = body_typed body c (stack_of s) (results_of t) e.typed f; height = sym e.height }

@@ -1,12 +1,18 @@
 -- Only proofs need this: how the typing of a body goes over one word of its bytes.
-use Rattle.std.specs.Prelude.{◌≡◌, ℕ, List, [], ◌∷◌, ◌++◌, Option, None, reverse, vec_len}
+use Rattle.std.specs.Prelude.{◌≡◌, ℕ, Bool, true, false, List, [], ◌∷◌, ◌++◌, Option, None, reverse, vec_len}
 use Rattle.wcode.specs.Grammar.{Word, SpellsWord}
+use Rattle.wcode.specs.Syntax.{Body}
+use Rattle.wcode.specs.Shown.{Shows}
+use Rattle.wcode.specs.declared.instruction.Op.{Op}
+use Rattle.wcode.specs.declared.instruction.Op.TheVariants as ops
 use Rattle.wcode.specs.declared.value.BlockType.{BlockType}
 use Rattle.wbody.specs.declared.scope.Opened.{Opened}
 use Rattle.wbody.specs.declared.scope.Level.{Level}
 use Rattle.wbody.specs.declared.scope.Scope.{Scope}
 use Rattle.wbody.specs.declared.operand_stack.OperandStack.{OperandStack}
-use Rattle.wbody.specs.Context.{Context, at_most_one}
+use Rattle.wbody.specs.Context.{Context, at_most_one, results_of}
+use Rattle.wbody.specs.Typing.{Typed}
+use Rattle.wbody.specs.Heights.{greatest_height}
 use Rattle.wbody.specs.Pass.{Stack, fresh}
 use Rattle.wbody.specs.Scope.{IsScope}
 use Rattle.wbody.specs.OperandStack.{stack_of}
@@ -44,3 +50,13 @@ pub record Enters (kind : Opened) (type : BlockType) (old : List Level) (s : Ope
   pub kind_is : level.kind ≡ kind
   pub type_is : level.block_type ≡ type
   pub opens : Opens s n level
+
+-- what a word's instruction does to where the typing stands: at the body's own `end` nothing, and no block is open
+abbrev pub OverOp : Scope → Op → (ended : Bool) → (old : List Level) → OperandStack → (new : List Level) → OperandStack → Type 0
+OverOp scope op true old s new n = (op ≡ ops.End) × (old ≡ []) × (n ≡ s)
+OverOp scope op false old s new n = (bytes : List ℕ) (w : Word) → Shows bytes op w → GoesOver scope w old s new n
+
+-- a body has a typing to these results, and these are the most operands in it
+pub record IsPassed (c : Context) (body : Body) (results : BlockType) (greatest : ℕ) : Type 0 where
+  pub typed : Typed c body [] (results_of results)
+  pub height : greatest ≡ greatest_height c body 0 0

@@ -1,6 +1,7 @@
 //! The typing of function bodies (WebAssembly Core 1.0, 3.3 and 3.4.1).
 #![tactic(auto)]
 
+mod body;
 mod effect;
 mod fault;
 mod notes;
@@ -9,5 +10,6 @@ mod scope;
 mod stop;
 mod words;
 
+pub use body::type_body;
 pub use fault::TypeFault;
 pub use notes::{BranchNote, Notes};

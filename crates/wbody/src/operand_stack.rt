@@ -165,7 +165,7 @@ impl OperandStack {
     }
 
     // There can be just the results of a block of this type.
-    fn has_results(&self, block_type: BlockType) -> bool
+    pub fn has_results(&self, block_type: BlockType) -> bool
         ensures { result ≡ fits (stack_of self.now) (results_of block_type) }
     {
         let count = self.items.len() - self.floor;

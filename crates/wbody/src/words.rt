@@ -1,12 +1,7 @@
 // How the typing of a body goes over one word of its bytes.
 
 ghost use Rattle.wbody.specs.declared.scope.Scope.{Scope as TheScope};
-ghost use Rattle.std.specs.Prelude.{◌≡◌, ◌≤◌, [], ◌∷◌, ◌++◌, List, ℕ, MatchBool, OnOk, reverse, length, drop, slice_get};
-ghost use Rattle.std.specs.List.{list_all};
-ghost use Rattle.wcode.specs.Grammar.{SpellsIndices};
-ghost use Rattle.wbody.specs.Context.{at_most_one};
-ghost use Rattle.wbody.specs.Pass.{carries_these};
-ghost use Rattle.wbody.specs.Scope.{labels_of};
+ghost use Rattle.std.specs.Prelude.{◌≡◌, ◌≤◌, [], ◌∷◌, ◌++◌, List, MatchBool, OnOk};
 ghost use Rattle.wcode.specs.Grammar.{one, opens, otherwise, end};
 ghost use Rattle.wcode.specs.declared.opcode.Opening.TheVariants as openings;
 ghost use Rattle.wbody.specs.Steps.{GoesOver, StopsAt, Enters};
@@ -19,7 +14,7 @@ use crate::operand_stack::OperandStack;
 use crate::scope::{Level, Opened, Scope};
 use crate::stop::Stop;
 use smallvec::SmallVec;
-use wcode::{BlockType, Plain, ValueType, read_label};
+use wcode::{BlockType, Plain, ValueType};
 
 // Over an instruction without others inside it.
 pub fn pass_plain(
@@ -140,28 +135,4 @@ pub fn pass_end(stack: &mut OperandStack, level: Level) -> Result<(), Stop>
         return Err(Stop::Untyped);
     }
     stack.close(level.block_type, level.floor, level.reached)
-}
-
-// Each of so many labels, which stand in the bytes, carries this.
-fn all_carry(
-    scope: &Scope<'_>,
-    levels: &[Level],
-    bytes: &[u8],
-    at: usize,
-    count: u32,
-    carries: Option<ValueType>,
-) -> bool
-    requires within { at ≤ length bytes.now }
-    requires stands { (labels last : List ℕ) × (length labels ≡ count) × SpellsIndices (drop at bytes.now) labels last }
-    ensures { (labels last : List ℕ) → length labels ≡ count → SpellsIndices (drop at bytes.now) labels last → result ≡ list_all (λ l. carries_these (at_most_one carries) (slice_get (labels_of levels.now scope.now.result) l)) labels }
-{
-    let mut place = at;
-    'labels: for _i in 0..count {
-        let (label, next) = read_label(bytes, place);
-        place = next;
-        if scope.label(levels, label) != Some(carries) {
-            return false;
-        }
-    }
-    true
 }
