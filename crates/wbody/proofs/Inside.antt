@@ -1,11 +1,11 @@
 -- What is in reach inside open blocks.
-use Rattle.std.proofs.Common.{◌≡◌, List, [], ◌∷◌, ◌++◌, Option, map, reverse, refl, sym, ap, ◌∙◌}
+use Rattle.std.proofs.Common.{◌≡◌, List, [], ◌∷◌, ◌++◌, Option, map, reverse, refl, ap, ◌∙◌}
 use Rattle.wcode.specs.declared.value.ValueType.{ValueType}
 use Rattle.wcode.specs.declared.value.BlockType.{BlockType}
 use Rattle.wbody.specs.declared.scope.Opened.{Opened}
 use Rattle.wbody.specs.declared.scope.Level.{Level}
 use Rattle.wbody.specs.declared.scope.Scope.{Scope}
-use Rattle.wbody.specs.Context.{Context, results_of, at_most_one}
+use Rattle.wbody.specs.Context.{Context, results_of}
 use Rattle.wbody.specs.Scope.{IsScope, carried, carried_by, labels_of}
 use Rattle.wbody.specs.Steps.{IsBase}
 use Rattle.wbody.specs.Standing.{Open, inner_context, Layers}

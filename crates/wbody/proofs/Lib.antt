@@ -9,3 +9,4 @@ pub mod Steps
 pub mod Results
 pub mod Inside
 pub mod LevelLists
+pub mod Whole

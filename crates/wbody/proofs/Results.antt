@@ -1,5 +1,5 @@
 -- Whether just a block's results can be there.
-use Rattle.std.proofs.Common.{◌≡◌, ℕ, ◌+◌, ◌-◌, ◌≤◌, List, [], ◌∷◌, Bool, true, false, Option, length, reverse, drop, refl, sym, ap, ◌∙◌, arith, length-drop, eqb-true}
+use Rattle.std.proofs.Common.{◌≡◌, ℕ, ◌-◌, List, [], ◌∷◌, Bool, true, false, Option, length, drop, refl, sym, ap, ◌∙◌, arith, length-drop, eqb-true}
 use Rattle.std.specs.Prelude.{◌==◌, ◌&&◌}
 use Rattle.std.proofs.lemmas.List.{length-reverse}
 use Rattle.wcode.specs.declared.value.ValueType.{ValueType}

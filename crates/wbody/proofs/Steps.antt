@@ -1,5 +1,5 @@
 -- Where the typing of a body stands behind one word, if it stood before it.
-use Rattle.std.proofs.Common.{◌≡◌, ℕ, ◌+◌, ◌-◌, ◌≤◌, List, [], ◌∷◌, ◌++◌, Bool, true, false, Option, Some, None, length, max, reverse, take, drop, vec_len, refl, sym, ap, ◌∙◌, subst, arith, length-drop}
+use Rattle.std.proofs.Common.{◌≡◌, ℕ, ◌+◌, ◌-◌, ◌≤◌, List, [], ◌∷◌, ◌++◌, true, false, Option, Some, None, length, max, reverse, take, drop, vec_len, refl, sym, ap, ◌∙◌, subst, arith, length-drop}
 use Rattle.std.specs.Prelude.{option_and_then, if◌then◌else◌, map}
 use Rattle.std.proofs.lemmas.List.{length-append, length-map, length-reverse, length-take}
 use Rattle.wcode.specs.declared.value.BlockType.{BlockType}
@@ -9,24 +9,22 @@ use Rattle.wcode.specs.declared.value.BlockType.TheVariants.{Empty, Result}
 use Rattle.wcode.specs.declared.instruction.Plain.{Plain}
 use Rattle.wcode.specs.declared.opcode.Opening.TheVariants as openings
 use Rattle.wcode.specs.Syntax.{Body, done, plain, block, loop, if_else, br_table}
-use Rattle.wcode.specs.Grammar.{Word, one, opens, otherwise, end, table, SpellsWord, SpellsExpr}
+use Rattle.wcode.specs.Grammar.{one, opens, otherwise, end, table, SpellsWord, SpellsExpr}
 use Rattle.wbody.specs.declared.scope.Opened.{Opened}
 use Rattle.wbody.specs.declared.scope.Opened.TheVariants as opened
 use Rattle.wbody.specs.declared.scope.Level.{Level}
 use Rattle.wbody.specs.declared.operand_stack.OperandStack.{OperandStack}
-use Rattle.wbody.specs.Context.{Context, results_of, with_label, at_most_one}
-use Rattle.wbody.specs.Typing.{PlainType, plain_type, ends}
+use Rattle.wbody.specs.Context.{Context, results_of, with_label}
+use Rattle.wbody.specs.Typing.{plain_type}
 use Rattle.wbody.specs.Heights.{greatest_height, height_by}
 use Rattle.wbody.specs.Pass.{Stack, fresh, fits, given, taken, pass_type, table_type, closed, pass}
-use Rattle.wbody.specs.Scope.{carried, carried_by, IsScope}
-use Rattle.wbody.specs.declared.scope.Scope.{Scope}
 use Rattle.wbody.specs.OperandStack.{stack_of, below_of, SameBlock}
-use Rattle.wbody.specs.Standing.{Open, inner_context, finish, resume, outcome, second_peak, low_of, outer_peak, Layers, Spelled, GoesOn, Stands}
+use Rattle.wbody.specs.Standing.{Open, inner_context, finish, outcome, second_peak, low_of, outer_peak, Layers, GoesOn, Stands}
 use Rattle.wbody.specs.Steps.{Opens, IsPassed}
 use Rattle.wbody.proofs.Passed.{body_typed}
 use Rattle.wbody.proofs.Operands.{when_true, under}
 use Rattle.wbody.proofs.Lengths.{height_passed, length-take_types}
-use Rattle.wbody.proofs.Outcomes.{resume_none, outcome_plain, outcome_plain_none, outcome_table, outcome_table_none, opened_block, opened_loop, opened_first, opened_second, outcome_block, outcome_loop, outcome_if, outcome_if_none, outcome_else, outcome_else_none, outcome_left, outcome_left_none}
+use Rattle.wbody.proofs.Outcomes.{outcome_plain, outcome_plain_none, outcome_table, outcome_table_none, opened_block, opened_loop, opened_first, opened_second, outcome_block, outcome_loop, outcome_if, outcome_if_none, outcome_else, outcome_else_none, outcome_left, outcome_left_none}
 use Rattle.wbody.proofs.Places.{plain_next, table_next, block_next, loop_next, if_next, ends_here, else_of, end_of}
 
 -- how many operands there are
@@ -274,8 +272,7 @@ else_step c total peak final bytes more v v' levels s n st w kind type floor rea
     omega (arith, d, t.floor, t.within, length-reverse (drop v.floor (below_of s)), length-drop v.floor (below_of s), length_below s, same.floor)) in
     let now_is : greatest_height (with_label (results_of o.type) here) o.second (low_of o) (low_of o) ≡ greatest_height (with_label (results_of o.type) here) o.second n.floor (length n.items.items) =
     ap (λ h. greatest_height (with_label (results_of o.type) here) o.second h h) low_is ∙ ap (λ h. greatest_height (with_label (results_of o.type) here) o.second n.floor h) (sym low) in
-    let enough : vec_len s.items ≤ s.greatest = s.enough in
-    (
+    let enough : vec_len s.items ≤ s.greatest = s.enough in (
       sym t.kind ∙ g.0,
       record {
         blocks = o' ∷ os;

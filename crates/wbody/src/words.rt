@@ -89,10 +89,7 @@ pub fn pass_if(
 }
 
 // Over an `else`, inside the first arm of an `if`.
-pub fn pass_else(
-    stack: &mut OperandStack,
-    levels: &mut SmallVec<Level, 16>,
-) -> Result<(), Stop>
+pub fn pass_else(stack: &mut OperandStack, levels: &mut SmallVec<Level, 16>) -> Result<(), Stop>
     ensures ok { OnOk result ((scope : TheScope) → GoesOver scope otherwise levels.old.items stack.old levels.new.items stack.new) }
     ensures err { result ≡ Err Stop.Untyped → (scope : TheScope) → StopsAt scope otherwise levels.old.items stack.old }
 {

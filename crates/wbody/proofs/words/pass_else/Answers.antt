@@ -1,4 +1,4 @@
-use Rattle.std.proofs.Common.{◌≡◌, List, [], ◌∷◌, ◌++◌, reverse, refl, sym, ap, ◌∙◌, subst}
+use Rattle.std.proofs.Common.{List, reverse, refl, sym, ap, ◌∙◌, subst}
 use Rattle.wbody.specs.declared.scope.Level.{Level}
 use Rattle.wbody.specs.declared.scope.Opened.TheVariants as opened
 use Rattle.wbody.specs.Standing.{Stands}

@@ -1,4 +1,4 @@
-use Rattle.std.proofs.Common.{◌≡◌, List, [], ◌∷◌, ◌++◌, reverse, sym, ap, ◌∙◌, subst}
+use Rattle.std.proofs.Common.{List, reverse, subst}
 use Rattle.wbody.specs.declared.scope.Level.{Level}
 use Rattle.wbody.specs.Standing.{Stands}
 use Rattle.wbody.proofs.LevelLists.{reverse-last, on_ok_4}

@@ -1,4 +1,4 @@
-use Rattle.std.proofs.Common.{◌≡◌, List, reverse, sym, ap, ◌∙◌, subst}
+use Rattle.std.proofs.Common.{List, reverse, sym, ap, ◌∙◌, subst}
 use Rattle.wcode.specs.Grammar.{opens, SpellsWord}
 use Rattle.wcode.specs.declared.opcode.Opening.TheVariants as openings
 use Rattle.wbody.specs.declared.scope.Level.{Level}

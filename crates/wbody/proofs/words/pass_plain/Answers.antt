@@ -1,4 +1,4 @@
-use Rattle.std.proofs.Common.{◌≡◌, List, Result, Ok, Err, OnOk, Some, None, reverse, sym, ap, ◌∙◌}
+use Rattle.std.proofs.Common.{Result, Ok, Err, OnOk, reverse, sym, ap, ◌∙◌}
 use Rattle.wbody.specs.Typing.{PlainType}
 use Rattle.wbody.specs.Pass.{pass_type}
 use Rattle.wbody.specs.OperandStack.{stack_of}

@@ -1,8 +1,6 @@
-use Rattle.std.proofs.Common.{◌≡◌, ◌++◌, ◌-◌, Some, None, sym, ap, ◌∙◌, map, length}
+use Rattle.std.proofs.Common.{Some, ap, ◌∙◌, map}
 use Rattle.std.specs.Prelude.{slice_get, option_and_then}
-use Rattle.wbin.specs.Syntax.{Signature, import_of}
 use Rattle.wbin.specs.declared.module.ImportKind.{ImportKind}
-use Rattle.wbody.specs.Context.{imported_functions}
 use Rattle.wbody.proofs.Found.{imported_type, imported_at, own_at}
 use Rattle.wbody.proofs.scope.Scope.function.Goals as goal
 
