@@ -13,3 +13,6 @@ mod words;
 pub use body::type_body;
 pub use fault::TypeFault;
 pub use notes::{BranchNote, Notes};
+
+#[cfg(test)]
+mod tests;
