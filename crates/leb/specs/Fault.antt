@@ -1,6 +1,20 @@
--- What is wrong with bytes that spell no number.
-use Rattle.std.specs.Prelude.{◌≡◌, ℕ, suc, ◌+◌, ◌-◌, ◌*◌, ◌/◌, ◌<◌, ◌≤◌, List, ◌∷◌, ◌++◌, ℤ, All, length, take}
+-- What is wrong with bytes that spell no number, and the faults' numbers and names.
+use Rattle.std.specs.Prelude.{◌≡◌, ℕ, suc, ◌+◌, ◌-◌, ◌*◌, ◌/◌, ◌<◌, ◌≤◌, List, ◌∷◌, ◌++◌, ℤ, All, length, take, codes}
 use Rattle.leb.specs.Number.{Sign, IsLast}
+use Rattle.leb.specs.declared.LebFault.{LebFault}
+use Rattle.leb.specs.declared.LebFault.TheVariants.{Truncated, TooLong, BadLastByte}
+
+-- the number that messages tell
+abbrev pub number_of : LebFault → ℕ
+number_of Truncated = 1
+number_of TooLong = 2
+number_of BadLastByte = 3
+
+-- the name that messages tell
+abbrev pub name_of : LebFault → List ℕ
+name_of Truncated = codes "Truncated"
+name_of TooLong = codes "TooLong"
+name_of BadLastByte = codes "BadLastByte"
 
 -- how many bytes a number of so many bits has at most
 abbrev pub longest : ℕ → ℕ

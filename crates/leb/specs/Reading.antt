@@ -1,4 +1,4 @@
--- Reading as a function on lists, a step between the code and the grammar.
+-- Only proofs need this: reading as a function on lists, a step between the code and the grammar.
 use Rattle.std.specs.Prelude.{◌≡◌, ℕ, suc, ◌+◌, ◌-◌, ◌*◌, ◌^◌, ◌≤◌, min, List, [], ◌∷◌, length, drop, ℤ, pos, negsuc, Bool, true, false, nat_lt, nat_le, if◌then◌else◌, Result, Ok, Err}
 use Rattle.leb.specs.Number.{Sign, unsigned, signed}
 use Rattle.leb.specs.declared.Spelled.{Spelled}

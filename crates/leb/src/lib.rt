@@ -1,11 +1,15 @@
-//! LEB128, the numbers of WebAssembly's binary format (WebAssembly Core 1.0, 5.2.2).
+//! LEB128, the numbers of WebAssembly's binary format (WebAssembly Core 1.0, 5.2.2): readers of unsigned numbers of 32
+//! bits and of signed ones of 32 and 64, why bytes spell none, and the law that they spell one at most.
 #![tactic(auto)]
 
+mod laws;
+
 ghost use Rattle.std.specs.Prelude.{◌≡◌, ℕ, ◌+◌, ◌-◌, ◌^◌, ◌<◌, ◌≤◌, ◌↔◌, length, drop, pos, ℤ, List, IfOk, IsTrue, IsErrOf, OnErr};
-ghost use Rattle.leb.specs.Number.{Sign, Spells, InRange, unsigned, signed};
-ghost use Rattle.leb.specs.Fault.{IsTruncated, IsTooLong, HasBadLastByte};
+ghost use Rattle.leb.specs.Number.{Spells, InRange, unsigned, signed};
+ghost use Rattle.leb.specs.Fault.{number_of, name_of, IsTruncated, IsTooLong, HasBadLastByte};
 ghost use Rattle.leb.specs.Reading.{reading, sign_of, value_of, last_at, Gives, GivesLast};
 
+pub use laws::one_number;
 use thiserror::Error;
 
 /// Why bytes spell no number.
@@ -24,7 +28,9 @@ pub enum LebFault {
 
 impl LebFault {
     /// The fault's number.
-    pub fn number(self) -> u8 {
+    pub fn number(self) -> u8
+        ensures { result ≡ number_of self }
+    {
         match self {
             LebFault::Truncated => 1,
             LebFault::TooLong => 2,
@@ -33,7 +39,9 @@ impl LebFault {
     }
 
     /// The fault's name.
-    pub fn name(self) -> &'static str {
+    pub fn name(self) -> &'static str
+        ensures { result.now ≡ name_of self }
+    {
         match self {
             LebFault::Truncated => "Truncated",
             LebFault::TooLong => "TooLong",
@@ -100,12 +108,6 @@ pub fn read_i64(bytes: &[u8], at: usize) -> Result<(i64, usize), LebFault>
         Err(fault) => Err(fault),
     }
 }
-
-/// No spelling of a number begins another one's: bytes begin with one number at most, which ends at one place.
-pub fn one_number()
-    ensures { (s : Sign) (bits : ℕ) (bytes : List ℕ) (v w : ℤ) (rest more : List ℕ) →
-        Spells s bits bytes v rest → Spells s bits bytes w more → (v ≡ w) × (rest ≡ more) }
-{}
 
 // A number as it is found: `low`, or -1 - `low` where it is negative, and the place after it.
 #[derive(Clone, Copy)]

@@ -85,11 +85,7 @@ fn long_numbers(rt: HostRuntime) -> Result<(), Fail> {
 }
 
 #[test]
-fn numbers_and_names_of_faults(rt: HostRuntime) -> Result<(), Fail> {
-    assert_eq!(rt; LebFault::Truncated.number(), 1);
-    assert_eq!(rt; LebFault::TooLong.number(), 2);
-    assert_eq!(rt; LebFault::BadLastByte.number(), 3);
-    assert_eq!(rt; LebFault::Truncated.name(), "Truncated");
+fn printed_faults(rt: HostRuntime) -> Result<(), Fail> {
     assert_eq!(rt;
         LebFault::TooLong.to_string(rt.alloc())?.as_str(),
         "2 TooLong"

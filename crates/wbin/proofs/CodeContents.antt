@@ -5,8 +5,8 @@ use Rattle.wcode.specs.declared.value.ValueType.{ValueType}
 use Rattle.wcode.specs.Syntax.{Body}
 use Rattle.wcode.specs.Grammar.{SpellsExpr}
 use Rattle.wbin.specs.declared.module.LocalRun.{LocalRun}
-use Rattle.wbin.specs.Syntax.{locals_of}
-use Rattle.wbin.specs.Grammar.{SpellsVector, SpellsBytes, SpellsRun, run_locals, Code, SpellsCode}
+use Rattle.wbin.specs.Syntax.{Code, locals_of}
+use Rattle.wbin.specs.Grammar.{SpellsVector, SpellsBytes, SpellsRun, run_locals, SpellsCode}
 use Rattle.wbin.specs.Reading.{Nothing, Once, SpellsBoth}
 use Rattle.wbin.specs.Codes.{Fills}
 use Rattle.wbin.specs.Unique.{bytes_once, both_once, vector_once, run_once, expression_once}
@@ -47,3 +47,10 @@ code_missing bytes contents inside rest h e none code more s =
       locals_are = s.5;
       spelled = s.6;
     })
+
+-- no code where the locals are and no body is
+pub body_missing : (bytes : List ℕ) (at begin : ℕ) (runs : List (ℕ × ValueType)) → SpellsVector SpellsRun (drop at bytes) runs (drop begin bytes)
+    → ((body : Body) (rest : List ℕ) → SpellsExpr (drop begin bytes) body rest → ⊥) → (code : Code) → Fills (drop at bytes) code → ⊥
+body_missing bytes at begin runs h none code f =
+    let p = vector_once SpellsRun run_once (drop at bytes) runs f.runs (drop begin bytes) f.body h f.runs_spelled in
+    none code.body [] (subst (λ b. SpellsExpr b code.body []) (sym p.1) f.spelled)

@@ -4,4 +4,4 @@ pub mod SpelledTypes
 pub mod CodeContents
 pub mod Sections
 pub mod Modules
-pub mod Joining
+pub mod Places

@@ -7,13 +7,16 @@ use Rattle.wcode.specs.declared.fault.BinFault.TheVariants.{NoMemory}
 use Rattle.wcode.specs.Grammar.{SpellsIndex}
 use Rattle.wcode.proofs.Words.{index_once}
 use Rattle.wbin.specs.declared.section.Stretch.{Stretch}
-use Rattle.wbin.specs.Syntax.{ModuleSyntax, FunctionSyntax, module_of}
-use Rattle.wbin.specs.Grammar.{Spelling, SpellsEach, SpellsVector, Section, SpellsSection, contents_of, Lists, Starts, Functions, function_with, Assembles, header, Spells, Code, SpellsFunctionType, SpellsImport, SpellsTableType, SpellsLimits, SpellsGlobal, SpellsExport, SpellsElement, SpellsData, SpellsCode}
+use Rattle.wbin.specs.Syntax.{ModuleSyntax, FunctionSyntax, ModuleParts, Code, functions_with, code_in, syntax_in, module_of}
+use Rattle.wbin.specs.Placed.{Stands}
+use Rattle.std.proofs.lemmas.List.{map-id, length-map}
+use Rattle.wbin.specs.Grammar.{Spelling, SpellsEach, SpellsVector, Section, SpellsSection, contents_of, Lists, Starts, Functions, Assembles, header, Spells, SpellsFunctionType, SpellsImport, SpellsTableType, SpellsLimits, SpellsGlobal, SpellsExport, SpellsElement, SpellsData, SpellsCode}
 use Rattle.wbin.specs.Reading.{Once}
 use Rattle.wbin.specs.Unique.{vector_once, index_spelled_once, function_type_once, import_once, table_type_once, limits_once, global_once, export_once, element_once, data_once, code_once}
 use Rattle.wbin.specs.Outline.{section_of, OutlinesUpTo}
 use Rattle.wbin.specs.Decoded.{ReadsWhole, AssemblesTo}
-use Rattle.wbin.specs.declared.module.Module.{Module}
+use Rattle.wbin.specs.declared.module.Tables.{Tables}
+use Rattle.wbin.specs.declared.module.FunctionCode.{FunctionCode}
 use Rattle.std.proofs.lemmas.List.{length-take-le}
 use Rattle.std.specs.Prelude.{IfOk, IfErr}
 use Rattle.wbin.proofs.Sections.{sections_once}
@@ -45,14 +48,11 @@ starts_once : (c : Option (List ℕ)) (s t : Option ℕ) → Starts c s → Star
 starts_once None s t h k = h ∙ sym k
 starts_once (Some c) s t h k = h.1 ∙ ap Some (index_once c h.0 k.0 [] [] h.2 k.2).0 ∙ sym k.1
 
-abbrev pub together : List ℕ → List Code → List FunctionSyntax
-together indices bodies = map (λ f. function_with f.0 f.1) (zip indices bodies)
-
 functions_once : (s c : Option (List ℕ)) (f g : List FunctionSyntax) → Functions s c f → Functions s c g → f ≡ g
 functions_once s c f g h k =
     let p = lists_once SpellsIndex index_spelled_once s h.indices k.indices h.types_listed k.types_listed in
     let q = lists_once SpellsCode code_once c h.bodies k.bodies h.bodies_listed k.bodies_listed in
-    h.functions_are ∙ ap (λ i. together i h.bodies) p ∙ ap (together k.indices) q ∙ sym k.functions_are
+    h.functions_are ∙ ap (λ i. functions_with i h.bodies) p ∙ ap (functions_with k.indices) q ∙ sym k.functions_are
 
 pub assembled_once : (sections : List Section) (m n : ModuleSyntax) → Assembles sections m → Assembles sections n → m ≡ n
 assembled_once sections m n h k =
@@ -130,14 +130,38 @@ left_over bytes end stop h k n e =
     let z : length (drop end (take stop bytes)) ≡ 0 = ap length e in
     omega (arith, l, z, length-drop end (take stop bytes))
 
-pub decoded_module : (bytes : List ℕ) (sections : List Section) (fault : Option BinFault) (r : Result Module BinFault) → length bytes ≤ 1048576 → bytes ≡ header ++ drop 8 bytes
-    → OutlinesUpTo bytes 8 sections fault → AssemblesTo sections fault r → IfOk r (λ m. Spells bytes (module_of m))
+pub decoded_tables : (bytes : List ℕ) (sections : List Section) (fault : Option BinFault) (r : Result Tables BinFault) → length bytes ≤ 1048576 → bytes ≡ header ++ drop 8 bytes
+    → OutlinesUpTo bytes 8 sections fault → AssemblesTo bytes sections fault r → IfOk r (λ t. Stands bytes t)
 unfolding AssemblesTo
-decoded_module bytes sections fault (Ok m) l e o a = module_spelled bytes sections (module_of m) l e (subst (OutlinesUpTo bytes 8 sections) a.0 o) a.1
-decoded_module bytes sections fault (Err d) l e o a = tt
+decoded_tables bytes sections fault (Ok t) l e o a =
+    record { spelled = module_spelled bytes sections (syntax_in bytes t) l e (subst (OutlinesUpTo bytes 8 sections) a.0 o) a.1; places = a.2 }
+decoded_tables bytes sections fault (Err d) l e o a = tt
 
-pub decoded_none : (bytes : List ℕ) (sections : List Section) (fault : Option BinFault) (r : Result Module BinFault)
-    → OutlinesUpTo bytes 8 sections fault → AssemblesTo sections fault r → IfErr r (λ d. d ≢ NoMemory → (m : ModuleSyntax) → Spells bytes m → ⊥)
+pub decoded_none : (bytes : List ℕ) (sections : List Section) (fault : Option BinFault) (r : Result Tables BinFault)
+    → OutlinesUpTo bytes 8 sections fault → AssemblesTo bytes sections fault r → IfErr r (λ d. d ≢ NoMemory → (m : ModuleSyntax) → Spells bytes m → ⊥)
 unfolding AssemblesTo
-decoded_none bytes sections fault (Ok m) o a = tt
+decoded_none bytes sections fault (Ok t) o a = tt
 decoded_none bytes sections fault (Err d) o a = λ n m h. (let p = module_sections bytes sections fault m o h in a n p.0 m p.1)
+
+pub functions_listed : (s c : Option (List ℕ)) (bytes signatures : List ℕ) (codes : List FunctionCode) → Lists SpellsIndex s (map (λ n. n) signatures) → Lists SpellsCode c (map (code_in bytes) codes)
+    → length signatures ≡ length codes → Functions s c (functions_with signatures (map (code_in bytes) codes))
+functions_listed s c bytes signatures codes h k l = record {
+  indices = map (λ n. n) signatures;
+  bodies = map (code_in bytes) codes;
+  types_listed = h;
+  bodies_listed = k;
+  as_many = length-map signatures (λ n. n) ∙ l ∙ sym (length-map codes (code_in bytes));
+  functions_are = ap (λ x. functions_with x (map (code_in bytes) codes)) (sym (map-id signatures));
+}
+
+pub counts_differ : (s c : Option (List ℕ)) (bytes signatures : List ℕ) (codes : List FunctionCode) → Lists SpellsIndex s (map (λ n. n) signatures) → Lists SpellsCode c (map (code_in bytes) codes)
+    → (length signatures ≡ length codes → ⊥) → (functions : List FunctionSyntax) → Functions s c functions → ⊥
+counts_differ s c bytes signatures codes h k no_more functions f =
+    let p = lists_once SpellsIndex index_spelled_once s (map (λ n. n) signatures) f.indices h f.types_listed in
+    let q = lists_once SpellsCode code_once c (map (code_in bytes) codes) f.bodies k f.bodies_listed in
+    no_more (sym (length-map signatures (λ n. n)) ∙ ap length p ∙ f.as_many ∙ sym (ap length q) ∙ length-map codes (code_in bytes))
+
+-- a module of the bytes and tables that were found
+pub module_is : (bytes copy : List ℕ) (t : Tables) (m : ModuleParts) → copy ≡ bytes → m.bytes ≡ copy → m.tables ≡ t → Stands bytes t → Spells bytes (module_of m)
+module_is bytes copy t m e f g h =
+    subst (λ b. Spells bytes (syntax_in b m.tables)) (sym (f ∙ e)) (subst (λ x. Spells bytes (syntax_in bytes x)) (sym g) h.spelled)

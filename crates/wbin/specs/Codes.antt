@@ -1,17 +1,13 @@
--- What the code gives for the body of a function.
-use Rattle.std.specs.Prelude.{◌≡◌, ◌≢◌, ℕ, List, [], Result, Ok, Err}
+-- Only proofs need this: what the code gives for the body of a function.
+use Rattle.std.specs.Prelude.{◌≡◌, ◌≢◌, ℕ, List, [], drop, Result, Ok, Err}
 use Rattle.wcode.specs.declared.value.ValueType.{ValueType}
 use Rattle.wcode.specs.declared.fault.BinFault.{BinFault}
 use Rattle.wcode.specs.declared.fault.BinFault.TheVariants.{NoMemory}
-use Rattle.wcode.specs.Syntax.{body_of}
 use Rattle.wcode.specs.Grammar.{SpellsExpr}
-use Rattle.wbin.specs.declared.code.FunctionCode.{FunctionCode}
-use Rattle.wbin.specs.Syntax.{locals_of}
-use Rattle.wbin.specs.Grammar.{Code, SpellsVector, SpellsRun, run_locals}
-
--- the locals and body that the code has for a function
-abbrev pub code_of : FunctionCode → Code
-code_of c = record { locals = locals_of c.locals.items; body = body_of c.body.items }
+use Rattle.wbin.specs.declared.module.FunctionCode.{FunctionCode}
+use Rattle.wbin.specs.Syntax.{Code, code_in}
+use Rattle.wbin.specs.Grammar.{SpellsVector, SpellsRun, run_locals}
+use Rattle.wbin.specs.Placed.{IsCode}
 
 -- the contents of a body, which fill the bytes: locals in runs, and an expression
 pub record Fills (contents : List ℕ) (code : Code) : Type 0 where
@@ -21,7 +17,7 @@ pub record Fills (contents : List ℕ) (code : Code) : Type 0 where
   pub locals_are : code.locals ≡ run_locals runs
   pub spelled : SpellsExpr body code.body []
 
--- what is read for contents
-unfoldable pub ReadsCode : List ℕ → Result FunctionCode BinFault → Type 0
-ReadsCode contents (Ok c) = Fills contents (code_of c)
-ReadsCode contents (Err e) = e ≢ NoMemory → (code : Code) → Fills contents code → ⊥
+-- what is read for contents from the place on
+unfoldable pub ReadsCode : List ℕ → ℕ → Result FunctionCode BinFault → Type 0
+ReadsCode bytes at (Ok c) = Fills (drop at bytes) (code_in bytes c) × IsCode bytes c
+ReadsCode bytes at (Err e) = e ≢ NoMemory → (code : Code) → Fills (drop at bytes) code → ⊥

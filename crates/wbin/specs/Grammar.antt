@@ -13,7 +13,7 @@ use Rattle.wbin.specs.declared.module.ImportKind.{ImportKind}
 use Rattle.wbin.specs.declared.module.ImportKind.TheVariants as imported
 use Rattle.wbin.specs.declared.module.ExportKind.{ExportKind}
 use Rattle.wbin.specs.declared.module.ExportKind.TheVariants as exported
-use Rattle.wbin.specs.Syntax.{Signature, ImportSyntax, FunctionSyntax, GlobalSyntax, ExportSyntax, ElementSyntax, DataSyntax, ModuleSyntax}
+use Rattle.wbin.specs.Syntax.{Signature, ImportSyntax, FunctionSyntax, GlobalSyntax, ExportSyntax, ElementSyntax, DataSyntax, ModuleSyntax, Code, function_with, functions_with}
 
 -- what spells something of a kind
 abbrev pub Spelling : Type 0 → Type 1
@@ -147,11 +147,6 @@ SpellsRun bytes run rest = (more : List ℕ) × SpellsIndex bytes run.0 more × 
 abbrev pub run_locals : List (ℕ × ValueType) → List ValueType
 run_locals runs = flat_map (λ run. replicate run.0 run.1) runs
 
--- a function without its type: its locals and its body
-pub record Code : Type 0 where
-  pub locals : List ValueType
-  pub body : Body
-
 -- a function's code: its size, and in as many bytes its locals in runs and its body (5.5.13)
 abbrev pub SpellsCode : Spelling Code
 SpellsCode bytes code rest =
@@ -193,10 +188,6 @@ abbrev pub Starts : Option (List ℕ) → Option ℕ → Type 0
 Starts None start = start ≡ None
 Starts (Some contents) start = (index : ℕ) × (start ≡ Some index) × SpellsIndex contents index []
 
--- a function of its type's index and its code
-abbrev pub function_with : ℕ → Code → FunctionSyntax
-function_with signature code = record { signature = signature; locals = code.locals; body = code.body }
-
 -- The functions, whose types stand in one section and whose code in another, as many in one as in the other (5.5.15).
 pub record Functions (signatures codes : Option (List ℕ)) (functions : List FunctionSyntax) : Type 0 where
   pub indices : List ℕ
@@ -204,7 +195,7 @@ pub record Functions (signatures codes : Option (List ℕ)) (functions : List Fu
   pub types_listed : Lists SpellsIndex signatures indices
   pub bodies_listed : Lists SpellsCode codes bodies
   pub as_many : length indices ≡ length bodies
-  pub functions_are : functions ≡ map (λ f. function_with f.0 f.1) (zip indices bodies)
+  pub functions_are : functions ≡ functions_with indices bodies
 
 -- the module that sections in their order spell
 pub record Assembles (sections : List Section) (m : ModuleSyntax) : Type 0 where

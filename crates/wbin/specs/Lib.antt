@@ -2,6 +2,9 @@ pub mod Syntax
 pub mod Grammar
 pub mod Reading
 pub mod Unique
+pub mod Placed
+pub mod Kept
 pub mod Codes
 pub mod Outline
 pub mod Decoded
+pub mod Ids

@@ -1,4 +1,4 @@
--- What the code gives for the order of a module's sections.
+-- Only proofs need this: what the code gives for the order of a module's sections.
 use Rattle.std.specs.Prelude.{◌≢◌, ℕ, ◌<◌, ◌≤◌, ◌⊎◌, List, [], All, length, take, drop, map, Option, Some, None, Result, Ok, Err}
 use Rattle.wcode.specs.declared.fault.BinFault.{BinFault}
 use Rattle.wcode.specs.declared.fault.BinFault.TheVariants.{NoMemory}

@@ -1,5 +1,5 @@
--- What the readers of a module's parts give.
-use Rattle.std.specs.Prelude.{◌≡◌, ◌≢◌, ℕ, ◌≤◌, List, length, drop, Result, Ok, Err}
+-- Only proofs need this: what the readers of a module's parts give.
+use Rattle.std.specs.Prelude.{◌≡◌, ◌≢◌, ℕ, ◌≤◌, List, ◌++◌, length, drop, Result, Ok, Err}
 use Rattle.wcode.specs.declared.fault.BinFault.{BinFault}
 use Rattle.wcode.specs.declared.fault.BinFault.TheVariants.{NoMemory}
 use Rattle.wbin.specs.Grammar.{Spelling, SpellsEach}
@@ -24,3 +24,7 @@ SpellsMany count S bytes xs rest = (length xs ≡ count) × SpellsEach S bytes x
 -- one thing, and then another
 abbrev pub SpellsBoth : {A B : Type 0} → Spelling A → Spelling B → Spelling (A × B)
 SpellsBoth S T bytes x rest = (more : List ℕ) × S bytes x.0 more × T more x.1 rest
+
+-- What has its places in bytes has them where more bytes follow, and is seen as the same there.
+abbrev pub Keeps : {A B : Type 0} → (List ℕ → A → Type 0) → (List ℕ → A → B) → Type 0
+Keeps {A} {B} placed seen = (bytes more : List ℕ) (x : A) → placed bytes x → placed (bytes ++ more) x × (seen (bytes ++ more) x ≡ seen bytes x)

@@ -1,20 +1,23 @@
 -- The abstract syntax of modules (WebAssembly Core 1.0, 2.5): what a module is seen as.
-use Rattle.std.specs.Prelude.{ℕ, List, [], ◌∷◌, ◌++◌, Option, map, replicate}
+use Rattle.std.specs.Prelude.{ℕ, List, [], ◌∷◌, ◌++◌, Option, map, replicate, take, drop}
+use Rattle.std.specs.List.{zip}
 use Rattle.wcode.specs.declared.value.ValueType.{ValueType}
-use Rattle.wcode.specs.Syntax.{Body, body_of}
+use Rattle.wcode.specs.Syntax.{Body}
+use Rattle.wcode.specs.BodyAt.{body_at}
 use Rattle.wbin.specs.declared.module.FunctionType.{FunctionType}
 use Rattle.wbin.specs.declared.module.Limits.{Limits}
 use Rattle.wbin.specs.declared.module.GlobalType.{GlobalType}
 use Rattle.wbin.specs.declared.module.ImportKind.{ImportKind}
 use Rattle.wbin.specs.declared.module.Import.{Import}
 use Rattle.wbin.specs.declared.module.LocalRun.{LocalRun}
-use Rattle.wbin.specs.declared.module.Function.{Function}
+use Rattle.wbin.specs.declared.module.Place.{Place}
 use Rattle.wbin.specs.declared.module.GlobalVariable.{GlobalVariable}
 use Rattle.wbin.specs.declared.module.ExportKind.{ExportKind}
 use Rattle.wbin.specs.declared.module.Export.{Export}
 use Rattle.wbin.specs.declared.module.ElementSegment.{ElementSegment}
 use Rattle.wbin.specs.declared.module.DataSegment.{DataSegment}
-use Rattle.wbin.specs.declared.module.Module.{Module}
+use Rattle.wbin.specs.declared.module.FunctionCode.{FunctionCode}
+use Rattle.wbin.specs.declared.module.Tables.{Tables}
 
 -- what a function takes, first operand first, and what it gives
 pub record Signature : Type 0 where
@@ -69,6 +72,15 @@ pub record ModuleSyntax : Type 0 where
   pub element_segments : List ElementSyntax
   pub data_segments : List DataSyntax
 
+-- a function without its type: its locals and its body
+pub record Code : Type 0 where
+  pub locals : List ValueType
+  pub body : Body
+
+-- a function of its type's index and its code
+abbrev pub function_with : ℕ → Code → FunctionSyntax
+function_with signature code = record { signature = signature; locals = code.locals; body = code.body }
+
 -- what the code's parts are seen as
 
 abbrev pub signature_of : FunctionType → Signature
@@ -82,31 +94,55 @@ abbrev pub locals_of : List LocalRun → List ValueType
 locals_of [] = []
 locals_of (r ∷ rs) = replicate r.count r.value ++ locals_of rs
 
-abbrev pub function_of : Function → FunctionSyntax
-function_of f = record { signature = f.signature; locals = locals_of f.locals.items; body = body_of f.body.items }
-
-abbrev pub global_of : GlobalVariable → GlobalSyntax
-global_of g = record { kind = g.kind; first = body_of g.first.items }
-
 abbrev pub export_of : Export → ExportSyntax
 export_of e = record { name = e.name.items; kind = e.kind; index = e.index }
 
-abbrev pub element_of : ElementSegment → ElementSyntax
-element_of s = record { table = s.table; offset = body_of s.offset.items; functions = s.functions.items }
+-- what the code's parts with places are seen as, in these bytes
 
-abbrev pub data_of : DataSegment → DataSyntax
-data_of s = record { memory = s.memory; offset = body_of s.offset.items; bytes = s.bytes.items }
+-- the expression that begins there
+abbrev pub expression_in : List ℕ → Place → Body
+expression_in bytes p = body_at (drop p.begin bytes)
 
-abbrev pub module_of : Module → ModuleSyntax
-module_of m = record {
-  types = map signature_of m.types.items;
-  imports = map import_of m.imports.items;
-  functions = map function_of m.functions.items;
-  tables = m.tables.items;
-  memories = m.memories.items;
-  globals = map global_of m.globals.items;
-  exports = map export_of m.exports.items;
-  start = m.start;
-  element_segments = map element_of m.element_segments.items;
-  data_segments = map data_of m.data_segments.items;
+-- the bytes from one place to the other
+abbrev pub contents_in : List ℕ → Place → List ℕ
+contents_in bytes p = drop p.begin (take p.end bytes)
+
+abbrev pub code_in : List ℕ → FunctionCode → Code
+code_in bytes c = record { locals = locals_of c.locals.items; body = expression_in bytes c.body }
+
+abbrev pub global_in : List ℕ → GlobalVariable → GlobalSyntax
+global_in bytes g = record { kind = g.kind; first = expression_in bytes g.first }
+
+abbrev pub element_in : List ℕ → ElementSegment → ElementSyntax
+element_in bytes s = record { table = s.table; offset = expression_in bytes s.offset; functions = s.functions.items }
+
+abbrev pub data_in : List ℕ → DataSegment → DataSyntax
+data_in bytes s = record { memory = s.memory; offset = expression_in bytes s.offset; bytes = contents_in bytes s.contents }
+
+-- the functions of the indices of their types and as many codes
+abbrev pub functions_with : List ℕ → List Code → List FunctionSyntax
+functions_with signatures codes = map (λ f. function_with f.0 f.1) (zip signatures codes)
+
+-- the module that tables describe, in these bytes
+abbrev pub syntax_in : List ℕ → Tables → ModuleSyntax
+syntax_in bytes t = record {
+  types = map signature_of t.types.items;
+  imports = map import_of t.imports.items;
+  functions = functions_with t.signatures.items (map (code_in bytes) t.codes.items);
+  tables = t.tables.items;
+  memories = t.memories.items;
+  globals = map (global_in bytes) t.globals.items;
+  exports = map export_of t.exports.items;
+  start = t.start;
+  element_segments = map (element_in bytes) t.element_segments.items;
+  data_segments = map (data_in bytes) t.data_segments.items;
 }
+
+-- what a decoded module is seen as: its bytes, and tables of what is where in them
+pub record ModuleParts : Type 0 where
+  pub bytes : List ℕ
+  pub tables : Tables
+
+-- the module that it is
+abbrev pub module_of : ModuleParts → ModuleSyntax
+module_of m = syntax_in m.bytes m.tables

@@ -11,8 +11,8 @@ use Rattle.wbin.specs.declared.module.ImportKind.{ImportKind}
 use Rattle.wbin.specs.declared.module.ImportKind.TheVariants as imported
 use Rattle.wbin.specs.declared.module.ExportKind.{ExportKind}
 use Rattle.wbin.specs.declared.module.ExportKind.TheVariants as exported
-use Rattle.wbin.specs.Syntax.{Signature, ImportSyntax, GlobalSyntax, ExportSyntax, ElementSyntax, DataSyntax}
-use Rattle.wbin.specs.Grammar.{Spelling, Byte, SpellsEach, SpellsVector, SpellsBytes, SpellsName, value_type_byte, SpellsValueType, results_listed, SpellsResults, SpellsFunctionType, SpellsLimits, SpellsTableType, mutable_byte, SpellsMutable, SpellsGlobalType, import_byte, SpellsImported, SpellsImportKind, SpellsImport, SpellsGlobal, export_byte, SpellsExportKind, SpellsExport, SpellsElement, SpellsData, SpellsRun, run_locals, Code, SpellsCode, Section, SpellsSection}
+use Rattle.wbin.specs.Syntax.{Signature, ImportSyntax, GlobalSyntax, ExportSyntax, ElementSyntax, DataSyntax, Code}
+use Rattle.wbin.specs.Grammar.{Spelling, Byte, SpellsEach, SpellsVector, SpellsBytes, SpellsName, value_type_byte, SpellsValueType, results_listed, SpellsResults, SpellsFunctionType, SpellsLimits, SpellsTableType, mutable_byte, SpellsMutable, SpellsGlobalType, import_byte, SpellsImported, SpellsImportKind, SpellsImport, SpellsGlobal, export_byte, SpellsExportKind, SpellsExport, SpellsElement, SpellsData, SpellsRun, run_locals, SpellsCode, Section, SpellsSection}
 use Rattle.wbin.specs.Reading.{Once, SpellsBoth}
 
 tail_once : {a b : ℕ} {xs ys : List ℕ} → a ∷ xs ≡ b ∷ ys → xs ≡ ys

@@ -1,35 +1,32 @@
 // The bodies of functions (WebAssembly Core 1.0, 5.5.13).
 #![tactic(auto, unfolding(crate::specs::Reading::Reads, crate::specs::Codes::ReadsCode))]
 
-ghost use Rattle.std.specs.Prelude.{◌≡◌, ◌≢◌, ℕ, ◌+◌, ◌<◌, ◌≤◌, List, [], length, take, drop, map};
+ghost use Rattle.std.specs.Prelude.{◌≡◌, ◌≢◌, ℕ, ◌+◌, ◌<◌, ◌≤◌, List, [], length, take, drop, map, IfOk};
 ghost use Rattle.wcode.specs.declared.fault.BinFault.TheVariants.{NoMemory};
-ghost use Rattle.wcode.specs.Grammar.{SpellsExpr};
-ghost use Rattle.wbin.specs.Grammar.{Code, SpellsCode, SpellsRun, SpellsVector};
-ghost use Rattle.wbin.specs.Reading.{Nothing, Once, Reads, SpellsBoth};
-ghost use Rattle.wbin.specs.Codes.{Fills, ReadsCode, code_of};
+ghost use Rattle.wbin.specs.Syntax.{Code, code_in};
+ghost use Rattle.wbin.specs.Grammar.{SpellsCode};
+ghost use Rattle.wbin.specs.Placed.{IsCode};
+ghost use Rattle.wbin.specs.Reading.{Nothing, Once, Keeps, Reads};
+ghost use Rattle.wbin.specs.Codes.{ReadsCode};
 ghost use Rattle.wbin.specs.Unique.{code_once};
+ghost use Rattle.wbin.specs.Kept.{code_kept};
 
-use crate::entry::{Both, Entry, Many, malformed, read_sized};
-use crate::module::LocalRun;
-use crate::parts::Expression;
+use crate::entry::{Entry, Many, malformed, read_sized};
+use crate::module::{FunctionCode, LocalRun, Place};
+use crate::part::Part;
 use std::alloc::Global;
-use wcode::{BinFault, Instr, Kind};
+use wcode::{BinFault, Kind, skip_expr};
 
-/// A function without its type: its locals behind the parameters, and its body.
-#[derive(Drop)]
-pub struct FunctionCode {
-    pub locals: Vec<LocalRun>,
-    pub body: Vec<Instr>,
-}
-
-impl Entry for FunctionCode {
+impl Part for FunctionCode {
     type Out = FunctionCode;
 
     ghost Syntax = { Code };
 
-    ghost seen = { code_of };
+    ghost seen = { code_in };
 
     ghost spells = { SpellsCode };
+
+    ghost placed = { IsCode };
 
     fn read(alloc: Global, bytes: &[u8], at: usize) -> Result<(FunctionCode, usize), BinFault> {
         match read_sized(bytes, at) {
@@ -44,22 +41,30 @@ impl Entry for FunctionCode {
     }
 
     ghost once = { code_once };
+
+    ghost kept = { code_kept };
 }
 
 // The locals and the body from `at` on, which fill the bytes.
 fn read_code(alloc: Global, bytes: &[u8], at: usize) -> Result<FunctionCode, BinFault>
     requires { at ≤ length bytes.now }
-    ensures { ReadsCode (drop at bytes.now) result }
+    ensures { ReadsCode bytes.now at result }
 {
-    match <Both<Many<LocalRun>, Expression>>::read(alloc, bytes, at) {
-        Ok((contents, end)) => {
-            if end == bytes.len() {
-                let (locals, body) = contents;
-                Ok(FunctionCode { locals, body })
-            } else {
-                Err(malformed(Kind::Truncated, end))
+    match <Many<LocalRun>>::read(alloc, bytes, at) {
+        Ok((locals, begin)) => match skip_expr(alloc, bytes, begin) {
+            Ok((blocks, end)) => {
+                if end != bytes.len() {
+                    return Err(malformed(Kind::Truncated, end));
+                }
+                let body = Place { begin, end };
+                Ok(FunctionCode {
+                    locals,
+                    body,
+                    blocks,
+                })
             }
-        }
+            Err(fault) => Err(fault),
+        },
         Err(fault) => Err(fault),
     }
 }

@@ -1,36 +1,52 @@
 // A module from bytes (WebAssembly Core 1.0, 5.5.15).
 #![tactic(auto, unfolding(crate::specs::Reading::Reads, crate::specs::Decoded::ReadsWhole, crate::specs::Decoded::AssemblesTo))]
 
-ghost use Rattle.std.specs.Prelude.{◌≡◌, ◌≢◌, ℕ, ◌+◌, ◌-◌, ◌<◌, ◌≤◌, List, [], ◌∷◌, ◌++◌, All, length, take, drop, map, zip, find, ◌==◌, Option, Some, None, IfOk, IfErr, OnErr, MatchOption, vec_len};
+ghost use Rattle.std.specs.Prelude.{◌≡◌, ◌≢◌, ℕ, ◌<◌, ◌≤◌, List, [], ◌∷◌, ◌++◌, All, length, take, drop, map, find, ◌==◌, Option, Some, None, IfOk, IfErr, OnErr};
 ghost use Rattle.wcode.specs.declared.fault.BinFault.TheVariants.{NoMemory};
-ghost use Rattle.wbin.specs.Syntax.{ModuleSyntax, FunctionSyntax, function_of, module_of};
-ghost use Rattle.wbin.specs.Grammar.{Lists, Starts, contents_of, header, function_with, Assembles, Spells};
-ghost use Rattle.wbin.specs.Codes.{code_of};
-ghost use Rattle.wbin.specs.Outline.{section_of, Within, OutlinesUpTo};
+ghost use Rattle.wbin.specs.Syntax.{ModuleSyntax, module_of};
+ghost use Rattle.wbin.specs.Grammar.{Lists, Starts, contents_of, header, Spells};
+ghost use Rattle.wbin.specs.Placed.{Stands};
+ghost use Rattle.wbin.specs.Ids.{id_of};
+ghost use Rattle.wbin.specs.Outline.{section_of, Within};
 ghost use Rattle.wbin.specs.Decoded.{ReadsWhole, AssemblesTo};
 
-use crate::code::FunctionCode;
-use crate::entry::{Entry, Many, malformed, truncated};
+use crate::entry::{malformed, truncated};
 use crate::module::{
-    DataSegment, ElementSegment, Export, Function, FunctionType, GlobalVariable, Import, Limits,
-    Module,
+    DataSegment, ElementSegment, Export, FunctionCode, FunctionType, GlobalVariable, Import,
+    Limits, Module, Tables,
 };
-use crate::section::{Stretch, fenced, find_sections};
+use crate::part::{Part, Plain, Vector};
+use crate::section::{SectionId, Stretch, fenced, find_sections};
 use crate::types::TableType;
-use std::alloc::{AllocError, Global};
+use std::alloc::Global;
 use wcode::{BinFault, Kind};
 
 /// How many bytes a module has at most.
 pub const LONGEST: usize = 1_048_576;
 
-/// Reads a module: one of the first edition, with the integer types and instructions alone, of at most `LONGEST` bytes.
-/// It takes time and memory in proportion to the bytes, whatever counts they tell.
+/// Reads a module: one of the first edition, with the integer types and instructions alone, of at most `LONGEST` bytes, which it
+/// copies once. It takes time and memory in proportion to the bytes, whatever counts they tell.
 ///
 /// Bytes that spell no module are refused by their first fault, with its place in them. A section's size that passes their
 /// end is told before what is wrong inside the section; that the functions and the bodies aren't as many is told last, at
 /// the end. Floats are refused as `Float`.
 pub fn decode(alloc: Global, bytes: &[u8]) -> Result<Module, BinFault>
     ensures module { IfOk result (λ m. Spells bytes.now (module_of m)) }
+    ensures bytes { IfOk result (λ m. m.bytes ≡ bytes.now) }
+    ensures none { IfErr result (λ e. e ≢ NoMemory → (m : ModuleSyntax) → Spells bytes.now m → ⊥) }
+{
+    match read_tables(alloc, bytes) {
+        Ok(tables) => match Vec::from_slice(alloc, bytes) {
+            Ok(copy) => Ok(Module::new(copy, tables)),
+            Err(_) => Err(BinFault::NoMemory),
+        },
+        Err(fault) => Err(fault),
+    }
+}
+
+// What the module has, and where it is in the bytes.
+fn read_tables(alloc: Global, bytes: &[u8]) -> Result<Tables, BinFault>
+    ensures tables { IfOk result (λ t. Stands bytes.now t) }
     ensures none { IfErr result (λ e. e ≢ NoMemory → (m : ModuleSyntax) → Spells bytes.now m → ⊥) }
 {
     match check_header(bytes) {
@@ -41,11 +57,6 @@ pub fn decode(alloc: Global, bytes: &[u8]) -> Result<Module, BinFault>
         Err(fault) => Err(fault),
     }
 }
-
-/// Bytes spell one module at most.
-pub fn one_module()
-    ensures { (bytes : List ℕ) (m n : ModuleSyntax) → Spells bytes m → Spells bytes n → m ≡ n }
-{}
 
 // The length of the bytes, and their first eight.
 fn check_header(bytes: &[u8]) -> Result<(), BinFault>
@@ -72,44 +83,42 @@ fn check_header(bytes: &[u8]) -> Result<(), BinFault>
     Ok(())
 }
 
-// The module of the sections, which a fault may follow.
+// What the module of the sections has, which a fault may follow.
 fn assemble(
     alloc: Global,
     bytes: &[u8],
     sections: &[Stretch],
     fault: Option<BinFault>,
-) -> Result<Module, BinFault>
+) -> Result<Tables, BinFault>
     requires { All (Within bytes.now) sections.now }
-    ensures { AssemblesTo (map (section_of bytes.now) sections.now) fault result }
+    ensures { AssemblesTo bytes.now (map (section_of bytes.now) sections.now) fault result }
 {
-    let types = read_list::<FunctionType>(alloc, bytes, sections, 1)?;
-    let imports = read_list::<Import>(alloc, bytes, sections, 2)?;
-    let signatures = read_list::<u32>(alloc, bytes, sections, 3)?;
-    let tables = read_list::<TableType>(alloc, bytes, sections, 4)?;
-    let memories = read_list::<Limits>(alloc, bytes, sections, 5)?;
-    let globals = read_list::<GlobalVariable>(alloc, bytes, sections, 6)?;
-    let exports = read_list::<Export>(alloc, bytes, sections, 7)?;
+    let types = read_list::<Plain<FunctionType>>(alloc, bytes, sections, SectionId::Type)?;
+    let imports = read_list::<Plain<Import>>(alloc, bytes, sections, SectionId::Import)?;
+    let signatures = read_list::<Plain<u32>>(alloc, bytes, sections, SectionId::Function)?;
+    let tables = read_list::<Plain<TableType>>(alloc, bytes, sections, SectionId::Table)?;
+    let memories = read_list::<Plain<Limits>>(alloc, bytes, sections, SectionId::Memory)?;
+    let globals = read_list::<GlobalVariable>(alloc, bytes, sections, SectionId::Global)?;
+    let exports = read_list::<Plain<Export>>(alloc, bytes, sections, SectionId::Export)?;
     let start = read_start(alloc, bytes, sections)?;
-    let element_segments = read_list::<ElementSegment>(alloc, bytes, sections, 9)?;
-    let codes = read_list::<FunctionCode>(alloc, bytes, sections, 10)?;
-    let data_segments = read_list::<DataSegment>(alloc, bytes, sections, 11)?;
+    let element_segments = read_list::<ElementSegment>(alloc, bytes, sections, SectionId::Element)?;
+    let codes = read_list::<FunctionCode>(alloc, bytes, sections, SectionId::Code)?;
+    let data_segments = read_list::<DataSegment>(alloc, bytes, sections, SectionId::Data)?;
     no_fault(fault)?;
     if signatures.len() != codes.len() {
         return Err(malformed(Kind::CountMismatch, bytes.len()));
     }
-    let Ok(functions) = join(alloc, signatures.as_slice(), codes) else {
-        return Err(BinFault::NoMemory);
-    };
-    Ok(Module {
+    Ok(Tables {
         types,
         imports,
-        functions,
+        signatures,
         tables,
         memories,
         globals,
         exports,
         start,
         element_segments,
+        codes,
         data_segments,
     })
 }
@@ -126,17 +135,18 @@ fn no_fault(fault: Option<BinFault>) -> Result<(), BinFault>
 }
 
 // What the section of this number lists; nothing where there is none.
-fn read_list<E: Entry>(
+fn read_list<P: Part>(
     alloc: Global,
     bytes: &[u8],
     sections: &[Stretch],
-    id: u8,
-) -> Result<Vec<E::Out>, BinFault>
+    id: SectionId,
+) -> Result<Vec<P::Out>, BinFault>
     requires { All (Within bytes.now) sections.now }
-    ensures { ReadsWhole (Lists E.spells (contents_of id (map (section_of bytes.now) sections.now))) (λ v. map E.seen v.items) result }
+    ensures read { ReadsWhole (Lists P.spells (contents_of (id_of id) (map (section_of bytes.now) sections.now))) (λ v. map (P.seen bytes.now) v.items) result }
+    ensures placed { IfOk result (λ v. All (P.placed bytes.now) v.items) }
 {
     match find_section(sections, id) {
-        Some(section) => read_filling::<Many<E>>(alloc, bytes, section),
+        Some(section) => read_filling::<Vector<P>>(alloc, bytes, section),
         None => Ok(Vec::new(alloc)),
     }
 }
@@ -146,8 +156,8 @@ fn read_start(alloc: Global, bytes: &[u8], sections: &[Stretch]) -> Result<Optio
     requires { All (Within bytes.now) sections.now }
     ensures { ReadsWhole (Starts (contents_of 8 (map (section_of bytes.now) sections.now))) (λ s. s) result }
 {
-    match find_section(sections, 8) {
-        Some(section) => match read_filling::<u32>(alloc, bytes, section) {
+    match find_section(sections, SectionId::Start) {
+        Some(section) => match read_filling::<Plain<u32>>(alloc, bytes, section) {
             Ok(index) => Ok(Some(index)),
             Err(fault) => Err(fault),
         },
@@ -156,18 +166,20 @@ fn read_start(alloc: Global, bytes: &[u8], sections: &[Stretch]) -> Result<Optio
 }
 
 // The section of this number.
-fn find_section(sections: &[Stretch], id: u8) -> Option<Stretch>
-    ensures { result ≡ find (λ s. s.id == id) sections.now }
+fn find_section(sections: &[Stretch], id: SectionId) -> Option<Stretch>
+    ensures { result ≡ find (λ s. s.id == id_of id) sections.now }
 {
-    sections.iter().copied().find(|s| s.id == id)
+    let number = id.number();
+    sections.iter().copied().find(|s| s.id == number)
 }
 
 // What fills a section.
-fn read_filling<E: Entry>(alloc: Global, bytes: &[u8], section: Stretch) -> Result<E::Out, BinFault>
+fn read_filling<P: Part>(alloc: Global, bytes: &[u8], section: Stretch) -> Result<P::Out, BinFault>
     requires { Within bytes.now section }
-    ensures { ReadsWhole (λ x. E.spells (drop section.start (take section.end bytes.now)) x []) E.seen result }
+    ensures read { ReadsWhole (λ x. P.spells (drop section.start (take section.end bytes.now)) x []) (P.seen bytes.now) result }
+    ensures placed { IfOk result (P.placed bytes.now) }
 {
-    match E::read(alloc, &bytes[..section.end], section.start) {
+    match P::read(alloc, &bytes[..section.end], section.start) {
         Ok((found, end)) => {
             if end == section.end {
                 Ok(found)
@@ -176,36 +188,5 @@ fn read_filling<E: Entry>(alloc: Global, bytes: &[u8], section: Stretch) -> Resu
             }
         }
         Err(fault) => Err(fenced(fault, bytes, section.at)),
-    }
-}
-
-// The functions, of the indices of their types and as many bodies.
-fn join(
-    alloc: Global,
-    signatures: &[u32],
-    codes: Vec<FunctionCode>,
-) -> Result<Vec<Function>, AllocError>
-    requires { length signatures.now ≡ vec_len codes }
-    ensures { IfOk result (λ v. map function_of v.items ≡ map (λ f. function_with f.0 f.1) (zip signatures.now (map code_of codes.items))) }
-{
-    let mut functions = Vec::new(alloc);
-    let mut rest = codes.into_iter();
-    for &signature in signatures {
-        match rest.next() {
-            Some(code) => functions.push(with_code(signature, code))?,
-            None => unreachable!(),
-        }
-    }
-    Ok(functions)
-}
-
-// A function of its type's index and its code.
-fn with_code(signature: u32, code: FunctionCode) -> Function
-    ensures { function_of result ≡ function_with signature (code_of code) }
-{
-    Function {
-        signature,
-        locals: code.locals,
-        body: code.body,
     }
 }

@@ -1,19 +1,20 @@
-// Things that are spelled in one way only: what vectors and larger things are made of.
+// Things that are spelled in one way only and have no places in the bytes: what larger things are made of.
 #![tactic(auto, unfolding(crate::specs::Reading::Reads))]
 
 ghost use Rattle.std.specs.Prelude.{◌≡◌, ◌≢◌, ℕ, ◌+◌, ◌-◌, ◌<◌, ◌≤◌, List, [], ◌∷◌, length, take, drop, map, IfOk, IfErr, OnErr};
 ghost use Rattle.wcode.specs.declared.fault.BinFault.TheVariants.{NoMemory};
 ghost use Rattle.wcode.specs.Grammar.{SpellsIndex};
 ghost use Rattle.wbin.specs.Grammar.{Byte, SpellsBytes, SpellsName, SpellsVector};
-ghost use Rattle.wbin.specs.Reading.{Nothing, Once, Reads, SpellsBoth, SpellsMany};
+ghost use Rattle.wbin.specs.Reading.{Nothing, Once, Reads, SpellsBoth};
 ghost use Rattle.wbin.specs.Unique.{both_once, index_spelled_once, vector_once};
 
+use crate::part::{Plain, read_vector};
 use leb::{LebFault, read_u32};
 use std::alloc::Global;
 use std::marker::PhantomData;
 use wcode::{BinFault, Kind};
 
-/// A kind of things, each of which is spelled in one way only, so that its end is known.
+/// A kind of things without places, each of which is spelled in one way only, so that its end is known.
 pub trait Entry {
     /// What is read.
     type Out: Drop;
@@ -32,48 +33,6 @@ pub trait Entry {
     ghost once: { Once spells };
 }
 
-/// Reads a vector from `at` on, and gives it and the place after it. It takes memory as its entries are found, and
-/// none for a count alone.
-pub fn read_vector<E: Entry>(
-    alloc: Global,
-    bytes: &[u8],
-    at: usize,
-) -> Result<(Vec<E::Out>, usize), BinFault>
-    requires { at ≤ length bytes.now }
-    ensures { Reads (SpellsVector E.spells) (λ v. map E.seen v.items) bytes.now at result }
-{
-    match read_index(bytes, at) {
-        Ok((count, first)) => read_entries::<E>(alloc, bytes, first, count),
-        Err(fault) => Err(fault),
-    }
-}
-
-// So many entries from `at` on.
-fn read_entries<E: Entry>(
-    alloc: Global,
-    bytes: &[u8],
-    at: usize,
-    count: u32,
-) -> Result<(Vec<E::Out>, usize), BinFault>
-    requires { at ≤ length bytes.now }
-    ensures { Reads (SpellsMany count E.spells) (λ v. map E.seen v.items) bytes.now at result }
-{
-    let mut entries = Vec::new(alloc);
-    let mut place = at;
-    for _i in 0..count {
-        match E::read(alloc, bytes, place) {
-            Ok((entry, next)) => {
-                if entries.push(entry).is_err() {
-                    return Err(BinFault::NoMemory);
-                }
-                place = next;
-            }
-            Err(fault) => return Err(fault),
-        }
-    }
-    Ok((entries, place))
-}
-
 /// A vector of such things.
 pub struct Many<E>(PhantomData<E>);
 
@@ -87,7 +46,7 @@ impl<E: Entry> Entry for Many<E> {
     ghost spells = { SpellsVector E.spells };
 
     fn read(alloc: Global, bytes: &[u8], at: usize) -> Result<(Vec<E::Out>, usize), BinFault> {
-        read_vector::<E>(alloc, bytes, at)
+        read_vector::<Plain<E>>(alloc, bytes, at)
     }
 
     ghost once = { vector_once E.spells E.once };
@@ -205,6 +164,7 @@ pub fn read_bytes(bytes: &[u8], at: usize) -> Result<(&[u8], usize), BinFault>
     requires { at ≤ length bytes.now }
     ensures read { Reads SpellsBytes (λ s. s.now) bytes.now at result }
     ensures memory { IfErr result (λ e. e ≢ NoMemory) }
+    ensures place { IfOk result (λ x. (length x.0.now ≤ x.1) × (at + length x.0.now < x.1) × (x.0.now ≡ drop (x.1 - length x.0.now) (take x.1 bytes.now))) }
 {
     match read_sized(bytes, at) {
         Ok(found) => Ok(found),

@@ -1,6 +1,10 @@
 // The parts of a module (WebAssembly Core 1.0, 2.5).
 
-use wcode::{Instr, ValueType};
+ghost use Rattle.std.specs.Prelude.{◌≡◌};
+ghost use Rattle.wbin.specs.Placed.{Stands};
+
+use std::marker::Model;
+use wcode::{Block, ValueType};
 
 /// What a function takes, and what it gives, if anything.
 #[derive(Debug, Drop)]
@@ -48,19 +52,27 @@ pub struct LocalRun {
     pub value: ValueType,
 }
 
-/// A function of the module: the index of its type, its locals behind the parameters, and its body.
-#[derive(Debug, Drop)]
-pub struct Function {
-    pub signature: u32,
-    pub locals: Vec<LocalRun>,
-    pub body: Vec<Instr>,
+/// An expression in the module's bytes: the place of its first opcode, and the place behind the `end` that closes it.
+#[derive(Clone, Copy, PartialEq, Eq, Debug)]
+pub struct Place {
+    pub begin: usize,
+    pub end: usize,
 }
 
-/// A global of the module, with the expression of its first value.
+/// A function without its type: its locals behind the parameters, where its body is, and the blocks of the body in the order of
+/// the opcodes that open them.
 #[derive(Debug, Drop)]
+pub struct FunctionCode {
+    pub locals: Vec<LocalRun>,
+    pub body: Place,
+    pub blocks: Vec<Block>,
+}
+
+/// A global of the module, and where the expression of its first value is.
+#[derive(Clone, Copy, PartialEq, Eq, Debug)]
 pub struct GlobalVariable {
     pub kind: GlobalType,
-    pub first: Vec<Instr>,
+    pub first: Place,
 }
 
 /// What kind of thing is exported.
@@ -80,33 +92,83 @@ pub struct Export {
     pub index: u32,
 }
 
-/// Indices of functions that are written into a table, from the place that the expression gives.
+/// Indices of functions that are written into a table, from the offset that an expression gives.
 #[derive(Debug, Drop)]
 pub struct ElementSegment {
     pub table: u32,
-    pub offset: Vec<Instr>,
+    pub offset: Place,
     pub functions: Vec<u32>,
 }
 
-/// Bytes that are written into a memory, from the place that the expression gives.
-#[derive(Debug, Drop)]
+/// Bytes that are written into a memory, from the offset that an expression gives: those of the module from `contents.begin` to
+/// `contents.end`.
+#[derive(Clone, Copy, PartialEq, Eq, Debug)]
 pub struct DataSegment {
     pub memory: u32,
-    pub offset: Vec<Instr>,
-    pub bytes: Vec<u8>,
+    pub offset: Place,
+    pub contents: Place,
 }
 
-/// A module. `start` is the index of the function that runs first, if there is one.
+/// What a module has, section by section. There are as many signatures, the indices of the functions' types, as codes.
+/// `start` is the index of the function that runs first, if there is one.
 #[derive(Debug, Drop)]
-pub struct Module {
+pub struct Tables {
     pub types: Vec<FunctionType>,
     pub imports: Vec<Import>,
-    pub functions: Vec<Function>,
+    pub signatures: Vec<u32>,
     pub tables: Vec<Limits>,
     pub memories: Vec<Limits>,
     pub globals: Vec<GlobalVariable>,
     pub exports: Vec<Export>,
     pub start: Option<u32>,
     pub element_segments: Vec<ElementSegment>,
+    pub codes: Vec<FunctionCode>,
     pub data_segments: Vec<DataSegment>,
+}
+
+/// A module: its bytes, and tables that say where things are in them. Only `decode` makes one.
+#[derive(Drop)]
+pub struct Module {
+    bytes: Vec<u8>,
+    tables: Tables,
+}
+
+impl Model for Module {
+    ghost use Rattle.std.specs.Coded.{codes};
+    ghost use Rattle.wbin.specs.Syntax.{ModuleParts};
+    ghost use Rattle.wbin.specs.Placed.{Stands};
+
+    ghost Value = { ModuleParts };
+
+    ghost coded = { Prim.hlevel codes };
+
+    ghost view = { λ m. record { bytes = m.bytes.items; tables = m.tables } };
+
+    ghost invariant = { λ m. Stands m.bytes.items m.tables };
+}
+
+impl Module {
+    /// The module of bytes, and of tables that say what is where in them.
+    pub(crate) fn new(bytes: Vec<u8>, tables: Tables) -> Module
+        requires { Stands bytes.items tables }
+        ensures value { result.bytes ≡ bytes.items }
+        ensures tables { result.tables ≡ tables }
+    {
+        Module { bytes, tables }
+    }
+
+    /// The module's bytes.
+    pub fn bytes(&self) -> &[u8]
+        ensures { result.now ≡ self.now.bytes }
+    {
+        self.bytes.as_slice()
+    }
+
+    /// What the module has, and where it is in the bytes.
+    pub fn tables(&self) -> &Tables
+        ensures tables { result.now ≡ self.now.tables }
+        ensures stands { Stands self.now.bytes result.now }
+    {
+        &self.tables
+    }
 }

@@ -1,48 +1,24 @@
 // The entries of sections that have names, bytes or expressions in them (WebAssembly Core 1.0, 5.5).
 #![tactic(auto, unfolding(crate::specs::Reading::Reads))]
 
-ghost use Rattle.std.specs.Prelude.{◌≡◌, ◌≢◌, ℕ, ◌+◌, ◌<◌, ◌≤◌, List, [], ◌∷◌, length, take, drop, map};
+ghost use Rattle.std.specs.Prelude.{◌≡◌, ◌≢◌, ℕ, ◌+◌, ◌<◌, ◌≤◌, List, [], ◌∷◌, length, take, drop, map, IfOk};
 ghost use Rattle.wcode.specs.declared.value.ValueType.{ValueType};
 ghost use Rattle.wcode.specs.declared.fault.BinFault.TheVariants.{NoMemory};
-ghost use Rattle.wcode.specs.Syntax.{Body, body_of};
-ghost use Rattle.wcode.specs.Grammar.{SpellsExpr};
-ghost use Rattle.wbin.specs.Syntax.{ImportSyntax, GlobalSyntax, ExportSyntax, ElementSyntax, DataSyntax, import_of, global_of, export_of, element_of, data_of};
-ghost use Rattle.wbin.specs.Grammar.{SpellsBytes, SpellsName, SpellsImport, SpellsGlobal, SpellsExport, SpellsElement, SpellsData, SpellsRun, Code, SpellsCode};
-ghost use Rattle.wbin.specs.Reading.{Nothing, Once, Reads, SpellsBoth};
-ghost use Rattle.wbin.specs.Unique.{bytes_once, name_once, expression_once, import_once, global_once, export_once, element_once, data_once, run_once};
+ghost use Rattle.wbin.specs.Syntax.{ImportSyntax, GlobalSyntax, ExportSyntax, ElementSyntax, DataSyntax, import_of, export_of, global_in, element_in, data_in};
+ghost use Rattle.wbin.specs.Grammar.{SpellsName, SpellsImport, SpellsGlobal, SpellsExport, SpellsElement, SpellsData, SpellsRun};
+ghost use Rattle.wbin.specs.Placed.{IsGlobal, IsElement, IsData};
+ghost use Rattle.wbin.specs.Reading.{Nothing, Once, Keeps, Reads, SpellsBoth};
+ghost use Rattle.wbin.specs.Unique.{name_once, import_once, global_once, export_once, element_once, data_once, run_once};
+ghost use Rattle.wbin.specs.Kept.{global_kept, element_kept, data_kept};
 
-use crate::entry::{Both, Entry, Many, read_bytes, read_name};
+use crate::entry::{Both, Entry, Many, read_name};
 use crate::module::{
     DataSegment, ElementSegment, Export, ExportKind, GlobalType, GlobalVariable, Import,
     ImportKind, LocalRun,
 };
+use crate::part::{Contents, Expression, Part, Plain, Then};
 use std::alloc::Global;
-use wcode::{BinFault, Instr, ValueType, read_expr};
-
-/// Bytes with their number before them.
-pub struct Contents;
-
-impl Entry for Contents {
-    type Out = Vec<u8>;
-
-    ghost Syntax = { List ℕ };
-
-    ghost seen = { λ v. v.items };
-
-    ghost spells = { SpellsBytes };
-
-    fn read(alloc: Global, bytes: &[u8], at: usize) -> Result<(Vec<u8>, usize), BinFault> {
-        match read_bytes(bytes, at) {
-            Ok((contents, end)) => match Vec::from_slice(alloc, contents) {
-                Ok(copy) => Ok((copy, end)),
-                Err(_) => Err(BinFault::NoMemory),
-            },
-            Err(fault) => Err(fault),
-        }
-    }
-
-    ghost once = { bytes_once };
-}
+use wcode::{BinFault, ValueType};
 
 /// A name, in UTF-8.
 pub struct Name;
@@ -69,25 +45,6 @@ impl Entry for Name {
     ghost once = { name_once };
 }
 
-/// Instructions, up to the `end` that closes them.
-pub struct Expression;
-
-impl Entry for Expression {
-    type Out = Vec<Instr>;
-
-    ghost Syntax = { Body };
-
-    ghost seen = { λ v. body_of v.items };
-
-    ghost spells = { SpellsExpr };
-
-    fn read(alloc: Global, bytes: &[u8], at: usize) -> Result<(Vec<Instr>, usize), BinFault> {
-        read_expr(alloc, bytes, at)
-    }
-
-    ghost once = { expression_once };
-}
-
 impl Entry for Import {
     type Out = Import;
 
@@ -107,23 +64,27 @@ impl Entry for Import {
     ghost once = { import_once };
 }
 
-impl Entry for GlobalVariable {
+impl Part for GlobalVariable {
     type Out = GlobalVariable;
 
     ghost Syntax = { GlobalSyntax };
 
-    ghost seen = { global_of };
+    ghost seen = { global_in };
 
     ghost spells = { SpellsGlobal };
 
+    ghost placed = { IsGlobal };
+
     fn read(alloc: Global, bytes: &[u8], at: usize) -> Result<(GlobalVariable, usize), BinFault> {
-        match <Both<GlobalType, Expression>>::read(alloc, bytes, at) {
+        match <Then<Plain<GlobalType>, Expression>>::read(alloc, bytes, at) {
             Ok(((kind, first), end)) => Ok((GlobalVariable { kind, first }, end)),
             Err(fault) => Err(fault),
         }
     }
 
     ghost once = { global_once };
+
+    ghost kept = { global_kept };
 }
 
 impl Entry for Export {
@@ -145,48 +106,57 @@ impl Entry for Export {
     ghost once = { export_once };
 }
 
-impl Entry for ElementSegment {
+impl Part for ElementSegment {
     type Out = ElementSegment;
 
     ghost Syntax = { ElementSyntax };
 
-    ghost seen = { element_of };
+    ghost seen = { element_in };
 
     ghost spells = { SpellsElement };
 
+    ghost placed = { IsElement };
+
     fn read(alloc: Global, bytes: &[u8], at: usize) -> Result<(ElementSegment, usize), BinFault> {
-        match <Both<u32, Both<Expression, Many<u32>>>>::read(alloc, bytes, at) {
-            Ok(((table, (offset, functions)), end)) => {
-                let segment = ElementSegment {
-                    table,
-                    offset,
-                    functions,
-                };
-                Ok((segment, end))
-            }
+        match <Then<Plain<u32>, Expression>>::read(alloc, bytes, at) {
+            Ok(((table, offset), next)) => match <Many<u32>>::read(alloc, bytes, next) {
+                Ok((functions, end)) => {
+                    let segment = ElementSegment {
+                        table,
+                        offset,
+                        functions,
+                    };
+                    Ok((segment, end))
+                }
+                Err(fault) => Err(fault),
+            },
             Err(fault) => Err(fault),
         }
     }
 
     ghost once = { element_once };
+
+    ghost kept = { element_kept };
 }
 
-impl Entry for DataSegment {
+impl Part for DataSegment {
     type Out = DataSegment;
 
     ghost Syntax = { DataSyntax };
 
-    ghost seen = { data_of };
+    ghost seen = { data_in };
 
     ghost spells = { SpellsData };
 
+    ghost placed = { IsData };
+
     fn read(alloc: Global, bytes: &[u8], at: usize) -> Result<(DataSegment, usize), BinFault> {
-        match <Both<u32, Both<Expression, Contents>>>::read(alloc, bytes, at) {
+        match <Then<Plain<u32>, Then<Expression, Contents>>>::read(alloc, bytes, at) {
             Ok(((memory, (offset, contents)), end)) => {
                 let segment = DataSegment {
                     memory,
                     offset,
-                    bytes: contents,
+                    contents,
                 };
                 Ok((segment, end))
             }
@@ -195,6 +165,8 @@ impl Entry for DataSegment {
     }
 
     ghost once = { data_once };
+
+    ghost kept = { data_kept };
 }
 
 impl Entry for LocalRun {

@@ -5,11 +5,49 @@ ghost use Rattle.std.specs.Prelude.{◌≡◌, ◌≢◌, ℕ, ◌+◌, ◌-◌,
 ghost use Rattle.wcode.specs.declared.fault.BinFault.TheVariants.{NoMemory};
 ghost use Rattle.wbin.specs.Grammar.{Section, SpellsName, SpellsSection};
 ghost use Rattle.wbin.specs.Outline.{Within, ReadsStretch, Outlines};
+ghost use Rattle.wbin.specs.Ids.{id_of};
 ghost use Rattle.wbin.specs.Reading.{Nothing};
 
 use crate::entry::{malformed, read_name, read_sized, truncated};
 use std::alloc::{AllocError, Global};
 use wcode::{BinFault, Kind};
+
+/// The sections that a module may have once, in their order.
+#[derive(Clone, Copy)]
+pub enum SectionId {
+    Type,
+    Import,
+    Function,
+    Table,
+    Memory,
+    Global,
+    Export,
+    Start,
+    Element,
+    Code,
+    Data,
+}
+
+impl SectionId {
+    /// The section's number in the bytes.
+    pub fn number(self) -> u8
+        ensures { result ≡ id_of self }
+    {
+        match self {
+            SectionId::Type => 1,
+            SectionId::Import => 2,
+            SectionId::Function => 3,
+            SectionId::Table => 4,
+            SectionId::Memory => 5,
+            SectionId::Global => 6,
+            SectionId::Export => 7,
+            SectionId::Start => 8,
+            SectionId::Element => 9,
+            SectionId::Code => 10,
+            SectionId::Data => 11,
+        }
+    }
+}
 
 /// A section: its number, the place of its number's byte, and the places where its contents begin and end.
 #[derive(Clone, Copy, Debug)]

@@ -45,11 +45,14 @@ fn cut_modules(rt: HostRuntime) -> Result<(), Fail> {
         }
     }
     let whole = decode(rt.alloc(), &ZERO)?;
-    assert_eq!(&rt; whole.functions.len(), 1);
-    assert_eq!(&rt; whole.exports.len(), 1);
-    assert_eq!(&rt; whole.functions[0].signature, 0);
-    assert_eq!(&rt; whole.functions[0].body.len(), 1);
-    assert_eq!(&rt; whole.exports[0].name.as_slice(), b"filter".as_slice());
+    let tables = whole.tables();
+    assert_eq!(&rt; whole.bytes(), ZERO.as_slice());
+    assert_eq!(&rt; tables.signatures.as_slice(), &[0][..]);
+    assert_eq!(&rt; tables.codes.len(), 1);
+    assert_eq!(&rt; tables.codes[0].body, Place { begin: 36, end: 39 });
+    assert_eq!(&rt; tables.codes[0].blocks.len(), 0);
+    assert_eq!(&rt; tables.exports.len(), 1);
+    assert_eq!(&rt; tables.exports[0].name.as_slice(), b"filter".as_slice());
     Ok(())
 }
 
@@ -248,7 +251,7 @@ fn empty_sections(rt: HostRuntime) -> Result<(), Fail> {
             &[0x00, 0x01, 0x00, id, 0x01, 0x00, 0x00, 0x01, 0x00],
         )?;
         let found = decode(rt.alloc(), bytes.as_slice())?;
-        assert_eq!(&rt; found.start.is_some(), id == 8);
+        assert_eq!(&rt; found.tables().start.is_some(), id == 8);
     }
     Ok(())
 }
@@ -271,8 +274,9 @@ fn a_custom_section_leaves_no_trace(rt: HostRuntime) -> Result<(), Fail> {
     assert_eq!(&rt; bytes.len(), 46);
     let with = decode(rt.alloc(), &bytes)?;
     let without = decode(rt.alloc(), &ZERO)?;
+    let (with, without) = (with.tables(), without.tables());
     assert_eq!(&rt; with.types.len(), without.types.len());
-    assert_eq!(&rt; with.functions.len(), without.functions.len());
+    assert_eq!(&rt; with.codes.len(), without.codes.len());
     assert_eq!(&rt; with.exports.len(), 1);
     assert_eq!(&rt; with.exports[0].name.as_slice(), b"filter".as_slice());
     Ok(())
@@ -298,7 +302,8 @@ fn whole_module(rt: HostRuntime) -> Result<(), Fail> {
             0x0B, 0x08, 0x01, 0x00, 0x41, 0x02, 0x0B, 0x02, 0x68, 0x69, // data
         ],
     )?;
-    let found = decode(rt.alloc(), bytes.as_slice())?;
+    let decoded = decode(rt.alloc(), bytes.as_slice())?;
+    let found = decoded.tables();
     assert_eq!(&rt; found.types.len(), 2);
     assert_eq!(&rt;
         found.types[1].parameters.as_slice(),
@@ -328,6 +333,7 @@ fn whole_module(rt: HostRuntime) -> Result<(), Fail> {
     };
     assert_eq!(&rt; found.globals.len(), 1);
     assert_eq!(&rt; found.globals[0].kind, kind);
+    assert_eq!(&rt; found.globals[0].first, Place { begin: 57, end: 60 });
     assert_eq!(&rt; found.exports.len(), 1);
     assert_eq!(&rt; found.exports[0].name.as_slice(), b"m".as_slice());
     assert_eq!(&rt; found.exports[0].kind, ExportKind::Memory);
@@ -338,24 +344,33 @@ fn whole_module(rt: HostRuntime) -> Result<(), Fail> {
         count: 2,
         value: ValueType::I64,
     };
-    assert_eq!(&rt; found.functions.len(), 1);
-    assert_eq!(&rt; found.functions[0].locals.len(), 1);
-    assert_eq!(&rt; found.functions[0].locals[0], run);
-    assert_eq!(&rt; found.functions[0].body.len(), 0);
+    assert_eq!(&rt; found.signatures.as_slice(), &[0][..]);
+    assert_eq!(&rt; found.codes.len(), 1);
+    assert_eq!(&rt; found.codes[0].locals.len(), 1);
+    assert_eq!(&rt; found.codes[0].locals[0], run);
+    assert_eq!(&rt; found.codes[0].body, Place { begin: 87, end: 88 });
+    let segment = DataSegment {
+        memory: 0,
+        offset: Place { begin: 92, end: 95 },
+        contents: Place { begin: 96, end: 98 },
+    };
     assert_eq!(&rt; found.data_segments.len(), 1);
-    assert_eq!(&rt; found.data_segments[0].bytes.as_slice(), b"hi".as_slice());
+    assert_eq!(&rt; found.data_segments[0], segment);
+    assert_eq!(&rt; bytes.len(), 98);
+    assert_eq!(&rt; &bytes[96..98], b"hi".as_slice());
     Ok(())
 }
 
 // examples/plugins/spare_memory.wasm
 #[test]
 fn plugin(rt: HostRuntime) -> Result<(), Fail> {
-    let found = decode(rt.alloc(), &PLUGIN)?;
+    let decoded = decode(rt.alloc(), &PLUGIN)?;
+    let found = decoded.tables();
     assert_eq!(&rt; found.imports.len(), 1);
     assert_eq!(&rt; found.exports.len(), 2);
     assert_eq!(&rt; found.imports[0].module.as_slice(), b"sched".as_slice());
     assert_eq!(&rt; found.imports[0].name.as_slice(), b"node".as_slice());
-    assert_eq!(&rt; found.functions.len(), 1);
+    assert_eq!(&rt; found.codes.len(), 1);
     assert_eq!(&rt; found.exports[1].name.as_slice(), b"filter".as_slice());
     Ok(())
 }

@@ -1,2 +1,12 @@
-pub mod Trees
-pub mod Walked
+pub mod Operands
+pub mod Passed
+pub mod Alignment
+pub mod Found
+pub mod Outcomes
+pub mod Lengths
+pub mod Places
+pub mod Steps
+pub mod Results
+pub mod Inside
+pub mod LevelLists
+pub mod Whole

@@ -6,3 +6,7 @@ pub mod Bodies
 pub mod Shorter
 pub mod Lists
 pub mod Readers
+pub mod BlockLists
+pub mod BodyRead
+pub mod Longer
+pub mod Passing

@@ -96,7 +96,7 @@ no_end room bytes none body rest h = none false body rest h
 pub no_first_arm : (room : ℕ) (bytes : List ℕ) → NoBody room bytes → (a b : Body) (rest : List ℕ) → SpellsArms room bytes a b rest → ⊥
 no_first_arm room bytes none a b rest h = elim h [ inl x ↦ none false a rest x.1 | inr x ↦ none true a x.0 x.1 ]
 
-true_of : (e : Bool) → not e ≡ false → e ≡ true
+pub true_of : (e : Bool) → not e ≡ false → e ≡ true
 true_of true t = refl
 true_of false t = cc t
 

@@ -5,3 +5,6 @@ pub mod Grammar
 pub mod Shown
 pub mod Ended
 pub mod Fault
+pub mod BodyAt
+pub mod Blocks
+pub mod Skipped

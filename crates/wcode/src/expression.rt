@@ -39,12 +39,6 @@ pub fn read_expr(alloc: Global, bytes: &[u8], at: usize) -> Result<(Vec<Instr>, 
     }
 }
 
-/// Bytes begin with one expression at most, which ends at one place.
-pub fn one_expression()
-    ensures { (bytes : List ℕ) (body other : Body) (rest more : List ℕ) →
-        SpellsExpr bytes body rest → SpellsExpr bytes other more → (body ≡ other) × (rest ≡ more) }
-{}
-
 // Instructions up to the `else` or `end` at `last`.
 #[derive(Drop)]
 struct Ended {
@@ -73,9 +67,9 @@ fn read_body(alloc: Global, bytes: &[u8], at: usize, room: u32) -> Result<Ended,
     'items: loop {
         match read_item(alloc, bytes, place, room) {
             Ok(Item::One(instr, next)) => {
-                if !add(&mut body, instr) {
+                let Ok(()) = add(&mut body, instr) else {
                     return Err(BinFault::NoMemory);
-                }
+                };
                 place = next;
             }
             Ok(Item::Ends(by_else, next)) => {
@@ -210,11 +204,12 @@ fn read_labels(
     Ok((labels, default))
 }
 
-// One instruction more; false where there is no memory for it.
-fn add(body: &mut Vec<Instr>, instr: Instr) -> bool
-    ensures { IsTrue result → body.new.items ≡ body.old.items ++ instr ∷ [] }
+// One instruction more.
+fn add(body: &mut Vec<Instr>, instr: Instr) -> Result<(), AllocError>
+    ensures { IfOk result (λ u. body.new.items ≡ body.old.items ++ instr ∷ []) }
 {
-    body.push(instr).is_ok()
+    body.push(instr)?;
+    Ok(())
 }
 
 fn plain_of(p: Plain) -> Instr
@@ -247,8 +242,9 @@ fn table_of(labels: Vec<u32>, default: u32) -> Instr
     Instr::BrTable(labels, default)
 }
 
+/// An opcode that can't stand there.
 #[cold]
-fn bad_opcode(place: usize) -> BinFault
+pub fn bad_opcode(place: usize) -> BinFault
     ensures { result ≢ NoMemory }
 {
     BinFault::Malformed {
@@ -257,8 +253,9 @@ fn bad_opcode(place: usize) -> BinFault
     }
 }
 
+/// A block with more around it than there may be.
 #[cold]
-fn too_deep(place: usize) -> BinFault
+pub fn too_deep(place: usize) -> BinFault
     ensures { result ≢ NoMemory }
 {
     BinFault::Malformed {

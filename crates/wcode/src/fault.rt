@@ -1,7 +1,7 @@
 // Why bytes are refused.
 
-ghost use Rattle.std.specs.Prelude.{◌≡◌};
-ghost use Rattle.wcode.specs.Fault.{whole};
+ghost use Rattle.std.specs.Prelude.{◌≡◌, codes};
+ghost use Rattle.wcode.specs.Fault.{whole, kind_number, kind_name, number_of, name_of};
 
 use thiserror::Error;
 
@@ -34,7 +34,9 @@ pub enum Kind {
 
 impl Kind {
     /// The number that is printed.
-    pub fn number(self) -> u8 {
+    pub fn number(self) -> u8
+        ensures { result ≡ kind_number self }
+    {
         match self {
             Kind::Truncated => 1,
             Kind::BadMagic => 2,
@@ -51,7 +53,9 @@ impl Kind {
     }
 
     /// The name that is printed.
-    pub fn name(self) -> &'static str {
+    pub fn name(self) -> &'static str
+        ensures { result.now ≡ kind_name self }
+    {
         match self {
             Kind::Truncated => "Truncated",
             Kind::BadMagic => "BadMagic",
@@ -95,7 +99,9 @@ pub enum BinFault {
 
 impl BinFault {
     /// The number that is printed.
-    pub fn number(&self) -> u8 {
+    pub fn number(self) -> u8
+        ensures { result ≡ number_of self }
+    {
         match self {
             BinFault::Malformed { .. } => 1,
             BinFault::Float => 2,
@@ -104,7 +110,9 @@ impl BinFault {
     }
 
     /// The name that is printed.
-    pub fn name(&self) -> &'static str {
+    pub fn name(self) -> &'static str
+        ensures { result.now ≡ name_of self }
+    {
         match self {
             BinFault::Malformed { .. } => "Malformed",
             BinFault::Float => "Float",

@@ -1,20 +1,27 @@
-//! WebAssembly's instructions in the integer part of the standard, and their decoder
-//! (WebAssembly Core 1.0, 2.4 and 5.4).
+//! WebAssembly's instructions in the integer part of the standard (WebAssembly Core 1.0, 2.4 and 5.4): one by one and as a
+//! tree, what each opcode stands for, readers of both from bytes, why bytes are refused, and the laws that they spell one
+//! instruction and one expression at most.
 #![tactic(auto)]
 
+mod blocks;
 mod expression;
 mod fault;
 mod instruction;
+mod laws;
 mod opcode;
 mod operator;
 mod reading;
+mod skipping;
 mod value;
 
+pub use blocks::Block;
 pub use expression::{NESTING, read_expr};
 pub use fault::{BinFault, Kind, OpFault};
 pub use instruction::{Instr, MemArg, Op, Plain};
+pub use laws::{blocks_are_spelled, blocks_stay, one_body_at, one_expression, one_word};
 pub use operator::{BinOp, CvtOp, LoadOp, RelOp, Sign, StoreOp, TestOp, UnOp};
 pub use reading::{read_label, read_op};
+pub use skipping::{read_constant, skip_expr};
 pub use value::{BlockType, Value, ValueType};
 
 #[cfg(test)]

@@ -234,9 +234,3 @@ fn bad_number(bytes: &[u8], at: usize, fault: LebFault) -> OpFault {
 fn malformed(kind: Kind, place: usize) -> OpFault {
     OpFault::Malformed { kind, place }
 }
-
-/// Bytes begin with one instruction at most, which ends at one place.
-pub fn one_word()
-    ensures { (bytes : List ℕ) (v w : Word) (rest more : List ℕ) →
-        SpellsWord bytes v rest → SpellsWord bytes w more → (v ≡ w) × (rest ≡ more) }
-{}

@@ -5,6 +5,7 @@ use super::ValueType::{I32, I64};
 use super::*;
 use crate::expression::read_expr;
 use crate::reading::read_op;
+use crate::skipping::{read_constant, skip_expr};
 use std::process::Abort;
 use std::test::Fail;
 
@@ -441,6 +442,37 @@ fn trees(rt: HostRuntime) -> Result<(), Fail> {
     Ok(())
 }
 
+// The places of the blocks, counted by hand and as `wasm-objdump -d` shows the opcodes.
+#[test]
+fn blocks_of_expressions(rt: HostRuntime) -> Result<(), Fail> {
+    let bytes = [
+        0x02, 0x40, 0x0B, // a block
+        0x04, 0x40, 0x01, 0x05, 0x03, 0x40, 0x0B, 0x0B, // an if with a loop in its else arm
+        0x0B,
+    ];
+    let wanted = [(None, 3), (Some(7), 11), (None, 10)];
+    let (blocks, end) = skip_expr(rt.alloc(), &bytes, 0)?;
+    assert_eq!(rt; end, 12);
+    assert_eq!(rt; blocks.len(), 3);
+    for (i, (else_arm, after)) in wanted.into_iter().enumerate() {
+        assert_eq!(rt; blocks.get(i).copied(), Some(Block { else_arm, after }));
+    }
+    Ok(())
+}
+
+#[test]
+fn constants_alone(rt: HostRuntime) -> Result<(), Fail> {
+    assert_eq!(rt; read_constant(&[0x41, 0x07, 0x0B], 0), Some(Value::I32(7)));
+    assert_eq!(rt;
+        read_constant(&[0x0B, 0x42, 0x7F, 0x0B], 1),
+        Some(Value::I64(u64::MAX))
+    );
+    assert_eq!(rt; read_constant(&[0x0B], 0), None);
+    assert_eq!(rt; read_constant(&[0x23, 0x00, 0x0B], 0), None);
+    assert_eq!(rt; read_constant(&[0x41, 0x07, 0x01, 0x0B], 0), None);
+    Ok(())
+}
+
 #[test]
 fn faults_of_expressions(rt: HostRuntime) -> Result<(), Fail> {
     refused(&rt, read_expr(rt.alloc(), &[], 0), Kind::Truncated, 0);
@@ -512,29 +544,7 @@ fn nesting(rt: HostRuntime) -> Result<(), Fail> {
 }
 
 #[test]
-fn numbers_and_names(rt: HostRuntime) -> Result<(), Fail> {
-    assert_eq!(rt; Kind::Truncated.number(), 1);
-    assert_eq!(rt; Kind::BadMagic.number(), 2);
-    assert_eq!(rt; Kind::BadVersion.number(), 3);
-    assert_eq!(rt; Kind::BadSection.number(), 4);
-    assert_eq!(rt; Kind::BadNumber.number(), 5);
-    assert_eq!(rt; Kind::BadType.number(), 6);
-    assert_eq!(rt; Kind::BadOpcode.number(), 7);
-    assert_eq!(rt; Kind::BadName.number(), 8);
-    assert_eq!(rt; Kind::CountMismatch.number(), 9);
-    assert_eq!(rt; Kind::TooDeep.number(), 10);
-    assert_eq!(rt; Kind::TooLong.number(), 11);
-    assert_eq!(rt; Kind::Truncated.name(), "Truncated");
-    assert_eq!(rt; Kind::BadMagic.name(), "BadMagic");
-    assert_eq!(rt; Kind::BadVersion.name(), "BadVersion");
-    assert_eq!(rt; Kind::BadSection.name(), "BadSection");
-    assert_eq!(rt; Kind::BadNumber.name(), "BadNumber");
-    assert_eq!(rt; Kind::BadType.name(), "BadType");
-    assert_eq!(rt; Kind::BadOpcode.name(), "BadOpcode");
-    assert_eq!(rt; Kind::BadName.name(), "BadName");
-    assert_eq!(rt; Kind::CountMismatch.name(), "CountMismatch");
-    assert_eq!(rt; Kind::TooDeep.name(), "TooDeep");
-    assert_eq!(rt; Kind::TooLong.name(), "TooLong");
+fn printed_faults(rt: HostRuntime) -> Result<(), Fail> {
     let cut = BinFault::Malformed {
         kind: Kind::Truncated,
         place: 4,

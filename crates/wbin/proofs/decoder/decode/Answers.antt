@@ -1,18 +1,11 @@
-use Rattle.std.proofs.Common.{map, subst, sym}
-use Rattle.wbin.specs.Outline.{section_of, OutlinesUpTo}
-use Rattle.wbin.proofs.Modules.{decoded_module, decoded_none}
+use Rattle.std.proofs.Common.{sym, subst, ◌∙◌}
+use Rattle.wbin.specs.Placed.{Stands}
+use Rattle.wbin.proofs.Modules.{module_is}
 use Rattle.wbin.proofs.decoder.decode.Goals as goal
 
-pub returns-in-Ok-find_sections-clause-module : goal.returns-in-Ok-find_sections-clause-module
-returns-in-Ok-find_sections-clause-module c =
-    let b = c.args.bytes.now in
-    let f = c.in-Ok-find_sections.found in
-    let o = subst (λ l. OutlinesUpTo b 8 (map (section_of b) l) f.fault) (sym c.as_slice.ensures.value) c.in-Ok-find_sections.ensures.1 in
-    decoded_module b (map (section_of b) c.as_slice.result.now) f.fault c.assemble.result c.in-Ok.ensures.short c.in-Ok.ensures.headed o c.assemble.ensures
+pub new-requires : goal.new-requires
+new-requires c = subst (λ b. Stands b c.in-Ok.tables) (sym c.in-Ok-from_slice.ensures.items) c.in-Ok.ensures.tables
 
-pub returns-in-Ok-find_sections-clause-none : goal.returns-in-Ok-find_sections-clause-none
-returns-in-Ok-find_sections-clause-none c =
-    let b = c.args.bytes.now in
-    let f = c.in-Ok-find_sections.found in
-    let o = subst (λ l. OutlinesUpTo b 8 (map (section_of b) l) f.fault) (sym c.as_slice.ensures.value) c.in-Ok-find_sections.ensures.1 in
-    decoded_none b (map (section_of b) c.as_slice.result.now) f.fault c.assemble.result o c.assemble.ensures
+pub returns-in-Ok-from_slice-clause-module : goal.returns-in-Ok-from_slice-clause-module
+returns-in-Ok-from_slice-clause-module c =
+    module_is c.args.bytes.now c.in-Ok-from_slice.copy.items c.in-Ok.tables c.new.result c.in-Ok-from_slice.ensures.items c.new.ensures.value c.new.ensures.tables c.in-Ok.ensures.tables

@@ -12,13 +12,13 @@ pub returns-in-Ok : goal.returns-in-Ok
 unfolding ReadsWhole
 returns-in-Ok c =
     starts_at _ (inside c.args.bytes.now c.in-Some.section) c.in-Ok.index
-    (contents_are c.args.bytes.now 8 c.args.sections.now ∙ ap (option_map (inside c.args.bytes.now)) (sym c.in-Some.ensures)) c.in-Ok.ensures
+    (contents_are c.args.bytes.now 8 c.args.sections.now ∙ ap (option_map (inside c.args.bytes.now)) (sym c.in-Some.ensures)) c.in-Ok.ensures.read
 
 pub returns-in-Err : goal.returns-in-Err
 unfolding ReadsWhole
 returns-in-Err c = λ m.
     starts_missing _ (inside c.args.bytes.now c.in-Some.section)
-    (contents_are c.args.bytes.now 8 c.args.sections.now ∙ ap (option_map (inside c.args.bytes.now)) (sym c.in-Some.ensures)) (c.in-Err.ensures m)
+    (contents_are c.args.bytes.now 8 c.args.sections.now ∙ ap (option_map (inside c.args.bytes.now)) (sym c.in-Some.ensures)) (c.in-Err.ensures.read m)
 
 pub returns-in-None : goal.returns-in-None
 unfolding ReadsWhole

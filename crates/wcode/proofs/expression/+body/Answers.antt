@@ -86,7 +86,7 @@ unfolding GivesItem
 read_body-items-preserved t c =
     let a = c.in-Ok-One in
     let g = rw a.field-0-is at a.ensures in
-    subst (λ l. HasItems c.args.bytes.now c.args.room c.args.at l a.next) (sym (c.add.ensures c.if-not-add.false))
+    subst (λ l. HasItems c.args.bytes.now c.args.room c.args.at l a.next) (sym c.in-Ok.ensures)
     (more_items c.args.bytes.now c.args.room c.args.at c.items.body.items c.items.place a.instr a.next c.items.invariant g.0 g.2)
 
 pub read_nested-returns-then-inner-clause-none : goal.read_nested-returns-then-inner-clause-none

@@ -1,5 +1,0 @@
-use Rattle.wbin.proofs.Modules.{module_once}
-use Rattle.wbin.proofs.decoder.one_module.Goals as goal
-
-pub returns : goal.returns
-returns c = module_once
