@@ -8,8 +8,7 @@ use Rattle.wcode.specs.declared.instruction.Plain.TheVariants.{Const}
 use Rattle.wcode.specs.Operators.{type_of}
 use Rattle.wcode.specs.Syntax.{Body, done, plain}
 use Rattle.wbin.specs.declared.module.Limits.{Limits}
-use Rattle.wbin.specs.declared.module.Module.{Module}
-use Rattle.wbin.specs.Syntax.{GlobalSyntax, ModuleSyntax, module_of}
+use Rattle.wbin.specs.Syntax.{GlobalSyntax, ModuleSyntax, ModuleParts, module_of}
 use Rattle.wtype.specs.Accepted.{Accepted, export_named, filter_name, score_name}
 use Rattle.wmach.specs.declared.export.Export.{Export}
 use Rattle.wmach.specs.declared.export.Export.TheVariants.{Filter, Score, Start}
@@ -113,7 +112,7 @@ records_for Start records = λ import. None
 
 -- what a machine is seen as: its module, and its store
 pub record MachineState : Type 0 where
-  pub content : Module
+  pub content : ModuleParts
   pub store : Store
 
 -- a call of a machine, and the machine after it: the module stays, and the outcome and the store are the call's
@@ -124,9 +123,9 @@ pub record Calls (before : MachineState) (export : Export) (records : ℕ → Op
   pub ends : HasOutcome (record { module_syntax = module_of before.content; records = records_for export records }) before.store function fuel outcome after.store
 
 -- the value of a constant expression, and else zero
-abbrev pub constant_of : Body → ValueType → Value
-constant_of (plain (Const v) done) t = v
-constant_of _ t = value_of t 0
+abbrev pub first_value : Body → ValueType → Value
+first_value (plain (Const v) done) t = v
+first_value _ t = value_of t 0
 
 -- bytes of a memory of so many pages at first, if there is one
 abbrev pub first_memory : List Limits → List ℕ
@@ -141,7 +140,7 @@ first_table (l ∷ ls) = replicate l.least None
 abbrev pub first_store : ModuleSyntax → Store
 first_store m = record {
   memory = first_memory m.memories;
-  globals = map (λ (g : GlobalSyntax). constant_of g.first g.kind.value) m.globals;
+  globals = map (λ (g : GlobalSyntax). first_value g.first g.kind.value) m.globals;
   table = first_table m.tables;
 }
 
