@@ -4,3 +4,5 @@ pub mod Tests
 pub mod Pods
 pub mod Steps
 pub mod Readings
+pub mod Held
+pub mod Fair

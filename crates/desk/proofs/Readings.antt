@@ -38,7 +38,7 @@ or_else : {X : Type 0} (a b : Option X) (d : X) → unwrap_or (option_or a b) d 
 or_else None b d = refl
 or_else (Some x) b d = refl
 
-or_both : {X : Type 0} (a b d : Option X) → option_or a (option_or b d) ≡ option_or (option_or a b) d
+pub or_both : {X : Type 0} (a b d : Option X) → option_or a (option_or b d) ≡ option_or (option_or a b) d
 or_both None b d = refl
 or_both (Some x) b d = refl
 
@@ -113,7 +113,7 @@ by_place None put pod finished e mark waits h = sym (nowhere put pod finished e)
 by_place (Some place) put pod finished e mark waits h = by_status place.node place.request place.status put pod finished e mark h.asked
 
 -- nothing said is nothing known
-or_none : {X : Type 0} (o : Option X) → option_or o None ≡ o
+pub or_none : {X : Type 0} (o : Option X) → option_or o None ≡ o
 or_none None = refl
 or_none (Some x) = refl
 

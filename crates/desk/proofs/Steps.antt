@@ -136,7 +136,7 @@ unless_of s q e None done h = h refl
 unless_of s q e (Some why) done h = refused_of s q e why
 
 -- what the book and the queue make of a step
-abbrev done_by : State → ClusterStep → QueueState → Outcome
+abbrev pub done_by : State → ClusterStep → QueueState → Outcome
 done_by s part queue = record { state = record s { cluster = book_step.effect s.cluster part; queue = queue }; reply = told (book_step.answer s.cluster part) }
 
 both_of : (s : State) (q : Name) (e : Step) (part : ClusterStep) (queue : QueueState)

@@ -17,3 +17,9 @@ or_false false b h = (refl, h)
 pub not_false : (b : Bool) → not b ≡ false → b ≡ true
 not_false true h = refl
 not_false false h = absurd (cc)
+
+-- nor any of the first five
+pub first_five : (a b c d e : Bool) (x y z v w : Refusal) (tests : List (Bool × Refusal)) → first_of ((a, x) ∷ (b, y) ∷ (c, z) ∷ (d, v) ∷ (e, w) ∷ tests) ≡ None → (c ≡ false) × (d ≡ false) × (e ≡ false)
+first_five true b c d e x y z v w tests h = absurd (cc)
+first_five false true c d e x y z v w tests h = absurd (cc)
+first_five false false c d e x y z v w tests h = first_three c d e z v w tests h

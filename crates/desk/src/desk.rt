@@ -47,7 +47,7 @@ impl Desk {
     ghost use Rattle.desk.specs.Machine.{both, of_node, moved, step, entry_for, counts, reply, after, snapshot};
     ghost use Rattle.desk.specs.Machine as machine;
     ghost use Rattle.desk.specs.Done.{IsTold, IsTaken, IsDone, IsAnswered};
-    ghost use Rattle.desk.specs.History.{Call, Leaves, IsOf, HasSeen, Applied, Looked, call, snap};
+    ghost use Rattle.desk.specs.History.{Call, Leaves, IsOf, HasSeen, Applied, Looked, IsFairTicket, call, snap};
     ghost use Rattle.std.specs.Bool.{IsTrue};
     ghost use Rattle.queue.specs.Queue as queue;
 
@@ -364,6 +364,9 @@ impl Desk {
             → IfOk result (λ answer. Leaves (l ++ call pass.old step answer ∷ []) self.new
             × Applied self.old.state.cluster.limits self.old.handed pass.old seen step answer (l ++ call pass.old step answer ∷ [])
             × HasSeen pass.new (l ++ call pass.old step answer ∷ []) (l ++ call pass.old step answer ∷ [])) }
+
+        // A ticket is given where the pod that this pass popped fits on the node, by that history.
+        ensures fair { (l : List Call) → Leaves l self.old → IfOk result (IsFairTicket l pass.old.number step) }
     {
         if pass.calls() >= MAX_CALLS {
             return Err(NoMemory);
