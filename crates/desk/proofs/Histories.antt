@@ -31,7 +31,7 @@ lt-eqb : (m n : ℕ) → m < n → eqb m n ≡ false
 lt-eqb m n lt = grind (arith, nat_tests)
 
 -- an empty list at the end changes nothing
-append_nil : {A : Type 0} (xs : List A) → xs ++ [] ≡ xs
+pub append_nil : {A : Type 0} (xs : List A) → xs ++ [] ≡ xs
 append_nil [] = refl
 append_nil (x ∷ xs) = ap (λ r. x ∷ r) (append_nil xs)
 

@@ -47,7 +47,7 @@ impl Desk {
     ghost use Rattle.desk.specs.Machine.{both, of_node, moved, step, entry_for, counts, reply, after, snapshot};
     ghost use Rattle.desk.specs.Machine as machine;
     ghost use Rattle.desk.specs.Done.{IsTold, IsTaken, IsDone, IsAnswered};
-    ghost use Rattle.desk.specs.History.{Call, Leaves, IsOf, HasSeen, Applied, call};
+    ghost use Rattle.desk.specs.History.{Call, Leaves, IsOf, HasSeen, Applied, Looked, IsFairTicket, call, snap};
     ghost use Rattle.std.specs.Bool.{IsTrue};
     ghost use Rattle.queue.specs.Queue as queue;
 
@@ -364,6 +364,9 @@ impl Desk {
             → IfOk result (λ answer. Leaves (l ++ call pass.old step answer ∷ []) self.new
             × Applied self.old.state.cluster.limits self.old.handed pass.old seen step answer (l ++ call pass.old step answer ∷ [])
             × HasSeen pass.new (l ++ call pass.old step answer ∷ []) (l ++ call pass.old step answer ∷ [])) }
+
+        // A ticket is given where the pod that this pass popped fits on the node, by that history.
+        ensures fair { (l : List Call) → Leaves l self.old → IfOk result (IsFairTicket l pass.old.number step) }
     {
         if pass.calls() >= MAX_CALLS {
             return Err(NoMemory);
@@ -397,6 +400,13 @@ impl Desk {
     pub fn look(&self, pass: &mut Pass) -> Result<Snapshot, NoMemory>
         ensures snapshot { IfOk result (λ shown. shown ≡ snapshot self.now.state.cluster) }
         ensures pass { pass.new ≡ pass.old }
+
+        // It is the snapshot of the history that left the desk so.
+        ensures history { (l : List Call) → Leaves l self.now → IfOk result (λ shown. shown ≡ snap l) }
+
+        // And the pass now has seen that history.
+        ensures looked { (l seen : List Call) → Leaves l self.now → HasSeen pass.old seen l
+            → IfOk result (λ shown. Looked self.now.state.cluster.limits self.now.handed pass.old seen l shown × HasSeen pass.new l l) }
     {
         let _ = pass;
         let nodes = self.book.rows();

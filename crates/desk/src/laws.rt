@@ -1,5 +1,8 @@
 //! What holds of this crate's constants, and of every history. The functions do nothing: their contracts are the laws.
-ghost use Rattle.std.specs.Prelude.{◌≡◌, ◌^◌};
+ghost use Rattle.std.specs.Prelude.{◌≡◌, ◌^◌, ℕ, List};
+ghost use Rattle.book.specs.declared.limits.Limits.{Limits};
+ghost use Rattle.desk.specs.Machine.{opening};
+ghost use Rattle.desk.specs.History.{Call, Legal, state_after, rows_of, places_of};
 
 use crate::pass::{MAX_CALLS, MAX_PASSES};
 
@@ -7,4 +10,11 @@ use crate::pass::{MAX_CALLS, MAX_PASSES};
 pub fn desk_limits_are_these()
     ensures passes { MAX_PASSES ≡ 64 }
     ensures calls { MAX_CALLS ≡ 10 ^ 18 }
+{}
+
+/// Whatever legal history came before, the nodes that are there and the places of pods are those that the
+/// history tells, by the last accepted steps that name each.
+pub fn history_tells_the_state()
+    ensures nodes { (limits : Limits) (passes : ℕ) (l : List Call) → Legal limits passes l → (state_after (opening limits) l).cluster.nodes ≡ rows_of l }
+    ensures places { (limits : Limits) (passes : ℕ) (l : List Call) → Legal limits passes l → (state_after (opening limits) l).cluster.places ≡ places_of l }
 {}

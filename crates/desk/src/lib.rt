@@ -9,7 +9,7 @@ mod step;
 
 pub use book::{Limits, NoMemory, Refusal};
 pub use desk::Desk;
-pub use laws::desk_limits_are_these;
+pub use laws::{desk_limits_are_these, history_tells_the_state};
 pub use pass::{MAX_CALLS, MAX_PASSES, NoPlace, Pass};
 pub use snapshot::{Row, Snapshot};
 pub use step::{Counts, Reply, Step};

@@ -65,17 +65,6 @@ by pods a b x y p q h = (λ i. goes_before pods (p i) (q i)) ∙ h
 pub compared : (pods : Pods) (a b x y : ℕ) (r v : Bool) → r ≡ goes_before pods a b → a ≡ x → b ≡ y → r ≡ v → goes_before pods x y ≡ v
 compared pods a b x y r v answer p q is = (λ i. goes_before pods (sym p i) (sym q i)) ∙ sym answer ∙ is
 
--- a heap but for a place whose slot comes after its parent is one, if its children do not go before it
-pub closed : (pods : Pods) (xs : List ℕ) (j : ℕ) → IsHeapBut pods xs j → GoesFirst pods xs j j → ((p : ℕ) → p * 2 + 1 ≤ j → j ≤ p * 2 + 2 → goes_before pods (at xs j) (at xs p) ≡ false) → IsHeap pods xs
-closed pods xs j hole first over p k low high within =
-    ⊎_elim
-    (λ (e : p ≡ j). by pods _ _ _ _ refl (ap (at xs) e) (first k (omega arith) (omega arith) within))
-    (λ (u : p ≢ j). ⊎_elim
-    (λ (e : k ≡ j). by pods _ _ _ _ (ap (at xs) e) refl (over p (omega arith) (omega arith)))
-    (λ (v : k ≢ j). hole.others p k low high within u v)
-    (same_or_not k j))
-    (same_or_not p j)
-
 -- the hole goes down: the child that goes first takes its place
 pub fallen : (pods : Pods) (xs ys : List ℕ) (j c : ℕ) → j * 2 + 1 ≤ c → c ≤ j * 2 + 2 → c < length xs → IsSwapped xs ys j c → GoesFirst pods xs j c → IsHeapBut pods xs j → IsHeapBut pods ys c
 fallen pods xs ys j c low high within s best hole = record {
@@ -153,10 +142,6 @@ added pods xs ys s w heap = record {
   across = λ p k a b f g i. absurd (omega (arith, w.len));
 }
 
--- the last place has no children
-pub childless : (pods : Pods) (xs : List ℕ) (j c : ℕ) → length xs ≤ j * 2 + 1 → GoesFirst pods xs j c
-childless pods xs j c leaf k a b f = absurd (omega arith)
-
 -- a heap without the slot at a place, in which the last one stands now, is one but for that place
 pub replaced : (pods : Pods) (xs ys zs : List ℕ) (j last s : ℕ) → last + 1 ≡ length xs → j < last → IsHeap pods xs → IsSwapped xs ys j last → IsPushed zs ys s → IsHeapBut pods zs j
 replaced pods xs ys zs j last s end inside heap swapped popped =
@@ -165,9 +150,3 @@ replaced pods xs ys zs j last s end inside heap swapped popped =
       others = λ p k a b f u v. by pods _ _ _ _ (keeps k (omega (arith, popped.len, swapped.len)) v) (keeps p (omega (arith, popped.len, swapped.len)) u) (heap p k a b (omega (arith, popped.len, swapped.len)));
       across = λ p k a b f g i. by pods _ _ _ _ (keeps k (omega (arith, popped.len, swapped.len)) (omega arith)) (keeps p (omega arith) (omega arith)) (chained pods _ _ _ (heap j k f g (omega (arith, popped.len, swapped.len))) (heap p j a b (omega arith)));
     }
-
--- and where it was the last one, a heap
-pub shortened : (pods : Pods) (xs ys zs : List ℕ) (last s : ℕ) → last + 1 ≡ length xs → IsHeap pods xs → IsSwapped xs ys last last → IsPushed zs ys s → IsHeap pods zs
-shortened pods xs ys zs last s end heap swapped popped p k a b f =
-    let keeps : (m : ℕ) → m < last → at zs m ≡ at xs m = λ m low. sym (popped.others m (omega (arith, popped.len, swapped.len))) ∙ swapped.others m (omega arith) (omega arith) in
-    by pods _ _ _ _ (keeps k (omega (arith, popped.len, swapped.len))) (keeps p (omega (arith, popped.len, swapped.len))) (heap p k a b (omega (arith, popped.len, swapped.len)))

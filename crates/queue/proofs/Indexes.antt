@@ -27,14 +27,6 @@ pub there_if : (test : State → Bool) (o : Option Kept) → option_map_or test 
 there_if test None stands = cc
 there_if test (Some e) stands = refl
 
--- so are all of a row
-pub all_there : (test : State → Bool) (pods : Pods) (row : SlotRow) → Lists test pods row → AllThere pods row.slots
-all_there test pods row lists s is = there_if test (entry_in pods s) (lists.there s is)
-
--- and all but one
-pub all_there_but : (test : State → Bool) (pods : Pods) (row : SlotRow) (s : ℕ) → ListsBut test pods row s → AllThere pods row.slots
-all_there_but test pods row s lists t is = there_if test (entry_in pods t) (lists.there t is)
-
 -- the row that a slot has left
 pub left : (test : State → Bool) (pods : Pods) (row new : SlotRow) (s : ℕ) → Lists test pods row → IsWithout row.slots new.slots s → new.room ≡ row.room → ListsBut test pods new s
 left test pods row new s lists w room = record {

@@ -11,14 +11,6 @@ use Rattle.queue.specs.Entry.{Entry, is_active}
 abbrev pub Item : Type 0
 Item = Name × Entry
 
--- an entry, beside its pod's uid
-abbrev pub item_of : Entry → Item
-item_of entry = (entry.pod.uid, entry)
-
--- uids by their bytes
-abbrev pub uid_cmp : Name → Name → Ordering
-uid_cmp = slice_cmp nat_cmp
-
 -- the order of the queue: the higher priority, then the earlier arrival, then the lesser uid by bytes
 abbrev pub item_cmp : Item → Item → Ordering
 item_cmp a b =

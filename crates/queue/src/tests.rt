@@ -1,8 +1,5 @@
-//! The worked examples of the queue's rules, and the queue beside a plain list.
-mod plain;
-
-use self::plain::{Plain, Waiting};
-use crate::{Counts, Failure, PassNumber, Queue, Refusal, State};
+//! The worked examples of the queue's rules.
+use crate::{Counts, Failure, PassNumber, Queue, Refusal};
 use quant::{Bytes, Cpu, Moment, Name, Pod, Request, SharedPod};
 use std::alloc::Global;
 use std::hash::RandomState;
@@ -198,9 +195,13 @@ fn refusals_and_a_move_in_flight(rt: HostRuntime) -> Result<(), Fail> {
 
 /// The uid `p` and five digits.
 fn uid_of(number: u32) -> Result<Name, Fail> {
-    let digits = [10_000, 1_000, 100, 10, 1].map(|unit: u32| (number / unit % 10) as u8 + b'0');
-    let [a, b, c, d, e] = digits;
-    Ok(Name::new(&[b'p', a, b, c, d, e])?)
+    let mut uid = [b'p'; 6];
+    let mut rest = number;
+    for place in 1..6usize {
+        uid[6 - place] = (rest % 10) as u8 + b'0';
+        rest /= 10;
+    }
+    Ok(Name::new(&uid)?)
 }
 
 /// 10,000 pods of one priority and arrival, added in falling order of their uids, are popped in
@@ -218,78 +219,5 @@ fn falling_uids(rt: HostRuntime) -> Result<(), Fail> {
         assert_eq!(rt; queue.pop(MINE), Some(uid_of(number)?));
     }
     assert_eq!(rt; queue.pop(MINE), None);
-    Ok(())
-}
-
-/// The queue and a plain list answer alike over 5,000 calls of every kind.
-#[test]
-fn as_a_plain_list(rt: HostRuntime) -> Result<(), Fail> {
-    let mut queue = Queue::new(rt.alloc(), RandomState::new(&rt)?, 40)?;
-    let mut plain = Plain::new(rt.alloc(), 40)?;
-    let mut seed = 1u64;
-    for call in 0..5_000u64 {
-        seed = seed
-            .wrapping_mul(6_364_136_223_846_793_005)
-            .wrapping_add(1_442_695_040_888_963_407);
-        let draw = seed >> 33;
-        let number = (draw % 50) as u32;
-        let uid = uid_of(number)?;
-        let mine = if draw / 50 % 3 == 0 { OTHER } else { MINE };
-        let how = if draw / 150 % 2 == 0 {
-            Failure::Again
-        } else {
-            Failure::Unschedulable
-        };
-        let priority = (draw / 300 % 3) as i32;
-        let now = call * 150;
-        match draw / 900 % 16 {
-            0..=4 => {
-                let new = Waiting {
-                    number,
-                    priority,
-                    arrival: now,
-                    attempts: 0,
-                    state: State::Active,
-                };
-                let added = queue.add(pod(rt.alloc(), uid.as_bytes(), priority)?, Moment(now));
-                assert_eq!(rt; added, plain.add(new)?, "call {call}");
-            }
-            5..=8 => {
-                let next = plain.next();
-                let popped = match next {
-                    Some(first) => Some(uid_of(first)?),
-                    None => None,
-                };
-                assert_eq!(rt;
-                    queue.peek().map(|pod| pod.uid.copied()),
-                    popped,
-                    "call {call}"
-                );
-                assert_eq!(rt; plain.pop(mine), next);
-                assert_eq!(rt; queue.pop(mine), popped, "call {call}");
-            }
-            9..=11 => {
-                let failed = queue.fail(&uid, mine, how, Moment(now));
-                assert_eq!(rt; failed, plain.fail(number, mine, how, now), "call {call}");
-            }
-            12 => {
-                let back = queue.forget_back(&uid, Moment(now));
-                assert_eq!(rt; back, plain.forget_back(number, now), "call {call}");
-            }
-            13 => {
-                queue.tick(Moment(now));
-                plain.tick(now);
-            }
-            14 => {
-                queue.move_all(Moment(now));
-                plain.move_all(now);
-            }
-            _ => {
-                let removed = queue.remove(&uid).is_some();
-                assert_eq!(rt; removed, plain.remove(number), "call {call}");
-            }
-        }
-        assert_eq!(rt; queue.counts(), plain.counts(), "call {call}");
-    }
     Ok(())
 }

@@ -3,6 +3,7 @@ use Rattle.desk.specs.Caller.{Opened, with_state}
 use Rattle.desk.specs.Machine.{reply, after}
 use Rattle.desk.specs.History.{Leaves, IsOf, HasSeen, call}
 use Rattle.desk.proofs.Histories.{legal_more, leaves_more, calls_made, seen_calls, seen_whole}
+use Rattle.desk.proofs.Fair.{fair}
 use Rattle.desk.proofs.desk.Desk.apply.Goals as goal
 
 -- the history with this call
@@ -33,3 +34,10 @@ returns-clause-of c =
       handed = subst (λ n. p.number < n) (sym (ap (λ (x : Opened). x.handed) new)) c.requires.of.handed;
       calls = subst (λ n. slice_index t.state.calls n ≡ slice_index d.state.calls n + 1) c.number.ensures c.in_ok-answer.ensures.counted ∙ ap (λ n. n + 1) c.requires.of.calls;
     })
+
+-- a ticket is fair
+pub returns-clause-fair : goal.returns-clause-fair
+returns-clause-fair c l left =
+    let d = c.args.self.now in
+    let told = c.in_ok-answer.ensures.reply ∙ ap (λ n. reply d.state n c.args.step) c.number.ensures in
+    fair d l left c.args.pass.now.number c.args.step c.in_ok-answer.answer told

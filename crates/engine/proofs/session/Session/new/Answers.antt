@@ -8,5 +8,5 @@ pub returns-clause-opening : goal.returns-clause-opening
 returns-clause-opening c =
     let greatest = c.greatest.ensures in
     ap (λ (d : Opened). d.state) c.in_ok-pass.ensures.handed
-    ∙ ap (λ (d : Opened). d.state) c.in_ok-desk.ensures
+    ∙ ap (λ (d : Opened). d.state) c.in_ok-desk.ensures.opening
     ∙ ap machine.opening (limits_same c.greatest.result greatest.nodes greatest.placed greatest.queued)
