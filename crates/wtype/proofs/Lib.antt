@@ -3,3 +3,4 @@ pub mod FunctionTypes
 pub mod ConstantFound
 pub mod Names
 pub mod Kept
+pub mod Sized

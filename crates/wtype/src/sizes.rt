@@ -69,7 +69,8 @@ fn functions_small(decoded: &Module, notes: &[Notes]) -> bool
     requires { NotesAgree (module_of decoded.now) notes.now }
     ensures { MatchBool result (AllByRecursion (FunctionSmall (module_of decoded.now)) (module_of decoded.now).functions) (AllByRecursion (FunctionSmall (module_of decoded.now)) (module_of decoded.now).functions → ⊥) }
 {
-    'functions: for place in 0..notes.len() {
+    let tables = decoded.tables();
+    'functions: for place in 0..tables.codes.len() {
         if !function_small(decoded, place, notes[place].greatest_height) {
             return false;
         }
