@@ -1,6 +1,6 @@
 // The bodies of a module, one after the other.
 
-ghost use Rattle.std.specs.Prelude.{◌≡◌, ℕ, Option, Some, IfOk, IfErr};
+ghost use Rattle.std.specs.Prelude.{◌≡◌, ℕ, Option, Some, IfOk, IfErr, vec_len};
 ghost use Rattle.wbin.specs.Syntax.{module_of};
 ghost use Rattle.wtype.specs.Accepted.{ImportsRight, RulesKept};
 ghost use Rattle.wtype.specs.CheckedModule.{NotesAgree};
@@ -29,6 +29,7 @@ pub fn type_bodies(alloc: Global, decoded: &Module) -> Result<Vec<Notes>, TypeFa
     requires imports { ImportsRight (module_of decoded.now) }
     requires rules { RulesKept (module_of decoded.now) }
     ensures typed { IfOk result (λ notes. NotesAgree (module_of decoded.now) notes.items) }
+    ensures many { IfOk result (λ notes. vec_len notes ≡ vec_len decoded.now.tables.codes) }
     ensures refused { IfErr result (WhyRefused (module_of decoded.now)) }
 {
     let tables = decoded.tables();

@@ -47,3 +47,9 @@ returns-clause-typed c =
     let count = functions_count p stands.places.as_many in
     let codes : c.len-place-end.result ≡ vec_len p.tables.codes = c.len-place-end.ensures ∙ ap (λ (t : Tables). vec_len t.codes) c.tables-tables.ensures.tables in
     record { count = omega (arith, count, c.bodies.notes.ok.0, c.bodies.invariant.0, c.bodies-test.false, c.bodies.auto.place-end, p.tables.codes.ok.0); each = c.bodies.invariant.1 }
+
+pub returns-clause-many : goal.returns-clause-many
+returns-clause-many c =
+    let p = c.args.decoded.now in
+    let codes : c.len-place-end.result ≡ vec_len p.tables.codes = c.len-place-end.ensures ∙ ap (λ (t : Tables). vec_len t.codes) c.tables-tables.ensures.tables in
+    omega (arith, c.bodies.invariant.0, c.bodies-test.false, c.bodies.auto.place-end)
