@@ -1,6 +1,6 @@
 -- How many operands there are behind an instruction.
-use Rattle.std.proofs.Common.{◌≡◌, ℕ, ◌+◌, ◌-◌, ◌≤◌, List, [], ◌∷◌, ◌++◌, Bool, true, false, Option, Some, None, length, map, max, refl, sym, ap, ◌∙◌, subst, arith}
-use Rattle.std.specs.Prelude.{option_and_then, option_map, if◌then◌else◌}
+use Rattle.std.proofs.Common.{◌≡◌, ℕ, ◌+◌, ◌-◌, List, [], ◌∷◌, ◌++◌, Bool, true, false, Option, Some, None, length, map, ap, arith}
+use Rattle.std.specs.Prelude.{if◌then◌else◌}
 use Rattle.std.proofs.lemmas.List.{length-append, length-map}
 use Rattle.wcode.specs.declared.value.ValueType.{ValueType}
 use Rattle.wcode.specs.declared.value.ValueType.TheVariants.{I32}
@@ -8,7 +8,7 @@ use Rattle.wbody.specs.Context.{Operands}
 use Rattle.wbody.specs.Typing.{PlainType, takes_gives, drops, selects, ends, untyped}
 use Rattle.wbody.specs.Heights.{height_by}
 use Rattle.wbody.specs.Pass.{Stack, unreached, may_be, take_types, taken, given, drop_top, common, join_top, pass_type}
-use Rattle.wbody.proofs.Operands.{Through, through, Mapped, mapped}
+use Rattle.wbody.proofs.Operands.{through, mapped}
 
 test_of : (b : Bool) (o : Option Stack) (s : Stack) → (if b then o else None) ≡ Some s → o ≡ Some s
 test_of true o s e = e

@@ -1,5 +1,3 @@
-pub mod Trees
-pub mod Walked
 pub mod Operands
 pub mod Passed
 pub mod Alignment
@@ -7,3 +5,8 @@ pub mod Found
 pub mod Outcomes
 pub mod Lengths
 pub mod Places
+pub mod Steps
+pub mod Results
+pub mod Inside
+pub mod LevelLists
+pub mod Whole

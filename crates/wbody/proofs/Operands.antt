@@ -1,13 +1,13 @@
 -- Which operands can be there, before and behind one instruction.
-use Rattle.std.proofs.Common.{◌≡◌, ℕ, List, [], ◌∷◌, ◌++◌, Bool, true, false, not, Option, Some, None, map, refl, sym, ap, ◌∙◌, subst, append_assoc}
+use Rattle.std.proofs.Common.{◌≡◌, ℕ, List, [], ◌∷◌, ◌++◌, Bool, true, false, Option, Some, None, map, refl, sym, ap, ◌∙◌, subst, append_assoc}
 use Rattle.std.specs.Prelude.{option_and_then, option_map, ◌&&◌, if◌then◌else◌, slice_get}
 use Rattle.std.specs.List.{AllByRecursion, list_all}
 use Rattle.std.proofs.lemmas.List.{append-nil}
 use Rattle.wcode.specs.declared.value.ValueType.{ValueType}
 use Rattle.wcode.specs.declared.value.ValueType.TheVariants.{I32, I64}
 use Rattle.wbody.specs.Context.{Operands, Context}
-use Rattle.wbody.specs.Typing.{PlainType, takes_gives, drops, selects, ends, untyped, of_found, only_where, Rule, TypeAllows, TableTyped, Ending, Weakened}
-use Rattle.wbody.specs.Pass.{Stack, fresh, unreached, same_type, may_be, fit_operands, fits, take_types, taken, given, drop_top, common, join_top, pass_type, same_types, carries_these, table_type}
+use Rattle.wbody.specs.Typing.{PlainType, takes_gives, drops, selects, ends, untyped, of_found, only_where, Rule, TypeAllows, TableTyped, Weakened}
+use Rattle.wbody.specs.Pass.{Stack, unreached, same_type, may_be, fit_operands, fits, take_types, taken, given, drop_top, common, join_top, pass_type, same_types, carries_these, table_type}
 
 -- ---- tests and options
 

@@ -1,16 +1,14 @@
 -- How the typing of a body goes on by one instruction.
-use Rattle.std.proofs.Common.{◌≡◌, ℕ, ◌+◌, ◌-◌, ◌≤◌, List, [], ◌∷◌, Bool, true, false, Option, Some, None, length, max, refl, sym, ap, ◌∙◌, subst, arith}
+use Rattle.std.proofs.Common.{◌≡◌, ℕ, List, [], ◌∷◌, Option, Some, None, refl, ap, ◌∙◌}
 use Rattle.std.specs.Prelude.{option_and_then}
-use Rattle.std.proofs.lemmas.List.{length-append, length-map}
 use Rattle.wcode.specs.declared.value.ValueType.TheVariants.{I32}
 use Rattle.wcode.specs.declared.value.BlockType.{BlockType}
 use Rattle.wcode.specs.declared.instruction.Plain.{Plain}
 use Rattle.wcode.specs.Syntax.{Body, done, plain, block, loop, if_else, br_table}
 use Rattle.wbody.specs.declared.scope.Opened.TheVariants as opened
 use Rattle.wbody.specs.Context.{Context, results_of, with_label}
-use Rattle.wbody.specs.Typing.{PlainType, plain_type}
-use Rattle.wbody.specs.Heights.{height_by, greatest_height}
-use Rattle.wbody.specs.Pass.{Stack, fresh, given, taken, pass_type, table_type, closed, pass}
+use Rattle.wbody.specs.Typing.{plain_type}
+use Rattle.wbody.specs.Pass.{Stack, fresh, taken, pass_type, table_type, closed, pass}
 use Rattle.wbody.specs.Standing.{Open, inner_context, finish, resume, outcome}
 
 -- nothing comes of nothing

@@ -1,14 +1,13 @@
 -- What is passed has a typing, and what has a typing is passed.
-use Rattle.std.proofs.Common.{◌≡◌, ℕ, List, [], ◌∷◌, ◌++◌, Bool, true, false, Option, Some, None, refl, sym, ap, ◌∙◌, subst}
-use Rattle.std.specs.Prelude.{option_and_then, option_map, if◌then◌else◌}
-use Rattle.wcode.specs.declared.value.ValueType.{ValueType}
+use Rattle.std.proofs.Common.{◌≡◌, [], ◌∷◌, ◌++◌, true, Option, Some, None, refl, sym, ap, ◌∙◌, subst}
+use Rattle.std.specs.Prelude.{option_and_then}
 use Rattle.wcode.specs.declared.value.ValueType.TheVariants.{I32}
 use Rattle.wcode.specs.declared.value.BlockType.{BlockType}
 use Rattle.wcode.specs.Syntax.{Body, done, plain, block, loop, if_else, br_table}
 use Rattle.wbody.specs.Context.{Operands, Context, results_of, with_label}
-use Rattle.wbody.specs.Typing.{PlainType, plain_type, Rule, TypeAllows, PlainTyped, BlockTyped, IfTyped, TableTyped, Weakened, Then, Typed}
-use Rattle.wbody.specs.Pass.{Stack, fresh, fit_operands, fits, taken, given, pass_type, table_type, closed, pass}
-use Rattle.wbody.proofs.Operands.{Through, through, under, when_true, none_fit, before_taken, can_take, were_given, can_give, Before, Behind, before_type, behind_type, table_allows, table_allowed}
+use Rattle.wbody.specs.Typing.{plain_type, Rule, Then, Typed}
+use Rattle.wbody.specs.Pass.{Stack, fresh, fits, taken, given, pass_type, table_type, closed, pass}
+use Rattle.wbody.proofs.Operands.{through, under, when_true, none_fit, before_taken, can_take, were_given, can_give, Before, before_type, behind_type, table_allows, table_allowed}
 
 -- For what is to be there behind instructions, what can be there before them.
 pub record TypedBefore (c : Context) (e : Body) (s : Stack) (after : Operands) : Type 0 where

@@ -1,10 +1,10 @@
 -- How the bytes of a body go on behind one word.
-use Rattle.std.proofs.Common.{◌≡◌, ℕ, ◌-◌, ◌<◌, List, [], ◌∷◌, Bool, true, false, ◌⊎◌, inl, inr, length, refl, sym, ap, ◌∙◌, subst, arith}
+use Rattle.std.proofs.Common.{◌≡◌, ℕ, ◌-◌, List, ◌∷◌, Bool, true, false, inl, inr, length, refl, sym, subst, arith}
 use Rattle.wcode.specs.declared.value.BlockType.{BlockType}
 use Rattle.wcode.specs.declared.instruction.Plain.{Plain}
 use Rattle.wcode.specs.declared.opcode.Opening.TheVariants as openings
 use Rattle.wcode.specs.Syntax.{Body, done, plain, block, loop, if_else, br_table}
-use Rattle.wcode.specs.Grammar.{Word, one, opens, otherwise, end, table, SpellsWord, SpellsBody}
+use Rattle.wcode.specs.Grammar.{one, opens, end, table, SpellsWord, SpellsBody}
 use Rattle.wcode.specs.Ended.{closing, SpellsArms}
 use Rattle.wcode.proofs.Items.{first, first_is, item_plain, item_table, block_parts, loop_parts, if_parts}
 use Rattle.wcode.proofs.Unique.{word_once}
@@ -99,7 +99,7 @@ if_next os rest bytes final t low floor more sp w =
       next = r.3;
       rest_is = r.5;
       spelled = elim arms [
-        inl h ↦ record { by_else = false; after = r.4; here = h.1; goes_on = (r.4, (h.0, refl), sp.by_else, sp.after, r.7, sp.goes_on) }
+        | inl h ↦ record { by_else = false; after = r.4; here = h.1; goes_on = (r.4, (h.0, refl), sp.by_else, sp.after, r.7, sp.goes_on) }
         | inr h ↦ record { by_else = true; after = h.0; here = h.1; goes_on = (r.4, h.2, sp.by_else, sp.after, r.7, sp.goes_on) }
       ];
     }
@@ -153,6 +153,7 @@ end_of os o more final g = by_kind o.kind refl g.1
   where
     behind : more ≡ g.0 → Spelled os o.next more final
     behind e = record { by_else = g.2; after = g.3; here = subst (λ b. SpellsBody (256 - length os) (closing g.2) b o.next g.3) (sym e) g.4; goes_on = g.5 }
+
     by_kind : (k : _) → o.kind ≡ k → ArmEnds k o.second (256 - length (o ∷ os)) false more g.0 → (o.kind ≡ opened.First → o.second ≡ done) × Spelled os o.next more final
     by_kind opened.First e a = (λ f. a.0, behind a.1)
     by_kind opened.Block e a = (λ f. absurd (cc), behind a.1)

@@ -1,6 +1,5 @@
 -- Only proofs need this: what the code's effects are seen as.
-use Rattle.std.specs.Prelude.{[], ◌∷◌, ◌++◌, reverse}
-use Rattle.wcode.specs.declared.value.ValueType.TheVariants.{I32}
+use Rattle.std.specs.Prelude.{◌++◌, reverse}
 use Rattle.wbody.specs.declared.operand_stack.Effect.{Effect}
 use Rattle.wbody.specs.declared.operand_stack.Effect.TheVariants as effects
 use Rattle.wbody.specs.Context.{at_most_one}

@@ -4,9 +4,9 @@ pub mod Typing
 pub mod Heights
 pub mod Branches
 pub mod BodyTyped
-pub mod Walk
 pub mod Pass
 pub mod OperandStack
 pub mod Effect
 pub mod Scope
 pub mod Standing
+pub mod Steps

@@ -1,9 +1,7 @@
 -- Only proofs need this: what the code's operands are seen as.
-use Rattle.std.specs.Prelude.{◌≡◌, ℕ, List, [], ◌∷◌, Bool, true, Option, Some, None, reverse, take, drop, length, max}
+use Rattle.std.specs.Prelude.{◌≡◌, List, [], ◌∷◌, Option, None, reverse, take, drop}
 use Rattle.wcode.specs.declared.value.ValueType.{ValueType}
 use Rattle.wbody.specs.declared.operand_stack.OperandStack.{OperandStack}
-use Rattle.wbody.specs.Context.{Operands, at_most_one}
-use Rattle.wbody.specs.Typing.{PlainType, takes_gives, drops, selects, ends, untyped}
 use Rattle.wbody.specs.Pass.{Stack}
 
 -- those of the innermost block

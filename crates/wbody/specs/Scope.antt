@@ -27,7 +27,7 @@ IsFunctionImport (imported.Global t) = ⊥
 pub record IsScope (s : Scope) (c : Context) : Type 0 where
   pub types : c.types ≡ map signature_of s.types.now
   pub imports : AllByRecursion (λ (i : Import). IsFunctionImport i.kind) s.imports.now
-  pub functions : c.functions ≡ imported_functions c.types (map import_of s.imports.now) ++ map (λ f. slice_get c.types f.signature) s.functions.now
+  pub functions : c.functions ≡ imported_functions c.types (map import_of s.imports.now) ++ map (λ x. slice_get c.types x) s.signatures.now
   pub has_table : c.has_table ≡ s.has_table
   pub has_memory : c.has_memory ≡ s.has_memory
   pub globals : c.globals ≡ map (λ g. g.kind) s.globals.now

@@ -1,5 +1,5 @@
 -- Only proofs need this: where the typing of a body stands, between its instructions.
-use Rattle.std.specs.Prelude.{◌≡◌, ℕ, ◌+◌, ◌-◌, ◌≤◌, List, [], ◌∷◌, Bool, true, false, Option, Some, None, option_and_then, reverse, take, drop, length, max}
+use Rattle.std.specs.Prelude.{◌≡◌, ℕ, ◌+◌, ◌-◌, ◌≤◌, List, [], ◌∷◌, Bool, true, false, Option, option_and_then, reverse, take, drop, length, max}
 use Rattle.wcode.specs.declared.value.ValueType.{ValueType}
 use Rattle.wcode.specs.declared.value.BlockType.{BlockType}
 use Rattle.wcode.specs.Syntax.{Body, done}
@@ -9,7 +9,7 @@ use Rattle.wbody.specs.declared.scope.Opened.{Opened}
 use Rattle.wbody.specs.declared.scope.Opened.TheVariants as opened
 use Rattle.wbody.specs.declared.scope.Level.{Level}
 use Rattle.wbody.specs.declared.operand_stack.OperandStack.{OperandStack}
-use Rattle.wbody.specs.Context.{Operands, Context, results_of, with_label}
+use Rattle.wbody.specs.Context.{Context, results_of, with_label}
 use Rattle.wbody.specs.Heights.{greatest_height}
 use Rattle.wbody.specs.Pass.{Stack, fresh, closed, pass}
 use Rattle.wbody.specs.Scope.{carried}

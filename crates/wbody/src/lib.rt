@@ -1,14 +1,18 @@
 //! The typing of function bodies (WebAssembly Core 1.0, 3.3 and 3.4.1).
 #![tactic(auto)]
 
+mod body;
 mod effect;
 mod fault;
 mod notes;
 mod operand_stack;
 mod scope;
 mod stop;
-mod typing;
+mod words;
 
+pub use body::type_body;
 pub use fault::TypeFault;
 pub use notes::{BranchNote, Notes};
-pub use typing::type_body;
+
+#[cfg(test)]
+mod tests;

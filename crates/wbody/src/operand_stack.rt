@@ -1,6 +1,6 @@
 // The operands of a body as far as they are known, where its typing stands.
 
-ghost use Rattle.std.specs.Prelude.{false, ◌≡◌, ◌≤◌, ◌<◌, ◌+◌, [], ◌∷◌, Some, None, IfOk, OnOk, OnErr, MatchOption, MatchResult, vec_len, length, reverse, take, drop, max};
+ghost use Rattle.std.specs.Prelude.{false, true, ◌≡◌, ◌≤◌, ◌<◌, ◌+◌, [], ◌∷◌, Some, None, IfOk, OnOk, OnErr, MatchOption, MatchResult, vec_len, length, reverse, take, drop, max};
 ghost use Rattle.wbody.specs.Context.{results_of};
 ghost use Rattle.wbody.specs.Pass.{may_be, fits, closed, fresh, unreached, taken, given, drop_top, join_top, pass_type};
 
@@ -36,6 +36,27 @@ pub struct Missing;
 
 impl OperandStack {
     ghost use Rattle.wbody.specs.OperandStack.{stack_of, below_of, SameBlock, top_of, pushed};
+
+    // The height at which the innermost block began.
+    pub fn floor(&self) -> usize
+        ensures { result ≡ self.now.floor }
+    {
+        self.floor
+    }
+
+    // Whether the place is reached.
+    pub fn is_reached(&self) -> bool
+        ensures { result ≡ self.now.reached }
+    {
+        self.reached
+    }
+
+    // The greatest number of operands so far.
+    pub fn greatest(&self) -> usize
+        ensures { result ≡ self.now.greatest }
+    {
+        self.greatest
+    }
 
     // None, where the body begins.
     pub fn new(alloc: Global) -> Self
@@ -144,7 +165,7 @@ impl OperandStack {
     }
 
     // There can be just the results of a block of this type.
-    fn has_results(&self, block_type: BlockType) -> bool
+    pub fn has_results(&self, block_type: BlockType) -> bool
         ensures { result ≡ fits (stack_of self.now) (results_of block_type) }
     {
         let count = self.items.len() - self.floor;
@@ -158,6 +179,24 @@ impl OperandStack {
                 }
             }
         }
+    }
+
+    // At the start of the second arm of an `if` of this type, whose first arm left just the results.
+    pub fn restart(&mut self, block_type: BlockType) -> Result<(), Stop>
+        ensures ok { OnOk result (fits (stack_of self.old) (results_of block_type) ≡ true) }
+        ensures err { OnErr result (fits (stack_of self.old) (results_of block_type) ≡ false) }
+        ensures untyped { OnErr result (result ≡ Err Stop.Untyped) }
+        ensures stack { OnOk result (stack_of self.new ≡ fresh) }
+        ensures same { OnOk result (SameBlock self.old self.new) }
+        ensures len { OnOk result (length self.new.items.items ≡ self.new.floor) }
+        ensures greatest { OnOk result (self.new.greatest ≡ self.old.greatest) }
+    {
+        if !self.has_results(block_type) {
+            return Err(Stop::Untyped);
+        }
+        self.items.truncate(self.floor);
+        self.reached = true;
+        Ok(())
     }
 
     // Behind a block of this type, to the block that began at this height: there are just the results.

@@ -11,7 +11,7 @@ ghost use Rattle.wcode.specs.Operators.{type_of};
 ghost use Rattle.std.specs.Prelude.{reverse};
 
 use crate::operand_stack::Effect;
-use wbin::{Function, FunctionType, GlobalType, GlobalVariable, Import, ImportKind, LocalRun};
+use wbin::{FunctionType, GlobalType, GlobalVariable, Import, ImportKind, LocalRun};
 use wcode::{BlockType, CvtOp, MemArg, Plain, Value, ValueType};
 
 // A block whose end is to come: what opened it and what it leaves, and of the block around it where its operands begin and
@@ -22,6 +22,17 @@ pub struct Level {
     pub block_type: BlockType,
     pub floor: usize,
     pub reached: bool,
+}
+
+impl Default for Level {
+    fn default() -> Self {
+        Level {
+            kind: Opened::Block,
+            block_type: BlockType::Empty,
+            floor: 0,
+            reached: true,
+        }
+    }
 }
 
 // What opened a block: of an `if` which of its arms it is.
@@ -105,7 +116,7 @@ pub fn moves<'a>(
 pub struct Scope<'a> {
     pub types: &'a [FunctionType],
     pub imports: &'a [Import],
-    pub functions: &'a [Function],
+    pub signatures: &'a [u32],
     pub globals: &'a [GlobalVariable],
     pub has_table: bool,
     pub has_memory: bool,
@@ -166,10 +177,10 @@ impl<'a> Scope<'a> {
 
     // The type of a function of the module itself, by its place among those.
     fn own(&self, place: usize) -> Option<&'a FunctionType>
-        ensures { (c : Context) → IsScope self.now c → option_and_then (λ t. t) (slice_get (map (λ f. slice_get c.types f.signature) self.now.functions.now) place) ≡ type_found result }
+        ensures { (c : Context) → IsScope self.now c → option_and_then (λ t. t) (slice_get (map (λ s. slice_get c.types s) self.now.signatures.now) place) ≡ type_found result }
     {
-        match self.functions.get(place) {
-            Some(function) => self.listed(function.signature),
+        match self.signatures.get(place) {
+            Some(signature) => self.listed(*signature),
             None => None,
         }
     }

@@ -1,4 +1,4 @@
-use Rattle.std.proofs.Common.{◌≡◌, sym, ◌∙◌}
+use Rattle.std.proofs.Common.{sym, ◌∙◌}
 use Rattle.wbody.proofs.Alignment.{not_at_most, too_wide}
 use Rattle.wbody.proofs.scope.is_aligned_to.Goals as goal
 

@@ -1,4 +1,4 @@
-use Rattle.std.proofs.Common.{◌≡◌, ◌+◌, ◌<◌, ◌≤◌, sym, ap, ◌∙◌, drop, length, get_or, arith}
+use Rattle.std.proofs.Common.{◌+◌, sym, ap, ◌∙◌, drop, get_or}
 use Rattle.std.specs.Prelude.{slice_get}
 use Rattle.wbin.specs.declared.module.LocalRun.{LocalRun}
 use Rattle.wcode.specs.declared.value.ValueType.TheVariants.{I32}

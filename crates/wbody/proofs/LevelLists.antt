@@ -1,0 +1,22 @@
+-- Lists of open blocks, the innermost last.
+use Rattle.std.proofs.Common.{◌≡◌, List, [], ◌∷◌, ◌++◌, ◌-◌, ◌<◌, None, length, Result, Ok, Err, OnOk, reverse, refl, arith}
+use Rattle.std.specs.Prelude.{slice_get}
+use Rattle.std.proofs.lemmas.Option.{slice_get-get_or}
+use Rattle.std.proofs.lemmas.List.{reverse-append}
+
+pub reverse-last : {A : Type 0} (xs : List A) (x : A) → reverse (xs ++ x ∷ []) ≡ x ∷ reverse xs
+reverse-last xs x = reverse-append xs (x ∷ [])
+
+pub on_ok : {T E P Q : Type 0} (r : Result T E) → OnOk r P → (P → Q) → OnOk r Q
+on_ok (Ok v) p f = f p
+on_ok (Err e) p f = tt
+
+pub on_ok_4 : {T E P Q R S U : Type 0} (r : Result T E) → OnOk r P → OnOk r Q → OnOk r R → OnOk r S → (P → Q → R → S → U) → OnOk r U
+on_ok_4 (Ok v) p q x y f = f p q x y
+on_ok_4 (Err e) p q x y f = tt
+
+pub empty_of : {A : Type 0} (xs : List A) → slice_get xs (length xs - 1) ≡ None → xs ≡ []
+empty_of [] e = refl
+empty_of (x ∷ xs) e =
+    let within : length (x ∷ xs) - 1 < length (x ∷ xs) = omega arith in
+    let there = slice_get-get_or (x ∷ xs) (length (x ∷ xs) - 1) x within in absurd (cc (there, e))
