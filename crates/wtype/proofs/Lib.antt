@@ -1,4 +1,6 @@
-pub mod Found
-pub mod Whole
-mod Names
-pub mod Refused
+pub mod Each
+pub mod FunctionTypes
+pub mod ConstantFound
+pub mod Names
+pub mod Kept
+pub mod Sized

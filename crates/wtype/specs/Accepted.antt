@@ -196,15 +196,6 @@ slots_of m type f =
 abbrev pub FunctionSmall : ModuleSyntax → FunctionSyntax → Type 0
 FunctionSmall m f = IfSome (slice_get m.types f.signature) (λ type. slots_of m type f ≤ most_slots)
 
--- The function at this place has a type, and no more parameters, locals and operands than there may be, where its
--- body has so many operands at most.
-pub record FunctionFits (m : ModuleSyntax) (place greatest : ℕ) : Type 0 where
-  pub function : FunctionSyntax
-  pub function_is : slice_get m.functions place ≡ Some function
-  pub type : Signature
-  pub type_is : slice_get m.types (function.signature) ≡ Some type
-  pub small : length type.parameters + length function.locals + greatest ≤ most_slots
-
 -- nothing is larger than it may be
 pub record ModuleSmall (m : ModuleSyntax) : Type 0 where
   pub functions : AllByRecursion (FunctionSmall m) m.functions
@@ -213,15 +204,6 @@ pub record ModuleSmall (m : ModuleSyntax) : Type 0 where
   pub globals : length m.globals ≤ most_globals
 
 -- ---- all of it
-
--- none of the parts that have no rules yet in the code
-pub record HasNoMore (m : ModuleSyntax) : Type 0 where
-  pub no_tables : m.tables ≡ []
-  pub no_memories : m.memories ≡ []
-  pub no_globals : m.globals ≡ []
-  pub no_start : m.start ≡ None
-  pub no_elements : m.element_segments ≡ []
-  pub no_data : m.data_segments ≡ []
 
 -- An accepted module. What isn't so is told in this order.
 pub record Accepted (m : ModuleSyntax) : Type 0 where

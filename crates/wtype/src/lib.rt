@@ -1,12 +1,17 @@
 //! What makes a module acceptable (WebAssembly Core 1.0, 3.4).
 #![tactic(auto)]
 
+mod bodies;
+mod called;
 mod checked;
+mod constants;
 mod exports;
-mod functions;
+mod function_types;
+mod globals;
+mod imports;
+mod limits;
+mod rules;
+mod sizes;
 
 pub use checked::{Checked, validate};
 pub use wbody::TypeFault;
-
-#[cfg(test)]
-mod tests;

@@ -1,10 +1,11 @@
-use Rattle.std.proofs.Common.{map, drop}
+use Rattle.std.proofs.Common.{take}
 use Rattle.std.specs.List.{AllByRecursion}
-use Rattle.wbin.specs.Syntax.{ExportSyntax, module_of, export_of}
+use Rattle.wbin.specs.declared.module.Export.{Export}
+use Rattle.wbin.specs.Syntax.{module_of}
 use Rattle.wtype.specs.Accepted.{NamesSomething}
 use Rattle.wtype.proofs.exports.are_there.Given as goal
 
--- it holds of all where it holds of those to come
+-- those so far name something
 abbrev pub invariant-loop-export : goal.invariant-loop-export
 invariant-loop-export l =
-    AllByRecursion (λ (e : ExportSyntax). NamesSomething (module_of l.decoded) e.kind e.index) (map export_of (drop l.export-index l.decoded.exports.items)) → AllByRecursion (λ (e : ExportSyntax). NamesSomething (module_of l.decoded) e.kind e.index) (map export_of l.decoded.exports.items)
+    AllByRecursion (λ (e : Export). NamesSomething (module_of l.decoded) e.kind e.index) (take l.export-index l.exports)

@@ -1,7 +1,7 @@
 use Rattle.std.proofs.Common.{◌≡◌, ◌+◌, ◌≤◌, length, drop}
 use Rattle.wbin.specs.Syntax.{locals_of}
 use Rattle.wtype.specs.Accepted.{most_slots}
-use Rattle.wtype.proofs.functions.count_locals.Given as goal
+use Rattle.wtype.proofs.sizes.count_locals.Given as goal
 
 -- those so far and those to come are all, and those so far aren't too many
 abbrev pub invariant-loop-run : goal.invariant-loop-run
