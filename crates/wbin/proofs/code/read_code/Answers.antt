@@ -1,4 +1,4 @@
-use Rattle.std.proofs.Common.{◌≡◌, ◌≤◌, map, length, drop, refl, arith}
+use Rattle.std.proofs.Common.{map, drop, refl, arith}
 use Rattle.wcode.specs.Grammar.{end}
 use Rattle.wcode.proofs.BlockLists.{blocks_spell}
 use Rattle.wbin.specs.declared.module.FunctionCode.{FunctionCode}
