@@ -5,3 +5,4 @@ pub mod CodeContents
 pub mod Sections
 pub mod Modules
 pub mod Places
+pub mod Indices

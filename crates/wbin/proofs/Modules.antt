@@ -1,13 +1,13 @@
 -- Sections, and the module that they are.
 use Rattle.std.proofs.Common.{◌≡◌, ◌≢◌, ℕ, suc, ◌≤◌, Bool, true, false, List, [], ◌∷◌, ◌++◌, map, length, take, drop, Option, Some, None, Result, Ok, Err, refl, ap, sym, subst, ◌∙◌, arith, length-drop}
 use Rattle.std.specs.Prelude.{◌==◌, if◌then◌else◌, option_map}
-use Rattle.std.specs.List.{All, find, zip}
+use Rattle.std.specs.List.{All, find}
 use Rattle.wcode.specs.declared.fault.BinFault.{BinFault}
 use Rattle.wcode.specs.declared.fault.BinFault.TheVariants.{NoMemory}
 use Rattle.wcode.specs.Grammar.{SpellsIndex}
 use Rattle.wcode.proofs.Words.{index_once}
 use Rattle.wbin.specs.declared.section.Stretch.{Stretch}
-use Rattle.wbin.specs.Syntax.{ModuleSyntax, FunctionSyntax, ModuleParts, Code, functions_with, code_in, syntax_in, module_of}
+use Rattle.wbin.specs.Syntax.{ModuleSyntax, FunctionSyntax, ModuleParts, functions_with, code_in, syntax_in, module_of}
 use Rattle.wbin.specs.Placed.{Stands}
 use Rattle.std.proofs.lemmas.List.{map-id, length-map}
 use Rattle.wbin.specs.Grammar.{Spelling, SpellsEach, SpellsVector, Section, SpellsSection, contents_of, Lists, Starts, Functions, Assembles, header, Spells, SpellsFunctionType, SpellsImport, SpellsTableType, SpellsLimits, SpellsGlobal, SpellsExport, SpellsElement, SpellsData, SpellsCode}

@@ -1,5 +1,5 @@
 -- Expressions and codes at their places.
-use Rattle.std.proofs.Common.{◌≡◌, ℕ, ◌+◌, ◌-◌, ◌<◌, ◌≤◌, List, [], ◌++◌, map, length, take, drop, Ok, refl, ap, sym, subst, ◌∙◌, arith}
+use Rattle.std.proofs.Common.{◌≡◌, ℕ, ◌<◌, ◌≤◌, List, [], map, length, take, drop, Ok, sym, subst, arith}
 use Rattle.std.proofs.Math.ListN.{drop_of_length-le}
 use Rattle.std.proofs.lemmas.List.{take-append-drop, length-take-le}
 use Rattle.wcode.specs.declared.blocks.Block.{Block}
@@ -10,8 +10,7 @@ use Rattle.wcode.proofs.BlockLists.{blocks_spell}
 use Rattle.wcode.proofs.BodyRead.{body_is}
 use Rattle.wbin.specs.declared.module.Place.{Place}
 use Rattle.wbin.specs.declared.module.FunctionCode.{FunctionCode}
-use Rattle.wbin.specs.declared.module.LocalRun.{LocalRun}
-use Rattle.wbin.specs.Syntax.{Code, expression_in, code_in, locals_of}
+use Rattle.wbin.specs.Syntax.{expression_in, code_in}
 use Rattle.wbin.specs.Grammar.{Spelling, SpellsBytes, SpellsVector, SpellsRun, SpellsCode}
 use Rattle.wbin.specs.Placed.{StandsAt, IsCode}
 use Rattle.wbin.specs.Reading.{Keeps, Reads}

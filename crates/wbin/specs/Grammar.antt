@@ -1,11 +1,9 @@
 -- How bytes spell modules (WebAssembly Core 1.0, 5.1.3, 5.3 and 5.5).
 -- In each relation over three things the bytes are a spelling of something, and then the rest.
-use Rattle.std.specs.Prelude.{◌≡◌, ℕ, ◌<◌, ◌≤◌, ◌⊎◌, List, [], ◌∷◌, ◌++◌, map, length, Option, Some, None, option_map, Bool, true, false, replicate, find, flat_map, ◌==◌}
-use Rattle.std.specs.List.{zip}
+use Rattle.std.specs.Prelude.{◌≡◌, ℕ, ◌<◌, ◌≤◌, ◌⊎◌, List, [], ◌∷◌, ◌++◌, length, Option, Some, None, option_map, Bool, true, false, replicate, find, flat_map, ◌==◌}
 use Rattle.std.specs.Str.{IsUtf8}
 use Rattle.wcode.specs.declared.value.ValueType.{ValueType}
 use Rattle.wcode.specs.declared.value.ValueType.TheVariants.{I32, I64}
-use Rattle.wcode.specs.Syntax.{Body}
 use Rattle.wcode.specs.Grammar.{SpellsIndex, SpellsExpr}
 use Rattle.wbin.specs.declared.module.Limits.{Limits}
 use Rattle.wbin.specs.declared.module.GlobalType.{GlobalType}
@@ -13,7 +11,7 @@ use Rattle.wbin.specs.declared.module.ImportKind.{ImportKind}
 use Rattle.wbin.specs.declared.module.ImportKind.TheVariants as imported
 use Rattle.wbin.specs.declared.module.ExportKind.{ExportKind}
 use Rattle.wbin.specs.declared.module.ExportKind.TheVariants as exported
-use Rattle.wbin.specs.Syntax.{Signature, ImportSyntax, FunctionSyntax, GlobalSyntax, ExportSyntax, ElementSyntax, DataSyntax, ModuleSyntax, Code, function_with, functions_with}
+use Rattle.wbin.specs.Syntax.{Signature, ImportSyntax, FunctionSyntax, GlobalSyntax, ExportSyntax, ElementSyntax, DataSyntax, ModuleSyntax, Code, functions_with}
 
 -- what spells something of a kind
 abbrev pub Spelling : Type 0 → Type 1

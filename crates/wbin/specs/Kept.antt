@@ -1,5 +1,5 @@
 -- Only proofs need this: what has its places in bytes has them where more bytes follow.
-use Rattle.std.proofs.Common.{◌≡◌, ℕ, suc, ◌+◌, ◌<◌, ◌≤◌, All, List, [], ◌∷◌, ◌++◌, map, length, take, drop, refl, ap, sym, subst, ◌∙◌, arith, length-append}
+use Rattle.std.proofs.Common.{◌≡◌, ℕ, suc, ◌≤◌, All, List, [], ◌∷◌, ◌++◌, map, length, drop, refl, ap, sym, subst, ◌∙◌, arith, length-append}
 use Rattle.std.proofs.lemmas.List.{take-append-le}
 use Rattle.wcode.specs.declared.blocks.Block.{Block}
 use Rattle.wcode.specs.Grammar.{end}
@@ -8,10 +8,6 @@ use Rattle.wcode.proofs.BlockLists.{blocks_spell}
 use Rattle.wcode.proofs.BodyRead.{body_is}
 use Rattle.wcode.proofs.Longer.{blocks_longer}
 use Rattle.wbin.specs.declared.module.Place.{Place}
-use Rattle.wbin.specs.declared.module.FunctionCode.{FunctionCode}
-use Rattle.wbin.specs.declared.module.GlobalVariable.{GlobalVariable}
-use Rattle.wbin.specs.declared.module.ElementSegment.{ElementSegment}
-use Rattle.wbin.specs.declared.module.DataSegment.{DataSegment}
 use Rattle.wbin.specs.Syntax.{GlobalSyntax, ElementSyntax, DataSyntax, Code, locals_of, expression_in, contents_in, code_in, global_in, element_in, data_in}
 use Rattle.wbin.specs.Placed.{StandsAt, IsExpression, IsStretch, IsCode, IsGlobal, IsElement, IsData}
 use Rattle.wbin.specs.Reading.{Keeps}

@@ -29,14 +29,10 @@ impl Part for FunctionCode {
     ghost placed = { IsCode };
 
     fn read(alloc: Global, bytes: &[u8], at: usize) -> Result<(FunctionCode, usize), BinFault> {
-        match read_sized(bytes, at) {
-            Ok((contents, end)) => {
-                match read_code(alloc, &bytes[..end], end - contents.len()) {
-                    Ok(code) => Ok((code, end)),
-                    Err(fault) => Err(fenced_body(fault, at)),
-                }
-            }
-            Err(fault) => Err(fault),
+        let (contents, end) = read_sized(bytes, at)?;
+        match read_code(alloc, &bytes[..end], end - contents.len()) {
+            Ok(code) => Ok((code, end)),
+            Err(fault) => Err(fenced_body(fault, at)),
         }
     }
 
@@ -50,23 +46,17 @@ fn read_code(alloc: Global, bytes: &[u8], at: usize) -> Result<FunctionCode, Bin
     requires { at ≤ length bytes.now }
     ensures { ReadsCode bytes.now at result }
 {
-    match <Many<LocalRun>>::read(alloc, bytes, at) {
-        Ok((locals, begin)) => match skip_expr(alloc, bytes, begin) {
-            Ok((blocks, end)) => {
-                if end != bytes.len() {
-                    return Err(malformed(Kind::Truncated, end));
-                }
-                let body = Place { begin, end };
-                Ok(FunctionCode {
-                    locals,
-                    body,
-                    blocks,
-                })
-            }
-            Err(fault) => Err(fault),
-        },
-        Err(fault) => Err(fault),
+    let (locals, begin) = <Many<LocalRun>>::read(alloc, bytes, at)?;
+    let (blocks, end) = skip_expr(alloc, bytes, begin)?;
+    if end != bytes.len() {
+        return Err(malformed(Kind::Truncated, end));
     }
+    let body = Place { begin, end };
+    Ok(FunctionCode {
+        locals,
+        body,
+        blocks,
+    })
 }
 
 // A fault in a body whose size stands at `at`: bytes that are wanted beyond the size, or left in it, are the size's fault.

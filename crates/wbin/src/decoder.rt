@@ -35,13 +35,11 @@ pub fn decode(alloc: Global, bytes: &[u8]) -> Result<Module, BinFault>
     ensures bytes { IfOk result (λ m. m.bytes ≡ bytes.now) }
     ensures none { IfErr result (λ e. e ≢ NoMemory → (m : ModuleSyntax) → Spells bytes.now m → ⊥) }
 {
-    match read_tables(alloc, bytes) {
-        Ok(tables) => match Vec::from_slice(alloc, bytes) {
-            Ok(copy) => Ok(Module::new(copy, tables)),
-            Err(_) => Err(BinFault::NoMemory),
-        },
-        Err(fault) => Err(fault),
-    }
+    let tables = read_tables(alloc, bytes)?;
+    let Ok(copy) = Vec::from_slice(alloc, bytes) else {
+        return Err(BinFault::NoMemory);
+    };
+    Ok(Module::new(copy, tables))
 }
 
 // What the module has, and where it is in the bytes.
@@ -49,13 +47,11 @@ fn read_tables(alloc: Global, bytes: &[u8]) -> Result<Tables, BinFault>
     ensures tables { IfOk result (λ t. Stands bytes.now t) }
     ensures none { IfErr result (λ e. e ≢ NoMemory → (m : ModuleSyntax) → Spells bytes.now m → ⊥) }
 {
-    match check_header(bytes) {
-        Ok(()) => match find_sections(alloc, bytes, 8) {
-            Ok(found) => assemble(alloc, bytes, found.sections.as_slice(), found.fault),
-            Err(_) => Err(BinFault::NoMemory),
-        },
-        Err(fault) => Err(fault),
-    }
+    check_header(bytes)?;
+    let Ok(found) = find_sections(alloc, bytes, 8) else {
+        return Err(BinFault::NoMemory);
+    };
+    assemble(alloc, bytes, found.sections.as_slice(), found.fault)
 }
 
 // The length of the bytes, and their first eight.

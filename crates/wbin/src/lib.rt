@@ -1,5 +1,6 @@
-//! WebAssembly modules (WebAssembly Core 1.0, 2.5 and 5.5): the parts of a module, the decoder that reads one from bytes or
-//! tells why they spell none, and the law that they spell one at most.
+//! WebAssembly modules (WebAssembly Core 1.0, 2.5 and 5.5): a module is its bytes, and tables of what it has and where that is in
+//! them. Here are the decoder, which finds a module in bytes or tells why they spell none, and the law that they spell one at
+//! most. No tree of instructions is made: what the places spell is said by contract.
 #![tactic(auto)]
 
 mod code;
@@ -13,7 +14,7 @@ mod section;
 mod types;
 
 pub use decoder::{LONGEST, decode};
-pub use laws::one_module;
+pub use laws::{function_at_index, one_module};
 pub use module::{
     DataSegment, ElementSegment, Export, ExportKind, FunctionCode, FunctionType, GlobalType,
     GlobalVariable, Import, ImportKind, Limits, LocalRun, Module, Place, Tables,

@@ -54,10 +54,8 @@ pub fn read_vector<P: Part>(
     ensures read { Reads (SpellsVector P.spells) (λ v. map (P.seen bytes.now) v.items) bytes.now at result }
     ensures placed { IfOk result (λ x. All (P.placed bytes.now) x.0.items) }
 {
-    match read_index(bytes, at) {
-        Ok((count, first)) => read_entries::<P>(alloc, bytes, first, count),
-        Err(fault) => Err(fault),
-    }
+    let (count, first) = read_index(bytes, at)?;
+    read_entries::<P>(alloc, bytes, first, count)
 }
 
 // So many entries from `at` on.
@@ -148,13 +146,9 @@ impl<A: Part, B: Part> Part for Then<A, B> {
     ghost placed = { λ bytes x. A.placed bytes x.0 × B.placed bytes x.1 };
 
     fn read(alloc: Global, bytes: &[u8], at: usize) -> Result<((A::Out, B::Out), usize), BinFault> {
-        match A::read(alloc, bytes, at) {
-            Ok((first, next)) => match B::read(alloc, bytes, next) {
-                Ok((second, end)) => Ok(((first, second), end)),
-                Err(fault) => Err(fault),
-            },
-            Err(fault) => Err(fault),
-        }
+        let (first, next) = A::read(alloc, bytes, at)?;
+        let (second, end) = B::read(alloc, bytes, next)?;
+        Ok(((first, second), end))
     }
 
     ghost once = { both_once A.spells B.spells A.once B.once };
@@ -177,10 +171,8 @@ impl Part for Expression {
     ghost placed = { IsExpression };
 
     fn read(alloc: Global, bytes: &[u8], at: usize) -> Result<(Place, usize), BinFault> {
-        match skip_expr(alloc, bytes, at) {
-            Ok((_blocks, end)) => Ok((Place { begin: at, end }, end)),
-            Err(fault) => Err(fault),
-        }
+        let (_blocks, end) = skip_expr(alloc, bytes, at)?;
+        Ok((Place { begin: at, end }, end))
     }
 
     ghost once = { expression_once };
@@ -203,13 +195,9 @@ impl Part for Contents {
     ghost placed = { IsStretch };
 
     fn read(_alloc: Global, bytes: &[u8], at: usize) -> Result<(Place, usize), BinFault> {
-        match read_bytes(bytes, at) {
-            Ok((contents, end)) => {
-                let begin = end - contents.len();
-                Ok((Place { begin, end }, end))
-            }
-            Err(fault) => Err(fault),
-        }
+        let (contents, end) = read_bytes(bytes, at)?;
+        let begin = end - contents.len();
+        Ok((Place { begin, end }, end))
     }
 
     ghost once = { bytes_once };

@@ -1,6 +1,6 @@
 //! WebAssembly's instructions in the integer part of the standard (WebAssembly Core 1.0, 2.4 and 5.4): one by one and as a
-//! tree, what each opcode stands for, readers of both from bytes, why bytes are refused, and the laws that they spell one
-//! instruction and one expression at most.
+//! tree, what each opcode stands for, readers of both from bytes, a reader that passes an expression and tells where its blocks
+//! go on, why bytes are refused, and the laws that they spell one instruction and one expression at most.
 #![tactic(auto)]
 
 mod blocks;

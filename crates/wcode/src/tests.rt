@@ -529,6 +529,9 @@ fn nesting(rt: HostRuntime) -> Result<(), Fail> {
     let (body, next) = read_expr(rt.alloc(), &bytes, 0)?;
     assert_eq!(rt; body.len(), 1);
     assert_eq!(rt; next, 769);
+    let (blocks, end) = skip_expr(rt.alloc(), &bytes, 0)?;
+    assert_eq!(rt; blocks.len(), 256);
+    assert_eq!(rt; end, 769);
     let mut deeper = Vec::new(rt.alloc());
     deeper.push(0x02)?;
     deeper.push(0x40)?;
@@ -540,6 +543,13 @@ fn nesting(rt: HostRuntime) -> Result<(), Fail> {
         Kind::TooDeep,
         deepest,
     );
+    match skip_expr(rt.alloc(), &deeper, 0) {
+        Ok(_) => panic!(&rt; "passed"),
+        Err(fault) => {
+            let (kind, place) = (Kind::TooDeep, deepest);
+            assert_eq!(&rt; fault, BinFault::Malformed { kind, place });
+        }
+    }
     Ok(())
 }
 

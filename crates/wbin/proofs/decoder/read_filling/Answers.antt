@@ -1,4 +1,4 @@
-use Rattle.std.proofs.Common.{take, drop, [], ◌≡◌, arith}
+use Rattle.std.proofs.Common.{take, drop, []}
 use Rattle.wbin.specs.Reading.{Reads}
 use Rattle.wbin.specs.Decoded.{ReadsWhole}
 use Rattle.wbin.proofs.Modules.{left_over}

@@ -5,21 +5,21 @@ use Rattle.wbin.proofs.CodeContents.{code_missing}
 use Rattle.wbin.proofs.Places.{code_found}
 use Rattle.wbin.proofs.code.FunctionCodePart.read.Goals as goal
 
-pub returns-in-Ok-read_code-clause-read : goal.returns-in-Ok-read_code-clause-read
+pub returns-in-Ok-clause-read : goal.returns-in-Ok-clause-read
 unfolding Reads
-returns-in-Ok-read_code-clause-read c =
-    let a = c.in-Ok in
-    (a.ensures.read.0, (code_found c.args.bytes.now c.args.at (a.end - length a.contents.now) a.end a.contents.now c.in-Ok-read_code.code a.ensures.read.1 a.ensures.place.2 c.in-Ok-read_code.ensures).0)
+returns-in-Ok-clause-read c =
+    let a = c.in_ok-contents in
+    (a.ensures.read.0, (code_found c.args.bytes.now c.args.at (a.end - length a.contents.now) a.end a.contents.now c.in-Ok.code a.ensures.read.1 a.ensures.place.2 c.in-Ok.ensures).0)
 
-pub returns-in-Ok-read_code-clause-placed : goal.returns-in-Ok-read_code-clause-placed
+pub returns-in-Ok-clause-placed : goal.returns-in-Ok-clause-placed
 unfolding Reads
-returns-in-Ok-read_code-clause-placed c =
-    let a = c.in-Ok in
-    (code_found c.args.bytes.now c.args.at (a.end - length a.contents.now) a.end a.contents.now c.in-Ok-read_code.code a.ensures.read.1 a.ensures.place.2 c.in-Ok-read_code.ensures).1
+returns-in-Ok-clause-placed c =
+    let a = c.in_ok-contents in
+    (code_found c.args.bytes.now c.args.at (a.end - length a.contents.now) a.end a.contents.now c.in-Ok.code a.ensures.read.1 a.ensures.place.2 c.in-Ok.ensures).1
 
-pub returns-in-Err-read_code-clause-read : goal.returns-in-Err-read_code-clause-read
+pub returns-in-Err-clause-read : goal.returns-in-Err-clause-read
 unfolding Reads ReadsCode
-returns-in-Err-read_code-clause-read c = λ m.
-    (let a = c.in-Ok in
+returns-in-Err-clause-read c = λ m.
+    (let a = c.in_ok-contents in
     code_missing (drop c.args.at c.args.bytes.now) a.contents.now (drop (a.end - length a.contents.now) (take a.end c.args.bytes.now)) (drop a.end c.args.bytes.now) a.ensures.read.1 a.ensures.place.2
-    (c.in-Err-read_code.ensures (λ e. m (c.fenced_body.ensures e))))
+    (c.in-Err.ensures (λ e. m (c.fenced_body.ensures e))))
