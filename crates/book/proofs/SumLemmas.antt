@@ -1,21 +1,18 @@
 -- Sums over the values of a finite map, and what the totals of nodes are after a change.
-use Rattle.std.proofs.Common.{◌≡◌, ℕ, ◌+◌, true, false, cond, ◌&&◌, List, [], ◌∷◌, length, Option, None, Some, is_some, unwrap_or, sum_by, refl, sym, ap, ◌∙◌, arith}
+use Rattle.std.proofs.Common.{◌≡◌, ℕ, ◌+◌, Bool, true, false, cond, ◌&&◌, List, [], ◌∷◌, length, Option, None, Some, is_some, unwrap_or, sum_by, refl, sym, ap, ◌∙◌, arith}
 use Rattle.std.specs.declared.cmp.Ordering.TheVariants.{Less, Equal, Greater}
-use Rattle.std.specs.Ordering.{is_lt, is_eq}
+use Rattle.std.specs.Ordering.{is_lt, is_eq, eq_by_cmp}
 use Rattle.std.specs.Option.{option_map}
-use Rattle.std.specs.Cmp.Lexicographic.{nat_list_cmp_total}
-use Rattle.std.specs.Str.{bytes_eq}
-use Rattle.std.specs.List.{IsDistinct}
-use Rattle.std.specs.Map.{keys_of, values_of, lookup}
+use Rattle.std.specs.Cmp.Lexicographic.{nat_list_cmp_total, bytes_decides}
+use Rattle.std.specs.Map.{values_of}
 use Rattle.std.specs.FinMap as fin
 use Rattle.std.specs.FinMap.{FinMap, find, put, is_sorted}
 use Rattle.std.specs.FinMap.Entries.{by_order, below_all}
 use Rattle.std.proofs.lemmas.List.Sums.{sum_by-cons}
-use Rattle.std.proofs.lemmas.Map.Made.{is_some-lookup}
 use Rattle.book.specs.Cluster.{name_cmp}
 use Rattle.book.proofs.Put.{both_true, less_of}
-use Rattle.book.proofs.RowLemmas.{true_of}
-use Rattle.book.proofs.TableLemmas.{get_map, no_key}
+use Rattle.book.proofs.RowLemmas.{same_name, true_of}
+use Rattle.book.proofs.TableLemmas.{same_test}
 
 -- a list of length 0 is empty
 no_length : {A : Type 0} (xs : List A) → length xs ≡ 0 → xs ≡ []
@@ -69,10 +66,40 @@ module _ {X : Type 0} (number : X → ℕ) where
       ∙ ap (λ o. sum_of (put name_cmp k v (fin.entries m)) + of_option number o) (fin.get-entries m k)
       ∙ sum_put k v (fin.entries m) (true_of _ (fin.entries_sorted m))
 
-  -- the map of entries with distinct keys adds up to what they do
-  pub sum_entries : (es : List (List ℕ × X)) → IsDistinct bytes_eq (keys_of es) → sum_by number (fin.values (fin.from_entries {R = name_cmp} es)) ≡ sum_of es
-  unfolding IsDistinct
-  sum_entries [] distinct = ap sum_of (entries_empty X)
-  sum_entries (e ∷ es) distinct =
-      let new : fin.get (fin.from_entries {R = name_cmp} es) e.0 ≡ None = get_map es e.0 ∙ none_of (lookup (bytes_eq e.0) es) (is_some-lookup (bytes_eq e.0) es ∙ no_key (bytes_eq e.0) (keys_of es) distinct.0) in
-      omega (arith, sum_insert (fin.from_entries es) e.0 e.1, ap (of_option number) new, sum_entries es distinct.1, sum_by-cons number e.1 (values_of es))
+module _ {X : Type 0} (m : FinMap name_cmp X) (k : List ℕ) where
+  -- the same name, by the test of the order
+  same_key : (q : List ℕ) → eq_by_cmp name_cmp q k ≡ true → q ≡ k
+  same_key q e = (bytes_decides q k).0 (sym (same_test q k) ∙ e)
+
+  -- what was taken out isn't there
+  pub get_removed : fin.get (fin.remove m k) k ≡ None
+  get_removed = fin.get-remove nat_list_cmp_total m k k ∙ ap (λ b. cond b None (fin.get m k)) (same_test k k ∙ (bytes_decides k k).1 refl)
+
+  -- what isn't there can't be taken out
+  pub remove_absent : fin.get m k ≡ None → fin.remove m k ≡ m
+  remove_absent none = fin.same_map nat_list_cmp_total same_name _ _ (λ q. fin.get-remove nat_list_cmp_total m k q ∙ by q (eq_by_cmp name_cmp q k) refl)
+    where
+      by : (q : List ℕ) (b : Bool) → eq_by_cmp name_cmp q k ≡ b → cond b None (fin.get m q) ≡ fin.get m q
+      by q true e = sym (ap (fin.get m) (same_key q e) ∙ none)
+      by q false e = refl
+
+  -- a value replaces the one that was there
+  pub insert_over : (v : X) → fin.insert (fin.remove m k) k v ≡ fin.insert m k v
+  insert_over v = fin.same_map nat_list_cmp_total same_name _ _ (λ q.
+      fin.get-insert nat_list_cmp_total (fin.remove m k) k v q
+      ∙ ap (cond (eq_by_cmp name_cmp q k) (Some v)) (fin.get-remove nat_list_cmp_total m k q)
+      ∙ elim (eq_by_cmp name_cmp q k) as (λ b. cond b (Some v) (cond b None (fin.get m q)) ≡ cond b (Some v) (fin.get m q)) [ true ↦ refl | false ↦ refl ]
+      ∙ sym (fin.get-insert nat_list_cmp_total m k v q))
+
+  -- to put what is there changes nothing
+  pub insert_same : (v : X) → fin.get m k ≡ Some v → fin.insert m k v ≡ m
+  insert_same v there = fin.same_map nat_list_cmp_total same_name _ _ (λ q. fin.get-insert nat_list_cmp_total m k v q ∙ by q (eq_by_cmp name_cmp q k) refl)
+    where
+      by : (q : List ℕ) (b : Bool) → eq_by_cmp name_cmp q k ≡ b → cond b (Some v) (fin.get m q) ≡ fin.get m q
+      by q true e = sym (ap (fin.get m) (same_key q e) ∙ there)
+      by q false e = refl
+
+  -- a value that is taken out takes its number off
+  pub sum_remove : (number : X → ℕ) (v : X) → fin.get m k ≡ Some v → sum_by number (fin.values (fin.remove m k)) + number v ≡ sum_by number (fin.values m)
+  sum_remove number v there =
+      omega (arith, sum_insert number (fin.remove m k) k v, ap (of_option number) get_removed, ap (λ n. sum_by number (fin.values n)) (insert_over v ∙ insert_same v there))

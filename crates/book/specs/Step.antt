@@ -1,5 +1,5 @@
 -- What each step does to a book, and what is answered.
-use Rattle.std.specs.Prelude.{◌≡◌, ℕ, ◌+◌, List, [], ◌∷◌, Bool, true, false, not, ◌&&◌, ◌||◌, ◌==◌, nat_le, nat_eq, Option, None, Some, is_some, is_ok, if◌then◌else◌, Result, MatchResult}
+use Rattle.std.specs.Prelude.{◌≡◌, ◌+◌, List, [], ◌∷◌, Bool, true, false, not, ◌&&◌, ◌||◌, ◌==◌, nat_le, Option, None, Some, is_ok, if◌then◌else◌, Result, MatchResult}
 use Rattle.std.specs.FinMap.{insert, remove, get, contains_key}
 use Rattle.quant.specs.declared.event.Event.TheVariants.{NodeSet, NodeGone, PodPending, PodBound, PodGone}
 use Rattle.quant.specs.declared.amount.Request.{Request}

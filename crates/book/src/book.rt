@@ -50,7 +50,7 @@ impl Book {
     ghost use Rattle.book.specs.Rows.{named};
     ghost use Rattle.book.specs.Used.{used, assumed, bound};
     ghost use Rattle.book.specs.Step.{after, reply, IsTaken, first_of, is_placed, is_there, fits_row, refusal_by_ticket};
-    ghost use Rattle.book.specs.declared.step.ClusterStep.TheVariants.{Event, Assume, BindDone, Forget};
+    ghost use Rattle.book.specs.declared.step.ClusterStep.TheVariants as steps;
 
     /// An empty book, with room for as much as the limits say. It is the one call of a book that takes memory.
     /// The keys are of the hash by which names are found, and nobody who chooses names is to know them.
@@ -101,7 +101,7 @@ impl Book {
 
     // Takes what the watch tells.
     fn take_event(&mut self, event: Event, queued: bool, queue_full: bool) -> Result<Reply, Refusal>
-        ensures { IsTaken self.old (Event event queued queue_full) result self.new }
+        ensures { IsTaken self.old (steps.Event event queued queue_full) result self.new }
     {
         match event {
             Event::NodeSet { version, node } => self.set_node(version, node),
@@ -118,7 +118,7 @@ impl Book {
     }
 
     // An event that comes too late is refused.
-    fn is_newer(&self, version: Version) -> Result<(), Refusal>
+    fn check_version(&self, version: Version) -> Result<(), Refusal>
         ensures { result ≡ (if nat_le version.0 self.now.version then Err Refusal.Old else Ok tt) }
     {
         if version <= self.version {
@@ -128,18 +128,18 @@ impl Book {
     }
 
     fn set_node(&mut self, version: Version, node: SharedNode) -> Result<Reply, Refusal>
-        ensures { (queued queue_full : Bool) → IsTaken self.old (Event (event.NodeSet version node) queued queue_full) result self.new }
+        ensures { (queued queue_full : Bool) → IsTaken self.old (steps.Event (event.NodeSet version node) queued queue_full) result self.new }
     {
-        self.is_newer(version)?;
+        self.check_version(version)?;
         self.nodes.set(node)?;
         self.version = version;
         Ok(Reply::Done)
     }
 
     fn remove_node(&mut self, version: Version, name: &Name) -> Result<Reply, Refusal>
-        ensures { (queued queue_full : Bool) → IsTaken self.old (Event (event.NodeGone version name.now) queued queue_full) result self.new }
+        ensures { (queued queue_full : Bool) → IsTaken self.old (steps.Event (event.NodeGone version name.now) queued queue_full) result self.new }
     {
-        self.is_newer(version)?;
+        self.check_version(version)?;
         self.nodes.remove(name)?;
         self.version = version;
         Ok(Reply::Done)
@@ -153,9 +153,9 @@ impl Book {
         queued: bool,
         queue_full: bool,
     ) -> Result<Reply, Refusal>
-        ensures { IsTaken self.old (Event (event.PodPending version pod) queued queue_full) result self.new }
+        ensures { IsTaken self.old (steps.Event (event.PodPending version pod) queued queue_full) result self.new }
     {
-        self.is_newer(version)?;
+        self.check_version(version)?;
         if queued || self.places.has(&pod.uid) {
             return Err(Refusal::Known);
         }
@@ -173,9 +173,9 @@ impl Book {
         node: Name,
         request: Request,
     ) -> Result<Reply, Refusal>
-        ensures { (queued queue_full : Bool) → IsTaken self.old (Event (event.PodBound version uid node request) queued queue_full) result self.new }
+        ensures { (queued queue_full : Bool) → IsTaken self.old (steps.Event (event.PodBound version uid node request) queued queue_full) result self.new }
     {
-        self.is_newer(version)?;
+        self.check_version(version)?;
         let place = Place {
             node,
             request,
@@ -187,9 +187,9 @@ impl Book {
     }
 
     fn remove_pod(&mut self, version: Version, uid: &Name, queued: bool) -> Result<Reply, Refusal>
-        ensures { (queue_full : Bool) → IsTaken self.old (Event (event.PodGone version uid.now) queued queue_full) result self.new }
+        ensures { (queue_full : Bool) → IsTaken self.old (steps.Event (event.PodGone version uid.now) queued queue_full) result self.new }
     {
-        self.is_newer(version)?;
+        self.check_version(version)?;
         if !self.places.remove(uid) && !queued {
             return Err(Refusal::Gone);
         }
@@ -199,7 +199,7 @@ impl Book {
 
     // A pod that a pass holds is placed on a node where it fits now.
     fn assume(&mut self, uid: Name, node: Name, entry: Entry) -> Result<Reply, Refusal>
-        ensures { IsTaken self.old (Assume uid node entry) result self.new }
+        ensures { IsTaken self.old (steps.Assume uid node entry) result self.new }
     {
         if self.places.has(&uid) {
             return Err(Refusal::Placed);
@@ -250,7 +250,7 @@ impl Book {
     }
 
     fn finish(&mut self, uid: &Name, ticket: Ticket, queued: bool) -> Result<Reply, Refusal>
-        ensures { IsTaken self.old (BindDone uid.now ticket queued) result self.new }
+        ensures { IsTaken self.old (steps.BindDone uid.now ticket queued) result self.new }
     {
         self.check_ticket(uid, ticket, queued)?;
         self.places.finish(uid);
@@ -258,7 +258,7 @@ impl Book {
     }
 
     fn forget(&mut self, uid: &Name, ticket: Ticket, queued: bool) -> Result<Reply, Refusal>
-        ensures { IsTaken self.old (Forget uid.now ticket queued) result self.new }
+        ensures { IsTaken self.old (steps.Forget uid.now ticket queued) result self.new }
     {
         self.check_ticket(uid, ticket, queued)?;
         self.places.remove(uid);

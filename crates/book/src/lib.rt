@@ -10,6 +10,8 @@ mod place;
 mod places;
 mod refusal;
 mod step;
+#[cfg(test)]
+mod tests;
 
 pub use book::Book;
 pub use limits::Limits;

@@ -5,7 +5,7 @@ ghost use Rattle.std.specs.FinMap as fin;
 ghost use Rattle.name_table.specs.Slots.{map_of};
 ghost use Rattle.book.specs.Tables.{is_full_for};
 ghost use Rattle.book.specs.Used.{used, assumed, bound, assumed_in};
-ghost use Rattle.book.specs.Totals.{total_at, plus, adds, one_pod, most_of, IsWithin, AllInUse, pods_in};
+ghost use Rattle.book.specs.Totals.{total_at, plus, adds, one_pod, most_of, IsWithin, idle_in, pods_in};
 ghost use Rattle.quant.specs.declared.limits.TheConstants.{MAX_PLACED};
 
 use crate::NoMemory;
@@ -154,7 +154,8 @@ impl Places {
     /// Marks a pod's place as finished, if it is assumed.
     pub(crate) fn finish(&mut self, uid: &Name)
         requires { IsSome (fin.get self.old.map uid.now) }
-        ensures { (place : Place) → fin.get self.old.map uid.now ≡ Some place → self.new ≡ record self.old { map = fin.insert self.old.map uid.now (record place { status = finished_status place.status }) } }
+        ensures room { self.new.room ≡ self.old.room }
+        ensures finished { (place : Place) → fin.get self.old.map uid.now ≡ Some place → self.new ≡ record self.old { map = fin.insert self.old.map uid.now (record place { status = finished_status place.status }) } }
     {
         let Some(slot) = self.by_uid.find(uid) else {
             return;
@@ -182,12 +183,12 @@ fn assumed_count(status: &Status) -> usize
 // Adds a pod to its node's total.
 fn add(totals: &mut NameTable<Res>, node: &Name, request: &Request)
     requires room { pods_in (map_of totals.old) < length totals.old }
-    requires small { length totals.old ≤ 150000 }
-    requires within { IsWithin (total_at (map_of totals.old) node.now) (most_of 150000) }
-    requires in_use { AllInUse (map_of totals.old) }
+    requires small { length totals.old ≤ MAX_PLACED }
+    requires within { IsWithin (total_at (map_of totals.old) node.now) (most_of MAX_PLACED) }
+    requires in_use { idle_in (map_of totals.old) ≡ 0 }
     ensures each { (other : List ℕ) → total_at (map_of totals.new) other ≡ plus (total_at (map_of totals.old) other) (adds node.now request.now other) }
     ensures pods { pods_in (map_of totals.new) ≡ pods_in (map_of totals.old) + 1 }
-    ensures in_use { AllInUse (map_of totals.new) }
+    ensures in_use { idle_in (map_of totals.new) ≡ 0 }
     ensures room { length totals.new ≡ length totals.old }
 {
     match totals.find(node) {
@@ -215,10 +216,10 @@ fn add(totals: &mut NameTable<Res>, node: &Name, request: &Request)
 fn take(totals: &mut NameTable<Res>, node: &Name, request: &Request)
     requires within { IsWithin (one_pod request.now) (total_at (map_of totals.old) node.now) }
     requires last { (total_at (map_of totals.old) node.now).pods ≡ 1 → total_at (map_of totals.old) node.now ≡ one_pod request.now }
-    requires in_use { AllInUse (map_of totals.old) }
+    requires in_use { idle_in (map_of totals.old) ≡ 0 }
     ensures each { (other : List ℕ) → plus (total_at (map_of totals.new) other) (adds node.now request.now other) ≡ total_at (map_of totals.old) other }
     ensures pods { pods_in (map_of totals.new) + 1 ≡ pods_in (map_of totals.old) }
-    ensures in_use { AllInUse (map_of totals.new) }
+    ensures in_use { idle_in (map_of totals.new) ≡ 0 }
     ensures room { length totals.new ≡ length totals.old }
 {
     let Some(slot) = totals.find(node) else {

@@ -1,18 +1,51 @@
-use Rattle.std.proofs.Common.{ap, sym, ◌∙◌, subst, ◌≤◌, ◌+◌}
+use Rattle.std.proofs.Common.{◌+◌, ap, sym, ◌∙◌, arith}
 use Rattle.std.specs.FinMap as fin
-use Rattle.book.specs.Totals.{total_at, plus, one_pod}
-use Rattle.book.proofs.TotalLemmas.{total_added, len_put}
+use Rattle.quant.specs.declared.amount.Res.{Res}
+use Rattle.name_table.specs.Slots.{map_of}
+use Rattle.book.specs.Totals.{total_at, plus, one_pod, pods_in, idle_in}
+use Rattle.book.proofs.TotalLemmas.{total_added, total_found, total_none, few_totals, idle_again, pods_again, pods_new, nothing_plus}
 use Rattle.book.proofs.places.add.Goals as goal
 
--- the node's total is more by one pod
-pub returns-clause-each : goal.returns-clause-each
-returns-clause-each c other =
-    let v = plus c.total-had.result (one_pod c.args.request.now) in
-    ap (λ t. total_at t.map other) c.put.ensures.put
-    ∙ ap (λ k. total_at (fin.insert c.args.totals.now.map k v) other) c.copied.ensures
-    ∙ total_added c.args.totals.now.map c.args.node.now v c.args.request.now (ap (λ r. plus r (one_pod c.args.request.now)) c.total-had.ensures) other
+-- there are no more totals than pods
+pub insert-requires-clause-room : goal.insert-requires-clause-room
+insert-requires-clause-room c = omega (arith, few_totals (map_of c.args.totals.now) c.requires.in_use, c.requires.room)
 
-pub returns-clause-len : goal.returns-clause-len
-returns-clause-len c =
-    let v = plus c.total-had.result (one_pod c.args.request.now) in
-    subst (λ t. fin.len t.map ≤ fin.len c.args.totals.now.map + 1) (sym c.put.ensures.put) (len_put c.args.totals.now.map c.copied.result v c.args.request.now)
+-- the node has a total, which grows
+pub returns-in-Some-clause-each : goal.returns-in-Some-clause-each
+returns-in-Some-clause-each c other =
+    let t = map_of c.args.totals.now in
+    let had = c.value_at-had.ensures.by_name c.args.node.now c.in-Some.ensures.name in
+    ap (λ n. total_at n other) (c.replace_at.ensures.map c.args.node.now c.in-Some.ensures.name)
+    ∙ total_added t c.args.node.now _ c.args.request.now (sym (ap (λ r. plus r (one_pod c.args.request.now)) (total_found t c.args.node.now _ had))) other
+
+pub returns-in-Some-clause-pods : goal.returns-in-Some-clause-pods
+returns-in-Some-clause-pods c =
+    let t = map_of c.args.totals.now in
+    let had = c.value_at-had.ensures.by_name c.args.node.now c.in-Some.ensures.name in
+    let now = ap pods_in (c.replace_at.ensures.map c.args.node.now c.in-Some.ensures.name) in
+    let had_now = c.value_at-had.result.now in
+    let more : Res = record { cpu = record { 0 = had_now.cpu.0 + c.args.request.now.cpu.0 }; mem = record { 0 = had_now.mem.0 + c.args.request.now.mem.0 }; pods = had_now.pods + 1 } in
+    omega (arith, now, pods_again t c.args.node.now more had_now had)
+
+pub returns-in-Some-clause-in_use : goal.returns-in-Some-clause-in_use
+returns-in-Some-clause-in_use c =
+    ap idle_in (c.replace_at.ensures.map c.args.node.now c.in-Some.ensures.name) ∙ idle_again (map_of c.args.totals.now) c.args.node.now _ (omega arith) c.requires.in_use
+
+-- the node has none, and the pod is its first
+pub returns-in-None-clause-each : goal.returns-in-None-clause-each
+returns-in-None-clause-each c other =
+    let t = map_of c.args.totals.now in
+    let none = c.in-None.ensures.value in
+    ap (λ n. total_at n other) (c.insert.ensures.map ∙ ap (λ k. fin.insert t k (one_pod c.args.request.now)) c.copied.ensures)
+    ∙ total_added t c.args.node.now (one_pod c.args.request.now) c.args.request.now (sym (ap (λ r. plus r (one_pod c.args.request.now)) (total_none t c.args.node.now none) ∙ nothing_plus _)) other
+
+pub returns-in-None-clause-pods : goal.returns-in-None-clause-pods
+returns-in-None-clause-pods c =
+    let t = map_of c.args.totals.now in
+    let now = ap pods_in (c.insert.ensures.map ∙ ap (λ k. fin.insert t k (one_pod c.args.request.now)) c.copied.ensures) in
+    now ∙ pods_new t c.args.node.now (one_pod c.args.request.now) c.in-None.ensures.value
+
+pub returns-in-None-clause-in_use : goal.returns-in-None-clause-in_use
+returns-in-None-clause-in_use c =
+    let t = map_of c.args.totals.now in
+    ap idle_in (c.insert.ensures.map ∙ ap (λ k. fin.insert t k (one_pod c.args.request.now)) c.copied.ensures) ∙ idle_again t c.args.node.now (one_pod c.args.request.now) (omega arith) c.requires.in_use

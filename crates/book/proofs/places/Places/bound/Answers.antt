@@ -1,13 +1,14 @@
 use Rattle.std.proofs.Common.{◌≡◌, ap, arith}
+use Rattle.name_table.specs.Slots.{map_of}
 use Rattle.book.specs.Used.{bound}
 use Rattle.book.proofs.TotalLemmas.{bound_or_assumed}
 use Rattle.book.proofs.places.Places.bound.Goals as goal
 
 -- each place is bound or assumed
 pub overflow_sub-result : goal.overflow_sub-result
-overflow_sub-result c = omega (arith, bound_or_assumed c.self.inside.by_uid.map, c.self.invariant.assumed, c.len.ensures.len)
+overflow_sub-result c = omega (arith, bound_or_assumed (map_of c.self.inside.by_uid), c.self.invariant.assumed, c.len.ensures.len)
 
 pub returns : goal.returns
 returns c =
-    let same : bound c.self.inside.by_uid.map ≡ bound c.args.self.now.map = ap (λ t. bound t.map) c.self.view_is in
-    omega (arith, bound_or_assumed c.self.inside.by_uid.map, c.self.invariant.assumed, c.len.ensures.len, same)
+    let same : bound (map_of c.self.inside.by_uid) ≡ bound c.args.self.now.map = ap (λ t. bound t.map) c.self.view_is in
+    omega (arith, bound_or_assumed (map_of c.self.inside.by_uid), c.self.invariant.assumed, c.len.ensures.len, same)

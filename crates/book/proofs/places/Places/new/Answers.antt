@@ -1,12 +1,33 @@
-use Rattle.std.proofs.Common.{subst, sym}
-use Rattle.book.specs.Totals.{IsCounted}
+use Rattle.std.proofs.Common.{◌≡◌, ℕ, zero, suc, [], None, length, replicate, refl, sym, ap, subst, ◌∙◌}
+use Rattle.std.proofs.lemmas.List.{length-replicate}
 use Rattle.std.specs.FinMap as fin
-use Rattle.book.proofs.TableLemmas.{held}
+use Rattle.name_table.specs.Slots.{Slots, map_of, filled}
+use Rattle.book.specs.Totals.{IsCounted}
+use Rattle.book.specs.declared.place.Place.{Place}
+use Rattle.quant.specs.declared.amount.Res.{Res}
 use Rattle.book.proofs.TotalLemmas.{counted_empty}
+use Rattle.book.proofs.TableLemmas.{held}
 use Rattle.book.proofs.places.Places.new.Goals as goal
 
--- no places are counted by no totals
+-- free slots hold nothing
+no_entry : (X : Type 0) (n : ℕ) → filled {X = X} (replicate n None) ≡ []
+no_entry X zero = refl
+no_entry X (suc n) = no_entry X n
+
+free : (X : Type 0) (s : Slots X) (n : ℕ) → s ≡ replicate n None → map_of s ≡ fin.empty
+free X s n e = ap map_of e ∙ ap fin.from_entries (no_entry X n)
+
+as_long : (X : Type 0) (s : Slots X) (n : ℕ) → s ≡ replicate n None → length s ≡ n
+as_long X s n e = ap length e ∙ length-replicate n None
+
 pub invariant_of-result : goal.invariant_of-result
 invariant_of-result c =
-    subst (λ places. IsCounted places c.in_ok-totals.totals 0) (sym c.in_ok-by_uid.ensures)
-    (subst (λ totals. IsCounted (held fin.empty c.args.room) totals 0) (sym c.in_ok-totals.ensures) (counted_empty c.args.room c.requires))
+    let places = c.in_ok-by_uid.by_uid in
+    let totals = c.in_ok-totals.totals in
+    subst (λ n. IsCounted (map_of places) (length places) (map_of totals) n 0) (sym (as_long Res totals _ c.in_ok-totals.ensures))
+    (subst (λ t. IsCounted (map_of places) (length places) t c.args.room 0) (sym (free Res totals _ c.in_ok-totals.ensures))
+    (subst (λ n. IsCounted (map_of places) n fin.empty c.args.room 0) (sym (as_long Place places _ c.in_ok-by_uid.ensures))
+    (subst (λ m. IsCounted m c.args.room fin.empty c.args.room 0) (sym (free Place places _ c.in_ok-by_uid.ensures)) (counted_empty c.args.room c.requires))))
+
+pub returns : goal.returns
+returns c = λ i. held (free Place c.in_ok-by_uid.by_uid _ c.in_ok-by_uid.ensures i) (as_long Place c.in_ok-by_uid.by_uid _ c.in_ok-by_uid.ensures i)

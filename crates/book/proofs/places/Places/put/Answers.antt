@@ -1,52 +1,69 @@
-use Rattle.std.proofs.Common.{◌≡◌, ◌+◌, ◌-◌, Some, None, ap, sym, ◌∙◌, subst, arith}
+use Rattle.std.proofs.Common.{◌+◌, ◌-◌, length, refl, ap, sym, ◌∙◌, arith}
 use Rattle.std.specs.FinMap as fin
-use Rattle.book.specs.Used.{used}
-use Rattle.book.specs.Tables.{is_full_for}
-use Rattle.book.specs.Totals.{IsCounted, most_of, IsWithin}
-use Rattle.book.proofs.TotalLemmas.{counted_new, counted_again, old_within, few_put, used_most, values_len, assumed_le, assumed_after, assumed_one, whole_within}
+use Rattle.std.proofs.lemmas.Bool.{leb-false}
+use Rattle.name_table.specs.Slots.{map_of}
+use Rattle.book.proofs.SumLemmas.{get_removed, insert_over}
+use Rattle.book.proofs.TotalLemmas.{counted_more, counted_less, old_within, old_alone, most_used, assumed_le, assumed_less, assumed_one, each_less, len_less}
 use Rattle.book.proofs.places.Places.put.Goals as goal
 
--- the total before is what the places add up to
-pub add-requires-clause-small : goal.add-requires-clause-small
-add-requires-clause-small c =
-    let m = c.self.inside.by_uid.map in
-    whole_within _ _ (fin.len m) (c.leave_room.ensures.each c.args.place.node) (subst (λ n. IsWithin (used m c.args.place.node) (most_of n)) (values_len m) (used_most (fin.values m) c.args.place.node)) (omega (arith, c.self.invariant.few, c.self.invariant.small))
+-- the old place is in its node's total
+pub take-requires-clause-within : goal.take-requires-clause-within
+take-requires-clause-within c =
+    let old = c.value_at-old.result.now in
+    let had = c.value_at-old.ensures.by_name c.args.uid c.in-Some.ensures.name in
+    old_within (map_of c.self.inside.by_uid) c.args.uid old had (map_of c.self.inside.totals) (c.self.invariant.each old.node)
 
-pub overflow_add-self : goal.overflow_add-self
-overflow_add-self c = omega (arith, assumed_le c.self.inside.by_uid.map, c.self.invariant.assumed, c.self.invariant.few, c.self.invariant.small, assumed_one c.args.place.status, c.assumed_count.ensures)
-
--- a pod's old place is in its node's total
-pub take-requires : goal.take-requires
-take-requires c =
-    let m = c.self.inside.by_uid.map in
-    old_within m c.args.uid c.args.place c.leave_room.new.totals.map c.add.new.totals.map c.leave_room.ensures.each c.add.ensures.each c.in-Some.old (sym c.put.ensures.before ∙ c.in-Some.is)
+pub take-requires-clause-last : goal.take-requires-clause-last
+take-requires-clause-last c =
+    let old = c.value_at-old.result.now in
+    let had = c.value_at-old.ensures.by_name c.args.uid c.in-Some.ensures.name in
+    old_alone (map_of c.self.inside.by_uid) c.args.uid old had (map_of c.self.inside.totals) (c.self.invariant.each old.node)
 
 pub overflow_sub-self : goal.overflow_sub-self
 overflow_sub-self c =
-    omega (arith, assumed_after c.self.inside.by_uid.map c.args.uid c.args.place _ (sym c.put.ensures.before ∙ c.in-Some.is), c.self.invariant.assumed, c.assumed_count.ensures, c.assumed_count-in-Some.ensures)
+    let old = c.value_at-old.result.now in
+    let had = c.value_at-old.ensures.by_name c.args.uid c.in-Some.ensures.name in
+    omega (arith, assumed_less (map_of c.self.inside.by_uid) c.args.uid old had, c.self.invariant.assumed, c.assumed_count.ensures)
+
+pub add-requires-clause-within : goal.add-requires-clause-within
+add-requires-clause-within c =
+    let m = map_of c.self.inside.by_uid in
+    let old = c.value_at-old.result.now in
+    let had = c.value_at-old.ensures.by_name c.args.uid c.in-Some.ensures.name in
+    most_used (fin.remove m c.args.uid) _ c.args.place.node
+    (each_less m c.args.uid old had (map_of c.self.inside.totals) (map_of c.take.new.totals) c.self.invariant.each c.take.ensures.each c.args.place.node)
+    (omega (arith, len_less m c.args.uid old had, c.self.invariant.few, c.self.invariant.small))
+
+pub overflow_add-self : goal.overflow_add-self
+overflow_add-self c = omega (arith, assumed_le (map_of c.self.inside.by_uid), c.self.invariant.assumed, c.self.invariant.few, c.self.invariant.small, assumed_one c.args.place.status, c.assumed_count-in-Some.ensures)
 
 -- the pod had a place
 pub invariant_of-self : goal.invariant_of-self
 invariant_of-self c =
-    let m = c.self.inside.by_uid.map in
-    let had : fin.get m c.args.uid ≡ Some c.in-Some.old = sym c.put.ensures.before ∙ c.in-Some.is in
-    subst (λ places. IsCounted places c.take.new.totals (c.self.inside.assumed + c.assumed_count.result - c.assumed_count-in-Some.result)) (sym c.put.ensures.put) (record {
-      each = counted_again m c.args.uid c.args.place c.leave_room.new.totals.map c.add.new.totals.map c.leave_room.ensures.each c.add.ensures.each c.in-Some.old had c.take.new.totals.map c.take.ensures.each;
-      assumed = omega (arith, assumed_after m c.args.uid c.args.place _ had, c.self.invariant.assumed, c.assumed_count.ensures, c.assumed_count-in-Some.ensures);
-      few = few_put m c.self.inside.by_uid.room c.args.uid c.args.place (ap (λ t. is_full_for t.map t.room c.args.uid) c.self.view_is ∙ c.requires) c.self.invariant.few;
-      small = c.self.invariant.small;
-      room = c.take.ensures.room ∙ c.add.ensures.room ∙ c.leave_room.ensures.room ∙ c.self.invariant.room;
-    })
+    let m = map_of c.self.inside.by_uid in
+    let most = length c.self.inside.by_uid in
+    let old = c.value_at-old.result.now in
+    let had = c.value_at-old.ensures.by_name c.args.uid c.in-Some.ensures.name in
+    let less = counted_less m most (map_of c.self.inside.totals) (length c.self.inside.totals) c.self.inside.assumed c.self.invariant
+    (fin.remove m c.args.uid) most (map_of c.take.new.totals) (length c.take.new.totals) (c.self.inside.assumed - c.assumed_count.result) refl c.take.ensures.room c.take.ensures.in_use c.args.uid
+    old refl had c.take.ensures.each c.take.ensures.pods (ap (λ n. c.self.inside.assumed - n) c.assumed_count.ensures) in
+    counted_more (fin.remove m c.args.uid) most (map_of c.take.new.totals) (length c.take.new.totals) (c.self.inside.assumed - c.assumed_count.result) less
+    _ _ _ _ _ c.replace_at.ensures.room c.add.ensures.room c.add.ensures.in_use c.args.uid
+    c.args.place (c.replace_at.ensures.map c.args.uid c.in-Some.ensures.name ∙ sym (insert_over m c.args.uid c.args.place)) (get_removed m c.args.uid)
+    (omega (arith, len_less m c.args.uid old had, c.self.invariant.few)) c.add.ensures.each c.add.ensures.pods
+    (ap (λ n. c.self.inside.assumed - c.assumed_count.result + n) c.assumed_count-in-Some.ensures)
+
+pub add-requires-in-None-clause-within : goal.add-requires-in-None-clause-within
+add-requires-in-None-clause-within c =
+    most_used (map_of c.self.inside.by_uid) _ c.args.place.node (c.self.invariant.each c.args.place.node) (omega (arith, c.self.invariant.few, c.self.invariant.small))
+
+pub overflow_add-self-in-None : goal.overflow_add-self-in-None
+overflow_add-self-in-None c = omega (arith, assumed_le (map_of c.self.inside.by_uid), c.self.invariant.assumed, c.self.invariant.few, c.self.invariant.small, assumed_one c.args.place.status, c.assumed_count-in-None.ensures)
 
 -- the pod had no place
-pub invariant_of-self-in_default : goal.invariant_of-self-in_default
-invariant_of-self-in_default c =
-    let m = c.self.inside.by_uid.map in
-    let had : fin.get m c.args.uid ≡ None = sym c.put.ensures.before ∙ c.in_default.is in
-    subst (λ places. IsCounted places c.add.new.totals (c.self.inside.assumed + c.assumed_count.result)) (sym c.put.ensures.put) (record {
-      each = counted_new m c.args.uid c.args.place c.leave_room.new.totals.map c.add.new.totals.map c.leave_room.ensures.each c.add.ensures.each had;
-      assumed = omega (arith, assumed_after m c.args.uid c.args.place _ had, c.self.invariant.assumed, c.assumed_count.ensures);
-      few = few_put m c.self.inside.by_uid.room c.args.uid c.args.place (ap (λ t. is_full_for t.map t.room c.args.uid) c.self.view_is ∙ c.requires) c.self.invariant.few;
-      small = c.self.invariant.small;
-      room = c.add.ensures.room ∙ c.leave_room.ensures.room ∙ c.self.invariant.room;
-    })
+pub invariant_of-self-in-None : goal.invariant_of-self-in-None
+invariant_of-self-in-None c =
+    counted_more (map_of c.self.inside.by_uid) (length c.self.inside.by_uid) (map_of c.self.inside.totals) (length c.self.inside.totals) c.self.inside.assumed c.self.invariant
+    _ _ _ _ _ c.insert.ensures.room c.add-in-None.ensures.room c.add-in-None.ensures.in_use c.args.uid
+    c.args.place c.insert.ensures.map c.in-None.ensures.value (let room = leb-false (length c.self.inside.by_uid) (fin.len (map_of c.self.inside.by_uid)) (sym c.is_full.ensures.full ∙ c.if-is_full.false) in omega (arith, room)) c.add-in-None.ensures.each c.add-in-None.ensures.pods
+    (ap (λ n. c.self.inside.assumed + n) c.assumed_count-in-None.ensures)

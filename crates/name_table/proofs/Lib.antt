@@ -1,0 +1,6 @@
+pub mod ChainLemmas
+pub mod MoveLemmas
+pub mod SumLemmas
+pub mod SlotLemmas
+pub mod WovenLemmas
+pub mod TableLemmas

@@ -1,0 +1,6 @@
+-- Where no slot has the name, the map is as it would be without it.
+use Rattle.name_table.proofs.SlotLemmas.{remove_absent}
+use Rattle.name_table.proofs.table.NameTable.remove.Goals as goal
+
+pub returns-in_err-slot-clause-map : goal.returns-in_err-slot-clause-map
+returns-in_err-slot-clause-map g c = remove_absent c.args.self.now c.args.name.now c.in_err-slot.ensures.value

@@ -1,0 +1,4 @@
+pub mod Slots
+pub mod Woven
+pub mod Buckets
+pub mod Lends

@@ -1,0 +1,14 @@
+//! A table by name with a fixed room: slots that keep their entries, found by a keyed hash.
+//!
+//! All room is made by `NameTable::new`. After it nothing takes memory, nothing fails, and no step does the work of
+//! others: there is no rehash, no migration and no mark for what was removed.
+#![tactic(auto)]
+
+mod chains;
+mod entry;
+mod table;
+#[cfg(test)]
+mod tests;
+
+pub use entry::Entry;
+pub use table::NameTable;
