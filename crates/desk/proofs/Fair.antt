@@ -1,8 +1,7 @@
 -- A ticket is given where the pod that the pass popped fits on the node, by the history.
-use Rattle.std.proofs.Common.{◌≡◌, ℕ, suc, ◌<◌, Bool, true, false, not, cond, ◌||◌, if◌then◌else◌, List, [], ◌∷◌, ◌++◌, map, length, Option, None, Some, unwrap_or, Result, Ok, Err, is_ok, refl, sym, ap, subst, ◌∙◌, arith}
+use Rattle.std.proofs.Common.{◌≡◌, ℕ, suc, Bool, true, false, not, cond, ◌||◌, if◌then◌else◌, List, [], ◌∷◌, ◌++◌, map, Option, None, Some, unwrap_or, Result, Ok, Err, is_ok, refl, sym, ap, subst, ◌∙◌, arith}
 use Rattle.std.specs.List.{Contains}
 use Rattle.std.specs.Option.{option_or}
-use Rattle.std.specs.Ordering.{eq_by_cmp}
 use Rattle.std.specs.Str.{bytes_eq}
 use Rattle.std.specs.Cmp.Lexicographic.{bytes_decides}
 use Rattle.std.specs.FinMap as fin
@@ -35,12 +34,11 @@ use Rattle.desk.specs.declared.step.Reply.{Reply}
 use Rattle.desk.specs.declared.step.Reply.TheVariants.{Ticket as Given}
 use Rattle.desk.specs.Caller.{Opened}
 use Rattle.desk.specs.Shown.{Shown}
-use Rattle.desk.specs.Machine.{State, Outcome, opening, step, unless, entry_for, entry_at, pass_number, reply, after, snapshot}
-use Rattle.desk.specs.History.{Call, AreAnswered, state_after, Leaves, is_accepted, last_said, accepted, if_named, row_in, row_of, pending_in, pending_of, popped_in, popped_of, snap, FitsThere, IsFairTicket}
+use Rattle.desk.specs.Machine.{State, Outcome, opening, unless, entry_for, entry_at, pass_number, reply, after}
+use Rattle.desk.specs.History.{Call, AreAnswered, state_after, Leaves, is_accepted, last_said, accepted, if_named, row_in, row_of, pending_in, pending_of, popped_in, popped_of, FitsThere, IsFairTicket}
 use Rattle.desk.proofs.Histories.{state_more, append_nil}
-use Rattle.desk.proofs.Pods.{pod_at}
 use Rattle.desk.proofs.Tests.{first_five, not_false}
-use Rattle.desk.proofs.Steps.{Agrees, Known, done_by}
+use Rattle.desk.proofs.Steps.{Agrees, done_by}
 use Rattle.desk.proofs.Readings.{or_none, or_both, row_is, pods_known, snapshot_told}
 use Rattle.desk.proofs.Held.{held_of, held_at, IsOwn, held_step}
 
@@ -209,15 +207,15 @@ module _ (d : Opened) (l : List Call) (left : Leaves l d) (p : ℕ) (uid node : 
       let entry = entry_at s p uid in
       let none = taken (book_step.refusal c (cluster.Assume uid node entry)) s (done_by s (cluster.Assume uid node entry) s.queue) ticket told in
       let passed = first_five (is_gone c uid (is_queued entry)) (is_placed c uid) (not (is_held entry)) (not (is_there c node)) (not (fits_now c node entry)) refusals.Gone refusals.Placed refusals.NotInFlight refusals.NoNode refusals.NoRoom
-          ((is_full_for c.places c.limits.placed uid || are_tickets_gone c, refusals.Full) ∷ []) none in
+      ((is_full_for c.places c.limits.placed uid || are_tickets_gone c, refusals.Full) ∷ []) none in
       let held = held_and_fits c node entry (not_false (is_held entry) passed.0) (not_false (fits_now c node entry) passed.2) in
       let pod = asked_for (pass_number p) (entry_of s.queue uid) held.0 held.1 in
       let fits = fits_on c node held.0 (fin.get c.nodes node) held.2 in
       let agrees : Agrees (held_at s.queue p uid) (popped_of l p uid) = subst (λ (t : State). Agrees (held_at t.queue p uid) (popped_of l p uid)) (sym left.state) (held_after c.limits l left.legal.history.answered p uid) in
       let row : Shown = record { node = fits.0; used = used c.places node } in
       let reading : fin.get c.nodes node ≡ row_of l node =
-        ap (λ (t : State). fin.get t.cluster.nodes node) left.state ∙ row_is node (opening c.limits) l left.legal.history.answered
-        ∙ ap (unwrap_or (last_said (accepted (row_in node)) l)) (fin.get-empty name_cmp node) in
+      ap (λ (t : State). fin.get t.cluster.nodes node) left.state ∙ row_is node (opening c.limits) l left.legal.history.answered
+      ∙ ap (unwrap_or (last_said (accepted (row_in node)) l)) (fin.get-empty name_cmp node) in
       record {
         pod = pod.0;
         popped = subst (λ o. Agrees o (popped_of l p uid)) pod.1 agrees;

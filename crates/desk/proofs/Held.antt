@@ -1,9 +1,8 @@
 -- What a pass holds is the pod that its last pop of that uid gave.
-use Rattle.std.proofs.Common.{◌≡◌, ℕ, Bool, true, false, cond, eqb, if◌then◌else◌, List, [], ◌∷◌, ◌++◌, Option, None, Some, refl, sym, ap, subst, ◌∙◌}
-use Rattle.std.specs.Prelude.{⊤, nat_le, ◌==◌, MatchOption, ◌+◌}
+use Rattle.std.proofs.Common.{◌≡◌, ℕ, Bool, true, false, cond, eqb, if◌then◌else◌, Option, None, Some, refl, sym, ap, subst, ◌∙◌}
+use Rattle.std.specs.Prelude.{nat_le, MatchOption, ◌+◌}
 use Rattle.std.specs.Option.{option_or, option_map}
 use Rattle.std.specs.Str.{bytes_eq}
-use Rattle.std.specs.Cmp.Lexicographic.{bytes_decides}
 use Rattle.quant.specs.declared.event.Event.TheVariants.{NodeSet, NodeGone, PodPending, PodBound, PodGone}
 use Rattle.quant.specs.declared.amount.Moment.{Moment}
 use Rattle.quant.specs.declared.name.Name.{Name}
@@ -14,7 +13,7 @@ use Rattle.queue.specs.declared.state.Failure.TheVariants as failure
 use Rattle.queue.specs.declared.state.State.{State as QueueStanding}
 use Rattle.queue.specs.declared.state.State.TheVariants.{Active, Backoff, Unschedulable, InFlight}
 use Rattle.queue.specs.declared.refusal.Refusal.{Refusal as QueueRefusal}
-use Rattle.queue.specs.Entry.{Entry, new_entry, is_in_flight_for, failed, sent_back, popped, ticked, moved_on, state_after_tick, state_after_move, state_after_failure, state_when_woken, was_moved, backed_off}
+use Rattle.queue.specs.Entry.{Entry, new_entry, is_in_flight_for, failed, sent_back, popped, ticked, moved_on, state_after_tick, state_after_move, state_after_failure, was_moved, backed_off}
 use Rattle.queue.specs.Order.{Item}
 use Rattle.queue.specs.Queue.{QueueState, entry_of, has_entry, all_changed, with_entry, with_change, changed_at, with_popped, unless_refused, refusal_to_add, refusal_to_fail as why_not_fail, refusal_to_forget, next_of, after_add, after_pop, after_fail, after_forget, after_tick, after_move, after_remove}
 use Rattle.queue.specs.Calls.{IsNext, NoneActive}
@@ -29,9 +28,9 @@ use Rattle.desk.specs.declared.step.Step.{Step}
 use Rattle.desk.specs.declared.step.Step.TheVariants.{Event, Pop, Assume, BindDone, Forget, Fail, Tick, Count}
 use Rattle.desk.specs.declared.step.Reply.{Reply}
 use Rattle.desk.specs.declared.step.Reply.TheVariants as replies
-use Rattle.desk.specs.Machine.{State, Outcome, opening, step, both, unless, told, of_node, of_pod, moved, moved_if_placed, entry_at, pass_number, popped as popped_reply, refusal_to_fail, refusal_to_tick, reply, after}
-use Rattle.desk.specs.History.{Call, AreAnswered, state_after, last_said, if_named, popped_in, popped_of}
-use Rattle.desk.proofs.Pods.{pod_of, pod_at, turned, same_of}
+use Rattle.desk.specs.Machine.{State, Outcome, step, both, unless, of_node, of_pod, moved, moved_if_placed, entry_at, pass_number, popped as popped_reply, refusal_to_fail, refusal_to_tick}
+use Rattle.desk.specs.History.{if_named, popped_in}
+use Rattle.desk.proofs.Pods.{pod_of, pod_at, turned}
 use Rattle.desk.proofs.Steps.{Agrees, done_by}
 
 -- the pod that a pass holds, if it holds one
@@ -150,6 +149,7 @@ module _ (s : State) (p : ℕ) (q : Name) where
           let named : bytes_eq item.1.pod.uid q ≡ false = ap (λ u. bytes_eq u q) uid ∙ is in
           let none : (if eqb pass p then if_named item.1.pod.uid q item.1.pod else None) ≡ None = ap (λ b. if eqb pass p then (if b then Some item.1.pod else None) else None) named ∙ elim (eqb pass p) as (λ b. cond {A = Option Pod} b None None ≡ None) [ true ↦ refl | false ↦ refl ] in
           subst (λ o. Agrees (held_at s.queue p q) (option_or o known)) (sym none) h
+
       by : (o : Option Item) → next_of s.queue ≡ o → StillHeld pass (record s { queue = with_popped s.queue (pass_number pass) o }) (popped_reply o)
       by None is = λ known h. h
       by (Some item) is = λ known h.

@@ -1,6 +1,5 @@
 -- What one more call, or one more pass, does to a history.
-use Rattle.std.proofs.Common.{◌≡◌, ℕ, zero, suc, ◌+◌, ◌<◌, ◌≤◌, Bool, true, false, cond, eqb, List, [], ◌∷◌, ◌++◌, map, filter, length, refl, sym, ap, subst, ◌∙◌, arith, length-append, length-set, append_assoc, add-one, add-zero, Option, None, Some}
-use Rattle.std.specs.Prelude.{slice_index, slice_set}
+use Rattle.std.proofs.Common.{◌≡◌, ℕ, suc, ◌+◌, ◌<◌, ◌≤◌, Bool, true, false, cond, eqb, List, [], ◌∷◌, ◌++◌, map, filter, length, refl, sym, ap, subst, ◌∙◌, arith, length-append, add-zero, Option, None, Some}
 use Rattle.std.specs.List.{AllByRecursion, range_with_len}
 use Rattle.std.proofs.lemmas.Bool.{eqb-true, eq-eqb}
 use Rattle.std.proofs.lemmas.Bool.Decides.{nat_tests}
@@ -13,7 +12,6 @@ use Rattle.book.specs.Step as book_step
 use Rattle.book.specs.declared.limits.Limits.{Limits}
 use Rattle.book.specs.declared.place.Place.{Place}
 use Rattle.book.specs.declared.refusal.Refusal.{Refusal}
-use Rattle.book.specs.declared.step.Entry.{Entry}
 use Rattle.book.specs.declared.step.Entry.TheVariants.{Missing, Elsewhere, Held}
 use Rattle.book.specs.declared.step.ClusterStep.{ClusterStep}
 use Rattle.book.specs.declared.step.ClusterStep.TheVariants as cluster
@@ -23,8 +21,8 @@ use Rattle.desk.specs.declared.step.Step.TheVariants.{Event, Pop, Assume, BindDo
 use Rattle.desk.specs.declared.step.Reply.{Reply}
 use Rattle.desk.specs.Caller.{Caller, Opened, with_state, with_pass}
 use Rattle.desk.specs.declared.step.Reply.TheVariants as replies
-use Rattle.desk.specs.Machine.{State, Outcome, opening, step, both, unless, reply, after, told, of_node, of_pod, moved, moved_if_placed, entry_at, pass_number, refusal_to_fail, refusal_to_tick}
-use Rattle.desk.specs.History.{Call, AreAnswered, state_after, numbers_of, one_to, calls_of, AreHanded, AreOthers, IsHistory, Legal, Leaves, IsOf, HasCallsOf, GoesOn, HasSeen, Applied, call}
+use Rattle.desk.specs.Machine.{State, Outcome, opening, both, unless, reply, after, told, of_node, of_pod, moved, moved_if_placed, entry_at, pass_number, refusal_to_fail, refusal_to_tick}
+use Rattle.desk.specs.History.{Call, AreAnswered, state_after, numbers_of, one_to, calls_of, AreHanded, AreOthers, Legal, Leaves, HasCallsOf, GoesOn, HasSeen, call}
 
 -- a lesser number is another number
 lt-eqb : (m n : ℕ) → m < n → eqb m n ≡ false

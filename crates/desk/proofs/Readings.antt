@@ -1,16 +1,14 @@
 -- What a history tells of nodes and places is what the state after it has.
-use Rattle.std.proofs.Common.{◌≡◌, ℕ, Bool, true, false, cond, ◌||◌, if◌then◌else◌, List, [], ◌∷◌, map, Option, None, Some, unwrap_or, refl, sym, ap, subst, ◌∙◌}
+use Rattle.std.proofs.Common.{◌≡◌, ℕ, Bool, true, false, cond, ◌||◌, if◌then◌else◌, List, [], ◌∷◌, Option, None, Some, unwrap_or, refl, sym, ap, subst, ◌∙◌}
 use Rattle.std.specs.Option.{option_or, option_map}
 use Rattle.std.specs.List.{filter_map, list_any, cons_option}
 use Rattle.std.specs.Str.{bytes_eq}
 use Rattle.std.specs.Map.{lookup}
 use Rattle.std.specs.Cmp.Lexicographic.{nat_list_cmp_total, bytes_decides}
 use Rattle.std.specs.FinMap as fin
-use Rattle.std.specs.FinMap.{FinMap}
 use Rattle.quant.specs.declared.event.Event.TheVariants.{NodeSet, NodeGone, PodPending, PodBound, PodGone}
 use Rattle.quant.specs.declared.amount.Request.{Request}
 use Rattle.quant.specs.declared.name.Name.{Name}
-use Rattle.quant.specs.declared.objects.Node.{Node}
 use Rattle.quant.specs.declared.objects.Pod.{Pod}
 use Rattle.quant.specs.declared.version.Ticket.{Ticket}
 use Rattle.book.specs.declared.limits.Limits.{Limits}
@@ -23,10 +21,9 @@ use Rattle.book.proofs.TableLemmas.{test_turned, get_map}
 use Rattle.desk.specs.declared.step.Step.{Step}
 use Rattle.desk.specs.declared.step.Step.TheVariants.{Event, Pop, Assume, BindDone, Forget, Fail, Tick, Count}
 use Rattle.desk.specs.declared.step.Reply.{Reply}
-use Rattle.desk.specs.declared.step.Reply.TheVariants.{Done, Idle, Popped, Ticket as Given, Counts, Refused}
+use Rattle.desk.specs.declared.step.Reply.TheVariants.{Done, Ticket as Given}
 use Rattle.desk.specs.Machine.{State, opening, step, reply, after, snapshot}
 use Rattle.desk.specs.Caller.{Opened}
-use Rattle.desk.specs.Shown.{Shown}
 use Rattle.desk.specs.History.{Call, AreAnswered, state_after, Legal, Leaves, is_accepted, last_said, accepted, if_named, row_in, row_of, pending_in, pending_of, put_in, put_of, Put, finish_in, is_finished_in, place_by, place_of, node_in, pod_in, found_at, rows_of, places_of, snap}
 use Rattle.desk.specs.History.Put.{Chosen, Told, Nowhere}
 use Rattle.desk.proofs.Pods.{pod_of, pod_at}
@@ -261,7 +258,7 @@ module _ (limits : Limits) (passes : ℕ) (l : List Call) (legal : Legal limits 
   places_told = fin.same_map nat_list_cmp_total same_name _ _ (λ q.
       place_is limits l legal.history.answered q
       ∙ sym (at_names (place_of l) (filter_map (λ c. pod_in c.step) l) q (λ h.
-        ap (λ o. place_by o (pending_of l q) (is_finished_in l q)) (nothing_said (λ c. put_in q c.step c.reply) pod_in q (λ c. put_silent q c.step c.reply) l h))))
+      ap (λ o. place_by o (pending_of l q) (is_finished_in l q)) (nothing_said (λ c. put_in q c.step c.reply) pod_in q (λ c. put_silent q c.step c.reply) l h))))
 
 -- the snapshot of the state that a history leaves is that of the history
 pub snapshot_told : (d : Opened) (l : List Call) → Leaves l d → snapshot d.state.cluster ≡ snap l

@@ -1,11 +1,11 @@
 -- What one answered call does to what is known of one name.
-use Rattle.std.proofs.Common.{◌≡◌, ℕ, Bool, true, false, cond, not, ◌||◌, List, [], ◌∷◌, if◌then◌else◌, Option, None, Some, is_some, unwrap_or, refl, sym, ap, subst, ◌∙◌}
+use Rattle.std.proofs.Common.{◌≡◌, ℕ, Bool, true, false, cond, not, ◌||◌, [], ◌∷◌, if◌then◌else◌, Option, None, Some, is_some, unwrap_or, refl, sym, ap, subst, ◌∙◌}
 use Rattle.std.specs.Prelude.{⊤}
-use Rattle.std.specs.Option.{option_or, option_map}
+use Rattle.std.specs.Option.{option_or}
 use Rattle.std.specs.Str.{bytes_eq}
 use Rattle.std.specs.Cmp.Lexicographic.{nat_list_cmp_total}
 use Rattle.std.specs.FinMap as fin
-use Rattle.std.specs.FinMap.{FinMap, contains_key}
+use Rattle.std.specs.FinMap.{FinMap}
 use Rattle.quant.specs.declared.event.Event.TheVariants.{NodeSet, NodeGone, PodPending, PodBound, PodGone}
 use Rattle.quant.specs.declared.amount.Request.{Request}
 use Rattle.quant.specs.declared.name.Name.{Name}
@@ -28,7 +28,7 @@ use Rattle.book.specs.declared.step.Entry.{Entry}
 use Rattle.book.specs.declared.step.Entry.TheVariants.{Missing, Elsewhere, Held}
 use Rattle.book.specs.declared.step.ClusterStep.{ClusterStep}
 use Rattle.book.specs.declared.step.ClusterStep.TheVariants as cluster
-use Rattle.book.specs.Cluster.{name_cmp, Cluster}
+use Rattle.book.specs.Cluster.{name_cmp}
 use Rattle.book.specs.Tables.{is_full_for}
 use Rattle.book.specs.Step as book_step
 use Rattle.book.specs.Step.{is_placed, is_old, is_gone, is_bound, is_finished, has_ticket, stands, finished_status, with_finished, with_choice, next_ticket, first_of}
@@ -37,7 +37,7 @@ use Rattle.desk.specs.declared.step.Step.TheVariants.{Event, Pop, Assume, BindDo
 use Rattle.desk.specs.declared.step.Reply.{Reply}
 use Rattle.desk.specs.declared.step.Reply.TheVariants as replies
 use Rattle.desk.specs.declared.step.Reply.TheVariants.{Refused}
-use Rattle.desk.specs.Machine.{State, Outcome, step, both, unless, told, of_node, of_pod, moved, moved_if_placed, entry_at, entry_for, pass_number, popped, refusal_to_fail, refusal_to_tick, counts}
+use Rattle.desk.specs.Machine.{State, Outcome, step, both, unless, told, of_node, of_pod, moved, moved_if_placed, entry_at, entry_for, pass_number, popped, refusal_to_fail, refusal_to_tick}
 use Rattle.desk.specs.History.{is_accepted, if_named, row_in, pending_in, finish_in, put_in, Put}
 use Rattle.desk.specs.History.Put.{Chosen, Told, Nowhere}
 use Rattle.desk.proofs.Pods.{pod_of, pod_at, turned, same_of, pod_moved, pod_ticked, pod_failed, pod_forgotten, pod_removed, pod_added, pod_popped}
@@ -230,21 +230,21 @@ module _ (s : State) (q : Name) where
 
   pod_pending : (version : Version) (pod : Pod) (pass : ℕ) → OneOf s q (Event (PodPending version pod)) (step s pass (Event (PodPending version pod))).state (step s pass (Event (PodPending version pod))).reply
   pod_pending version pod pass = both_of s q (Event (PodPending version pod)) (of_pod s pod.uid (PodPending version pod)) (after_add s.queue pod s.clock) (λ none.
-    let passed = first_three (is_old s.cluster version) (is_placed s.cluster pod.uid || has_entry s.queue pod.uid) (is_full_queue s.queue) refusals.Old refusals.Known refusals.Full [] none in
-    let apart = or_false (is_placed s.cluster pod.uid) (has_entry s.queue pod.uid) passed.1 in
-    let unplaced : fin.get s.cluster.places pod.uid ≡ None = absent (fin.get s.cluster.places pod.uid) apart.0 in
-    record {
-      node = refl;
-      put = refl;
-      mark = refl;
-      known = λ known h. at_name (bytes_eq pod.uid q) (pod_at s.queue q) (Some pod) place_now place_now (pod_at (after_add s.queue pod s.clock) q) place_now (if_named pod.uid q pod) known
-          (pod_added s.queue q pod s.clock apart.1 passed.2) (sym (same_both (bytes_eq pod.uid q) place_now))
-          (λ is. record {
-            entry = ap (λ b. option_or (if b then Some pod else None) known) is;
-            asked = subst (λ p. Asked p (option_or (if_named pod.uid q pod) known)) (sym (ap (fin.get s.cluster.places) (sym (same_of pod.uid q is)) ∙ unplaced)) tt;
-          })
-          (λ isnt. ap (λ b. if b then Some pod else None) isnt) h;
-    })
+      let passed = first_three (is_old s.cluster version) (is_placed s.cluster pod.uid || has_entry s.queue pod.uid) (is_full_queue s.queue) refusals.Old refusals.Known refusals.Full [] none in
+      let apart = or_false (is_placed s.cluster pod.uid) (has_entry s.queue pod.uid) passed.1 in
+      let unplaced : fin.get s.cluster.places pod.uid ≡ None = absent (fin.get s.cluster.places pod.uid) apart.0 in
+      record {
+        node = refl;
+        put = refl;
+        mark = refl;
+        known = λ known h. at_name (bytes_eq pod.uid q) (pod_at s.queue q) (Some pod) place_now place_now (pod_at (after_add s.queue pod s.clock) q) place_now (if_named pod.uid q pod) known
+            (pod_added s.queue q pod s.clock apart.1 passed.2) (sym (same_both (bytes_eq pod.uid q) place_now))
+            (λ is. record {
+              entry = ap (λ b. option_or (if b then Some pod else None) known) is;
+              asked = subst (λ p. Asked p (option_or (if_named pod.uid q pod) known)) (sym (ap (fin.get s.cluster.places) (sym (same_of pod.uid q is)) ∙ unplaced)) tt;
+            })
+            (λ isnt. ap (λ b. if b then Some pod else None) isnt) h;
+      })
 
   pod_bound : (version : Version) (uid node : Name) (request : Request) (pass : ℕ) → OneOf s q (Event (PodBound version uid node request)) (step s pass (Event (PodBound version uid node request))).state (step s pass (Event (PodBound version uid node request))).reply
   pod_bound version uid node request pass = both_of s q (Event (PodBound version uid node request)) (of_pod s uid (PodBound version uid node request)) (after_remove s.queue uid) (λ none. record {
@@ -287,7 +287,7 @@ module _ (s : State) (q : Name) where
   unheld : (uid node : Name) (entry : Entry) → book_step.is_held entry ≡ false → book_step.refusal s.cluster (cluster.Assume uid node entry) ≡ None → ⊥
   unheld uid node entry isnt none =
       let passed = first_three (is_gone s.cluster uid (book_step.is_queued entry)) (is_placed s.cluster uid) (not (book_step.is_held entry)) refusals.Gone refusals.Placed refusals.NotInFlight
-          ((not (book_step.is_there s.cluster node), refusals.NoNode) ∷ (not (book_step.fits_now s.cluster node entry), refusals.NoRoom) ∷ (is_full_for s.cluster.places s.cluster.limits.placed uid || book_step.are_tickets_gone s.cluster, refusals.Full) ∷ []) none in
+      ((not (book_step.is_there s.cluster node), refusals.NoNode) ∷ (not (book_step.fits_now s.cluster node entry), refusals.NoRoom) ∷ (is_full_for s.cluster.places s.cluster.limits.placed uid || book_step.are_tickets_gone s.cluster, refusals.Full) ∷ []) none in
       let both : true ≡ false = sym (not_false (book_step.is_held entry) passed.2) ∙ isnt in
       absurd (cc)
 
@@ -306,8 +306,8 @@ module _ (s : State) (q : Name) where
         known = λ known h. at_name (bytes_eq uid q) (pod_at s.queue q) (pod_at s.queue q) place_now (Some (chosen_at s node request)) (pod_at s.queue q) (fin.get (fin.insert s.cluster.places uid (chosen_at s node request)) q) None known
             (sym (same_both (bytes_eq uid q) (pod_at s.queue q))) (read_insert (λ o. o) s.cluster.places uid q (chosen_at s node request))
             (λ is.
-              let waits : pod_at s.queue q ≡ Some of.0 = ap (pod_at s.queue) (sym (same_of uid q is)) ∙ of.1 in
-              record { entry = h.entry; asked = (of.0, subst (λ o. Agrees o known) waits h.entry, of.2) })
+            let waits : pod_at s.queue q ≡ Some of.0 = ap (pod_at s.queue) (sym (same_of uid q is)) ∙ of.1 in
+            record { entry = h.entry; asked = (of.0, subst (λ o. Agrees o known) waits h.entry, of.2) })
             (λ isnt. refl) h;
       }
 
@@ -335,6 +335,7 @@ module _ (s : State) (q : Name) where
     where
       placed : bytes_eq uid q ≡ true → fin.get s.cluster.places q ≡ Some place
       placed here = ap (fin.get s.cluster.places) (sym (same_of uid q here)) ∙ is
+
       same_there : (b : Bool) → bytes_eq uid q ≡ b → cond b (put_at (Some (finished_at place))) (put_at place_now) ≡ put_at place_now
       same_there true here = same_put place.node place.request place.status ∙ sym (ap put_at (placed here))
       same_there false isnt = refl
@@ -345,15 +346,15 @@ module _ (s : State) (q : Name) where
 
   forget : (uid : Name) (ticket : Ticket) (pass : ℕ) → OneOf s q (Forget uid ticket) (step s pass (Forget uid ticket)).state (step s pass (Forget uid ticket)).reply
   forget uid ticket pass = both_of s q (Forget uid ticket) (cluster.Forget uid ticket (has_entry s.queue uid)) (moved s (after_forget s.queue uid s.clock)) (λ none.
-    let pods : pod_at (moved s (after_forget s.queue uid s.clock)) q ≡ pod_at s.queue q = pod_moved (after_forget s.queue uid s.clock) q s.clock ∙ pod_forgotten s.queue q uid s.clock in
-    record {
-      node = refl;
-      put = read_remove put_at s.cluster.places uid q ∙ said_here uid q Nowhere (put_at place_now);
-      mark = read_remove mark_at s.cluster.places uid q ∙ said_here uid q false (mark_at place_now);
-      known = λ known h. at_name (bytes_eq uid q) (pod_at s.queue q) (pod_at s.queue q) place_now None (pod_at (moved s (after_forget s.queue uid s.clock)) q) (fin.get (fin.remove s.cluster.places uid) q) None known
-          (pods ∙ sym (same_both (bytes_eq uid q) (pod_at s.queue q))) (read_remove (λ o. o) s.cluster.places uid q)
-          (λ is. record { entry = h.entry; asked = tt }) (λ isnt. refl) h;
-    })
+      let pods : pod_at (moved s (after_forget s.queue uid s.clock)) q ≡ pod_at s.queue q = pod_moved (after_forget s.queue uid s.clock) q s.clock ∙ pod_forgotten s.queue q uid s.clock in
+      record {
+        node = refl;
+        put = read_remove put_at s.cluster.places uid q ∙ said_here uid q Nowhere (put_at place_now);
+        mark = read_remove mark_at s.cluster.places uid q ∙ said_here uid q false (mark_at place_now);
+        known = λ known h. at_name (bytes_eq uid q) (pod_at s.queue q) (pod_at s.queue q) place_now None (pod_at (moved s (after_forget s.queue uid s.clock)) q) (fin.get (fin.remove s.cluster.places uid) q) None known
+            (pods ∙ sym (same_both (bytes_eq uid q) (pod_at s.queue q))) (read_remove (λ o. o) s.cluster.places uid q)
+            (λ is. record { entry = h.entry; asked = tt }) (λ isnt. refl) h;
+      })
 
   fail : (uid : Name) (how : Failure) (pass : ℕ) → OneOf s q (Fail uid how) (step s pass (Fail uid how)).state (step s pass (Fail uid how)).reply
   fail uid how pass = unless_of s q (Fail uid how) (refusal_to_fail s pass uid) (record { state = record s { queue = after_fail s.queue uid (pass_number pass) how s.clock }; reply = replies.Done }) (λ none. record {

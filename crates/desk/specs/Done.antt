@@ -7,7 +7,7 @@ use Rattle.book.specs.Step as book_step
 use Rattle.desk.specs.declared.step.Reply.{Reply}
 use Rattle.desk.specs.declared.step.Reply.TheVariants.{Refused}
 use Rattle.desk.specs.declared.step.Step.{Step}
-use Rattle.desk.specs.Machine.{State, Outcome, step}
+use Rattle.desk.specs.Machine.{Outcome, step}
 use Rattle.desk.specs.Caller.{Opened, with_state, hands_out}
 use Rattle.std.specs.Bool.{IsTrue}
 use Rattle.book.specs.declared.NoMemory.{NoMemory}

@@ -2,15 +2,14 @@
 use Rattle.std.specs.Prelude.{◌≡◌, ℕ, Bool, true, false, not, ◌&&◌, List, ◌∷◌, ◌++◌, Option, None, Some, unwrap_or, count_by}
 use Rattle.std.specs.Bool.{IsTrue}
 use Rattle.std.specs.FinMap.{entries}
-use Rattle.quant.specs.declared.event.Event.TheVariants.{NodeSet, NodeGone, PodPending, PodBound, PodGone}
+use Rattle.quant.specs.declared.event.Event.TheVariants.{PodBound, PodGone}
 use Rattle.quant.specs.declared.name.Name.{Name}
 use Rattle.quant.specs.declared.version.Ticket.{Ticket}
-use Rattle.queue.specs.Entry.{is_in_flight}
 use Rattle.queue.specs.Queue.{has_entry, has_in_flight}
 use Rattle.book.specs.declared.limits.Limits.{Limits}
 use Rattle.book.specs.Step.{is_placed}
 use Rattle.desk.specs.declared.step.Step.{Step}
-use Rattle.desk.specs.declared.step.Step.TheVariants.{Event, Pop, Assume, BindDone, Forget, Fail, Tick, Count}
+use Rattle.desk.specs.declared.step.Step.TheVariants.{Event, Pop, Assume, Fail}
 use Rattle.desk.specs.declared.step.Reply.{Reply}
 use Rattle.desk.specs.declared.step.Reply.TheVariants.{Done, Idle, Popped, Ticket as Given, Counts, Refused}
 use Rattle.desk.specs.Machine.{State, opening, counts}

@@ -17,7 +17,7 @@
 --   Fail        Gone (neither); Placed; NotInFlight (this pass didn't pop it)
 --   Tick        ClockBack (the moment is below the clock)
 --   Count       none
-use Rattle.std.specs.Prelude.{ℕ, ◌+◌, ◌-◌, List, [], ◌∷◌, Bool, false, not, ◌&&◌, nat_lt, if◌then◌else◌, Option, None, Some, replicate, slice_index, slice_set, map}
+use Rattle.std.specs.Prelude.{ℕ, ◌+◌, ◌-◌, List, [], ◌∷◌, false, not, ◌&&◌, nat_lt, if◌then◌else◌, Option, None, Some, replicate, slice_index, slice_set, map}
 use Rattle.std.specs.FinMap.{entries}
 use Rattle.quant.specs.declared.amount.Moment.{Moment}
 use Rattle.quant.specs.declared.name.Name.{Name}

@@ -1,4 +1,4 @@
-use Rattle.std.proofs.Common.{◌≡◌, ap, ◌∙◌, map, take, sym, subst}
+use Rattle.std.proofs.Common.{◌≡◌, ap, ◌∙◌, map, take}
 use Rattle.std.proofs.lemmas.List.{take_all}
 use Rattle.desk.specs.Machine.{snapshot}
 use Rattle.desk.proofs.Rows.{shown_of, shown_all}

@@ -1,14 +1,12 @@
-use Rattle.std.proofs.Common.{◌≡◌, ℕ, ◌≤◌, ◌<◌, inl, inr, length, replicate, get_or, refl, arith, rules, lit≤}
-use Rattle.std.proofs.lemmas.Bool.{cases_lt}
-use Rattle.std.proofs.lemmas.List.{get_or-replicate, get_or_past, length-replicate}
+use Rattle.std.proofs.Common.{◌≡◌, ◌≤◌, ℕ, zero, suc, slice_index, refl, arith}
+use Rattle.std.specs.Prelude.{replicate}
 use Rattle.desk.proofs.desk.Desk.new.Goals as goal
 
--- a place in a list of zeros, or past its end, is zero
-zero_at : (n k zero : ℕ) → zero ≡ 0 → get_or (replicate n zero) k zero ≡ zero
-zero_at n k zero is = elim (cases_lt k n) [
-  | inl within ↦ get_or-replicate n k zero zero within
-  | inr past ↦ get_or_past (replicate n zero) k zero (rw (length-replicate {A = ℕ}) past)
-]
+-- no call was answered of any pass
+zeros : (n k : ℕ) → slice_index (replicate {A = ℕ} n 0) k ≡ 0
+zeros zero k = refl
+zeros (suc n) zero = refl
+zeros (suc n) (suc k) = zeros n k
 
 pub invariant_of-result : goal.invariant_of-result
-invariant_of-result c = (refl, lit≤ tt, λ pass none. zero_at 64 pass 0 refl, lit≤ tt)
+invariant_of-result c = (refl, omega arith, λ (pass : ℕ) (le : 0 ≤ pass). zeros 64 pass, omega arith)

@@ -1,4 +1,4 @@
-use Rattle.std.proofs.Common.{◌≡◌, subst, sym, ap, ◌∙◌, []}
+use Rattle.std.proofs.Common.{subst, sym, ap, ◌∙◌, []}
 use Rattle.desk.specs.Caller.{Opened, with_pass}
 use Rattle.desk.specs.History.{Leaves, HasSeen}
 use Rattle.desk.proofs.Histories.{leaves_pass, seen_at_first, seen_calls, seen_whole, new_caller}
