@@ -13,7 +13,8 @@ fn is_named(import: &Import) -> bool
     ensures { MatchBool result ((import.now.module.items ≡ host_name) × ((import.now.name.items ≡ pod_name) ⊎ (import.now.name.items ≡ node_name))) ((import.now.module.items ≡ host_name) × ((import.now.name.items ≡ pod_name) ⊎ (import.now.name.items ≡ node_name)) → ⊥) }
 {
     import.module.as_slice() == b"sched".as_slice()
-        && (import.name.as_slice() == b"pod".as_slice() || import.name.as_slice() == b"node".as_slice())
+        && (import.name.as_slice() == b"pod".as_slice()
+            || import.name.as_slice() == b"node".as_slice())
 }
 
 // It takes two numbers and gives one.

@@ -15,3 +15,6 @@ mod sizes;
 
 pub use checked::{Checked, validate};
 pub use wbody::TypeFault;
+
+#[cfg(test)]
+mod tests;

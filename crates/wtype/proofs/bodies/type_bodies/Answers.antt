@@ -19,13 +19,16 @@ returns-in-Err-clause-refused c =
     let a = some_at m.functions k (omega (arith, p.tables.codes.ok.0, c.bodies-test.true)) in
     let imports : c.len.result ≡ length m.imports = subst (λ (t : Tables). c.len.result ≡ length t.imports.items) c.tables-tables.ensures.tables (omega (arith, c.tables-tables.result.now.imports.ok.0)) ∙ sym (length-map p.tables.imports.items import_of) in
     told m c.in-Err.fault c.of_function.result (c.len.result + k) c.in-Err.ensures.refused c.of_function.ensures.untyped c.of_function.ensures.same c.requires.imports
-    (λ _. (c.requires.rules, record {
-      place = k;
-      counted = ap (λ n. n + k) imports;
-      function = a.element;
-      function_is = a.is;
-      before = λ earlier f h is. (let n = some_at c.bodies.notes.items earlier (omega (arith, c.bodies.notes.ok.0, c.bodies.invariant.0)) in function_typed m earlier f n.element is (c.bodies.invariant.1 earlier n.element n.is));
-    }))
+    (λ _. (
+      c.requires.rules,
+      record {
+        place = k;
+        counted = ap (λ n. n + k) imports;
+        function = a.element;
+        function_is = a.is;
+        before = λ earlier f h is. (let n = some_at c.bodies.notes.items earlier (omega (arith, c.bodies.notes.ok.0, c.bodies.invariant.0)) in function_typed m earlier f n.element is (c.bodies.invariant.1 earlier n.element n.is));
+      },
+    ))
 
 pub bodies-preserved : goal.bodies-preserved
 bodies-preserved c =
