@@ -6,7 +6,8 @@ use std::test::Fail;
 use wbin::decode;
 
 // The sections up to the code: one type [] -> [i32], one function, the export `filter`.
-const FRONT: &[u8] = b"\0asm\x01\0\0\0\x01\x05\x01\x60\x00\x01\x7F\x03\x02\x01\x00\x07\x0A\x01\x06filter\x00\x00";
+const FRONT: &[u8] =
+    b"\0asm\x01\0\0\0\x01\x05\x01\x60\x00\x01\x7F\x03\x02\x01\x00\x07\x0A\x01\x06filter\x00\x00";
 
 // The greatest height of the body, if it has a typing.
 fn height(alloc: Global, body: &[u8]) -> Result<Option<usize>, AllocError> {

@@ -27,8 +27,8 @@ invariant_of-self c =
     write_tracked (record { bytes = t.bytes.items; image = t.image.items; noted = t.noted }) _ c.note-2.new.self c.args.at new c.self.invariant (omega arith) is
     (ap length last ∙ length-set flags last_page true ∙ inner)
     (λ page unset.
-      unset_before t.noted.flags (c.args.at / stretch) page
-      (unset_before flags last_page page (rw last at unset) (omega (arith, inner, bounds.0, bounds.1, c.self.invariant.whole)))
-      (omega (arith, c.self.invariant.whole, bounds.0)))
+    unset_before t.noted.flags (c.args.at / stretch) page
+    (unset_before flags last_page page (rw last at unset) (omega (arith, inner, bounds.0, bounds.1, c.self.invariant.whole)))
+    (omega (arith, c.self.invariant.whole, bounds.0)))
     (λ k low high.
-      rw last (two_pages t.noted.flags c.args.at count last_page k bounds.0 bounds.1 (omega (arith, c.self.invariant.whole)) refl low (omega (arith, high, new_length))))
+    rw last (two_pages t.noted.flags c.args.at count last_page k bounds.0 bounds.1 (omega (arith, c.self.invariant.whole)) refl low (omega (arith, high, new_length))))
