@@ -36,10 +36,15 @@ enum Call {
     PodOf(i32),
     /// How many are active, back off, are unschedulable and are in flight.
     Counts(usize, usize, usize, usize),
+    /// Three pods come in each order, and are popped by priority, by arrival or by uid.
+    EveryOrder,
     /// 10,000 pods of one priority and arrival are added in falling order of their uids, and popped
     /// in rising order.
     Falling,
 }
+
+/// The uid of the pod that a call is at, and the call.
+type Row = (&'static [u8], Call);
 
 fn pod(alloc: Global, uid: &Name, priority: i32) -> Option<SharedPod> {
     let pod = Pod {
@@ -113,6 +118,74 @@ fn falling(queue: &mut Queue, alloc: Global) -> bool {
     true
 }
 
+/// A pod's uid, priority and arrival.
+type Arriving = (&'static [u8], i32, u32);
+
+/// Three pods each, the first to be popped first: by priority, by arrival, and by uid.
+const THREES: [[Arriving; 3]; 3] = [
+    [(b"c", 7, 9), (b"b", 0, 1), (b"a", -7, 0)],
+    [(b"c", 1, 0), (b"b", 1, 5), (b"a", 1, 6)],
+    [(b"a", 1, 3), (b"a.b", 1, 3), (b"b", 1, 3)],
+];
+
+const ORDERS: [[usize; 3]; 6] = [
+    [0, 1, 2],
+    [0, 2, 1],
+    [1, 0, 2],
+    [1, 2, 0],
+    [2, 0, 1],
+    [2, 1, 0],
+];
+
+fn comes(queue: &mut Queue, alloc: Global, (uid, priority, now): Arriving) -> bool {
+    match Name::new(uid) {
+        Ok(uid) => adds(queue, alloc, &uid, priority, now) == Some(Ok(())),
+        Err(_) => false,
+    }
+}
+
+fn pops_and_goes(queue: &mut Queue, uid: &[u8]) -> bool {
+    match Name::new(uid) {
+        Ok(uid) => pops(queue, &uid) && queue.remove(&uid).is_some(),
+        Err(_) => false,
+    }
+}
+
+/// Three pods come in this order, and are popped as they are listed.
+fn pops_as_listed(
+    queue: &mut Queue,
+    alloc: Global,
+    pods: [Arriving; 3],
+    order: [usize; 3],
+) -> bool {
+    for at in order {
+        let came = match pods.get(at) {
+            Some(pod) => comes(queue, alloc, *pod),
+            None => false,
+        };
+        if !came {
+            return false;
+        }
+    }
+    for (uid, _, _) in pods {
+        if !pops_and_goes(queue, uid) {
+            return false;
+        }
+    }
+    true
+}
+
+fn every_order(queue: &mut Queue, alloc: Global) -> bool {
+    for order in ORDERS {
+        for pods in THREES {
+            if !pops_as_listed(queue, alloc, pods, order) {
+                return false;
+            }
+        }
+    }
+    true
+}
+
 /// Whether a question answers as its row says.
 fn tells(queue: &Queue, uid: &Name, call: Call) -> bool {
     match call {
@@ -161,30 +234,17 @@ fn answers(queue: &mut Queue, alloc: Global, uid: &Name, call: Call) -> bool {
             Some(pod) => there && pod.uid == *uid,
             None => !there,
         },
+        Call::EveryOrder => every_order(queue, alloc),
         Call::Falling => falling(queue, alloc),
         _ => tells(queue, uid, call),
     }
 }
 
-/// The first row at which a new queue of this limit answers otherwise. Before the first, it has
-/// compared nothing.
-fn first_difference(
-    alloc: Global,
-    keys: RandomState,
-    limit: usize,
-    rows: &[(&[u8], Call)],
-) -> Option<usize>
-    requires { limit ≤ MAX_QUEUED }
-{
-    let Ok(mut queue) = Queue::new(alloc, keys, limit) else {
-        return Some(0);
-    };
-    if queue.compared() != 0 {
-        return Some(0);
-    }
+/// The first row at which a queue answers otherwise.
+fn differs(queue: &mut Queue, alloc: Global, rows: &[Row]) -> Option<usize> {
     for (row, (uid, call)) in rows.iter().enumerate() {
         let alike = match Name::new(uid) {
-            Ok(uid) => answers(&mut queue, alloc, &uid, *call),
+            Ok(uid) => answers(queue, alloc, &uid, *call),
             Err(_) => false,
         };
         if !alike {
@@ -194,126 +254,103 @@ fn first_difference(
     None
 }
 
-/// What a pod does that backs off, that a move wakes, that time releases, and that a move finds in
-/// flight. Refused calls change nothing.
+/// The first row at which a new queue of this limit answers otherwise. It has compared nothing yet.
+fn first_difference(alloc: Global, keys: RandomState, limit: usize, rows: &[Row]) -> Option<usize>
+    requires { limit ≤ MAX_QUEUED }
+{
+    match Queue::new(alloc, keys, limit) {
+        Ok(mut queue) if queue.compared() == 0 => differs(&mut queue, alloc, rows),
+        _ => Some(0),
+    }
+}
+
+/// What a pod does that backs off, that a move wakes, that time releases, that a move finds in
+/// flight, and that fails twelve times. Refused calls change nothing.
+const WORKED: [Row; 58] = [
+    // Forgotten at 0 after one attempt, a pod is not popped at 999 ms, and is at 1,000 ms.
+    (b"p1", Call::IsFull(false)),
+    (b"p1", Call::Add(0, 0, Ok(()))),
+    (b"p1", Call::Pop),
+    (b"p1", Call::ForgetBack(0, Ok(()))),
+    (b"p1", Call::Tick(999)),
+    (b"p1", Call::PopNone),
+    (b"p1", Call::Tick(1_000)),
+    (b"p1", Call::Pop),
+    (b"p1", Call::Remove(true)),
+    // No node takes the pod at 0. A move at 0 sends it to backoff until 1,000 ms.
+    (b"p1", Call::Add(0, 0, Ok(()))),
+    (b"p1", Call::Pop),
+    (b"p1", Call::Fail(MINE, Failure::Unschedulable, 0, Ok(()))),
+    (b"p1", Call::Counts(0, 0, 1, 0)),
+    (b"p1", Call::Move(0)),
+    (b"p1", Call::Counts(0, 1, 0, 0)),
+    (b"p1", Call::PopNone),
+    (b"p1", Call::Tick(1_000)),
+    (b"p1", Call::Pop),
+    (b"p1", Call::Remove(true)),
+    // An unschedulable pod is released 300,000 ms after its failure, with no move.
+    (b"p1", Call::Add(0, 0, Ok(()))),
+    (b"p1", Call::Pop),
+    (b"p1", Call::Fail(MINE, Failure::Unschedulable, 0, Ok(()))),
+    (b"p1", Call::Tick(299_999)),
+    (b"p1", Call::Counts(0, 0, 1, 0)),
+    (b"p1", Call::Tick(300_000)),
+    (b"p1", Call::Pop),
+    (b"p1", Call::Remove(true)),
+    // A failure after a move goes to backoff.
+    (b"p1", Call::Add(5, 0, Ok(()))),
+    (b"p1", Call::Add(5, 0, Err(Refusal::Known))),
+    (b"p2", Call::Add(5, 0, Err(Refusal::Full))),
+    (b"p2", Call::Has(false)),
+    (b"p1", Call::Has(true)),
+    (b"p1", Call::IsFull(true)),
+    (b"p1", Call::ForgetBack(0, Err(Refusal::NotInFlight))),
+    (b"p1", Call::Pop),
+    (b"p1", Call::IsInFlight(MINE, true)),
+    (b"p1", Call::IsInFlight(OTHER, false)),
+    (
+        b"p1",
+        Call::Fail(OTHER, Failure::Again, 0, Err(Refusal::NotInFlight)),
+    ),
+    (b"p1", Call::Move(0)),
+    (b"p1", Call::Fail(MINE, Failure::Unschedulable, 0, Ok(()))),
+    (b"p1", Call::Counts(0, 1, 0, 0)),
+    (b"p1", Call::PodOf(5)),
+    (b"p2", Call::Remove(false)),
+    (b"p1", Call::Remove(true)),
+    // Twelve failures in a row: the pod backs off for 1, 2, 4, 8, 10, 10 s and so on.
+    (b"p1", Call::Add(0, 0, Ok(()))),
+    (b"p1", Call::BacksOff(0, 1_000)),
+    (b"p1", Call::BacksOff(1_000, 3_000)),
+    (b"p1", Call::BacksOff(3_000, 7_000)),
+    (b"p1", Call::BacksOff(7_000, 15_000)),
+    (b"p1", Call::BacksOff(15_000, 25_000)),
+    (b"p1", Call::BacksOff(25_000, 35_000)),
+    (b"p1", Call::BacksOff(35_000, 45_000)),
+    (b"p1", Call::BacksOff(45_000, 55_000)),
+    (b"p1", Call::BacksOff(55_000, 65_000)),
+    (b"p1", Call::BacksOff(65_000, 75_000)),
+    (b"p1", Call::BacksOff(75_000, 85_000)),
+    (b"p1", Call::BacksOff(85_000, 95_000)),
+    (b"p1", Call::Counts(1, 0, 0, 0)),
+];
+
 #[test]
 fn calls_answer_as_worked(rt: HostRuntime) -> Result<(), Fail> {
-    let not_in_flight = Err(Refusal::NotInFlight);
-    let rows: [(&[u8], Call); 44] = [
-        // Forgotten at 0 after one attempt, a pod is not popped at 999 ms, and is at 1,000 ms.
-        (b"p1", Call::IsFull(false)),
-        (b"p1", Call::Add(0, 0, Ok(()))),
-        (b"p1", Call::Pop),
-        (b"p1", Call::ForgetBack(0, Ok(()))),
-        (b"p1", Call::Tick(999)),
-        (b"p1", Call::PopNone),
-        (b"p1", Call::Tick(1_000)),
-        (b"p1", Call::Pop),
-        (b"p1", Call::Remove(true)),
-        // No node takes the pod at 0. A move at 0 sends it to backoff until 1,000 ms.
-        (b"p1", Call::Add(0, 0, Ok(()))),
-        (b"p1", Call::Pop),
-        (b"p1", Call::Fail(MINE, Failure::Unschedulable, 0, Ok(()))),
-        (b"p1", Call::Counts(0, 0, 1, 0)),
-        (b"p1", Call::Move(0)),
-        (b"p1", Call::Counts(0, 1, 0, 0)),
-        (b"p1", Call::PopNone),
-        (b"p1", Call::Tick(1_000)),
-        (b"p1", Call::Pop),
-        (b"p1", Call::Remove(true)),
-        // An unschedulable pod is released 300,000 ms after its failure, with no move.
-        (b"p1", Call::Add(0, 0, Ok(()))),
-        (b"p1", Call::Pop),
-        (b"p1", Call::Fail(MINE, Failure::Unschedulable, 0, Ok(()))),
-        (b"p1", Call::Tick(299_999)),
-        (b"p1", Call::Counts(0, 0, 1, 0)),
-        (b"p1", Call::Tick(300_000)),
-        (b"p1", Call::Pop),
-        (b"p1", Call::Remove(true)),
-        // A failure after a move goes to backoff.
-        (b"p1", Call::Add(5, 0, Ok(()))),
-        (b"p1", Call::Add(5, 0, Err(Refusal::Known))),
-        (b"p2", Call::Add(5, 0, Err(Refusal::Full))),
-        (b"p2", Call::Has(false)),
-        (b"p1", Call::Has(true)),
-        (b"p1", Call::IsFull(true)),
-        (b"p1", Call::ForgetBack(0, not_in_flight)),
-        (b"p1", Call::Pop),
-        (b"p1", Call::IsInFlight(MINE, true)),
-        (b"p1", Call::IsInFlight(OTHER, false)),
-        (b"p1", Call::Fail(OTHER, Failure::Again, 0, not_in_flight)),
-        (b"p1", Call::Move(0)),
-        (b"p1", Call::Fail(MINE, Failure::Unschedulable, 0, Ok(()))),
-        (b"p1", Call::Counts(0, 1, 0, 0)),
-        (b"p1", Call::PodOf(5)),
-        (b"p2", Call::Remove(false)),
-        (b"p1", Call::Remove(true)),
-    ];
-    let differs = first_difference(rt.alloc(), RandomState::new(&rt)?, 1, &rows);
+    let differs = first_difference(rt.alloc(), RandomState::new(&rt)?, 1, &WORKED);
     assert_eq!(rt; differs, None);
     Ok(())
 }
 
-/// Twelve failures in a row: the pod backs off for 1, 2, 4, 8, 10, 10 s and so on.
-#[test]
-fn twelve_failures(rt: HostRuntime) -> Result<(), Fail> {
-    let rows: [(&[u8], Call); 14] = [
-        (b"p1", Call::Add(0, 0, Ok(()))),
-        (b"p1", Call::BacksOff(0, 1_000)),
-        (b"p1", Call::BacksOff(1_000, 3_000)),
-        (b"p1", Call::BacksOff(3_000, 7_000)),
-        (b"p1", Call::BacksOff(7_000, 15_000)),
-        (b"p1", Call::BacksOff(15_000, 25_000)),
-        (b"p1", Call::BacksOff(25_000, 35_000)),
-        (b"p1", Call::BacksOff(35_000, 45_000)),
-        (b"p1", Call::BacksOff(45_000, 55_000)),
-        (b"p1", Call::BacksOff(55_000, 65_000)),
-        (b"p1", Call::BacksOff(65_000, 75_000)),
-        (b"p1", Call::BacksOff(75_000, 85_000)),
-        (b"p1", Call::BacksOff(85_000, 95_000)),
-        (b"p1", Call::Counts(1, 0, 0, 0)),
-    ];
-    let differs = first_difference(rt.alloc(), RandomState::new(&rt)?, 1, &rows);
-    assert_eq!(rt; differs, None);
-    Ok(())
-}
-
-/// Three pods are popped by priority, then by arrival, then by uid, in whichever order they came.
-#[test]
-fn three_pods_in_every_order(rt: HostRuntime) -> Result<(), Fail> {
-    // The uid, the priority and the arrival of three pods, the first to be popped first.
-    let by_priority: [(&[u8], i32, u32); 3] = [(b"c", 7, 9), (b"b", 0, 1), (b"a", -7, 0)];
-    let by_arrival: [(&[u8], i32, u32); 3] = [(b"c", 1, 0), (b"b", 1, 5), (b"a", 1, 6)];
-    let by_uid: [(&[u8], i32, u32); 3] = [(b"a", 1, 3), (b"a.b", 1, 3), (b"b", 1, 3)];
-    for [first, second, third] in [by_priority, by_arrival, by_uid] {
-        for (x, y, z) in [
-            (first, second, third),
-            (first, third, second),
-            (second, first, third),
-            (second, third, first),
-            (third, first, second),
-            (third, second, first),
-        ] {
-            let rows: [(&[u8], Call); 7] = [
-                (x.0, Call::Add(x.1, x.2, Ok(()))),
-                (y.0, Call::Add(y.1, y.2, Ok(()))),
-                (z.0, Call::Add(z.1, z.2, Ok(()))),
-                (first.0, Call::Pop),
-                (second.0, Call::Pop),
-                (third.0, Call::Pop),
-                (first.0, Call::PopNone),
-            ];
-            let differs = first_difference(rt.alloc(), RandomState::new(&rt)?, 3, &rows);
-            assert_eq!(rt; differs, None);
-        }
-    }
-    Ok(())
-}
+const ORDERED: [Row; 3] = [
+    (b"p1", Call::EveryOrder),
+    (b"p1", Call::Falling),
+    (b"p1", Call::PopNone),
+];
 
 #[test]
-fn falling_uids(rt: HostRuntime) -> Result<(), Fail> {
-    let rows: [(&[u8], Call); 2] = [(b"p1", Call::Falling), (b"p1", Call::PopNone)];
-    let differs = first_difference(rt.alloc(), RandomState::new(&rt)?, 10_000, &rows);
+fn pods_are_popped_in_order(rt: HostRuntime) -> Result<(), Fail> {
+    let differs = first_difference(rt.alloc(), RandomState::new(&rt)?, 10_000, &ORDERED);
     assert_eq!(rt; differs, None);
     Ok(())
 }
