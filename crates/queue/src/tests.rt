@@ -1,7 +1,11 @@
-//! The worked examples of the queue's rules, as tables of calls and their answers.
+//! The worked examples of the queue's rules, as tables of calls and their answers, and the queue
+//! beside a plain list.
 ghost use Rattle.std.specs.Prelude.{◌≤◌};
 
-use crate::{Counts, Failure, PassNumber, Queue, Refusal};
+mod plain;
+
+use self::plain::{Plain, Waiting};
+use crate::{Counts, Failure, PassNumber, Queue, Refusal, State};
 use quant::{Bytes, Cpu, MAX_QUEUED, Moment, Name, Pod, Request, SharedPod};
 use std::alloc::Global;
 use std::hash::RandomState;
@@ -41,6 +45,8 @@ enum Call {
     /// 10,000 pods of one priority and arrival are added in falling order of their uids, and popped
     /// in rising order.
     Falling,
+    /// A plain list answers alike to 5,000 calls of every kind.
+    BesidePlain,
 }
 
 /// The uid of the pod that a call is at, and the call.
@@ -186,6 +192,81 @@ fn every_order(queue: &mut Queue, alloc: Global) -> bool {
     true
 }
 
+/// One pop of both by this pass.
+fn both_pop(queue: &mut Queue, plain: &mut Plain, mine: PassNumber) -> bool {
+    let popped = queue.pop(mine);
+    match plain.pop(mine) {
+        Some(number) => match popped {
+            Some(uid) => uid.as_bytes() == uid_of(number).as_slice(),
+            None => false,
+        },
+        None => popped.is_none(),
+    }
+}
+
+/// One call of both that takes or changes a pod in flight, or all, of a kind that is drawn.
+fn both_change(queue: &mut Queue, plain: &mut Plain, uid: &Name, draw: u32, now: u32) -> bool {
+    let number = draw % 50;
+    let mine = if draw / 50 % 3 == 0 { OTHER } else { MINE };
+    let how = if draw / 150 % 2 == 0 {
+        Failure::Again
+    } else {
+        Failure::Unschedulable
+    };
+    let moment = Moment(u64::from(now));
+    match draw / 900 % 16 {
+        5..=8 => both_pop(queue, plain, mine),
+        9..=11 => queue.fail(uid, mine, how, moment) == plain.fail(number, mine, how, moment.0),
+        12 => queue.forget_back(uid, moment) == plain.forget_back(number, moment.0),
+        13 => {
+            queue.tick(moment);
+            plain.tick(moment.0);
+            true
+        }
+        14 => {
+            queue.move_all(moment);
+            plain.move_all(moment.0);
+            true
+        }
+        _ => queue.remove(uid).is_some() == plain.remove(number),
+    }
+}
+
+/// One call of both, of a kind that is drawn.
+fn both_call(queue: &mut Queue, plain: &mut Plain, alloc: Global, draw: u32, now: u32) -> bool {
+    let Ok(uid) = Name::new(&uid_of(draw % 50)) else {
+        return false;
+    };
+    if draw / 900 % 16 > 4 {
+        return both_change(queue, plain, &uid, draw, now);
+    }
+    let new = Waiting {
+        number: draw % 50,
+        priority: (draw / 300 % 3) as i32,
+        arrival: u64::from(now),
+        attempts: 0,
+        state: State::Active,
+    };
+    match plain.add(new) {
+        Ok(answer) => adds(queue, alloc, &uid, new.priority, now) == Some(answer),
+        Err(_) => false,
+    }
+}
+
+fn beside_plain(queue: &mut Queue, plain: &mut Plain, alloc: Global) -> bool {
+    let mut seed = 1u64;
+    for call in 0..5_000u32 {
+        seed = seed
+            .wrapping_mul(6_364_136_223_846_793_005)
+            .wrapping_add(1_442_695_040_888_963_407);
+        let alike = both_call(queue, plain, alloc, (seed >> 33) as u32, call * 150);
+        if !alike || queue.counts() != plain.counts() {
+            return false;
+        }
+    }
+    true
+}
+
 /// Whether a question answers as its row says.
 fn tells(queue: &Queue, uid: &Name, call: Call) -> bool {
     match call {
@@ -236,6 +317,10 @@ fn answers(queue: &mut Queue, alloc: Global, uid: &Name, call: Call) -> bool {
         },
         Call::EveryOrder => every_order(queue, alloc),
         Call::Falling => falling(queue, alloc),
+        Call::BesidePlain => match Plain::new(alloc, 40) {
+            Ok(mut plain) => beside_plain(queue, &mut plain, alloc),
+            Err(_) => false,
+        },
         _ => tells(queue, uid, call),
     }
 }
@@ -351,6 +436,14 @@ const ORDERED: [Row; 3] = [
 #[test]
 fn pods_are_popped_in_order(rt: HostRuntime) -> Result<(), Fail> {
     let differs = first_difference(rt.alloc(), RandomState::new(&rt)?, 10_000, &ORDERED);
+    assert_eq!(rt; differs, None);
+    Ok(())
+}
+
+#[test]
+fn as_a_plain_list(rt: HostRuntime) -> Result<(), Fail> {
+    let rows: [Row; 1] = [(b"p1", Call::BesidePlain)];
+    let differs = first_difference(rt.alloc(), RandomState::new(&rt)?, 40, &rows);
     assert_eq!(rt; differs, None);
     Ok(())
 }
