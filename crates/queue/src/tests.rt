@@ -240,15 +240,17 @@ fn both_call(queue: &mut Queue, plain: &mut Plain, alloc: Global, draw: u32, now
     if draw / 900 % 16 > 4 {
         return both_change(queue, plain, &uid, draw, now);
     }
+    // Those that come within 6,000 ms come at one moment, so that uids decide too.
+    let arrival = now.saturating_sub(now % 6_000);
     let new = Waiting {
         number: draw % 50,
         priority: (draw / 300 % 3) as i32,
-        arrival: u64::from(now),
+        arrival: u64::from(arrival),
         attempts: 0,
         state: State::Active,
     };
     match plain.add(new) {
-        Ok(answer) => adds(queue, alloc, &uid, new.priority, now) == Some(answer),
+        Ok(answer) => adds(queue, alloc, &uid, new.priority, arrival) == Some(answer),
         Err(_) => false,
     }
 }
