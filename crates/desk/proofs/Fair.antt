@@ -37,7 +37,7 @@ use Rattle.desk.specs.Shown.{Shown}
 use Rattle.desk.specs.Machine.{State, Outcome, opening, unless, entry_for, entry_at, pass_number, reply, after}
 use Rattle.desk.specs.History.{Call, AreAnswered, state_after, Leaves, is_accepted, last_said, accepted, if_named, row_in, row_of, pending_in, pending_of, popped_in, popped_of, FitsThere, IsFairTicket}
 use Rattle.desk.proofs.Histories.{state_more, append_nil}
-use Rattle.desk.proofs.Tests.{first_five, not_false}
+use Rattle.desk.proofs.Deciding.{first_five, not_false}
 use Rattle.desk.proofs.Steps.{Agrees, done_by}
 use Rattle.desk.proofs.Readings.{or_none, or_both, row_is, pods_known, snapshot_told}
 use Rattle.desk.proofs.Held.{held_of, held_at, IsOwn, held_step}
@@ -54,11 +54,11 @@ last_good {X = X} says P each (c ∷ l) x e = by (last_said says l) (last_good s
     by (Some y) earlier e = earlier e
 
 -- what an accepted call says its step says
-accepted_says : {X : Type 0} (b : Bool) (o : Option X) (x : X) → (if b then o else None) ≡ Some x → o ≡ Some x
+pub accepted_says : {X : Type 0} (b : Bool) (o : Option X) (x : X) → (if b then o else None) ≡ Some x → o ≡ Some x
 accepted_says true o x e = e
 accepted_says false o x e = absurd (cc)
 
-named_says : {X : Type 0} (n q : Name) (x y : X) → if_named n q x ≡ Some y → (n ≡ q) × (x ≡ y)
+pub named_says : {X : Type 0} (n q : Name) (x y : X) → if_named n q x ≡ Some y → (n ≡ q) × (x ≡ y)
 named_says n q x y e = by (bytes_eq n q) refl e
   where
     by : (b : Bool) → bytes_eq n q ≡ b → (if b then Some x else None) ≡ Some y → (n ≡ q) × (x ≡ y)
@@ -80,10 +80,10 @@ pending_named q (Tick now) pod h = absurd (cc)
 pending_named q Count pod h = absurd (cc)
 
 -- a row is of the name, if it is one
-abbrev IsNamed : Name → Option Node → Type 0
+abbrev pub IsNamed : Name → Option Node → Type 0
 IsNamed q o = (row : Node) → o ≡ Some row → row.name ≡ q
 
-row_named : (q : Name) (e : Step) (o : Option Node) → row_in q e ≡ Some o → IsNamed q o
+pub row_named : (q : Name) (e : Step) (o : Option Node) → row_in q e ≡ Some o → IsNamed q o
 row_named q (Event (NodeSet version node)) o h row is =
     let said = named_says node.name q (Some node) o h in
     let same : node ≡ row = cc in
@@ -112,19 +112,19 @@ row_own l q row e = by (last_said (accepted (row_in q)) l) refl e
 
 -- ---- parts of a history
 
-together : (xs ys : List Call) (c : Call) → xs ++ c ∷ ys ≡ (xs ++ c ∷ []) ++ ys
+pub together : (xs ys : List Call) (c : Call) → xs ++ c ∷ ys ≡ (xs ++ c ∷ []) ++ ys
 together [] ys c = refl
 together (x ∷ xs) ys c = ap (λ r. x ∷ r) (together xs ys c)
 
-answered_part : (s : State) (before later : List Call) → AreAnswered s (before ++ later) → AreAnswered s before
+pub answered_part : (s : State) (before later : List Call) → AreAnswered s (before ++ later) → AreAnswered s before
 answered_part s [] later all = tt
 answered_part s (c ∷ before) later all = (all.0, answered_part (after s c.pass c.step) before later all.1)
 
-answered_next : (s : State) (before : List Call) (c : Call) (later : List Call) → AreAnswered s (before ++ c ∷ later) → c.reply ≡ reply (state_after s before) c.pass c.step
+pub answered_next : (s : State) (before : List Call) (c : Call) (later : List Call) → AreAnswered s (before ++ c ∷ later) → c.reply ≡ reply (state_after s before) c.pass c.step
 answered_next s [] c later all = all.0
 answered_next s (d ∷ before) c later all = answered_next (after s d.pass d.step) before c later all.1
 
-said_more : {X : Type 0} (says : Call → Option X) (l : List Call) (c : Call) → last_said says (l ++ c ∷ []) ≡ option_or (says c) (last_said says l)
+pub said_more : {X : Type 0} (says : Call → Option X) (l : List Call) (c : Call) → last_said says (l ++ c ∷ []) ≡ option_or (says c) (last_said says l)
 said_more says [] c = sym (or_none (says c))
 said_more says (d ∷ l) c = ap (λ o. option_or o (says d)) (said_more says l c) ∙ sym (or_both (says c) (last_said says l) (says d))
 
@@ -172,7 +172,7 @@ contains_shown f (entry ∷ es) q x e = by (bytes_eq q entry.0) refl (contains_s
         (suc rest.0, omega (arith, rest.1), rest.2)
 
 -- a step that is answered by a ticket is not refused
-taken : (o : Option Refusal) (s : State) (done : Outcome) (ticket : Ticket) → Given ticket ≡ (unless o s done).reply → o ≡ None
+pub taken : (o : Option Refusal) (s : State) (done : Outcome) (ticket : Ticket) → Given ticket ≡ (unless o s done).reply → o ≡ None
 taken None s done ticket e = refl
 taken (Some why) s done ticket e = absurd (cc)
 
@@ -186,16 +186,16 @@ asked_for pass (Some entry) request e = by (is_in_flight_for pass entry.state) e
     by false e = absurd (cc)
 
 -- an entry that is held and fits asks for something
-held_and_fits : (c : Cluster) (node : Name) (entry : Entry) → is_held entry ≡ true → fits_now c node entry ≡ true → (request : Request) × (entry ≡ Held request) × (fits_row c node request (fin.get c.nodes node) ≡ true)
+pub held_and_fits : (c : Cluster) (node : Name) (entry : Entry) → is_held entry ≡ true → fits_now c node entry ≡ true → (request : Request) × (entry ≡ Held request) × (fits_row c node request (fin.get c.nodes node) ≡ true)
 held_and_fits c node Missing held fits = absurd (cc)
 held_and_fits c node Elsewhere held fits = absurd (cc)
 held_and_fits c node (Held request) held fits = (request, refl, fits)
 
-ok_of : (r : Result (Unit {0}) Shortage) → is_ok r ≡ true → r ≡ Ok tt
+pub ok_of : (r : Result (Unit {0}) Shortage) → is_ok r ≡ true → r ≡ Ok tt
 ok_of (Ok u) h = refl
 ok_of (Err why) h = absurd (cc)
 
-fits_on : (c : Cluster) (node : Name) (request : Request) (o : Option Node) → fits_row c node request o ≡ true → (row : Node) × (o ≡ Some row) × (fit_of row.allocatable (used c.places node) request ≡ Ok tt)
+pub fits_on : (c : Cluster) (node : Name) (request : Request) (o : Option Node) → fits_row c node request o ≡ true → (row : Node) × (o ≡ Some row) × (fit_of row.allocatable (used c.places node) request ≡ Ok tt)
 fits_on c node request None h = absurd (cc)
 fits_on c node request (Some row) h = (row, refl, ok_of (fit_of row.allocatable (used c.places node) request) h)
 

@@ -1,8 +1,9 @@
 pub mod Histories
 pub mod Rows
-pub mod Tests
+pub mod Deciding
 pub mod Pods
 pub mod Steps
 pub mod Readings
 pub mod Held
 pub mod Fair
+pub mod Calm

@@ -41,7 +41,7 @@ use Rattle.desk.specs.Machine.{State, Outcome, step, both, unless, told, of_node
 use Rattle.desk.specs.History.{is_accepted, if_named, row_in, pending_in, finish_in, put_in, Put}
 use Rattle.desk.specs.History.Put.{Chosen, Told, Nowhere}
 use Rattle.desk.proofs.Pods.{pod_of, pod_at, turned, same_of, pod_moved, pod_ticked, pod_failed, pod_forgotten, pod_removed, pod_added, pod_popped}
-use Rattle.desk.proofs.Tests.{first_three, or_false, not_false}
+use Rattle.desk.proofs.Deciding.{first_three, or_false, not_false}
 
 -- where a place puts its pod
 abbrev pub put_by : Name → Request → Status → Put

@@ -47,6 +47,8 @@ impl Desk {
     ghost use Rattle.desk.specs.Machine.{both, of_node, moved, step, entry_for, counts, reply, after, snapshot};
     ghost use Rattle.desk.specs.Machine as machine;
     ghost use Rattle.desk.specs.Done.{IsTold, IsTaken, IsDone, IsAnswered};
+    ghost use Rattle.std.specs.List.{All};
+    ghost use Rattle.desk.specs.Calm.{IsCalm, HasRoom};
     ghost use Rattle.desk.specs.History.{Call, Leaves, IsOf, HasSeen, Applied, Looked, IsFairTicket, call, snap};
     ghost use Rattle.std.specs.Bool.{IsTrue};
     ghost use Rattle.queue.specs.Queue as queue;
@@ -403,6 +405,9 @@ impl Desk {
 
         // It is the snapshot of the history that left the desk so.
         ensures history { (l : List Call) → Leaves l self.now → IfOk result (λ shown. shown ≡ snap l) }
+
+        // Where that history is calm, no node has more used than it has.
+        ensures calm { (l : List Call) → Leaves l self.now → IsCalm l → IfOk result (All HasRoom) }
 
         // And the pass now has seen that history.
         ensures looked { (l seen : List Call) → Leaves l self.now → HasSeen pass.old seen l

@@ -1,6 +1,8 @@
-use Rattle.std.proofs.Common.{◌≡◌, ap, ◌∙◌, map, take}
+use Rattle.std.proofs.Common.{◌≡◌, sym, ap, subst, ◌∙◌, map, take, All}
 use Rattle.std.proofs.lemmas.List.{take_all}
 use Rattle.desk.specs.Machine.{snapshot}
+use Rattle.desk.specs.Calm.{HasRoom}
+use Rattle.desk.proofs.Calm.{calm_has_room}
 use Rattle.desk.proofs.Rows.{shown_of, shown_all}
 use Rattle.desk.proofs.Readings.{snapshot_told}
 use Rattle.desk.proofs.Histories.{seen_calls, seen_whole}
@@ -25,3 +27,7 @@ returns-clause-looked c l seen left has = (
   record { goes_on = has.goes_on; legal = left.legal; shows = returns-clause-history c l left },
   seen_whole c.args.pass.now l (seen_calls c.args.pass.now seen l has),
 )
+
+-- and where that is calm, each node has room
+pub returns-clause-calm : goal.returns-clause-calm
+returns-clause-calm c l left calm = subst (All HasRoom) (sym (returns-clause-snapshot c)) (calm_has_room c.args.self.now l left calm)
