@@ -1,4 +1,4 @@
--- What holds of all legal histories.
+-- Statements on all legal histories that no contract promises yet: that tickets are given once, that a pod has one place or one entry, and that what is popped and unanswered is what `Count` tells.
 use Rattle.std.specs.Prelude.{◌≡◌, ℕ, Bool, true, false, not, ◌&&◌, List, ◌∷◌, ◌++◌, Option, None, Some, unwrap_or, count_by}
 use Rattle.std.specs.Bool.{IsTrue}
 use Rattle.std.specs.FinMap.{entries}
