@@ -6,6 +6,8 @@ mod laws;
 mod pass;
 mod snapshot;
 mod step;
+#[cfg(test)]
+mod tests;
 
 pub use book::{Limits, NoMemory, Refusal};
 pub use desk::Desk;
