@@ -1,27 +1,25 @@
 -- What becomes of the slots, and of the entries that they stand for, where the pod in one of them changes.
-use Rattle.std.proofs.Common.{◌≡◌, ℕ, zero, suc, ◌+◌, ◌<◌, ◌≤◌, Bool, true, false, cond, leb, ◌⊎◌, ⊎_elim, List, length, get_or, set, arith, refl, sym, ap, ◌∙◌, subst}
+use Rattle.std.proofs.Common.{◌≡◌, ℕ, ◌+◌, ◌<◌, ◌≤◌, Bool, true, false, cond, leb, ◌⊎◌, ⊎_elim, length, set, arith, refl, sym, ap, ◌∙◌}
 use Rattle.std.specs.Prelude.{◌≢◌, Option, None, Some, IsSome, IfNone, option_map, sum_by}
 use Rattle.std.specs.Option.{option_map_or, option_cmp}
 use Rattle.std.specs.Cmp.{ranks}
-use Rattle.std.specs.Cmp.Lexicographic.{slice_cmp, nat_list_cmp_total}
+use Rattle.std.specs.Cmp.Lexicographic.{nat_list_cmp_total}
 use Rattle.std.specs.Ordering.{nat_cmp, is_lt, ordering_then, MatchOrdering}
 use Rattle.std.specs.declared.cmp.Ordering.{Ordering}
 use Rattle.std.specs.declared.cmp.Ordering.TheVariants.{Less, Equal, Greater}
 use Rattle.std.specs.FinMap as table
 use Rattle.std.proofs.lemmas.Bool.Decides.{nat_tests}
-use Rattle.std.proofs.lemmas.List.{get_or-set_other, get_or-set_same, length-set, get_or_default}
+use Rattle.std.proofs.lemmas.List.{get_or-set_other, get_or-set_same, length-set}
 use Rattle.std.proofs.lemmas.List.Sums.{sum_by-set}
 use Rattle.quant.specs.declared.amount.Moment.{Moment}
 use Rattle.quant.specs.declared.name.Name.{Name}
-use Rattle.name_table.specs.declared.entry.Entry.{Entry as Named}
-use Rattle.name_table.specs.Slots.{entry_in, name_in, value_in, with_value, put_in, map_of, NamesOnce, number_in}
+use Rattle.name_table.specs.Slots.{entry_in, value_in, with_value, put_in, map_of, NamesOnce, number_in}
 use Rattle.name_table.proofs.SlotLemmas.{map_at, map_put, slot_with, once_put}
 use Rattle.queue.specs.declared.state.State.{State}
 use Rattle.queue.specs.declared.state.State.TheVariants.{Active, Backoff, Unschedulable, InFlight}
 use Rattle.queue.specs.declared.index.Index.{Index}
 use Rattle.queue.specs.Entry.{Entry, backed_off, ticked, moved_on, state_after_tick, state_after_move, is_backoff, is_unschedulable}
 use Rattle.queue.specs.Queue.{Entries, each_changed}
-use Rattle.queue.specs.Order.{Item}
 use Rattle.queue.specs.Row.{SlotRow, at, IsIn}
 use Rattle.queue.specs.Heap.{Pods, moment_of, wait_cmp, item_in, goes_before, IsHeap}
 use Rattle.queue.specs.Index.{stands_in, is_unmarked, is_due, is_unmoved, kept_with, changed_in, Lists, IsIndex}

@@ -1,5 +1,5 @@
 -- What each step of a heap of slots keeps.
-use Rattle.std.proofs.Common.{◌≡◌, ℕ, zero, suc, ◌+◌, ◌-◌, ◌*◌, ◌/◌, ◌^◌, ◌<◌, ◌≤◌, Bool, true, false, ◌⊎◌, inl, inr, ⊎_elim, List, [], ◌∷◌, length, get_or, arith, refl, sym, ap, ◌∙◌, subst}
+use Rattle.std.proofs.Common.{◌≡◌, ℕ, zero, suc, ◌+◌, ◌-◌, ◌*◌, ◌/◌, ◌<◌, ◌≤◌, Bool, true, false, ⊎_elim, List, [], ◌∷◌, length, get_or, arith, refl, sym, ap, ◌∙◌}
 use Rattle.std.specs.Prelude.{◌≢◌, Option, None, Some, IsSome, option_map}
 use Rattle.std.proofs.lemmas.List.{get_or_default}
 use Rattle.name_table.specs.declared.entry.Entry.{Entry as Named}
@@ -7,12 +7,10 @@ use Rattle.name_table.specs.Slots.{entry_in}
 use Rattle.queue.specs.Entry.{Entry}
 use Rattle.std.specs.Cmp.{IsTotalOrder, IsStrictWeakOrder}
 use Rattle.std.specs.Cmp.Lexicographic.{options_total}
-use Rattle.std.specs.Ordering.{nat_cmp}
 use Rattle.std.proofs.lemmas.Cmp.{on_total, then_total, nat_cmp_total}
 use Rattle.std.proofs.lemmas.List.MinMax.{ranks_by}
-use Rattle.std.proofs.lemmas.Bool.{cases_lt}
-use Rattle.queue.specs.Order.{Item, item_cmp}
-use Rattle.queue.specs.Row.{at, IsIn, IsSwapped, IsPushed, HasSame}
+use Rattle.queue.specs.Order.{Item}
+use Rattle.queue.specs.Row.{at, IsSwapped, IsPushed}
 use Rattle.queue.specs.Heap.{Pods, moment_of, wait_cmp, item_in, goes_before, IsHeap, GoesFirst, IsHeapBut}
 use Rattle.queue.proofs.Ranks.{item_laws}
 use Rattle.queue.proofs.Rows.{same_or_not}

@@ -1,10 +1,9 @@
 -- What becomes of the rows of an index where a slot leaves, changes and enters.
-use Rattle.std.proofs.Common.{◌≡◌, ℕ, ◌<◌, Bool, true, false, ◌⊎◌, zero, suc, inl, inr, ⊎_elim, List, [], length, replicate, get_or, set, arith, refl, sym, ap, ◌∙◌, subst}
+use Rattle.std.proofs.Common.{◌≡◌, ℕ, ◌<◌, Bool, true, false, zero, suc, ⊎_elim, List, [], length, replicate, set, arith, refl, sym, ap, ◌∙◌, subst}
 use Rattle.std.specs.Prelude.{◌≢◌, Option, None, Some, IsSome, option_map}
 use Rattle.std.specs.Option.{option_map_or, option_cmp}
 use Rattle.std.specs.Ordering.{is_lt}
-use Rattle.std.proofs.lemmas.List.{get_or-set_other, get_or-set_same, length-set, length-replicate}
-use Rattle.name_table.specs.declared.entry.Entry.{Entry as Named}
+use Rattle.std.proofs.lemmas.List.{get_or-set_other, length-set, length-replicate}
 use Rattle.name_table.specs.Slots.{entry_in}
 use Rattle.queue.specs.declared.state.State.{State}
 use Rattle.queue.specs.declared.state.State.TheVariants.{Active, Backoff, Unschedulable, InFlight}
@@ -13,7 +12,7 @@ use Rattle.quant.specs.declared.amount.Moment.{Moment}
 use Rattle.queue.specs.declared.index.Index.{Index}
 use Rattle.queue.specs.Entry.{Entry, is_active, is_backoff, is_unschedulable}
 use Rattle.queue.specs.Row.{SlotRow, at, IsIn, IsWithout, IsWith}
-use Rattle.queue.specs.Heap.{Pods, wait_cmp, item_in, goes_before, AllThere, IsHeap}
+use Rattle.queue.specs.Heap.{Pods, wait_cmp, item_in, goes_before, IsHeap}
 use Rattle.queue.specs.Index.{state_in, stands_in, is_unmarked, Lists, ListsBut, IsIndex, IsIndexBut}
 use Rattle.queue.proofs.Rows.{same_or_not}
 use Rattle.queue.proofs.Heaps.{Kept}

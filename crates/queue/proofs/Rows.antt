@@ -1,10 +1,10 @@
 -- What becomes of a row of slots.
-use Rattle.std.proofs.Common.{◌≡◌, ℕ, ◌+◌, ◌<◌, ◌≤◌, ◌⊎◌, inl, inr, ⊎_elim, List, ◌++◌, length, get_or, take, drop, arith, refl, sym, ap, ◌∙◌, subst}
+use Rattle.std.proofs.Common.{◌≡◌, ℕ, ◌+◌, ◌<◌, ◌≤◌, ◌⊎◌, inl, inr, ⊎_elim, List, ◌++◌, length, take, drop, arith, sym, ap, ◌∙◌, subst}
 use Rattle.std.specs.Prelude.{◌≢◌}
 use Rattle.std.proofs.lemmas.Bool.{cases_lt}
 use Rattle.std.proofs.lemmas.List.{length-take, length-take-le, get_or-take}
 use Rattle.std.proofs.Math.Seq.{take-append_seam}
-use Rattle.queue.specs.Row.{SlotRow, at, IsIn, IsSwapped, IsPushed, HasSame, IsWithout, IsWith}
+use Rattle.queue.specs.Row.{at, IsIn, IsSwapped, IsPushed, HasSame, IsWithout, IsWith}
 
 -- two places are one, or not
 pub same_or_not : (a b : ℕ) → (a ≡ b) ⊎ (a ≢ b)

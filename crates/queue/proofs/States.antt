@@ -1,11 +1,10 @@
 -- What each call does to the slots is what it is to do to the queue.
-use Rattle.std.proofs.Common.{◌≡◌, ℕ, ◌<◌, ◌≤◌, Bool, true, false, cond, ⊎_elim, List, [], length, get_or, set, replicate, zero, suc, arith, refl, sym, ap, ◌∙◌, subst}
-use Rattle.std.specs.Prelude.{◌≢◌, Option, Some, None, IsSome, MatchOption, is_some, option_map, nat_le}
+use Rattle.std.proofs.Common.{◌≡◌, ℕ, ◌<◌, ◌≤◌, Bool, true, false, cond, ⊎_elim, List, [], length, set, replicate, zero, suc, arith, refl, sym, ap, ◌∙◌, subst}
+use Rattle.std.specs.Prelude.{◌≢◌, Option, Some, None, IsSome, MatchOption, is_some, option_map}
 use Rattle.std.specs.Option.{option_map_or, option_cmp}
 use Rattle.std.specs.Ordering.{nat_cmp, is_lt, ordering_then}
 use Rattle.std.specs.FinMap as table
 use Rattle.std.specs.Cmp.Lexicographic.{nat_list_cmp_total}
-use Rattle.name_table.specs.declared.entry.Entry.{Entry as Named}
 use Rattle.std.proofs.lemmas.List.{get_or-set_same, get_or-set_other, length-replicate}
 use Rattle.quant.specs.declared.amount.Moment.{Moment}
 use Rattle.quant.specs.declared.name.Name.{Name}
@@ -20,7 +19,7 @@ use Rattle.queue.specs.declared.index.Index.{Index}
 use Rattle.queue.specs.declared.refusal.Refusal.{Refusal}
 use Rattle.queue.specs.declared.refusal.Refusal.TheVariants.{Known, Full, NotInFlight}
 use Rattle.queue.specs.Entry.{Entry, new_entry, is_active, is_backoff, is_unschedulable, is_in_flight, is_in_flight_for, popped}
-use Rattle.queue.specs.Order.{Item, item_cmp, comes_before}
+use Rattle.queue.specs.Order.{item_cmp, comes_before}
 use Rattle.queue.specs.Queue.{no_entries, counts_of, QueueState, IsQueue, entry_of, has_entry, is_full_queue, stands, next_of, with_entry, with_change, changed_at, with_popped, unless_refused, refusal_to_add, after_add, after_pop, after_remove}
 use Rattle.queue.specs.Row.{at, IsIn}
 use Rattle.queue.specs.Heap.{Pods, moment_of, wait_cmp, item_in, goes_before}
@@ -28,7 +27,7 @@ use Rattle.queue.specs.Index.{stands_in, kept_with, changed_in, IsIndex, IsIndex
 use Rattle.queue.specs.Slots.{state_of, OwnUids, IsKept, one_if, counts_so_far}
 use Rattle.queue.proofs.Rows.{same_or_not}
 use Rattle.queue.proofs.Heaps.{Kept, a_slot, top}
-use Rattle.queue.proofs.Changes.{kept_in, stands_of, none_in_row, once_changed, own_changed, length_changed, map_changed}
+use Rattle.queue.proofs.Changes.{stands_of, none_in_row, once_changed, own_changed, length_changed, map_changed}
 use Rattle.queue.proofs.Indexes.{there_if, changed, written, emptied, free_slot}
 use Rattle.queue.proofs.Tables.{same_entries}
 use Rattle.queue.proofs.Uids.{same, same_is}

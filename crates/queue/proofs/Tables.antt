@@ -1,6 +1,6 @@
 -- Entries that answer alike, and changes of all of them.
 use Rattle.std.proofs.Common.{◌≡◌, true, false, cond, List, [], ◌∷◌, map, refl, sym, ap, ◌∙◌}
-use Rattle.std.specs.Prelude.{option_map, Some, None}
+use Rattle.std.specs.Prelude.{option_map, Some}
 use Rattle.std.specs.FinMap as table
 use Rattle.std.specs.FinMap.{slice_cmp-IsAntisymmetric, nat_cmp-IsAntisymmetric}
 use Rattle.std.specs.Ordering.{nat_cmp}

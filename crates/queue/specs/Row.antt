@@ -1,5 +1,5 @@
 -- For the representation alone: slots in a row, each at most once, that know their places.
-use Rattle.std.specs.Prelude.{◌≡◌, ◌≢◌, ℕ, ◌+◌, ◌<◌, ◌≤◌, List, length, take, slice_index_or, Vec, vec_len}
+use Rattle.std.specs.Prelude.{◌≡◌, ◌≢◌, ℕ, ◌+◌, ◌<◌, ◌≤◌, List, length, slice_index_or, Vec, vec_len}
 use Rattle.std.specs.Global.{Global}
 
 -- how many slots there are, and those in the row

@@ -1,5 +1,5 @@
 -- For the representation alone: what the slots of a queue stand for, and how many pods stand where.
-use Rattle.std.specs.Prelude.{◌≡◌, ℕ, ◌+◌, ◌≤◌, List, length, Some, Bool, if◌then◌else◌, sum_by}
+use Rattle.std.specs.Prelude.{◌≡◌, ℕ, ◌+◌, ◌≤◌, length, Some, Bool, if◌then◌else◌, sum_by}
 use Rattle.name_table.specs.declared.entry.Entry.{Entry as Named}
 use Rattle.name_table.specs.Slots.{entry_in, map_of, NamesOnce, number_in}
 use Rattle.queue.specs.declared.counts.Counts.{Counts}

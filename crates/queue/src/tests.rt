@@ -40,6 +40,8 @@ enum Call {
     PodOf(i32),
     /// How many are active, back off, are unschedulable and are in flight.
     Counts(usize, usize, usize, usize),
+    /// How many comparisons the last call made.
+    Compared(u32),
     /// Three pods come in each order, and are popped by priority, by arrival or by uid.
     EveryOrder,
     /// 10,000 pods of one priority and arrival are added in falling order of their uids, and popped
@@ -288,6 +290,7 @@ fn tells(queue: &Queue, uid: &Name, call: Call) -> bool {
             };
             queue.counts() == counts
         }
+        Call::Compared(many) => queue.compared() == many,
         _ => false,
     }
 }
@@ -429,10 +432,23 @@ fn calls_answer_as_worked(rt: HostRuntime) -> Result<(), Fail> {
     Ok(())
 }
 
-const ORDERED: [Row; 3] = [
+const ORDERED: [Row; 13] = [
     (b"p1", Call::EveryOrder),
     (b"p1", Call::Falling),
     (b"p1", Call::PopNone),
+    // A second pod in a heap is compared with the first alone. Where the first of four goes, its
+    // two children are compared, and then the last pod with the child that went up. A refused call
+    // compares none.
+    (b"p00000", Call::ForgetBack(0, Ok(()))),
+    (b"p00001", Call::ForgetBack(0, Ok(()))),
+    (b"p00001", Call::Compared(1)),
+    (b"p00002", Call::ForgetBack(0, Ok(()))),
+    (b"p00003", Call::ForgetBack(0, Ok(()))),
+    (b"p1", Call::Tick(1_000)),
+    (b"p00000", Call::Pop),
+    (b"p00000", Call::Compared(2)),
+    (b"p1", Call::ForgetBack(0, Err(Refusal::NotInFlight))),
+    (b"p1", Call::Compared(0)),
 ];
 
 #[test]

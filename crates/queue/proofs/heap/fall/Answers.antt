@@ -1,4 +1,4 @@
-use Rattle.std.proofs.Common.{◌≡◌, ℕ, ◌+◌, ◌-◌, ◌*◌, ◌^◌, ◌<◌, ◌≤◌, length, arith, sym, ap, ◌∙◌}
+use Rattle.std.proofs.Common.{◌+◌, ◌-◌, arith, ◌∙◌}
 use Rattle.queue.proofs.Rows.{same_again, same_swapped}
 use Rattle.queue.proofs.Heaps.{fallen}
 use Rattle.queue.proofs.Powers.{more_down, at_most_13, power_alone}

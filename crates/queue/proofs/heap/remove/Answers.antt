@@ -1,5 +1,5 @@
-use Rattle.std.proofs.Common.{◌≡◌, ℕ, ◌+◌, ◌-◌, ◌*◌, ◌^◌, ◌≤◌, List, length, arith, refl, sym, ap, ◌∙◌, subst}
-use Rattle.queue.specs.Row.{at, IsIn, IsSwapped, IsPushed, HasSame, IsWithout}
+use Rattle.std.proofs.Common.{◌≡◌, ℕ, ◌+◌, ◌-◌, ◌≤◌, List, length, arith, sym, ap, ◌∙◌, subst}
+use Rattle.queue.specs.Row.{at, IsSwapped, IsPushed, IsWithout}
 use Rattle.queue.proofs.Rows.{same_again, same_swapped, without}
 use Rattle.queue.proofs.Heaps.{replaced}
 use Rattle.queue.proofs.Powers.{at_most_13, power_alone}
@@ -46,5 +46,5 @@ returns-then-place-last-clause-counted c =
     let leaf : c.fall-leaf.result + 1 ≤ 10000 = omega (arith, c.fall-leaf.ensures.inside, c.fall-leaf.ensures.same.len, c.pop.ensures.popped.len, c.swap.ensures.swapped.len, c.len-last.ensures.few) in
     let down : c.fall-leaf.new.count ≤ c.args.count.now + 13 = at_most_13 c.fall-leaf.new.count c.args.count.now (c.fall-leaf.result + 1)
     (power_alone (c.fall-leaf.new.count - c.args.count.now) c.place_of-place.result (c.fall-leaf.result + 1) c.fall-leaf.ensures.counted) leaf in
-    let up : c.rise.new.count ≤ c.fall-leaf.new.count + 13 = at_most_13 c.rise.new.count c.fall-leaf.new.count (c.fall-leaf.result + 1) c.rise.ensures.counted leaf in
+    let up : c.rise.new.count ≤ c.fall-leaf.new.count + 13 = at_most_13 c.rise.new.count c.fall-leaf.new.count _ c.rise.ensures.counted (omega (arith, leaf)) in
     omega (arith, down, up)

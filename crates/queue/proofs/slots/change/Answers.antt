@@ -1,7 +1,7 @@
-use Rattle.std.proofs.Common.{sym, ap, ◌∙◌, subst}
+use Rattle.std.proofs.Common.{sym, subst}
 use Rattle.name_table.specs.Slots.{put_in}
 use Rattle.queue.specs.Heap.{Pods}
-use Rattle.queue.specs.Index.{changed_in, applied, IsIndexBut}
+use Rattle.queue.specs.Index.{applied, IsIndexBut}
 use Rattle.queue.proofs.Indexes.{changed, written}
 use Rattle.queue.proofs.Changes.{put_is}
 use Rattle.queue.proofs.slots.change.Goals as goal

@@ -1,8 +1,7 @@
 use Rattle.std.proofs.Common.{ap, ◌∙◌}
 use Rattle.queue.specs.declared.state.State.TheVariants.{InFlight}
-use Rattle.queue.specs.Index.{IsIndex, IsIndexBut}
 use Rattle.queue.proofs.Rows.{with_pushed}
-use Rattle.queue.proofs.Indexes.{enters_active, enters_backoff, enters_unschedulable, enters_unmarked, enters_marked}
+use Rattle.queue.proofs.Indexes.{enters_active, enters_backoff, enters_unschedulable, enters_unmarked}
 use Rattle.queue.proofs.index.Index.enter.Goals as goal
 
 pub returns-in-Active-clause-index : goal.returns-in-Active-clause-index

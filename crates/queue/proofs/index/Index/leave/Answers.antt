@@ -1,7 +1,6 @@
 use Rattle.std.proofs.Common.{ap, ◌∙◌}
 use Rattle.queue.specs.declared.state.State.TheVariants.{InFlight}
-use Rattle.queue.specs.Index.{IsIndex, IsIndexBut}
-use Rattle.queue.proofs.Indexes.{leaves_active, leaves_backoff, leaves_unschedulable, leaves_unmarked, leaves_marked}
+use Rattle.queue.proofs.Indexes.{leaves_active, leaves_backoff, leaves_unschedulable, leaves_unmarked}
 use Rattle.queue.proofs.index.Index.leave.Goals as goal
 
 pub returns-in-Active-clause-index : goal.returns-in-Active-clause-index

@@ -1,4 +1,4 @@
-use Rattle.std.proofs.Common.{◌≡◌, ℕ, ◌<◌, ◌≤◌, true, length, arith, refl, sym, ap, ◌∙◌}
+use Rattle.std.proofs.Common.{◌≡◌, true, arith, refl, sym, ap, ◌∙◌}
 use Rattle.std.specs.Prelude.{Some, IsSome, option_map}
 use Rattle.quant.specs.declared.name.Name.{Name}
 use Rattle.name_table.specs.Slots.{entry_in}
@@ -7,7 +7,6 @@ use Rattle.queue.specs.Order.{Item}
 use Rattle.queue.specs.Queue.{next_of, after_pop}
 use Rattle.queue.specs.Heap.{Pods}
 use Rattle.queue.specs.Index.{stands_in}
-use Rattle.queue.proofs.Heaps.{Kept}
 use Rattle.queue.proofs.Changes.{kept_in}
 use Rattle.queue.proofs.States.{root_there, next_some, next_none, kept_changed, stands_changed, pop_some, pop_none, name_of_kept}
 use Rattle.queue.proofs.queue.Queue.pop.Goals as goal
