@@ -1,5 +1,5 @@
 -- In a calm history no node has more used than it has.
-use Rattle.std.proofs.Common.{◌≡◌, ℕ, zero, suc, ◌+◌, ◌≤◌, Bool, true, false, cond, not, ◌||◌, ◌==◌, nat_le, if◌then◌else◌, List, [], ◌∷◌, ◌++◌, map, Option, None, Some, unwrap_or, Result, Ok, Err, is_ok, sum_by, refl, sym, ap, subst, ◌∙◌, arith}
+use Rattle.std.proofs.Common.{◌≡◌, ℕ, ◌+◌, ◌≤◌, Bool, true, false, cond, not, ◌||◌, ◌==◌, nat_le, if◌then◌else◌, List, [], ◌∷◌, ◌++◌, map, Option, None, Some, unwrap_or, Result, Ok, Err, is_ok, refl, sym, ap, subst, ◌∙◌, arith}
 use Rattle.std.specs.Bool.{IsTrue}
 use Rattle.std.specs.List.{All, AllByRecursion}
 use Rattle.std.proofs.lemmas.Bool.{eqb-true, leb-true}
@@ -7,7 +7,7 @@ use Rattle.std.proofs.lemmas.List.Elements.{All-from_recursion, recursion_from_A
 use Rattle.std.specs.Option.{option_or}
 use Rattle.std.specs.Str.{bytes_eq}
 use Rattle.std.specs.Cmp.Lexicographic.{bytes_decides}
-use Rattle.std.specs.Ordering.{is_eq, eq_by_cmp}
+use Rattle.std.specs.Ordering.{is_eq}
 use Rattle.std.specs.FinMap.Entries.{below_all}
 use Rattle.std.specs.FinMap as fin
 use Rattle.quant.specs.declared.event.Event.TheVariants.{NodeSet, NodeGone, PodPending, PodBound, PodGone}
@@ -26,11 +26,9 @@ use Rattle.book.specs.declared.place.Status.{Status}
 use Rattle.book.specs.declared.place.Status.TheVariants.{Assumed, Bound}
 use Rattle.book.specs.declared.refusal.Refusal.{Refusal}
 use Rattle.book.specs.declared.refusal.Refusal.TheVariants as refusals
-use Rattle.book.specs.declared.step.ClusterStep.{ClusterStep}
 use Rattle.book.specs.declared.step.ClusterStep.TheVariants as cluster
 use Rattle.book.specs.declared.step.Entry.{Entry}
-use Rattle.book.specs.declared.step.Entry.TheVariants.{Missing, Elsewhere, Held}
-use Rattle.book.specs.Cluster.{Cluster, name_cmp, Nodes, Places}
+use Rattle.book.specs.Cluster.{name_cmp, Places}
 use Rattle.book.specs.Step as book_step
 use Rattle.book.specs.Step.{with_choice, with_finished, next_ticket, finished_status, is_gone, is_queued, is_placed, is_held, is_there, fits_now, are_tickets_gone}
 use Rattle.book.specs.Tables.{is_full_for}
@@ -42,11 +40,10 @@ use Rattle.book.proofs.TableLemmas.{same_test}
 use Rattle.book.proofs.SumLemmas.{of_option, entries_empty, remove_absent, sum_insert, sum_remove}
 use Rattle.desk.specs.declared.step.Step.{Step}
 use Rattle.desk.specs.declared.step.Step.TheVariants.{Event, Pop, Assume, BindDone, Forget, Fail, Tick, Count}
-use Rattle.desk.specs.Machine.{State, Outcome, opening, unless, both, step, reply, snapshot, of_node, of_pod, moved, moved_if_placed, entry_at, pass_number, refusal_to_fail, refusal_to_tick}
+use Rattle.desk.specs.Machine.{State, Outcome, opening, unless, step, reply, snapshot, of_node, of_pod, moved, moved_if_placed, entry_at, pass_number, refusal_to_fail, refusal_to_tick}
 use Rattle.desk.specs.History.{Call, AreAnswered, state_after, Leaves, is_accepted, last_said, accepted, row_in, row_of, place_of}
 use Rattle.desk.specs.Caller.{Opened}
-use Rattle.desk.specs.Shown.{Shown}
-use Rattle.desk.specs.Calm.{KeepsRoom, IsCalm, IsCalmStep, HasRoom}
+use Rattle.desk.specs.Calm.{IsCalm, IsCalmStep, HasRoom}
 use Rattle.desk.proofs.Histories.{state_more, append_nil}
 use Rattle.desk.proofs.Deciding.{first_five, not_false}
 use Rattle.desk.proofs.Steps.{done_by}
@@ -293,13 +290,13 @@ module _ (limits : Limits) (l : List Call) (all : AreAnswered (opening limits) l
 -- ---- a look
 
 -- a name that is below all others is not found
-absent_below : {X : Type 0} (k : Name) (es : List (Name × X)) → below_all name_cmp k es ≡ true → fin.find name_cmp k es ≡ None
+pub absent_below : {X : Type 0} (k : Name) (es : List (Name × X)) → below_all name_cmp k es ≡ true → fin.find name_cmp k es ≡ None
 absent_below k [] h = refl
 absent_below k (e ∷ es) h =
     ap (λ r. cond (is_eq r) (Some e.1) (fin.find name_cmp k es)) (less_of _ (both_true _ _ h).0) ∙ absent_below k es (both_true _ _ h).1
 
 -- each entry of a sorted list is found there
-each_found : {X : Type 0} {Y : Type 0} (P : Y → Type 0) (f : Name × X → Y) (es : List (Name × X)) → fin.is_sorted name_cmp es ≡ true → ((x : Name × X) → fin.find name_cmp x.0 es ≡ Some x.1 → P (f x)) → AllByRecursion P (map f es)
+pub each_found : {X : Type 0} {Y : Type 0} (P : Y → Type 0) (f : Name × X → Y) (es : List (Name × X)) → fin.is_sorted name_cmp es ≡ true → ((x : Name × X) → fin.find name_cmp x.0 es ≡ Some x.1 → P (f x)) → AllByRecursion P (map f es)
 each_found {X = X} P f [] sorted h = tt
 each_found {X = X} P f (e ∷ es) sorted h =
     let parts = both_true _ _ sorted in (

@@ -129,7 +129,7 @@ said_more says [] c = sym (or_none (says c))
 said_more says (d ∷ l) c = ap (λ o. option_or o (says d)) (said_more says l c) ∙ sym (or_both (says c) (last_said says l) (says d))
 
 -- each pod waits under its own uid
-own_after : (limits : Limits) (l : List Call) → AreAnswered (opening limits) l → IsOwn (state_after (opening limits) l).queue
+pub own_after : (limits : Limits) (l : List Call) → AreAnswered (opening limits) l → IsOwn (state_after (opening limits) l).queue
 own_after limits l all q pod waits =
     let known = (pods_known limits l all q).entry in
     let came : pending_of l q ≡ Some pod = subst (λ o. Agrees o (pending_of l q)) waits known in

@@ -7,3 +7,6 @@ pub mod Readings
 pub mod Held
 pub mod Fair
 pub mod Calm
+pub mod Tickets
+pub mod Standing
+pub mod Counting

@@ -31,7 +31,7 @@ use Rattle.desk.proofs.Steps.{OneOf, Known, Agrees, Asked, AskedBy, put_at, put_
 use Rattle.desk.proofs.Rows.{shows}
 
 -- the last of two that says anything, or else what was known
-or_else : {X : Type 0} (a b : Option X) (d : X) → unwrap_or (option_or a b) d ≡ unwrap_or a (unwrap_or b d)
+pub or_else : {X : Type 0} (a b : Option X) (d : X) → unwrap_or (option_or a b) d ≡ unwrap_or a (unwrap_or b d)
 or_else None b d = refl
 or_else (Some x) b d = refl
 

@@ -90,13 +90,13 @@ pub record OneOf (s : State) (q : Name) (e : Step) (new : State) (r : Reply) : T
 
 module _ {X Y : Type 0} (f : Option X → Y) (m : FinMap name_cmp X) (k q : Name) where
   -- what is read after a value is put
-  read_insert : (x : X) → f (fin.get (fin.insert m k x) q) ≡ cond (bytes_eq k q) (f (Some x)) (f (fin.get m q))
+  pub read_insert : (x : X) → f (fin.get (fin.insert m k x) q) ≡ cond (bytes_eq k q) (f (Some x)) (f (fin.get m q))
   read_insert x =
       ap f (fin.get-insert nat_list_cmp_total m k x q ∙ ap (λ b. cond b (Some x) (fin.get m q)) (turned q k))
       ∙ elim (bytes_eq k q) as (λ b. f (cond b (Some x) (fin.get m q)) ≡ cond b (f (Some x)) (f (fin.get m q))) [ true ↦ refl | false ↦ refl ]
 
   -- and after one is taken out
-  read_remove : f (fin.get (fin.remove m k) q) ≡ cond (bytes_eq k q) (f None) (f (fin.get m q))
+  pub read_remove : f (fin.get (fin.remove m k) q) ≡ cond (bytes_eq k q) (f None) (f (fin.get m q))
   read_remove =
       ap f (fin.get-remove nat_list_cmp_total m k q ∙ ap (λ b. cond b None (fin.get m q)) (turned q k))
       ∙ elim (bytes_eq k q) as (λ b. f (cond b None (fin.get m q)) ≡ cond b (f None) (f (fin.get m q))) [ true ↦ refl | false ↦ refl ]
@@ -164,25 +164,25 @@ nothing_known known = record { entry = tt; asked = tt }
 
 -- ---- the steps, where they are done
 
-absent : {X : Type 0} (o : Option X) → is_some o ≡ false → o ≡ None
+pub absent : {X : Type 0} (o : Option X) → is_some o ≡ false → o ≡ None
 absent None h = refl
 absent (Some x) h = absurd (cc)
 
 -- one value in both cases
-same_both : {X : Type 0} (b : Bool) (x : X) → cond b x x ≡ x
+pub same_both : {X : Type 0} (b : Bool) (x : X) → cond b x x ≡ x
 same_both true x = refl
 same_both false x = refl
 
 -- a place that the cluster told
-abbrev bound_at : Name → Request → Place
+abbrev pub bound_at : Name → Request → Place
 bound_at node request = record { node = node; request = request; status = Bound }
 
 -- a place that was chosen now
-abbrev chosen_at : State → Name → Request → Place
+abbrev pub chosen_at : State → Name → Request → Place
 chosen_at s node request = record { node = node; request = request; status = Assumed (next_ticket s.cluster) false }
 
 -- the same place, with its bind reported done
-abbrev finished_at : Place → Place
+abbrev pub finished_at : Place → Place
 finished_at place = record { node = place.node; request = place.request; status = finished_status place.status }
 
 -- that changes its mark alone
@@ -284,7 +284,7 @@ module _ (s : State) (q : Name) where
       }
 
   -- no choice is taken for an entry that the pass doesn't hold
-  unheld : (uid node : Name) (entry : Entry) → book_step.is_held entry ≡ false → book_step.refusal s.cluster (cluster.Assume uid node entry) ≡ None → ⊥
+  pub unheld : (uid node : Name) (entry : Entry) → book_step.is_held entry ≡ false → book_step.refusal s.cluster (cluster.Assume uid node entry) ≡ None → ⊥
   unheld uid node entry isnt none =
       let passed = first_three (is_gone s.cluster uid (book_step.is_queued entry)) (is_placed s.cluster uid) (not (book_step.is_held entry)) refusals.Gone refusals.Placed refusals.NotInFlight
       ((not (book_step.is_there s.cluster node), refusals.NoNode) ∷ (not (book_step.fits_now s.cluster node entry), refusals.NoRoom) ∷ (is_full_for s.cluster.places s.cluster.limits.placed uid || book_step.are_tickets_gone s.cluster, refusals.Full) ∷ []) none in

@@ -48,6 +48,7 @@ impl Desk {
     ghost use Rattle.desk.specs.Machine as machine;
     ghost use Rattle.desk.specs.Done.{IsTold, IsTaken, IsDone, IsAnswered};
     ghost use Rattle.std.specs.List.{All};
+    ghost use Rattle.std.specs.FinMap.{len};
     ghost use Rattle.desk.specs.Calm.{IsCalm, HasRoom};
     ghost use Rattle.desk.specs.History.{Call, Leaves, IsOf, HasSeen, Applied, Looked, IsFairTicket, call, snap};
     ghost use Rattle.std.specs.Bool.{IsTrue};
@@ -398,10 +399,11 @@ impl Desk {
 
     /// Shows the nodes and what is used of them. It copies a pointer and the totals of each node.
     ///
-    /// Errors: `NoMemory`; nothing changes.
+    /// Errors: `NoMemory` where there are nodes to show; nothing changes.
     pub fn look(&self, pass: &mut Pass) -> Result<Snapshot, NoMemory>
         ensures snapshot { IfOk result (λ shown. shown ≡ snapshot self.now.state.cluster) }
         ensures pass { pass.new ≡ pass.old }
+        ensures no_memory { IsErr result → 1 ≤ len self.now.state.cluster.nodes }
 
         // It is the snapshot of the history that left the desk so.
         ensures history { (l : List Call) → Leaves l self.now → IfOk result (λ shown. shown ≡ snap l) }

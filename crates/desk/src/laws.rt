@@ -3,6 +3,7 @@ ghost use Rattle.std.specs.Prelude.{◌≡◌, ◌^◌, ℕ, List};
 ghost use Rattle.book.specs.declared.limits.Limits.{Limits};
 ghost use Rattle.desk.specs.Machine.{opening};
 ghost use Rattle.desk.specs.History.{Call, Legal, state_after, rows_of, places_of};
+ghost use Rattle.desk.specs.Laws.{TicketsOnce, TicketsInOrder, EntryOrPlace, EntryGoesWithPlace, InFlightIsUnanswered};
 
 use crate::pass::{MAX_CALLS, MAX_PASSES};
 
@@ -17,4 +18,23 @@ pub fn desk_limits_are_these()
 pub fn history_tells_the_state()
     ensures nodes { (limits : Limits) (passes : ℕ) (l : List Call) → Legal limits passes l → (state_after (opening limits) l).cluster.nodes ≡ rows_of l }
     ensures places { (limits : Limits) (passes : ℕ) (l : List Call) → Legal limits passes l → (state_after (opening limits) l).cluster.places ≡ places_of l }
+{}
+
+/// No ticket is given twice, whichever passes ask: a history gives the tickets 1, 2, 3, .. in this order.
+pub fn tickets_are_given_once()
+    ensures once { TicketsOnce }
+    ensures in_order { TicketsInOrder }
+{}
+
+/// A pod has an entry in the queue or a place or neither. It has both only while its place is assumed, and then it is
+/// in flight; once it is bound it has no entry.
+pub fn entry_or_place()
+    ensures once { EntryOrPlace }
+    ensures by_place { EntryGoesWithPlace }
+{}
+
+/// What a pass popped that was not answered since is what is in flight for that pass and has no place, and of all
+/// passes together that is as much as `Count` tells.
+pub fn in_flight_is_unanswered()
+    ensures { InFlightIsUnanswered }
 {}

@@ -11,7 +11,10 @@ mod tests;
 
 pub use book::{Limits, NoMemory, Refusal};
 pub use desk::Desk;
-pub use laws::{desk_limits_are_these, history_tells_the_state};
+pub use laws::{
+    desk_limits_are_these, entry_or_place, history_tells_the_state, in_flight_is_unanswered,
+    tickets_are_given_once,
+};
 pub use pass::{MAX_CALLS, MAX_PASSES, NoPlace, Pass};
 pub use snapshot::{Row, Snapshot};
 pub use step::{Counts, Reply, Step};
