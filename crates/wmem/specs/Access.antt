@@ -1,5 +1,6 @@
 -- What a load and a store do to a list of bytes (WebAssembly Core 1.0, 4.4.4).
-use Rattle.std.specs.Prelude.{◌≡◌, ℕ, ◌+◌, ◌-◌, ◌*◌, ◌^◌, ◌<◌, ◌≤◌, Bool, true, false, nat_lt, if◌then◌else◌, List, ◌++◌, length, take, drop, slice_range, Result, Ok, Err}
+use Rattle.std.specs.Prelude.{◌≡◌, ℕ, ◌+◌, ◌*◌, ◌<◌, ◌≤◌, Bool, true, false, List, ◌++◌, length, take, drop, slice_range, Result, Ok, Err}
+use Rattle.wnum.specs.Conversion.{extend_s, extend_u}
 use Rattle.wmem.specs.Bytes.{number_in}
 use Rattle.wmem.specs.declared.trap.Trap.{Trap}
 use Rattle.wmem.specs.declared.trap.Trap.TheVariants.{MemoryOutOfBounds}
@@ -36,14 +37,10 @@ byte_count Two = 2
 byte_count Four = 4
 byte_count Eight = 8
 
--- a number of `from` bits as one of `to` bits, with its sign kept (4.3.2, `extend_s`)
-abbrev pub extend_s : ℕ → ℕ → ℕ → ℕ
-extend_s from to number = if nat_lt number (2 ^ (from - 1)) then number else (number + (2 ^ to - 2 ^ from))
-
--- the same, or with zeros above it (4.3.2, `extend_u`)
+-- a number of `from` bits as one of `to` bits: with its sign kept, or with zeros above it
 abbrev pub extend : Bool → ℕ → ℕ → ℕ → ℕ
 extend true from to number = extend_s from to number
-extend false from to number = number
+extend false from to number = extend_u from to number
 
 -- what a reading gives at an address within the bytes
 abbrev pub value_read : Reading → List ℕ → ℕ → ℕ

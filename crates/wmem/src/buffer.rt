@@ -4,26 +4,37 @@ ghost use Rattle.wmem.specs.Access.{byte_count, with_bytes, reading_of, value_re
 ghost use Rattle.wmem.specs.Bytes.{bytes_of, number_in};
 
 use crate::access::{Load, Width};
+use crate::extension::{i32_extend8_s, i32_extend16_s, i64_extend8_s, i64_extend16_s};
 use byteorder::{ByteOrder, LittleEndian};
+use wnum::convert::extend_i32_s;
 
 /// What `load` gives at a place.
 #[inline(always)]
+#[tactic(auto, using(wnum::proofs::Arithmetic::extend_u_is))]
 pub fn read(bytes: &[u8], at: usize, load: Load) -> u64
     requires { at + (reading_of load).bytes ≤ length bytes.now }
     ensures value { result ≡ value_read (reading_of load) bytes.now at }
     ensures fits { result < 2 ^ (reading_of load).bits }
 {
     match load {
-        Load::I32Unsigned8 | Load::I64Unsigned8 => u64::from(bytes[at]),
-        Load::I32Signed8 => u64::from(i32::from(bytes[at].cast_signed()).cast_unsigned()),
-        Load::I64Signed8 => i64::from(bytes[at].cast_signed()).cast_unsigned(),
+        Load::I32Unsigned8 | Load::I64Unsigned8 => u64::from(one_at(bytes, at)),
+        Load::I32Signed8 => u64::from(i32_extend8_s(one_at(bytes, at))),
+        Load::I64Signed8 => i64_extend8_s(one_at(bytes, at)),
         Load::I32Unsigned16 | Load::I64Unsigned16 => u64::from(two_at(bytes, at)),
-        Load::I32Signed16 => u64::from(i32::from(two_at(bytes, at).cast_signed()).cast_unsigned()),
-        Load::I64Signed16 => i64::from(two_at(bytes, at).cast_signed()).cast_unsigned(),
+        Load::I32Signed16 => u64::from(i32_extend16_s(two_at(bytes, at))),
+        Load::I64Signed16 => i64_extend16_s(two_at(bytes, at)),
         Load::I32 | Load::I64Unsigned32 => u64::from(four_at(bytes, at)),
-        Load::I64Signed32 => i64::from(four_at(bytes, at).cast_signed()).cast_unsigned(),
+        Load::I64Signed32 => extend_i32_s(four_at(bytes, at)),
         Load::I64 => eight_at(bytes, at),
     }
+}
+
+#[inline(always)]
+fn one_at(bytes: &[u8], at: usize) -> u8
+    requires { at + 1 ≤ length bytes.now }
+    ensures { result ≡ number_in (take 1 (drop at bytes.now)) }
+{
+    bytes[at]
 }
 
 #[inline(always)]

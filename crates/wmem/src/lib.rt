@@ -5,6 +5,7 @@
 
 mod access;
 mod buffer;
+mod extension;
 mod laws;
 mod memory;
 mod noted;

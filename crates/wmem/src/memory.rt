@@ -167,6 +167,22 @@ impl Memory {
         self.tracked.touched()
     }
 
+    /// The bytes in use.
+    #[inline(always)]
+    pub fn bytes(&self) -> &[u8]
+        ensures { result.now ≡ self.now.bytes }
+    {
+        &self.tracked.bytes()[..self.len]
+    }
+
+    /// The image's bytes.
+    #[inline(always)]
+    pub fn image(&self) -> &[u8]
+        ensures { result.now ≡ self.now.image }
+    {
+        &self.tracked.image()[..self.image_len]
+    }
+
     #[inline(always)]
     fn byte_size(&self) -> usize
         ensures { result ≡ length self.now.bytes }

@@ -59,6 +59,14 @@ impl Tracked {
         &self.bytes
     }
 
+    /// The image's bytes.
+    #[inline(always)]
+    pub(crate) fn image(&self) -> &[u8]
+        ensures { result.now ≡ self.now.image }
+    {
+        &self.image
+    }
+
     /// How many pages are noted.
     pub(crate) fn touched(&self) -> usize
         ensures count { result ≡ count_by is_set self.now.noted.flags }

@@ -1,10 +1,11 @@
 -- Each operation answers a number of its type's bits, and each test and relation a number of 32 bits: what a crate above needs, since its values carry no tag.
-use Rattle.std.proofs.Common.{◌≡◌, ◌≢◌, ◌⊎◌, inl, inr, ℕ, ◌+◌, ◌-◌, ◌*◌, ◌/◌, ◌%◌, ◌^◌, ◌<◌, Bool, true, false, not, ◌==◌, nat_lt, nat_le, int_div, int_rem, int_lt, int_le, Ok, sym, ◌∙◌, subst, arith, lit<, lt_of_le_of_lt, mod-lt, pow_pos, div-le_self, SFits, of_z, to_z}
+use Rattle.std.proofs.Common.{◌≡◌, ◌≢◌, ◌⊎◌, inl, inr, ℕ, ◌+◌, ◌-◌, ◌*◌, ◌/◌, ◌%◌, ◌^◌, ◌<◌, ◌≤◌, Bool, true, false, not, ◌==◌, nat_lt, nat_le, int_div, int_rem, int_lt, int_le, Ok, sym, ◌∙◌, subst, arith, lit<, lt_of_le_of_lt, mod-lt, pow_pos, div-le_self, SFits, of_z, to_z}
 use Rattle.std.proofs.lemmas.Nat.{and_le_l, or_lt, xor_lt, leading_le, trailing_le, ones-le, shr_le}
 use Rattle.std.proofs.lemmas.Bool.{cases_eq}
 use Rattle.std.proofs.Math.Facts.{Fits-of_z, sfits_to_z, sfits_widen}
 use Rattle.std.specs.Int.{from_bool}
 use native.Mathlib.Nat.{mod-le}
+use lib.Dec.{le→leb}
 use lib.Signed.{mag_rem, mag_shr, shr_z}
 use mir.Syntax.{Width, w8, w16, w32, w64, w128}
 use mir.Val.{bits, hbits}
@@ -191,8 +192,8 @@ pub extend_u_lt : (i : ℕ) → i < 2 ^ 32 → extend_u 32 64 i < 2 ^ 64
 unfolding extend_u
 extend_u_lt i p = omega arith
 
-pub extend_s_lt : (i : ℕ) → i < 2 ^ 32 → extend_s 32 64 i < 2 ^ 64
-extend_s_lt i p =
-    let narrow : SFits w32 (to_z w32 i) = sfits_to_z (record { fits = p }) in
-    let wide : SFits w64 (to_z w32 i) = sfits_widen tt narrow in
-    rw (extend_s_is w32 w64 i p) (Fits-of_z wide).fits
+pub extend_s_lt : (v w : Width) (i : ℕ) → hbits v ≤ hbits w → i < 2 ^ bits v → extend_s (bits v) (bits w) i < 2 ^ bits w
+extend_s_lt v w i wider p =
+    let narrow : SFits v (to_z v i) = sfits_to_z (record { fits = p }) in
+    let wide : SFits w (to_z v i) = sfits_widen (le→leb (hbits v) (hbits w) wider) narrow in
+    rw (extend_s_is v w i p) (Fits-of_z wide).fits

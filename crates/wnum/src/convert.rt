@@ -12,6 +12,7 @@ pub fn wrap_i64(value: u64) -> u32
 }
 
 /// `i64.extend_i32_s`: the same signed number.
+#[inline(always)]
 pub fn extend_i32_s(value: u32) -> u64
     ensures { result ≡ extend_s 32 64 value }
 {
