@@ -1,8 +1,10 @@
--- Lists of open blocks, the innermost last.
-use Rattle.std.proofs.Common.{◌≡◌, List, [], ◌∷◌, ◌++◌, ◌-◌, ◌<◌, None, length, Result, Ok, Err, OnOk, reverse, refl, arith}
+-- Lists of open blocks, the innermost last, and what is kept of results.
+use Rattle.std.proofs.Common.{◌≡◌, List, [], ◌∷◌, ◌++◌, ◌-◌, ◌<◌, None, length, Result, Ok, Err, OnOk, reverse, refl, sym, ap, ◌∙◌, arith}
 use Rattle.std.specs.Prelude.{slice_get}
 use Rattle.std.proofs.lemmas.Option.{slice_get-get_or}
 use Rattle.std.proofs.lemmas.List.{reverse-append}
+use Rattle.wbody.specs.declared.stop.Stop.{Stop}
+use Rattle.wbody.specs.declared.stop.Stop.TheVariants as stops
 
 pub reverse-last : {A : Type 0} (xs : List A) (x : A) → reverse (xs ++ x ∷ []) ≡ x ∷ reverse xs
 reverse-last xs x = reverse-append xs (x ∷ [])
@@ -10,6 +12,10 @@ reverse-last xs x = reverse-append xs (x ∷ [])
 pub on_ok : {T E P Q : Type 0} (r : Result T E) → OnOk r P → (P → Q) → OnOk r Q
 on_ok (Ok v) p f = f p
 on_ok (Err e) p f = tt
+
+pub on_ok_3 : {T E P Q R S : Type 0} (r : Result T E) → OnOk r P → OnOk r Q → OnOk r R → (P → Q → R → S) → OnOk r S
+on_ok_3 (Ok v) p q x f = f p q x
+on_ok_3 (Err e) p q x f = tt
 
 pub on_ok_4 : {T E P Q R S U : Type 0} (r : Result T E) → OnOk r P → OnOk r Q → OnOk r R → OnOk r S → (P → Q → R → S → U) → OnOk r U
 on_ok_4 (Ok v) p q x y f = f p q x y
@@ -20,3 +26,8 @@ empty_of [] e = refl
 empty_of (x ∷ xs) e =
     let within : length (x ∷ xs) - 1 < length (x ∷ xs) = omega arith in
     let there = slice_get-get_or (x ∷ xs) (length (x ∷ xs) - 1) x within in absurd (cc (there, e))
+
+-- a `?` gives the fault on as it is
+pub stop_kept : {T U : Type 0} (r : Result T Stop) (u : Result U Stop) (f y : Stop) → r ≡ Err stops.Untyped → r ≡ Err y → y ≡ f → u ≡ Err f → u ≡ Err stops.Untyped
+stop_kept r u f y e is same was =
+    let untyped : y ≡ stops.Untyped = cc (e, is) in was ∙ ap (λ x. Err x) (sym same ∙ untyped)

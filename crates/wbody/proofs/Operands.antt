@@ -308,7 +308,7 @@ behind_type untyped s before after w f = absurd w.rule
 
 -- ---- a branch by an index
 
-all_carry : (c : Context) (types : Operands) (labels : List ℕ) → list_all (λ l. carries_these types (slice_get c.labels l)) labels ≡ true → AllByRecursion (λ l. slice_get c.labels l ≡ Some types) labels
+pub all_carry : (c : Context) (types : Operands) (labels : List ℕ) → list_all (λ l. carries_these types (slice_get c.labels l)) labels ≡ true → AllByRecursion (λ l. slice_get c.labels l ≡ Some types) labels
 all_carry c types [] e = tt
 all_carry c types (l ∷ ls) e =
     let b = both_true (carries_these types (slice_get c.labels l)) (list_all (λ l. carries_these types (slice_get c.labels l)) ls) e in
@@ -318,7 +318,7 @@ all_carry c types (l ∷ ls) e =
     these None types e = absurd (cc)
     these (Some us) types e = ap Some (same_types_are us types e)
 
-carry_all : (c : Context) (types : Operands) (labels : List ℕ) → AllByRecursion (λ l. slice_get c.labels l ≡ Some types) labels → list_all (λ l. carries_these types (slice_get c.labels l)) labels ≡ true
+pub carry_all : (c : Context) (types : Operands) (labels : List ℕ) → AllByRecursion (λ l. slice_get c.labels l ≡ Some types) labels → list_all (λ l. carries_these types (slice_get c.labels l)) labels ≡ true
 carry_all c types [] a = refl
 carry_all c types (l ∷ ls) a =
     and_true (carries_these types (slice_get c.labels l)) (list_all (λ l. carries_these types (slice_get c.labels l)) ls)

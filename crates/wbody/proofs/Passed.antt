@@ -1,5 +1,5 @@
 -- What is passed has a typing, and what has a typing is passed.
-use Rattle.std.proofs.Common.{◌≡◌, [], ◌∷◌, ◌++◌, true, Option, Some, None, refl, sym, ap, ◌∙◌, subst}
+use Rattle.std.proofs.Common.{◌≡◌, [], ◌∷◌, ◌++◌, true, false, Option, Some, None, refl, sym, ap, ◌∙◌, subst}
 use Rattle.std.specs.Prelude.{option_and_then}
 use Rattle.wcode.specs.declared.value.ValueType.TheVariants.{I32}
 use Rattle.wcode.specs.declared.value.BlockType.{BlockType}
@@ -209,3 +209,14 @@ body_typed e c s results is f =
 -- and one that has a typing is passed to its results
 pub body_passed : (e : Body) (c : Context) (results : Operands) → Typed c e [] results → PassedTo c e fresh results
 body_passed e c results t = passed_to e c fresh [] results t refl
+
+-- a body that isn't passed, or not to its results, has no typing
+pub none_passed : (e : Body) (c : Context) (results : Operands) → pass c e fresh ≡ None → Typed c e [] results → ⊥
+none_passed e c results none t = let p = body_passed e c results t in absurd (cc (p.is, none))
+
+pub others_passed : (e : Body) (c : Context) (s : Stack) (results : Operands) → pass c e fresh ≡ Some s → fits s results ≡ false → Typed c e [] results → ⊥
+others_passed e c s results is f t =
+    let p = body_passed e c results t in
+    let same : p.behind ≡ s = cc (p.is, is) in
+    let g : fits s results ≡ true = subst (λ (x : Stack). fits x results ≡ true) same p.fit in
+    absurd (cc (f, g))

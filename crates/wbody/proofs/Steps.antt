@@ -9,26 +9,29 @@ use Rattle.wcode.specs.declared.value.BlockType.TheVariants.{Empty, Result}
 use Rattle.wcode.specs.declared.instruction.Plain.{Plain}
 use Rattle.wcode.specs.declared.opcode.Opening.TheVariants as openings
 use Rattle.wcode.specs.Syntax.{Body, done, plain, block, loop, if_else, br_table}
-use Rattle.wcode.specs.Grammar.{one, opens, otherwise, end, table, SpellsWord, SpellsExpr}
+use Rattle.wcode.specs.Ended.{closing}
+use Rattle.wcode.proofs.Items.{first, first_spelled}
+use Rattle.wcode.specs.Grammar.{Word, one, opens, otherwise, end, table, SpellsWord, SpellsExpr}
 use Rattle.wbody.specs.declared.scope.Opened.{Opened}
 use Rattle.wbody.specs.declared.scope.Opened.TheVariants as opened
 use Rattle.wbody.specs.declared.scope.Level.{Level}
 use Rattle.wbody.specs.declared.operand_stack.OperandStack.{OperandStack}
 use Rattle.wbody.specs.Context.{Context, results_of, with_label}
-use Rattle.wbody.specs.Typing.{plain_type}
+use Rattle.wbody.specs.Typing.{plain_type, Typed}
 use Rattle.wbody.specs.Heights.{greatest_height, height_by}
 use Rattle.wbody.specs.Pass.{Stack, fresh, fits, given, taken, pass_type, table_type, closed, pass}
 use Rattle.wbody.specs.OperandStack.{stack_of, below_of, SameBlock}
 use Rattle.wbody.specs.Standing.{Open, inner_context, finish, outcome, second_peak, low_of, outer_peak, Layers, GoesOn, Stands}
 use Rattle.wbody.specs.Steps.{Opens, IsPassed}
-use Rattle.wbody.proofs.Passed.{body_typed}
+use Rattle.wbody.proofs.Passed.{body_typed, others_passed}
 use Rattle.wbody.proofs.Operands.{when_true, under}
 use Rattle.wbody.proofs.Lengths.{height_passed, length-take_types}
 use Rattle.wbody.proofs.Outcomes.{outcome_plain, outcome_plain_none, outcome_table, outcome_table_none, opened_block, opened_loop, opened_first, opened_second, outcome_block, outcome_loop, outcome_if, outcome_if_none, outcome_else, outcome_else_none, outcome_left, outcome_left_none}
+use Rattle.wbody.proofs.TableLabels.{table_unreached}
 use Rattle.wbody.proofs.Places.{plain_next, table_next, block_next, loop_next, if_next, ends_here, else_of, end_of}
 
 -- how many operands there are
-count_of : (s : OperandStack) → length s.items.items ≡ s.floor + length (stack_of s).operands
+pub count_of : (s : OperandStack) → length s.items.items ≡ s.floor + length (stack_of s).operands
 count_of s =
     let within : s.floor ≤ vec_len s.items = s.in_range in
     omega (arith, s.items.ok.0, length-reverse (drop s.floor s.items.items), length-drop s.floor s.items.items)
@@ -76,26 +79,29 @@ plain_stop c total peak final bytes more levels s p st w passes =
     st.typed ∙ ap (λ r. outcome c os r (stack_of s)) q.rest_is ∙ outcome_plain_none c os p q.next (stack_of s) (passes os st.layers)
 
 -- a branch by an index that is passed
-pub table_step : (c : Context) (total : Option Stack) (peak : ℕ) (final bytes more : List ℕ) (levels : List Level) (s n : OperandStack) (labels : List ℕ) (default : ℕ) → Stands c total peak final bytes levels s → SpellsWord bytes (table labels default) more → ((os : List Open) → Layers levels os (below_of s) → pass_type (table_type (inner_context c os) labels default) (stack_of s) ≡ Some (stack_of n)) → SameBlock s n → length n.items.items ≡ n.floor → n.greatest ≡ s.greatest → Stands c total peak final more levels n
-table_step c total peak final bytes more levels s n labels default st w passes same low greatest =
+pub table_step : (c : Context) (total : Option Stack) (peak : ℕ) (final bytes more : List ℕ) (levels : List Level) (s n : OperandStack) (labels : List ℕ) (default : ℕ) → Stands c total peak final bytes levels s → SpellsWord bytes (table labels default) more → ((os : List Open) → Layers levels os (below_of s) → pass_type (table_type (inner_context c os) labels default) (stack_of s) ≡ Some (stack_of n)) → SameBlock s n → n.greatest ≡ max s.greatest (vec_len n.items) → Stands c total peak final more levels n
+table_step c total peak final bytes more levels s n labels default st w passes same greatest =
     let os = st.blocks in
     let here = inner_context c os in
     let q = table_next os st.rest bytes final labels default more st.spelled w in
     let e = passes os st.layers in
     let len_s = length s.items.items in
     let len_n = length n.items.items in
+    let none : length (stack_of n).operands ≡ 0 = ap (λ (x : Stack). length x.operands) (table_unreached here labels default (stack_of s) (stack_of n) e) in
+    let low : len_n ≡ n.floor = omega (arith, count_of n, none) in
     let before : peak ≡ max s.greatest (max (max len_s (greatest_height here q.next s.floor s.floor)) (outer_peak c os)) =
     st.height ∙ ap (λ r. max s.greatest (max (greatest_height here r s.floor len_s) (outer_peak c os))) q.rest_is in
     let next_is : greatest_height here q.next s.floor s.floor ≡ greatest_height here q.next n.floor len_n =
     ap (λ f. greatest_height here q.next f f) (sym same.floor) ∙ ap (λ h. greatest_height here q.next n.floor h) (sym low) in
     let enough : vec_len s.items ≤ s.greatest = s.enough in
+    let within : s.floor ≤ vec_len s.items = s.in_range in
     record {
       blocks = os;
       rest = q.next;
       spelled = q.spelled;
       layers = subst (Layers levels os) (sym same.below) st.layers;
       typed = st.typed ∙ ap (λ r. outcome c os r (stack_of s)) q.rest_is ∙ outcome_table c os labels default q.next (stack_of s) (stack_of n) e;
-      height = omega (arith, before, next_is, enough, greatest, s.items.ok.0);
+      height = omega (arith, before, next_is, enough, within, low, same.floor, greatest, s.items.ok.0, n.items.ok.0);
     }
 
 pub table_stop : (c : Context) (total : Option Stack) (peak : ℕ) (final bytes more : List ℕ) (levels : List Level) (s : OperandStack) (labels : List ℕ) (default : ℕ) → Stands c total peak final bytes levels s → SpellsWord bytes (table labels default) more → ((os : List Open) → Layers levels os (below_of s) → pass_type (table_type (inner_context c os) labels default) (stack_of s) ≡ None) → total ≡ None
@@ -245,6 +251,11 @@ length_below s =
   where
     short : {A : Type 0} (n : ℕ) (xs : List A) → n ≤ length xs → length (take n xs) ≡ n
     short n xs h = omega (arith, length-take n xs)
+
+-- no block began above the innermost one
+pub level_within : (c : Context) (total : Option Stack) (peak : ℕ) (final bytes : List ℕ) (v : Level) (levels : List Level) (s : OperandStack) → Stands c total peak final bytes (v ∷ levels) s → v.floor ≤ s.floor
+level_within c total peak final bytes v levels s st =
+    let t = top_level c v levels s st.blocks st.layers in omega (arith, t.within, length_below s)
 
 -- an `else` behind a first arm that leaves the results: the second begins where the first did
 pub else_step : (c : Context) (total : Option Stack) (peak : ℕ) (final bytes more : List ℕ) (v v' : Level) (levels : List Level) (s n : OperandStack) → Stands c total peak final bytes (v ∷ levels) s → SpellsWord bytes otherwise more → v'.kind ≡ opened.Second → v'.block_type ≡ v.block_type → v'.floor ≡ v.floor → v'.reached ≡ v.reached → fits (stack_of s) (results_of v.block_type) ≡ true → stack_of n ≡ fresh → SameBlock s n → length n.items.items ≡ n.floor → n.greatest ≡ s.greatest → (v.kind ≡ opened.First) × Stands c total peak final more (v' ∷ levels) n
@@ -448,3 +459,15 @@ pub finished : (c : Context) (body : Body) (final bytes more : List ℕ) (s : Op
 finished c body final bytes more s t st w f =
     let e = last_step c (pass c body fresh) (greatest_height c body 0 0) final bytes more s st w in
     record { typed = body_typed body c (stack_of s) (results_of t) e.typed f; height = sym e.height }
+
+-- a word stands wherever the typing does
+pub word_here : (c : Context) (total : Option Stack) (peak : ℕ) (final bytes : List ℕ) (levels : List Level) (s : OperandStack) → Stands c total peak final bytes levels s → (w : Word) × (more : List ℕ) × SpellsWord bytes w more
+word_here c total peak final bytes levels s st =
+    let p = first_spelled (256 - length st.blocks) (closing st.spelled.by_else) bytes st.rest st.spelled.after st.spelled.here in
+    (first (closing st.spelled.by_else) st.rest, p.0, p.1)
+
+-- where a body ends without its results
+pub stopped : (c : Context) (body : Body) (final bytes more : List ℕ) (s : OperandStack) (t : BlockType) → Stands c (pass c body fresh) (greatest_height c body 0 0) final bytes [] s → SpellsWord bytes end more → fits (stack_of s) (results_of t) ≡ false → Typed c body [] (results_of t) → ⊥
+stopped c body final bytes more s t st w f =
+    let e = last_step c (pass c body fresh) (greatest_height c body 0 0) final bytes more s st w in
+    others_passed body c (stack_of s) (results_of t) e.typed f

@@ -1,5 +1,5 @@
 -- Only proofs need this: what the code's scopes and open blocks are seen as.
-use Rattle.std.specs.Prelude.{◌≡◌, List, [], ◌∷◌, ◌++◌, Option, Some, slice_get, option_map, map, reverse}
+use Rattle.std.specs.Prelude.{◌≡◌, ℕ, List, [], ◌∷◌, ◌++◌, Option, Some, slice_get, option_map, map, reverse}
 use Rattle.std.specs.Borrow.{Bor}
 use Rattle.std.specs.List.{AllByRecursion}
 use Rattle.wcode.specs.declared.value.ValueType.{ValueType}
@@ -51,6 +51,10 @@ carried_by l = carried l.kind (results_of l.block_type)
 -- what the labels of open blocks and of the body carry, the innermost first
 abbrev pub labels_of : List Level → Option ValueType → List Operands
 labels_of levels result = map carried_by (reverse levels) ++ at_most_one result ∷ []
+
+-- a branch to each of these labels carries this
+abbrev pub AllCarry : (carried : List Operands) → Operands → (labels : List ℕ) → Type 0
+AllCarry carried these labels = AllByRecursion (λ l. slice_get carried l ≡ Some these) labels
 
 -- which instructions name a local, a global, the memory, a label, or a function or type
 abbrev pub NamesLocal : Plain → Type 0

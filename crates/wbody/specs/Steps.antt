@@ -52,9 +52,9 @@ pub record Enters (kind : Opened) (type : BlockType) (old : List Level) (s : Ope
   pub opens : Opens s n level
 
 -- what a word's instruction does to where the typing stands: at the body's own `end` nothing, and no block is open
-abbrev pub OverOp : Scope → Op → (ended : Bool) → (old : List Level) → OperandStack → (new : List Level) → OperandStack → Type 0
-OverOp scope op true old s new n = (op ≡ ops.End) × (old ≡ []) × (n ≡ s)
-OverOp scope op false old s new n = (bytes : List ℕ) (w : Word) → Shows bytes op w → GoesOver scope w old s new n
+abbrev pub OverOp : Scope → (bytes : List ℕ) → Op → (ended : Bool) → (old : List Level) → OperandStack → (new : List Level) → OperandStack → Type 0
+OverOp scope bytes op true old s new n = (op ≡ ops.End) × (old ≡ []) × (n ≡ s)
+OverOp scope bytes op false old s new n = (w : Word) → Shows bytes op w → GoesOver scope w old s new n
 
 -- a body has a typing to these results, and these are the most operands in it
 pub record IsPassed (c : Context) (body : Body) (results : BlockType) (greatest : ℕ) : Type 0 where

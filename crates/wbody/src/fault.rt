@@ -9,8 +9,8 @@ use thiserror::Error;
 #[derive(Clone, Copy, PartialEq, Eq, Debug, Error)]
 pub enum TypeFault {
     /// A body without a typing, with the index of its function, or else a rule of the module that is broken. An index
-    /// counts the imported functions first; while every import is refused there are none. The place isn't told yet: it
-    /// is 0.
+    /// counts the imported functions first; `type_body` tells that among the bodies. The place is that of the first
+    /// instruction at which the body's bytes up to there have no typing: of a missing `else` the `end`; 0 for a rule.
     #[error("{} {}", self.number(), self.name())]
     Untyped {
         function: Option<usize>,

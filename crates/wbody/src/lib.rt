@@ -8,11 +8,14 @@ mod notes;
 mod operand_stack;
 mod scope;
 mod stop;
+mod table;
+mod trail;
 mod words;
 
-pub use body::type_body;
+pub use body::{imports_functions, type_body};
 pub use fault::TypeFault;
-pub use notes::{BranchNote, Notes};
+pub use notes::{BranchNote, BranchNotes, Notes};
+pub use trail::{Branch, Label};
 
 #[cfg(test)]
 mod tests;

@@ -44,6 +44,13 @@ impl OperandStack {
         self.floor
     }
 
+    // How many there are, also those of the blocks around.
+    pub fn height(&self) -> usize
+        ensures { result ≡ vec_len self.now.items }
+    {
+        self.items.len()
+    }
+
     // Whether the place is reached.
     pub fn is_reached(&self) -> bool
         ensures { result ≡ self.now.reached }

@@ -1,16 +1,18 @@
 // What the instructions of a body can refer to.
 
-ghost use Rattle.std.specs.Prelude.{◌≡◌, ℕ, ◌+◌, ◌^◌, ◌<◌, ◌≤◌, [], ◌∷◌, ◌++◌, map, option_map, option_and_then, slice_get, length, Some, None};
+ghost use Rattle.std.specs.Prelude.{◌≡◌, ℕ, ◌+◌, ◌^◌, ◌<◌, ◌≤◌, [], ◌∷◌, ◌++◌, map, option_map, option_and_then, slice_get, length, nat_le, Some, None, IfOk};
 ghost use Rattle.wcode.specs.Operators.{load_bytes, store_bytes};
 ghost use Rattle.wbin.specs.Syntax.{signature_of, locals_of};
 ghost use Rattle.wbody.specs.Context.{Context, at_most_one, results_of};
 ghost use Rattle.wbody.specs.Typing.{PlainType, takes_gives, only_where, plain_type, function_at, is_aligned, is_in_range};
 ghost use Rattle.wbody.specs.Effect.{effect_type};
+ghost use Rattle.wbody.specs.LocalEnds.{ends_of};
 ghost use Rattle.wcode.specs.declared.instruction.Plain.TheVariants as plains;
 ghost use Rattle.wcode.specs.Operators.{type_of};
 ghost use Rattle.std.specs.Prelude.{reverse};
 
 use crate::operand_stack::Effect;
+use std::alloc::{AllocError, Global};
 use wbin::{FunctionType, GlobalType, GlobalVariable, Import, ImportKind, LocalRun};
 use wcode::{BlockType, CvtOp, MemArg, Plain, Value, ValueType};
 
@@ -111,8 +113,8 @@ pub fn moves<'a>(
     }
 }
 
-// The types that the instructions of a body name by an index.
-#[derive(Clone, Copy)]
+// The types that the instructions of a body name by an index, and where each run of locals ends.
+#[derive(Drop)]
 pub struct Scope<'a> {
     pub types: &'a [FunctionType],
     pub imports: &'a [Import],
@@ -122,13 +124,31 @@ pub struct Scope<'a> {
     pub has_memory: bool,
     pub parameters: &'a [ValueType],
     pub locals: &'a [LocalRun],
+    pub ends: &'a [u64],
     pub result: Option<ValueType>,
+    pub ghost counted: { ends.now ≡ ends_of locals.now },
+}
+
+// Past every index.
+const MOST_END: u64 = 4_294_967_296;
+
+// Where each of these runs ends, counted from the first local.
+pub fn run_ends(alloc: Global, runs: &[LocalRun]) -> Result<Vec<u64>, AllocError>
+    ensures { IfOk result (λ ends. ends.items ≡ ends_of runs.now) }
+{
+    let mut ends = Vec::with_capacity(alloc, runs.len())?;
+    let mut end = 0;
+    for run in runs {
+        end = (end + run.count as u64).min(MOST_END);
+        ends.push(end)?;
+    }
+    Ok(ends)
 }
 
 impl<'a> Scope<'a> {
     ghost use Rattle.wbody.specs.Scope.{IsScope, labels_of, type_found};
 
-    // The type of a local.
+    // The type of a local: the run that has it is found by halving.
     pub fn local(&self, index: u32) -> Option<ValueType>
         ensures { result ≡ slice_get (self.now.parameters.now ++ locals_of self.now.locals.now) index }
     {
@@ -136,15 +156,16 @@ impl<'a> Scope<'a> {
         if let Some(t) = self.parameters.get(place) {
             return Some(*t);
         }
-        let mut past = place - self.parameters.len();
-        'runs: for run in self.locals {
-            let count = run.count as usize;
-            if past < count {
-                return Some(run.value);
-            }
-            past -= count;
+        let past = (place - self.parameters.len()) as u64;
+        let run = self.ends.partition_point(
+            |end: &u64| -> bool
+                ensures { result ≡ nat_le end.now past }
+            { *end <= past },
+        );
+        match self.locals.get(run) {
+            Some(found) => Some(found.value),
+            None => None,
         }
-        None
     }
 
     // The type of a global.

@@ -2,9 +2,12 @@
 
 ghost use Rattle.wbody.specs.declared.scope.Scope.{Scope as TheScope};
 ghost use Rattle.std.specs.Prelude.{◌≡◌, ◌≤◌, [], ◌∷◌, ◌++◌, List, MatchBool, OnOk};
-ghost use Rattle.wcode.specs.Grammar.{one, opens, otherwise, end};
+ghost use Rattle.wcode.specs.Grammar.{Word, one, opens, otherwise, end};
+ghost use Rattle.wcode.specs.Shown.{Shows};
+ghost use Rattle.wcode.specs.declared.instruction.Op.TheVariants as ops;
 ghost use Rattle.wcode.specs.declared.opcode.Opening.TheVariants as openings;
 ghost use Rattle.wbody.specs.Steps.{GoesOver, StopsAt, Enters};
+ghost use Rattle.wbody.specs.Trail.{Moves};
 ghost use Rattle.wbody.specs.declared.scope.Opened.TheVariants as opened;
 ghost use Rattle.wcode.specs.declared.value.BlockType.TheVariants as blocks;
 ghost use Rattle.wcode.specs.declared.value.ValueType.{ValueType as TheType};
@@ -13,6 +16,7 @@ use crate::effect::effect_of;
 use crate::operand_stack::OperandStack;
 use crate::scope::{Level, Opened, Scope};
 use crate::stop::Stop;
+use crate::table::table_effect;
 use smallvec::SmallVec;
 use wcode::{BlockType, Plain, ValueType};
 
@@ -24,9 +28,27 @@ pub fn pass_plain(
     plain: Plain,
 ) -> Result<(), Stop>
     ensures ok { OnOk result (GoesOver scope.now (one plain) levels.now stack.old levels.now stack.new) }
+    ensures moves { OnOk result (Moves scope.now (ops.Plain plain) levels.now stack.old levels.now stack.new) }
     ensures err { result ≡ Err Stop.Untyped → StopsAt scope.now (one plain) levels.now stack.old }
 {
     stack.apply(effect_of(scope, levels, plain))
+}
+
+// Over a branch by an index, so many labels of which stand there, and then its default.
+pub fn pass_table(
+    stack: &mut OperandStack,
+    levels: &[Level],
+    scope: &Scope<'_>,
+    bytes: &[u8],
+    count: u32,
+    labels_at: usize,
+) -> Result<(), Stop>
+    requires { (w : Word) × Shows bytes.now (ops.BrTable count labels_at) w }
+    ensures ok { OnOk result ((w : Word) → Shows bytes.now (ops.BrTable count labels_at) w → GoesOver scope.now w levels.now stack.old levels.now stack.new) }
+    ensures moves { OnOk result (Moves scope.now (ops.BrTable count labels_at) levels.now stack.old levels.now stack.new) }
+    ensures err { result ≡ Err Stop.Untyped → (w : Word) → Shows bytes.now (ops.BrTable count labels_at) w → StopsAt scope.now w levels.now stack.old }
+{
+    stack.apply(table_effect(scope, levels, bytes, count, labels_at))
 }
 
 // Into a block.
@@ -59,6 +81,7 @@ pub fn pass_block(
     block_type: BlockType,
 ) -> Result<(), Stop>
     ensures ok { OnOk result ((scope : TheScope) → GoesOver scope (opens openings.Block block_type) levels.old.items stack.old levels.new.items stack.new) }
+    ensures moves { OnOk result ((scope : TheScope) → Moves scope (ops.Block block_type) levels.old.items stack.old levels.new.items stack.new) }
     ensures err { result ≡ Err Stop.Untyped → ⊥ }
 {
     enter(stack, levels, Opened::Block, block_type)
@@ -70,6 +93,7 @@ pub fn pass_loop(
     block_type: BlockType,
 ) -> Result<(), Stop>
     ensures ok { OnOk result ((scope : TheScope) → GoesOver scope (opens openings.Loop block_type) levels.old.items stack.old levels.new.items stack.new) }
+    ensures moves { OnOk result ((scope : TheScope) → Moves scope (ops.Loop block_type) levels.old.items stack.old levels.new.items stack.new) }
     ensures err { result ≡ Err Stop.Untyped → ⊥ }
 {
     enter(stack, levels, Opened::Loop, block_type)
@@ -82,6 +106,7 @@ pub fn pass_if(
     block_type: BlockType,
 ) -> Result<(), Stop>
     ensures ok { OnOk result ((scope : TheScope) → GoesOver scope (opens openings.If block_type) levels.old.items stack.old levels.new.items stack.new) }
+    ensures moves { OnOk result ((scope : TheScope) → Moves scope (ops.If block_type) levels.old.items stack.old levels.new.items stack.new) }
     ensures err { result ≡ Err Stop.Untyped → (scope : TheScope) → StopsAt scope (opens openings.If block_type) levels.old.items stack.old }
 {
     stack.take(ValueType::I32)?;
@@ -91,6 +116,7 @@ pub fn pass_if(
 // Over an `else`, inside the first arm of an `if`.
 pub fn pass_else(stack: &mut OperandStack, levels: &mut SmallVec<Level, 16>) -> Result<(), Stop>
     ensures ok { OnOk result ((scope : TheScope) → GoesOver scope otherwise levels.old.items stack.old levels.new.items stack.new) }
+    ensures moves { OnOk result ((scope : TheScope) → Moves scope ops.Else levels.old.items stack.old levels.new.items stack.new) }
     ensures err { result ≡ Err Stop.Untyped → (scope : TheScope) → StopsAt scope otherwise levels.old.items stack.old }
 {
     let Some(level) = levels.pop() else {
@@ -126,6 +152,7 @@ fn lacks_else(level: Level) -> bool
 pub fn pass_end(stack: &mut OperandStack, level: Level) -> Result<(), Stop>
     requires { level.floor ≤ stack.old.floor }
     ensures ok { OnOk result ((scope : TheScope) → (levels : List Level) → GoesOver scope end (levels ++ level ∷ []) stack.old levels stack.new) }
+    ensures moves { OnOk result ((scope : TheScope) → (levels : List Level) → Moves scope ops.End (levels ++ level ∷ []) stack.old levels stack.new) }
     ensures err { result ≡ Err Stop.Untyped → (scope : TheScope) → (levels : List Level) → StopsAt scope end (levels ++ level ∷ []) stack.old }
 {
     if lacks_else(level) {

@@ -1,17 +1,17 @@
 -- The types of the functions of a module, where two functions alone can be imported.
-use Rattle.std.proofs.Common.{◌≡◌, ℕ, zero, suc, ◌+◌, ◌-◌, ◌<◌, ◌≤◌, List, [], ◌∷◌, ◌++◌, Option, Some, None, length, map, get_or, refl, sym, ap, ◌∙◌, subst, arith}
+use Rattle.std.proofs.Common.{◌≡◌, ℕ, zero, suc, ◌+◌, ◌-◌, ◌<◌, ◌≤◌, List, [], ◌∷◌, ◌++◌, Option, Some, None, length, map, get_or, refl, sym, ap, ◌∙◌, arith}
 use Rattle.std.specs.Prelude.{slice_get, option_map, is_some, IfSome, nat_lt}
 use Rattle.std.specs.Option.{option_copied}
 use Rattle.std.specs.Borrow.{Bor}
 use Rattle.std.proofs.lemmas.Bool.Decides.{nat_tests}
 use Rattle.wtype.proofs.Each.{at_place}
-use Rattle.std.specs.List.{AllByRecursion, zip}
+use Rattle.std.specs.List.{AllByRecursion}
 use Rattle.std.proofs.lemmas.List.{length-map}
 use Rattle.std.proofs.lemmas.Option.{slice_get-map, slice_get-get_or, slice_get_past}
 use Rattle.wbin.specs.declared.module.Import.{Import}
 use Rattle.wbin.specs.declared.module.ImportKind.{ImportKind}
 use Rattle.wbin.specs.declared.module.ImportKind.TheVariants as imported
-use Rattle.wbin.specs.Syntax.{Signature, FunctionSyntax, Code, ImportSyntax, ModuleSyntax, ModuleParts, module_of, function_with, functions_with, import_of, code_in}
+use Rattle.wbin.specs.Syntax.{Signature, FunctionSyntax, Code, ImportSyntax, ModuleSyntax, ModuleParts, module_of, functions_with, import_of, code_in}
 use Rattle.wbody.specs.Context.{imported_function, imported_functions, function_types}
 use Rattle.wtype.specs.Accepted.{ImportAllowed, ImportsRight, IsImportOf, host_type}
 

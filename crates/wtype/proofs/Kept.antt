@@ -1,12 +1,9 @@
 -- What was found of a module's tables is what its rules say.
-use Rattle.std.proofs.Common.{◌≡◌, ℕ, zero, suc, ◌+◌, ◌<◌, ◌≤◌, List, [], ◌∷◌, Bool, true, false, Option, Some, None, length, map, get_or, refl, sym, ap, ◌∙◌, subst, arith}
-use Rattle.std.specs.Prelude.{IsSome, slice_get, option_map}
+use Rattle.std.proofs.Common.{◌≡◌, ℕ, zero, suc, ◌<◌, List, [], ◌∷◌, Bool, true, false, Some, length, map, refl, sym, ap, ◌∙◌, subst, arith}
+use Rattle.std.specs.Prelude.{IsSome, slice_get}
 use Rattle.std.specs.Bool.{MatchBool}
-use Rattle.std.specs.List.{AllByRecursion, zip}
-use Rattle.std.proofs.lemmas.List.{length-map}
-use Rattle.std.proofs.lemmas.Option.{slice_get-map, slice_get-get_or}
-use Rattle.wbin.specs.declared.module.FunctionCode.{FunctionCode}
-use Rattle.wbin.specs.Syntax.{Signature, FunctionSyntax, Code, ModuleParts, module_of, function_with, functions_with, code_in}
+use Rattle.std.specs.List.{AllByRecursion}
+use Rattle.wbin.specs.Syntax.{Signature, FunctionSyntax, Code, function_with, functions_with}
 use Rattle.wtype.proofs.Each.{all_mapped, all_unmapped}
 
 -- a test of one fact is one of another that says the same

@@ -1,18 +1,18 @@
 -- What was found of the bodies, one by one.
-use Rattle.std.proofs.Common.{◌≡◌, ◌≢◌, ℕ, zero, suc, ◌+◌, ◌<◌, ◌≤◌, List, [], ◌∷◌, ◌++◌, Bool, true, false, Option, Some, None, Result, Ok, Err, length, map, get_or, refl, sym, ap, ◌∙◌, subst, arith}
-use Rattle.std.specs.Prelude.{IfSome, IsSome, slice_get, option_map, is_ok, is_err, if◌then◌else◌}
+use Rattle.std.proofs.Common.{◌≡◌, ℕ, zero, suc, ◌+◌, ◌<◌, ◌≤◌, List, [], ◌∷◌, ◌++◌, Bool, false, Option, Some, None, Result, Ok, Err, length, map, get_or, refl, sym, ap, ◌∙◌, subst, arith}
+use Rattle.std.specs.Prelude.{IfSome, slice_get, option_map, is_ok, is_err, if◌then◌else◌}
 use Rattle.std.specs.Bool.{MatchBool}
 use Rattle.std.specs.List.{AllByRecursion}
 use Rattle.std.proofs.lemmas.List.{length-map}
 use Rattle.std.proofs.lemmas.Option.{slice_get-map, slice_get-get_or, slice_get_within}
-use Rattle.wcode.specs.declared.value.ValueType.{ValueType}
 use Rattle.wbin.specs.declared.module.FunctionCode.{FunctionCode}
-use Rattle.wbin.specs.Syntax.{Signature, FunctionSyntax, Code, ModuleSyntax, ModuleParts, module_of, function_with, functions_with, code_in}
+use Rattle.wbin.specs.declared.module.ImportKind.{ImportKind}
+use Rattle.wbin.specs.declared.module.ImportKind.TheVariants as imported
+use Rattle.wbin.specs.Syntax.{Signature, ImportSyntax, FunctionSyntax, Code, ModuleSyntax, ModuleParts, module_of, function_with, code_in}
 use Rattle.wbody.specs.declared.notes.Notes.{Notes}
-use Rattle.wbody.specs.Context.{at_most_one, body_context}
-use Rattle.wbody.specs.Typing.{Typed}
-use Rattle.wbody.specs.BodyTyped.{BodyTyped}
-use Rattle.wtype.specs.Accepted.{ImportsRight, FunctionTyped, FunctionSmall, RulesKept, ModuleTyped, slots_of, most_slots}
+use Rattle.wbody.specs.BodyTyped.{BodyTyped, NoTyping}
+use Rattle.wbody.specs.Scope.{IsFunctionImport}
+use Rattle.wtype.specs.Accepted.{Accepted, ImportAllowed, IsImportOf, host_type, ImportsRight, FunctionTyped, FunctionSmall, RulesKept, ModuleTyped, slots_of, most_slots}
 use Rattle.wtype.specs.CheckedModule.{NotesAgree}
 use Rattle.wbody.specs.declared.fault.TypeFault.{TypeFault}
 use Rattle.wbody.specs.declared.fault.TypeFault.TheVariants.{Untyped, BadImport, BadExport, OverLimit, NoMemory}
@@ -62,20 +62,21 @@ with_last P (z ∷ xs) x each last zero y e = each 0 y e
 with_last P (z ∷ xs) x each last (suc k) y e = with_last (λ n. P (suc n)) xs x (λ n. each (suc n)) last k y e
 
 -- a body that is typed
-pub function_typed : (m : ModuleSyntax) (k : ℕ) (f : FunctionSyntax) (n : Notes) → slice_get m.functions k ≡ Some f → BodyTyped m k n → FunctionTyped m f
-function_typed m k f n is typed =
+pub function_typed : (p : ModuleParts) (k : ℕ) (f : FunctionSyntax) (n : Notes) → slice_get (module_of p).functions k ≡ Some f → BodyTyped p k n → FunctionTyped (module_of p) f
+function_typed p k f n is typed =
     let f_is : typed.function ≡ f = cc (typed.function_is, is) in
-    subst (FunctionTyped m) f_is (record { type = typed.type; type_is = typed.type_is; body = typed.typed })
+    subst (FunctionTyped (module_of p)) f_is (record { type = typed.type; type_is = typed.type_is; body = typed.typed })
 
 -- bodies that are typed
-pub all_typed : (m : ModuleSyntax) (notes : List Notes) → NotesAgree m notes → AllByRecursion (FunctionTyped m) m.functions
-all_typed m notes agree =
+pub all_typed : (p : ModuleParts) (notes : List Notes) → NotesAgree p notes → AllByRecursion (FunctionTyped (module_of p)) (module_of p).functions
+all_typed p notes agree =
+    let m = module_of p in
     all_from (FunctionTyped m) m.functions (λ k f is.
     (let within : k < length m.functions = slice_get_within m.functions k f is in
-    let a = some_at notes k (omega (arith, agree.count)) in function_typed m k f a.element is (agree.each k a.element a.is)))
+    let a = some_at notes k (omega (arith, agree.count)) in function_typed p k f a.element is (agree.each k a.element a.is)))
 
-pub module_typed : (m : ModuleSyntax) (notes : List Notes) → RulesKept m → NotesAgree m notes → ModuleTyped m
-module_typed m notes rules agree = record { rules = rules; functions = all_typed m notes agree }
+pub module_typed : (p : ModuleParts) (notes : List Notes) → RulesKept (module_of p) → NotesAgree p notes → ModuleTyped (module_of p)
+module_typed p notes rules agree = record { rules = rules; functions = all_typed p notes agree }
 
 -- a function that has a type is small enough where so many slots are
 pub some_small : (m : ModuleSyntax) (f : FunctionSyntax) (type : Signature) → slice_get m.types f.signature ≡ Some type → slots_of m type f ≤ most_slots → FunctionSmall m f
@@ -85,8 +86,9 @@ pub small_some : (m : ModuleSyntax) (f : FunctionSyntax) (type : Signature) → 
 small_some m f type is small = subst (λ o. IfSome o (λ t. slots_of m t f ≤ most_slots)) is small
 
 -- the function at a place, whose body has these notes, is small enough where its slots are few
-pub size_tested : (m : ModuleSyntax) (k : ℕ) (n : Notes) (b : Bool) → BodyTyped m k n → ((f : FunctionSyntax) (type : Signature) → slice_get m.functions k ≡ Some f → slice_get m.types f.signature ≡ Some type → MatchBool b (length type.parameters + length f.locals + n.greatest_height ≤ most_slots) (length type.parameters + length f.locals + n.greatest_height ≤ most_slots → ⊥)) → (f : FunctionSyntax) → slice_get m.functions k ≡ Some f → MatchBool b (FunctionSmall m f) (FunctionSmall m f → ⊥)
-size_tested m k n b typed test f is =
+pub size_tested : (p : ModuleParts) (k : ℕ) (n : Notes) (b : Bool) → BodyTyped p k n → ((f : FunctionSyntax) (type : Signature) → slice_get (module_of p).functions k ≡ Some f → slice_get (module_of p).types f.signature ≡ Some type → MatchBool b (length type.parameters + length f.locals + n.greatest_height ≤ most_slots) (length type.parameters + length f.locals + n.greatest_height ≤ most_slots → ⊥)) → (f : FunctionSyntax) → slice_get (module_of p).functions k ≡ Some f → MatchBool b (FunctionSmall (module_of p) f) (FunctionSmall (module_of p) f → ⊥)
+size_tested p k n b typed test f is =
+    let m = module_of p in
     let f_is : typed.function ≡ f = cc (typed.function_is, is) in
     let g = typed.function in
     let t = typed.type in
@@ -112,9 +114,35 @@ resized b n o l k g e f h =
     same_test b h (λ few. omega arith) (λ few. omega arith)
 
 -- the fault of a body, told with an index
-pub told : (m : ModuleSyntax) (fault result : TypeFault) (index : ℕ) → IsOfBody fault → ((function : Option ℕ) (place : ℕ) → fault ≡ Untyped function place → result ≡ Untyped (Some index) place) → (fault ≡ NoMemory → result ≡ NoMemory) → ImportsRight m → (fault ≢ NoMemory → WhyUntyped m (Some index)) → WhyRefused m result
-told m (Untyped function place) result index of_body untyped same imports why = subst (WhyRefused m) (sym (untyped function place refl)) (imports, why (λ e. absurd (cc)))
+pub told : (m : ModuleSyntax) (fault result : TypeFault) (index : ℕ) → IsOfBody fault → ((function : Option ℕ) (place : ℕ) → fault ≡ Untyped function place → result ≡ Untyped (Some index) place) → (fault ≡ NoMemory → result ≡ NoMemory) → ImportsRight m → ((function : Option ℕ) (place : ℕ) → fault ≡ Untyped function place → WhyUntyped m (Some index)) → WhyRefused m result
+told m (Untyped function place) result index of_body untyped same imports why = subst (WhyRefused m) (sym (untyped function place refl)) (imports, why function place refl)
 told m BadImport result index of_body untyped same imports why = absurd of_body
 told m BadExport result index of_body untyped same imports why = absurd of_body
 told m OverLimit result index of_body untyped same imports why = absurd of_body
 told m NoMemory result index of_body untyped same imports why = subst (WhyRefused m) (sym (same refl)) tt
+
+-- the two functions are functions
+pub functions_imported : (m : ModuleSyntax) (is : List ImportSyntax) → AllByRecursion (ImportAllowed m) is → AllByRecursion (λ (i : ImportSyntax). IsFunctionImport i.kind) is
+functions_imported m [] all = tt
+functions_imported m (i ∷ is) all = (one i.kind all.0.typed, functions_imported m is all.1)
+  where
+    one : (kind : ImportKind) → IsImportOf m host_type kind → IsFunctionImport kind
+    one (imported.Function t) h = tt
+    one (imported.Table l) h = absurd h
+    one (imported.Memory l) h = absurd h
+    one (imported.Global t) h = absurd h
+
+-- a body without a typing isn't typed
+pub not_typed : (m : ModuleSyntax) (k : ℕ) (f : FunctionSyntax) → slice_get m.functions k ≡ Some f → NoTyping m k → FunctionTyped m f → ⊥
+not_typed m k f is none typed = none f typed.type is typed.type_is typed.body
+
+-- a module that is accepted is refused for want of memory alone
+pub accepted_told : (m : ModuleSyntax) (fault : TypeFault) → WhyRefused m fault → Accepted m → fault ≡ NoMemory
+accepted_told m (Untyped None place) why all = let u : WhyUntyped m None = why.1 in absurd (u all.typed.rules)
+accepted_told m (Untyped (Some index) place) why all =
+    let u : WhyUntyped m (Some index) = why.1 in
+    absurd (u.1.untyped (at_place (FunctionTyped m) m.functions u.1.place u.1.function u.1.function_is all.typed.functions))
+accepted_told m BadImport why all = absurd (why all.imports)
+accepted_told m BadExport why all = absurd (why.2 all.exports)
+accepted_told m OverLimit why all = absurd (why.3 all.small)
+accepted_told m NoMemory why all = refl

@@ -5,13 +5,13 @@ use Rattle.wbody.specs.declared.fault.TypeFault.{TypeFault}
 use Rattle.wbody.specs.declared.fault.TypeFault.TheVariants.{Untyped, BadImport, BadExport, OverLimit, NoMemory}
 use Rattle.wtype.specs.Accepted.{ImportsRight, RulesKept, FunctionTyped, ModuleTyped, ExportsRight, ModuleSmall}
 
--- The function with this index, where imported functions count first: each body before it has a typing. That its own has
--- none isn't said yet, since `type_body` doesn't.
+-- The function with this index, where imported functions count first, is the first whose body has no typing.
 pub record FirstUntyped (m : ModuleSyntax) (index : ℕ) : Type 0 where
   pub place : ℕ
   pub counted : index ≡ length m.imports + place
   pub function : FunctionSyntax
   pub function_is : slice_get m.functions place ≡ Some function
+  pub untyped : FunctionTyped m function → ⊥
   pub before : (earlier : ℕ) (f : FunctionSyntax) → earlier < place → slice_get m.functions earlier ≡ Some f → FunctionTyped m f
 
 -- a rule that is broken, or a function

@@ -28,7 +28,7 @@ fn of_function(fault: TypeFault, index: usize) -> TypeFault
 pub fn type_bodies(alloc: Global, decoded: &Module) -> Result<Vec<Notes>, TypeFault>
     requires imports { ImportsRight (module_of decoded.now) }
     requires rules { RulesKept (module_of decoded.now) }
-    ensures typed { IfOk result (λ notes. NotesAgree (module_of decoded.now) notes.items) }
+    ensures typed { IfOk result (λ notes. NotesAgree decoded.now notes.items) }
     ensures many { IfOk result (λ notes. vec_len notes ≡ vec_len decoded.now.tables.codes) }
     ensures refused { IfErr result (WhyRefused (module_of decoded.now)) }
 {

@@ -38,7 +38,7 @@ impl Model for Checked {
 
     ghost view = { λ c. record { content = c.module; notes = c.notes.items } };
 
-    ghost invariant = { λ c. Accepted (module_of c.module) × NotesAgree (module_of c.module) c.notes.items × (c.called.filter ≡ index_named filter_name (module_of c.module)) × (c.called.score ≡ index_named score_name (module_of c.module)) };
+    ghost invariant = { λ c. Accepted (module_of c.module) × NotesAgree c.module c.notes.items × (c.called.filter ≡ index_named filter_name (module_of c.module)) × (c.called.score ≡ index_named score_name (module_of c.module)) };
 }
 
 impl Checked {
@@ -53,7 +53,7 @@ impl Checked {
     /// The notes of the bodies, in the order of the functions.
     pub fn notes(&self) -> &[Notes]
         ensures value { result.now ≡ self.now.notes }
-        ensures agree { NotesAgree (module_of self.now.content) result.now }
+        ensures agree { NotesAgree self.now.content result.now }
     {
         self.notes.as_slice()
     }
@@ -78,8 +78,9 @@ impl Checked {
 pub fn validate(alloc: Global, decoded: Module) -> Result<Checked, TypeFault>
     ensures ok { IfOk result (λ checked. checked.content ≡ decoded) }
     ensures accepted { IfOk result (λ checked. Accepted (module_of decoded)) }
-    ensures notes { IfOk result (λ checked. NotesAgree (module_of decoded) checked.notes) }
+    ensures notes { IfOk result (λ checked. NotesAgree decoded checked.notes) }
     ensures refused { IfErr result (WhyRefused (module_of decoded)) }
+    ensures whole { Accepted (module_of decoded) → IfErr result (λ fault. fault ≡ TypeFault.NoMemory) }
 {
     if !imports_right(&decoded) {
         return Err(TypeFault::BadImport);

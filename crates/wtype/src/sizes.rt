@@ -66,7 +66,7 @@ fn function_small(decoded: &Module, place: usize, greatest: usize) -> bool
 
 // Each function is small enough.
 fn functions_small(decoded: &Module, notes: &[Notes]) -> bool
-    requires agree { NotesAgree (module_of decoded.now) notes.now }
+    requires agree { NotesAgree decoded.now notes.now }
     requires many { length notes.now ≡ vec_len decoded.now.tables.codes }
     ensures { MatchBool result (AllByRecursion (FunctionSmall (module_of decoded.now)) (module_of decoded.now).functions) (AllByRecursion (FunctionSmall (module_of decoded.now)) (module_of decoded.now).functions → ⊥) }
 {
@@ -80,7 +80,7 @@ fn functions_small(decoded: &Module, notes: &[Notes]) -> bool
 
 /// Nothing is larger than it may be, where these are the notes of the bodies.
 pub fn is_small(decoded: &Module, notes: &[Notes]) -> bool
-    requires agree { NotesAgree (module_of decoded.now) notes.now }
+    requires agree { NotesAgree decoded.now notes.now }
     requires many { length notes.now ≡ vec_len decoded.now.tables.codes }
     ensures { MatchBool result (ModuleSmall (module_of decoded.now)) (ModuleSmall (module_of decoded.now) → ⊥) }
 {

@@ -93,7 +93,30 @@ const UNTYPED: TypeFault = TypeFault::Untyped {
 
 const UNTYPED_SECOND: TypeFault = TypeFault::Untyped {
     function: Some(1),
-    place: 0,
+    place: 57,
+};
+
+// Bodies without a typing: one whose `if` lacks an `else`, the same behind a branch, and a sum of nothing.
+const LACKS_ELSE: &[u8] = b"\x0A\x0B\x01\x09\x00\x41\x01\x04\x7F\x41\x00\x0B\x0B";
+
+const LACKS_ELSE_BEHIND_A_BRANCH: &[u8] =
+    b"\x0A\x0D\x01\x0B\x00\x41\x00\x0C\x00\x04\x7F\x41\x00\x0B\x0B";
+
+const SUM_OF_NOTHING: &[u8] = b"\x0A\x05\x01\x03\x00\x6A\x0B";
+
+const UNTYPED_AT_42: TypeFault = TypeFault::Untyped {
+    function: Some(0),
+    place: 42,
+};
+
+const UNTYPED_AT_44: TypeFault = TypeFault::Untyped {
+    function: Some(0),
+    place: 44,
+};
+
+const UNTYPED_AT_36: TypeFault = TypeFault::Untyped {
+    function: Some(0),
+    place: 36,
 };
 
 // A module's sections, and its fault, if it has one.
@@ -102,7 +125,7 @@ struct Row {
     fault: Option<TypeFault>,
 }
 
-const ROWS: [Row; 24] = [
+const ROWS: [Row; 27] = [
     Row {
         sections: &[GIVES_I32, FUNCTION, FILTER, ZERO],
         fault: None,
@@ -218,6 +241,18 @@ const ROWS: [Row; 24] = [
             EMPTY,
         ],
         fault: Some(UNTYPED_SECOND),
+    },
+    Row {
+        sections: &[GIVES_I32, FUNCTION, FILTER, LACKS_ELSE],
+        fault: Some(UNTYPED_AT_42),
+    },
+    Row {
+        sections: &[GIVES_I32, FUNCTION, FILTER, LACKS_ELSE_BEHIND_A_BRANCH],
+        fault: Some(UNTYPED_AT_44),
+    },
+    Row {
+        sections: &[GIVES_I32, FUNCTION, FILTER, SUM_OF_NOTHING],
+        fault: Some(UNTYPED_AT_36),
     },
 ];
 

@@ -29,3 +29,9 @@ returns-in-Ok-clause-ok c scope c' total peak final front more base st w =
     let new_is = ap (λ (l : List Level). reverse l) c.in-Ok.ensures.ok ∙ reverse-last rest v' in
     subst (λ (l : List Level). Stands c' total peak final more l c.restart.new.self) (sym new_is)
     ((else_step c' total peak final front more v v' (reverse rest) s c.restart.new.self (subst (λ (l : List Level). Stands c' total peak final front l s) is st) w refl refl refl refl r.ok r.stack r.same r.len r.greatest).1)
+
+pub returns-in-Ok-clause-moves : goal.returns-in-Ok-clause-moves
+returns-in-Ok-clause-moves c scope =
+    let r = c.in_ok-restart.ensures in
+    let n = c.restart.new.self in
+    (c.in-Some.level, c.pop.new.self.items, c.in-Some.ensures.items, c.in-Ok.ensures.ok, r.same.floor, n.items.ok.0 ∙ r.len ∙ r.same.floor)

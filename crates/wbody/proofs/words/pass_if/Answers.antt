@@ -5,6 +5,7 @@ use Rattle.wbody.specs.declared.scope.Level.{Level}
 use Rattle.wbody.specs.Standing.{Stands}
 use Rattle.wbody.proofs.LevelLists.{reverse-last, on_ok}
 use Rattle.wbody.proofs.Steps.{if_step, if_stop}
+use Rattle.wbody.proofs.NotedMoves.{if_entered}
 use Rattle.wbody.proofs.words.pass_if.Goals as goal
 
 pub returns-in_err-take-clause-err : goal.returns-in_err-take-clause-err
@@ -20,3 +21,7 @@ returns-clause-ok c =
     let levels_are = ap (λ (l : List Level). reverse l) e.new_is ∙ reverse-last old e.level in
     subst (λ (l : List Level). Stands c' total peak final more l n) (sym levels_are)
     (if_step c' total peak final front more (reverse old) c.args.stack.now low n e.level st (subst (λ t. SpellsWord front (opens openings.If t) more) (sym e.type_is) w) e.kind_is c.in_ok-take.ensures.ok c.in_ok-take.ensures.same c.in_ok-take.ensures.greatest e.opens))
+
+pub returns-clause-moves : goal.returns-clause-moves
+returns-clause-moves c =
+    on_ok c.enter.result c.enter.ensures.ok (λ e scope. if_entered c.args.block_type c.args.levels.now.items c.enter.new.levels.items c.args.stack.now c.take.new.self c.enter.new.stack c.in_ok-take.ensures.ok c.in_ok-take.ensures.same e)

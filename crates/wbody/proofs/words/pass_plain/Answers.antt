@@ -1,15 +1,14 @@
-use Rattle.std.proofs.Common.{Result, Ok, Err, OnOk, reverse, sym, ap, ◌∙◌}
+use Rattle.std.proofs.Common.{reverse, refl, sym, ap, ◌∙◌}
 use Rattle.wbody.specs.Typing.{PlainType}
 use Rattle.wbody.specs.Pass.{pass_type}
+use Rattle.wbody.specs.Effect.{effect_type}
 use Rattle.wbody.specs.OperandStack.{stack_of}
 use Rattle.wbody.specs.Standing.{inner_context}
 use Rattle.wbody.proofs.Inside.{scope_inside, base_labels}
+use Rattle.wbody.proofs.LevelLists.{on_ok_3}
 use Rattle.wbody.proofs.Steps.{plain_step, plain_stop}
+use Rattle.wbody.proofs.NotedMoves.{effect_moves}
 use Rattle.wbody.proofs.words.pass_plain.Goals as goal
-
-on_ok_3 : {T E P Q R S : Type 0} (r : Result T E) → OnOk r P → OnOk r Q → OnOk r R → (P → Q → R → S) → OnOk r S
-on_ok_3 (Ok v) p q x f = f p q x
-on_ok_3 (Err e) p q x f = tt
 
 pub returns-clause-ok : goal.returns-clause-ok
 returns-clause-ok c =
@@ -28,3 +27,10 @@ returns-clause-err c e c' total peak final front more base st w =
     (λ os layers.
     ap (λ (t : PlainType). pass_type t (stack_of s)) (sym (c.effect_of.ensures (inner_context c' os) (scope_inside c.args.scope.now c' os base.0) (base_labels c.args.scope.now c' c.args.levels.now os _ base layers)))
     ∙ c.apply.ensures.err e)
+
+pub returns-clause-moves : goal.returns-clause-moves
+returns-clause-moves c =
+    let a = c.apply.ensures in
+    let s = c.args.stack.now in
+    on_ok_3 c.apply.result a.ok a.same a.greatest (λ ok same greatest.
+    (refl, same.floor, record { made = c.effect_of.result; is = effect_moves s c.apply.new.self (effect_type c.effect_of.result) ok same; type = c.effect_of.ensures }))

@@ -1,4 +1,4 @@
-use Rattle.std.proofs.Common.{◌≡◌, ap, ◌∙◌}
+use Rattle.std.proofs.Common.{ap, ◌∙◌}
 use Rattle.wbin.specs.declared.module.Tables.{Tables}
 use Rattle.wbin.specs.Syntax.{module_of, data_in}
 use Rattle.wtype.specs.Accepted.{DataTyped}
