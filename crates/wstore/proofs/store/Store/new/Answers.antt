@@ -1,0 +1,42 @@
+use Rattle.std.proofs.Common.{◌≡◌, ◌∙◌, ℕ, map, ap, subst}
+use Rattle.std.specs.Arc.{arc_value}
+use Rattle.wmem.specs.Memory.{new_memory}
+use Rattle.wbin.specs.declared.module.Tables.{Tables}
+use Rattle.wbin.specs.Syntax.{ModuleParts, module_of}
+use Rattle.wtype.specs.CheckedModule.{CheckedModule}
+use Rattle.wtype.specs.Accepted.{Accepted}
+use Rattle.wstore.specs.Store.{least_of, cap_of, first_table}
+use Rattle.wstore.specs.Words.{first_word_of}
+use Rattle.wstore.proofs.Changes.{IsFirst, first_sound, first_view}
+use Rattle.wstore.proofs.store.Store.new.Goals as goal
+
+made : (c : goal.In_ok-table) → IsFirst (record { checked = c.args.checked; memory = c.in_ok-memory.memory; globals = c.in_ok-globals.globals; table = c.in_ok-table.table })
+made c =
+    let p : ModuleParts = (arc_value c.args.checked).content in
+    let module_is : c.module-module.result.now ≡ p = c.module-module.ensures.value ∙ ap (λ (k : CheckedModule). k.content) c.deref.ensures in
+    let tables_are : c.tables-tables.result.now ≡ p.tables = c.tables-tables.ensures.tables ∙ ap (λ (m : ModuleParts). m.tables) module_is in
+    let memories_are : c.as_slice-memories.result.now ≡ p.tables.memories.items = c.as_slice-memories.ensures.value ∙ ap (λ (t : Tables). t.memories.items) tables_are in
+    let globals_are : c.as_slice.result.now ≡ p.tables.globals.items = c.as_slice.ensures.value ∙ ap (λ (t : Tables). t.globals.items) tables_are in
+    let elements_are : c.as_slice-2.result.now ≡ p.tables.tables.items = c.as_slice-2.ensures.value ∙ ap (λ (t : Tables). t.tables.items) tables_are in
+    let words_are : c.in_ok-words.words.items ≡ map (first_word_of p.bytes) p.tables.globals.items =
+    c.in_ok-words.ensures
+    ∙ ap (λ (m : ModuleParts). map (first_word_of m.bytes) c.as_slice.result.now) module_is
+    ∙ ap (map (first_word_of p.bytes)) globals_are in
+    let none : c.in_ok-empty_table.field-0.items ≡ first_table p.tables.tables.items = c.in_ok-empty_table.ensures ∙ ap first_table elements_are in
+    record {
+      accepted = subst (λ (k : CheckedModule). Accepted (module_of k.content)) c.deref.ensures c.module-module.ensures.accepted;
+      memory =
+          c.in_ok-memory.ensures
+          ∙ ap (λ (n : ℕ). new_memory n c.cap.result) (c.least.ensures ∙ ap least_of memories_are)
+          ∙ ap (λ (n : ℕ). new_memory (least_of p.tables.memories.items) n) (c.cap.ensures ∙ ap cap_of memories_are);
+      globals = c.in_ok-globals.ensures.places ∙ words_are;
+      globals_image = c.in_ok-globals.ensures.image ∙ words_are;
+      table = c.in_ok-table.ensures.places ∙ none;
+      table_image = c.in_ok-table.ensures.image ∙ none;
+    }
+
+pub invariant_of-result : goal.invariant_of-result
+invariant_of-result c = first_sound _ (made c)
+
+pub returns : goal.returns
+returns c = first_view _ (made c)

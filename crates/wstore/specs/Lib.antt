@@ -1,0 +1,8 @@
+pub mod Values
+pub mod Store
+pub mod Fits
+pub mod Segments
+pub mod State
+pub mod Kept
+pub mod Words
+pub mod Inside
