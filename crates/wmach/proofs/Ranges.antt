@@ -36,7 +36,7 @@ pub const_in_range : (v : Value) → is_in_range v ≡ true → InRange v
 const_in_range (value.I32 n) e = ltb-true n (2 ^ 32) e
 const_in_range (value.I64 n) e = ltb-true n (2 ^ 64) e
 
-only_true : (b : Bool) (type : PlainType) (takes gives : Operands) → TypeAllows (only_where b type) takes gives → b ≡ true
+pub only_true : (b : Bool) (type : PlainType) (takes gives : Operands) → TypeAllows (only_where b type) takes gives → b ≡ true
 only_true true type takes gives t = refl
 only_true false type takes gives t = absurd t
 

@@ -102,7 +102,7 @@ kept_two t values go are k =
     (λ second others second_is others_are. kept_one t others (λ first below. go first second below) others_are (λ first below first_is below_are. k first second below first_is second_is below_are))
 
 -- a memory that fits has no more than the most pages
-pages_small : (ls : List Limits) (bytes : List ℕ) → MemoryFits ls bytes → pages_in bytes < 2 ^ 32
+pub pages_small : (ls : List Limits) (bytes : List ℕ) → MemoryFits ls bytes → pages_in bytes < 2 ^ 32
 pages_small [] bytes fits = let none : pages_in bytes ≡ 0 = ap pages_in fits in omega (arith, none)
 pages_small (l ∷ ls) bytes fits =
     let pages : pages_in bytes ≡ fits.0 = ap (λ n. n / page_size) fits.1 ∙ mul-div_cancel (fits.0) (omega arith) in

@@ -55,7 +55,7 @@ within_most None n le = (le, tt)
 within_most (Some greatest) n le = (omega (arith, le), omega (arith, le))
 
 -- a grown memory
-grown : (ls : List Limits) (bytes : List ℕ) (delta : ℕ) → MemoryFits ls bytes → pages_in bytes + delta ≤ cap_of ls → is_there ls ≡ true → MemoryFits ls (bytes ++ zeros (page_size * delta))
+pub grown : (ls : List Limits) (bytes : List ℕ) (delta : ℕ) → MemoryFits ls bytes → pages_in bytes + delta ≤ cap_of ls → is_there ls ≡ true → MemoryFits ls (bytes ++ zeros (page_size * delta))
 grown [] bytes delta fits within there = absurd (cc)
 grown (l ∷ ls) bytes delta fits within there =
     let pages : pages_in bytes ≡ fits.0 = ap (λ n. n / page_size) fits.1 ∙ mul-div_cancel (fits.0) (omega arith) in

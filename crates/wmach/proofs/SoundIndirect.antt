@@ -55,7 +55,7 @@ same_signature-true t u e =
     ap (λ ps. signature_of ps t.result) takes ∙ ap (λ r. signature_of u.parameters r) gives
 
 -- what a table holds is a function's index
-element_within : (m : ModuleSyntax) (ls : List Limits) (elements : List (Option ℕ)) (i function : ℕ) → TableFits m ls elements → slice_get elements i ≡ Some (Some function) → function < length (function_types m)
+pub element_within : (m : ModuleSyntax) (ls : List Limits) (elements : List (Option ℕ)) (i function : ℕ) → TableFits m ls elements → slice_get elements i ≡ Some (Some function) → function < length (function_types m)
 element_within m [] elements i function fits is =
     let none : slice_get {X = Option ℕ} [] i ≡ Some (Some function) = ap (λ l. slice_get l i) (sym fits) ∙ is in absurd (cc)
 element_within m (l ∷ ls) elements i function fits is =

@@ -21,7 +21,7 @@ use Rattle.wmach.proofs.TypedExecution.{inner_context}
 use Rattle.wmach.proofs.Sound.{StoreTyped, Sound, to_values}
 
 -- a global's type, from its kind
-value_kind : (o : Option GlobalSyntax) (g : GlobalType) → option_map (λ (s : GlobalSyntax). s.kind) o ≡ Some g → option_map (λ (s : GlobalSyntax). s.kind.value) o ≡ Some g.value
+pub value_kind : (o : Option GlobalSyntax) (g : GlobalType) → option_map (λ (s : GlobalSyntax). s.kind) o ≡ Some g → option_map (λ (s : GlobalSyntax). s.kind.value) o ≡ Some g.value
 value_kind None g e = absurd (cc)
 value_kind (Some s) g e = let same : s.kind ≡ g = cc in ap (λ (k : GlobalType). Some k.value) same
 

@@ -1,5 +1,5 @@
 -- The memory instructions (WebAssembly Core 1.0, 4.4.4).
-use Rattle.std.specs.Prelude.{ℕ, ◌+◌, ◌-◌, ◌*◌, ◌^◌, List, [], ◌∷◌, ◌++◌, Option, Some, None, length, min, nat_le, if◌then◌else◌}
+use Rattle.std.specs.Prelude.{ℕ, ◌+◌, ◌-◌, ◌*◌, ◌^◌, List, ◌∷◌, ◌++◌, Option, None, length, nat_le, if◌then◌else◌}
 use Rattle.wcode.specs.declared.value.ValueType.TheVariants as types
 use Rattle.wcode.specs.declared.value.Value.{Value}
 use Rattle.wcode.specs.declared.value.Value.TheVariants as value
@@ -17,13 +17,13 @@ use Rattle.wmem.specs.declared.access.Width.{Width}
 use Rattle.wmem.specs.declared.access.Width.TheVariants.{One, Two, Four, Eight}
 use Rattle.wmem.specs.Bytes.{bytes_of}
 use Rattle.wmem.specs.Access.{reading_of, byte_count, value_read, with_bytes}
-use Rattle.wmem.specs.Memory.{page_size, most_pages, pages_in, zeros}
-use Rattle.wbin.specs.declared.module.Limits.{Limits}
+use Rattle.wmem.specs.Memory.{page_size, pages_in, zeros}
 use Rattle.wbin.specs.Syntax.{ModuleSyntax}
 use Rattle.wbody.specs.Context.{is_there}
 use Rattle.wmach.specs.declared.outcome.Trap.TheVariants.{MemoryOutOfBounds}
 use Rattle.wmach.specs.Configuration.{Store, instructions, trap, Reduction, leads_to}
 use Rattle.wmach.specs.Operands.{value_of, with_one}
+pub use Rattle.wstore.specs.Store.{most_of, cap_of}
 
 -- the memory's load for an instruction's
 abbrev pub load_of : LoadOp → Load
@@ -55,15 +55,6 @@ stored_bytes op number = bytes_of (byte_count (stored_width op)) number
 -- this reduction, in a module that has a memory
 abbrev pub with_memory : ModuleSyntax → Option Reduction → Option Reduction
 with_memory m on = if is_there m.memories then on else None
-
--- The most pages that a memory of these limits grows to: what is declared, and no more than there may be.
-abbrev pub most_of : Option ℕ → ℕ
-most_of None = most_pages
-most_of (Some most) = min most most_pages
-
-abbrev pub cap_of : List Limits → ℕ
-cap_of [] = 0
-cap_of (l ∷ ls) = most_of l.most
 
 -- what memory.grow answers where it fails: -1
 abbrev pub minus_one : ℕ

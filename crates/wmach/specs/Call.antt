@@ -1,22 +1,19 @@
 -- What is called of a module, the laws of all calls, and what a machine is seen as.
-use Rattle.std.specs.Prelude.{◌≡◌, ℕ, ◌*◌, ◌<◌, ◌≤◌, List, [], ◌∷◌, Option, Some, None, IfSome, option_map, map, replicate}
+use Rattle.std.specs.Prelude.{◌≡◌, ℕ, ◌<◌, ◌≤◌, List, Option, Some, None, IfSome, option_map}
 use Rattle.std.specs.List.{AllByRecursion}
 use Rattle.wcode.specs.declared.value.ValueType.{ValueType}
 use Rattle.wcode.specs.declared.value.ValueType.TheVariants.{I32, I64}
-use Rattle.wcode.specs.declared.value.Value.{Value}
-use Rattle.wcode.specs.declared.instruction.Plain.TheVariants.{Const}
 use Rattle.wcode.specs.Operators.{type_of}
-use Rattle.wcode.specs.Syntax.{Body, done, plain}
-use Rattle.wbin.specs.declared.module.Limits.{Limits}
-use Rattle.wbin.specs.Syntax.{GlobalSyntax, ModuleSyntax, ModuleParts, module_of}
+use Rattle.wbin.specs.Syntax.{ModuleSyntax, ModuleParts, module_of}
 use Rattle.wtype.specs.Accepted.{Accepted, export_named, filter_name, score_name}
 use Rattle.wmach.specs.declared.export.Export.{Export}
 use Rattle.wmach.specs.declared.export.Export.TheVariants.{Filter, Score, Start}
 use Rattle.wmach.specs.declared.outcome.Outcome.{Outcome}
 use Rattle.wmach.specs.declared.outcome.Outcome.TheVariants as outcome
 use Rattle.wmach.specs.Configuration.{Store, Setting, Configuration}
-use Rattle.wmach.specs.Operands.{value_of, InRange}
-use Rattle.wmem.specs.Memory.{page_size}
+use Rattle.wmach.specs.Operands.{InRange}
+pub use Rattle.wstore.specs.Values.{first_value}
+pub use Rattle.wstore.specs.Store.{first_memory, first_table, first_store}
 use Rattle.wmach.specs.Fits.{StoreFits}
 use Rattle.wmach.specs.Outcome.{Chain, Stuck, call_of, cost_of, HasOutcome}
 
@@ -121,28 +118,6 @@ pub record Calls (before : MachineState) (export : Export) (records : ℕ → Op
   pub function : ℕ
   pub function_is : called_function (module_of before.content) export ≡ Some function
   pub ends : HasOutcome (record { module_syntax = module_of before.content; records = records_for export records }) before.store function fuel outcome after.store
-
--- the value of a constant expression, and else zero
-abbrev pub first_value : Body → ValueType → Value
-first_value (plain (Const v) done) t = v
-first_value _ t = value_of t 0
-
--- bytes of a memory of so many pages at first, if there is one
-abbrev pub first_memory : List Limits → List ℕ
-first_memory [] = []
-first_memory (l ∷ ls) = replicate (l.least * page_size) 0
-
-abbrev pub first_table : List Limits → List (Option ℕ)
-first_table [] = []
-first_table (l ∷ ls) = replicate l.least None
-
--- The store of a module at first: a memory of zeros, the globals at their constants, an empty table (4.5.3).
-abbrev pub first_store : ModuleSyntax → Store
-first_store m = record {
-  memory = first_memory m.memories;
-  globals = map (λ (g : GlobalSyntax). first_value g.first g.kind.value) m.globals;
-  table = first_table m.tables;
-}
 
 -- The first store of an accepted module fits it.
 abbrev pub FirstStoreFits : Type 0

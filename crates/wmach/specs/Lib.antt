@@ -11,3 +11,6 @@ pub mod Fits
 pub mod Outcome
 pub mod Call
 pub mod Trap
+pub mod OpenLabels
+pub mod InPlace
+pub mod Machine

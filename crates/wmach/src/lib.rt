@@ -5,6 +5,7 @@
 //! reductions end. The laws are functions that do nothing and promise what the rules keep.
 #![tactic(auto)]
 
+mod activation;
 mod export;
 mod host;
 mod laws;

@@ -1,0 +1,5 @@
+pub mod Bits
+pub mod Steps
+pub mod Reached
+pub mod Places
+pub mod Invoked

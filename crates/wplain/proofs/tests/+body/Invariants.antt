@@ -1,0 +1,4 @@
+use Rattle.wplain.proofs.tests.+body.Given as goal
+
+abbrev pub decreases-body : goal.decreases-body
+decreases-body l = l.room

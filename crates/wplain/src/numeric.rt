@@ -1,0 +1,267 @@
+// The numeric instructions (WebAssembly Core 1.0, 4.4.1), by the operations of `wnum`.
+
+ghost use Rattle.std.specs.Prelude.{◌≡◌, ◌∷◌, Ok, Err, IfOk, IfSome};
+ghost use Rattle.wcode.specs.Operators.{type_of};
+ghost use Rattle.wcode.specs.declared.value.Value.TheVariants as value;
+ghost use Rattle.wmach.specs.Operands.{value_of, width_of};
+ghost use Rattle.wmach.specs.Numeric.{unary_gives, binary_gives, test_gives, relation_gives, converted_from, converted_to, conversion_gives, trap_where as trap_of, reduce_unary, reduce_binary, reduce_test, reduce_relation, reduce_convert};
+ghost use Rattle.wplain.specs.Done.{bits, typed_result, DoneBy};
+
+use crate::values::{pop, pop_any, push};
+use std::alloc::AllocError;
+use wcode::{BinOp, CvtOp, RelOp, TestOp, UnOp, Value, ValueType};
+use wmach::Trap;
+use wnum::{convert as conversions, int32, int64};
+
+/// What an instruction did that works on operands alone: it gave up, left these operands, or is cut off.
+#[derive(Clone, Copy, PartialEq, Eq, Debug)]
+pub enum Worked {
+    GaveUp,
+    Values,
+    Cut(Trap),
+}
+
+fn unary32(op: UnOp, a: u32) -> u32
+    ensures { result ≡ unary_gives op 32 a }
+{
+    match op {
+        UnOp::Clz => int32::clz(a),
+        UnOp::Ctz => int32::ctz(a),
+        UnOp::Popcnt => int32::popcnt(a),
+    }
+}
+
+fn binary32(op: BinOp, a: u32, b: u32) -> Result<u32, wnum::Trap>
+    ensures { result ≡ binary_gives op 32 a b }
+{
+    match op {
+        BinOp::Add => Ok(int32::add(a, b)),
+        BinOp::Sub => Ok(int32::sub(a, b)),
+        BinOp::Mul => Ok(int32::mul(a, b)),
+        BinOp::DivS => int32::div_s(a, b),
+        BinOp::DivU => int32::div_u(a, b),
+        BinOp::RemS => int32::rem_s(a, b),
+        BinOp::RemU => int32::rem_u(a, b),
+        BinOp::And => Ok(int32::and(a, b)),
+        BinOp::Or => Ok(int32::or(a, b)),
+        BinOp::Xor => Ok(int32::xor(a, b)),
+        BinOp::Shl => Ok(int32::shl(a, b)),
+        BinOp::ShrS => Ok(int32::shr_s(a, b)),
+        BinOp::ShrU => Ok(int32::shr_u(a, b)),
+        BinOp::Rotl => Ok(int32::rotl(a, b)),
+        BinOp::Rotr => Ok(int32::rotr(a, b)),
+    }
+}
+
+fn relation32(op: RelOp, a: u32, b: u32) -> u32
+    ensures { result ≡ relation_gives op 32 a b }
+{
+    match op {
+        RelOp::Eq => int32::eq(a, b),
+        RelOp::Ne => int32::ne(a, b),
+        RelOp::LtS => int32::lt_s(a, b),
+        RelOp::LtU => int32::lt_u(a, b),
+        RelOp::GtS => int32::gt_s(a, b),
+        RelOp::GtU => int32::gt_u(a, b),
+        RelOp::LeS => int32::le_s(a, b),
+        RelOp::LeU => int32::le_u(a, b),
+        RelOp::GeS => int32::ge_s(a, b),
+        RelOp::GeU => int32::ge_u(a, b),
+    }
+}
+
+fn unary64(op: UnOp, a: u64) -> u64
+    ensures { result ≡ unary_gives op 64 a }
+{
+    match op {
+        UnOp::Clz => int64::clz(a),
+        UnOp::Ctz => int64::ctz(a),
+        UnOp::Popcnt => int64::popcnt(a),
+    }
+}
+
+fn binary64(op: BinOp, a: u64, b: u64) -> Result<u64, wnum::Trap>
+    ensures { result ≡ binary_gives op 64 a b }
+{
+    match op {
+        BinOp::Add => Ok(int64::add(a, b)),
+        BinOp::Sub => Ok(int64::sub(a, b)),
+        BinOp::Mul => Ok(int64::mul(a, b)),
+        BinOp::DivS => int64::div_s(a, b),
+        BinOp::DivU => int64::div_u(a, b),
+        BinOp::RemS => int64::rem_s(a, b),
+        BinOp::RemU => int64::rem_u(a, b),
+        BinOp::And => Ok(int64::and(a, b)),
+        BinOp::Or => Ok(int64::or(a, b)),
+        BinOp::Xor => Ok(int64::xor(a, b)),
+        BinOp::Shl => Ok(int64::shl(a, b)),
+        BinOp::ShrS => Ok(int64::shr_s(a, b)),
+        BinOp::ShrU => Ok(int64::shr_u(a, b)),
+        BinOp::Rotl => Ok(int64::rotl(a, b)),
+        BinOp::Rotr => Ok(int64::rotr(a, b)),
+    }
+}
+
+fn relation64(op: RelOp, a: u64, b: u64) -> u64
+    ensures { result ≡ relation_gives op 64 a b }
+{
+    match op {
+        RelOp::Eq => int64::eq(a, b),
+        RelOp::Ne => int64::ne(a, b),
+        RelOp::LtS => int64::lt_s(a, b),
+        RelOp::LtU => int64::lt_u(a, b),
+        RelOp::GtS => int64::gt_s(a, b),
+        RelOp::GtU => int64::gt_u(a, b),
+        RelOp::LeS => int64::le_s(a, b),
+        RelOp::LeU => int64::le_u(a, b),
+        RelOp::GeS => int64::ge_s(a, b),
+        RelOp::GeU => int64::ge_u(a, b),
+    }
+}
+
+// The operands are of one type.
+fn binary_of(op: BinOp, a: Value, b: Value) -> Option<Result<Value, wnum::Trap>>
+    ensures typed { IfSome result (λ r. type_of a ≡ type_of b) }
+    ensures value { IfSome result (λ r. r ≡ typed_result (type_of a) (binary_gives op (width_of (type_of a)) (bits a) (bits b))) }
+{
+    match (a, b) {
+        (Value::I32(a), Value::I32(b)) => match binary32(op, a, b) {
+            Ok(n) => Some(Ok(Value::I32(n))),
+            Err(trap) => Some(Err(trap)),
+        },
+        (Value::I64(a), Value::I64(b)) => match binary64(op, a, b) {
+            Ok(n) => Some(Ok(Value::I64(n))),
+            Err(trap) => Some(Err(trap)),
+        },
+        _ => None,
+    }
+}
+
+// t.binop
+pub fn binary(values: &mut Vec<Value>, t: ValueType, op: BinOp) -> Result<Worked, AllocError>
+    ensures { IfOk result (DoneBy (λ store locals values rest. reduce_binary store locals values t op rest) values.old.items values.new.items) }
+{
+    let Some(second) = pop(values, t) else {
+        return Ok(Worked::GaveUp);
+    };
+    let Some(first) = pop(values, t) else {
+        return Ok(Worked::GaveUp);
+    };
+    match binary_of(op, first, second) {
+        Some(Ok(v)) => {
+            push(values, v)?;
+            Ok(Worked::Values)
+        }
+        Some(Err(undefined)) => Ok(Worked::Cut(trap_where(undefined))),
+        None => Ok(Worked::GaveUp),
+    }
+}
+
+fn trap_where(undefined: wnum::Trap) -> Trap
+    ensures { result ≡ trap_of undefined }
+{
+    match undefined {
+        wnum::Trap::DivideByZero => Trap::DivideByZero,
+        wnum::Trap::IntegerOverflow => Trap::IntegerOverflow,
+    }
+}
+
+fn unary_of(op: UnOp, a: Value) -> Value
+    ensures { result ≡ value_of (type_of a) (unary_gives op (width_of (type_of a)) (bits a)) }
+{
+    match a {
+        Value::I32(a) => Value::I32(unary32(op, a)),
+        Value::I64(a) => Value::I64(unary64(op, a)),
+    }
+}
+
+// t.unop
+pub fn unary(values: &mut Vec<Value>, t: ValueType, op: UnOp) -> Result<Worked, AllocError>
+    ensures { IfOk result (DoneBy (λ store locals values rest. reduce_unary store locals values t op rest) values.old.items values.new.items) }
+{
+    let Some(a) = pop(values, t) else {
+        return Ok(Worked::GaveUp);
+    };
+    push(values, unary_of(op, a))?;
+    Ok(Worked::Values)
+}
+
+fn test_of(op: TestOp, a: Value) -> Value
+    ensures { result ≡ value.I32 (test_gives op (width_of (type_of a)) (bits a)) }
+{
+    match (op, a) {
+        (TestOp::Eqz, Value::I32(a)) => Value::I32(int32::eqz(a)),
+        (TestOp::Eqz, Value::I64(a)) => Value::I32(int64::eqz(a) as u32),
+    }
+}
+
+// t.testop
+pub fn test(values: &mut Vec<Value>, t: ValueType, op: TestOp) -> Result<Worked, AllocError>
+    ensures { IfOk result (DoneBy (λ store locals values rest. reduce_test store locals values t op rest) values.old.items values.new.items) }
+{
+    let Some(a) = pop(values, t) else {
+        return Ok(Worked::GaveUp);
+    };
+    push(values, test_of(op, a))?;
+    Ok(Worked::Values)
+}
+
+// The operands are of one type.
+fn relation_of(op: RelOp, a: Value, b: Value) -> Option<Value>
+    ensures typed { IfSome result (λ v. type_of a ≡ type_of b) }
+    ensures value { IfSome result (λ v. v ≡ value.I32 (relation_gives op (width_of (type_of a)) (bits a) (bits b))) }
+{
+    match (a, b) {
+        (Value::I32(a), Value::I32(b)) => Some(Value::I32(relation32(op, a, b))),
+        (Value::I64(a), Value::I64(b)) => Some(Value::I32(relation64(op, a, b) as u32)),
+        _ => None,
+    }
+}
+
+// t.relop
+pub fn relation(values: &mut Vec<Value>, t: ValueType, op: RelOp) -> Result<Worked, AllocError>
+    ensures { IfOk result (DoneBy (λ store locals values rest. reduce_relation store locals values t op rest) values.old.items values.new.items) }
+{
+    let Some(second) = pop(values, t) else {
+        return Ok(Worked::GaveUp);
+    };
+    let Some(first) = pop(values, t) else {
+        return Ok(Worked::GaveUp);
+    };
+    match relation_of(op, first, second) {
+        Some(v) => {
+            push(values, v)?;
+            Ok(Worked::Values)
+        }
+        None => Ok(Worked::GaveUp),
+    }
+}
+
+// The operand is of the type that the conversion takes.
+fn converted(op: CvtOp, a: Value) -> Option<Value>
+    ensures typed { IfSome result (λ v. type_of a ≡ converted_from op) }
+    ensures value { IfSome result (λ v. v ≡ value_of (converted_to op) (conversion_gives op (bits a))) }
+{
+    match (op, a) {
+        (CvtOp::WrapI64, Value::I64(a)) => Some(Value::I32(conversions::wrap_i64(a))),
+        (CvtOp::ExtendI32S, Value::I32(a)) => Some(Value::I64(conversions::extend_i32_s(a))),
+        (CvtOp::ExtendI32U, Value::I32(a)) => Some(Value::I64(conversions::extend_i32_u(a))),
+        _ => None,
+    }
+}
+
+// t2.cvtop_t1
+pub fn convert(values: &mut Vec<Value>, op: CvtOp) -> Result<Worked, AllocError>
+    ensures { IfOk result (DoneBy (λ store locals values rest. reduce_convert store locals values op rest) values.old.items values.new.items) }
+{
+    let Some(a) = pop_any(values) else {
+        return Ok(Worked::GaveUp);
+    };
+    match converted(op, a) {
+        Some(v) => {
+            push(values, v)?;
+            Ok(Worked::Values)
+        }
+        None => Ok(Worked::GaveUp),
+    }
+}
