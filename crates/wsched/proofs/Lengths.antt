@@ -1,5 +1,13 @@
 -- How long the names of faults and fields are, at most.
 use Rattle.std.proofs.Common.{◌≤◌, length, lit≤}
+use Rattle.wcode.specs.Fault as bin
+use Rattle.wcode.specs.declared.fault.Kind.{Kind}
+use Rattle.wcode.specs.declared.fault.Kind.TheVariants as kinds
+use Rattle.wcode.specs.declared.fault.BinFault.{BinFault}
+use Rattle.wcode.specs.declared.fault.BinFault.TheVariants as bin_fault
+use Rattle.wbody.specs.Fault as type
+use Rattle.wbody.specs.declared.fault.TypeFault.{TypeFault}
+use Rattle.wbody.specs.declared.fault.TypeFault.TheVariants as type_fault
 use Rattle.manifest.specs.Field.{key}
 use Rattle.manifest.specs.Fault as line
 use Rattle.manifest.specs.declared.field.Field.{Field}
@@ -54,3 +62,31 @@ run_name_short run_fault.NoPlace = lit≤ tt
 pub word_name_short : (fault : WordFault) → length (name_of fault) ≤ 10
 word_name_short word_fault.BadWords = lit≤ tt
 word_name_short word_fault.NoMemory = lit≤ tt
+
+-- the name of a decoder's fault
+pub bin_name_short : (fault : BinFault) → length (bin.name_of fault) ≤ 13
+bin_name_short (bin_fault.Malformed kind place) = lit≤ tt
+bin_name_short bin_fault.Float = lit≤ tt
+bin_name_short bin_fault.NoMemory = lit≤ tt
+
+-- the name of what is wrong with bytes
+pub kind_name_short : (kind : Kind) → length (bin.kind_name kind) ≤ 13
+kind_name_short kinds.Truncated = lit≤ tt
+kind_name_short kinds.BadMagic = lit≤ tt
+kind_name_short kinds.BadVersion = lit≤ tt
+kind_name_short kinds.BadSection = lit≤ tt
+kind_name_short kinds.BadNumber = lit≤ tt
+kind_name_short kinds.BadType = lit≤ tt
+kind_name_short kinds.BadOpcode = lit≤ tt
+kind_name_short kinds.BadName = lit≤ tt
+kind_name_short kinds.CountMismatch = lit≤ tt
+kind_name_short kinds.TooDeep = lit≤ tt
+kind_name_short kinds.TooLong = lit≤ tt
+
+-- the name of a fault of typing
+pub type_name_short : (fault : TypeFault) → length (type.name_of fault) ≤ 13
+type_name_short (type_fault.Untyped function place) = lit≤ tt
+type_name_short type_fault.BadImport = lit≤ tt
+type_name_short type_fault.BadExport = lit≤ tt
+type_name_short type_fault.OverLimit = lit≤ tt
+type_name_short type_fault.NoMemory = lit≤ tt

@@ -1,3 +1,4 @@
 pub mod Fault
 pub mod Message
+pub mod Verdict
 pub mod Words

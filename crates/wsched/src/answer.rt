@@ -1,5 +1,5 @@
 //! What the program does, from its words to its exit status.
-ghost use Rattle.std.specs.Prelude.{◌≡◌, ◌≢◌, ◌⊎◌, ◌^◌, ◌<◌, ◌≤◌, ℕ, [], Some, None, Err, map, IfOk, IfErr, IfSome};
+ghost use Rattle.std.specs.Prelude.{◌≡◌, ◌≢◌, ◌⊎◌, ◌^◌, ◌<◌, ◌≤◌, ℕ, List, [], Some, None, map, IfErr, IfSome};
 ghost use Rattle.std.specs.Io.KnownBytes.{Appends};
 ghost use Rattle.manifest.specs.declared.fault.LineFault.{LineFault};
 ghost use Rattle.engine.specs.Device.{AppendsFront};
@@ -8,11 +8,14 @@ ghost use Rattle.engine.specs.declared.fault.RunFault.TheVariants as run_fault;
 ghost use Rattle.wsched.specs.declared.faults.Fault.TheVariants as faults;
 ghost use Rattle.wsched.specs.Fault.{status_of};
 ghost use Rattle.wsched.specs.Message.{Tells, message_of};
-ghost use Rattle.wsched.specs.Words.{asked_by};
+ghost use Rattle.wsched.specs.Verdict.{TellsFront, TellsVerdict};
+ghost use Rattle.wsched.specs.Words.{asked_by, run, check};
 
+use crate::check::check_file;
 use crate::command::Words;
 use crate::command_line::words;
 use crate::faults::{Fault, WordFault};
+use crate::folder::Files;
 use crate::message::report;
 use crate::serve::serve;
 use engine::{RunFault, Sink, Source};
@@ -22,17 +25,19 @@ use std::hash::RandomState;
 
 /// Does what the words that follow the program's name ask for, and gives the exit status. Words that
 /// could not be read, or that ask for nothing, are told on `err`, and nothing is read or written.
-/// Else it is what `serve` does under the keys; that there are none, since the system gave no random
-/// bytes, is told as a failed read.
+/// For `run` it is what `serve` does under the keys; that there are none, since the system gave no
+/// random bytes, is told as a failed read. For `check` it is what `check_file` does.
 #[tactic(auto, using(crate::proofs::Quiet::nothing_written, crate::proofs::Quiet::no_memory_told))]
-pub fn answer<S: AsStr + Drop, R: Source, W: Sink, E: Sink>(
+pub fn answer<S: AsStr + Drop, F: Files, R: Source, W: Sink, E: Sink>(
     alloc: Global,
     args: Result<Vec<S>, WordFault>,
     keys: Option<RandomState>,
+    files: &mut F,
     source: &mut R,
     out: &mut W,
     err: &mut E,
 ) -> u8
+    requires opens { F.failure_count files.old < 10 ^ 18 }
     requires reads { R.failure_count source.old < 10 ^ 18 }
     requires writes { W.failure_count out.old < 10 ^ 18 }
     requires tells { E.failure_count err.old < 10 ^ 18 }
@@ -47,24 +52,48 @@ pub fn answer<S: AsStr + Drop, R: Source, W: Sink, E: Sink>(
         × Tells (E.written err.old) (E.written err.new) (E.failure_count err.old) (E.failure_count err.new)
         (message_of (faults.Words fault))) }
     ensures idle { asked_by (λ given. map S.text given.items) args ≡ None
-        → ((result ≡ 2) ⊎ (result ≡ 3)) × (source.new ≡ source.old) × (out.new ≡ out.old) }
+        → ((result ≡ 2) ⊎ (result ≡ 3)) × (files.new ≡ files.old) × (source.new ≡ source.old) × (out.new ≡ out.old) }
     ensures words { result ≡ 2 → (asked_by (λ given. map S.text given.items) args ≡ None)
         × Tells (E.written err.old) (E.written err.new) (E.failure_count err.old) (E.failure_count err.new)
         (message_of (faults.Words WordFault.BadWords)) }
 
-    // No line is faulty, the output is written whole, everything is read, and no fault is told.
-    ensures done { result ≡ 0 → IfSome (R.remaining source.old) (λ script. (first_fault script ≡ None)
+    // A run opens no file, and a check leaves the source as it is.
+    ensures of_run { asked_by (λ given. map S.text given.items) args ≡ Some run → files.new ≡ files.old }
+    ensures of_check { (file : List ℕ) → asked_by (λ given. map S.text given.items) args ≡ Some (check file)
+        → source.new ≡ source.old }
+
+    // A run: no line is faulty, the output is written whole, and everything is read.
+    ensures done { asked_by (λ given. map S.text given.items) args ≡ Some run → result ≡ 0
+        → IfSome (R.remaining source.old) (λ script. (first_fault script ≡ None)
         × Appends (W.written out.old) (W.written out.new) (output script)
         × (R.remaining source.new ≡ Some [])) }
-    ensures quiet { result ≡ 0 → err.new ≡ err.old }
 
-    // A line is faulty. It is the first one and its fault is told, and the output of the lines
+    // A run: a line is faulty. It is the first one and its fault is told, and the output of the lines
     // before it is written whole.
-    ensures line { result ≡ 1 → (number : ℕ) × (fault : LineFault)
+    ensures line { asked_by (λ given. map S.text given.items) args ≡ Some run → result ≡ 1
+        → (number : ℕ) × (fault : LineFault)
         × Tells (E.written err.old) (E.written err.new) (E.failure_count err.old) (E.failure_count err.new)
         (message_of (faults.Run (run_fault.Line number fault)))
         × IfSome (R.remaining source.old) (λ script. (first_fault script ≡ Some (number, fault))
         × Appends (W.written out.old) (W.written out.new) (output script)) }
+
+    // A run: nothing but the output, or a beginning of it, is written.
+    ensures front { asked_by (λ given. map S.text given.items) args ≡ Some run
+        → IfSome (R.remaining source.old) (λ script.
+        AppendsFront (W.written out.old) (W.written out.new) (output script)) }
+
+    // A check: what the file has deserves this verdict, the status is the verdict's, its line is
+    // written whole, and no fault is told.
+    ensures checked { (file : List ℕ) → asked_by (λ given. map S.text given.items) args ≡ Some (check file)
+        → result ≤ 1 → IfSome (F.contents files.old file) (TellsVerdict (W.written out.old) (W.written out.new) result)
+        × (err.new ≡ err.old) }
+
+    // A check: nothing but the line that the module deserves, or a beginning of it, is written.
+    ensures check_front { (file : List ℕ) → asked_by (λ given. map S.text given.items) args ≡ Some (check file)
+        → (out.new ≡ out.old) ⊎ IfSome (F.contents files.old file) (TellsFront (W.written out.old) (W.written out.new)) }
+
+    // All was done, and no fault is told.
+    ensures quiet { result ≡ 0 → err.new ≡ err.old }
 
     // Memory, or the desk's place, was wanting, and that is told. Without a place nothing is read
     // or written.
@@ -74,40 +103,32 @@ pub fn answer<S: AsStr + Drop, R: Source, W: Sink, E: Sink>(
         (E.failure_count err.new) (message_of (faults.Run run_fault.NoPlace))
         × (source.new ≡ source.old) × (out.new ≡ out.old)) }
 
-    // No keys were given, or a read or a write failed meanwhile, and that is told.
+    // A run was given no keys, or the opening of a file, a read or a write failed meanwhile, and that
+    // is told.
     ensures failed { result ≡ 4 → Tells (E.written err.old) (E.written err.new) (E.failure_count err.old)
         (E.failure_count err.new) (message_of (faults.Run run_fault.Read))
-        × ((keys ≡ None) ⊎ (R.failure_count source.old < R.failure_count source.new))
+        × (((keys ≡ None) × (asked_by (λ given. map S.text given.items) args ≡ Some run))
+        ⊎ ((R.failure_count source.old < R.failure_count source.new)
+        ⊎ (F.failure_count files.old < F.failure_count files.new)))
         ⊎ (Tells (E.written err.old) (E.written err.new) (E.failure_count err.old)
         (E.failure_count err.new) (message_of (faults.Run run_fault.Write))
         × (W.failure_count out.old < W.failure_count out.new)) }
 
-    // And each failure is told: at any other status no read, and no write to `out`, has failed.
-    ensures failures_told { result ≢ 4 → (R.failure_count source.new ≡ R.failure_count source.old)
+    // And each failure is told: at any other status no file failed to open, no read, and no write to
+    // `out`, has failed.
+    ensures failures_told { result ≢ 4 → (F.failure_count files.new ≡ F.failure_count files.old)
+        × (R.failure_count source.new ≡ R.failure_count source.old)
         × (W.failure_count out.new ≡ W.failure_count out.old) }
-
-    // Nothing but the output, or a beginning of it, is written.
-    ensures front { IfSome (R.remaining source.old) (λ script.
-        AppendsFront (W.written out.old) (W.written out.new) (output script)) }
 {
-    match asked(alloc, args) {
-        Ok(words) => match keys {
-            Some(keys) => serve(alloc, keys, &words, source, out, err),
-            None => report(Fault::Run(RunFault::Read), err),
+    match args {
+        Ok(args) => match words(alloc, args.as_slice()) {
+            Ok(Words::Run) => match keys {
+                Some(keys) => serve(alloc, keys, source, out, err),
+                None => report(Fault::Run(RunFault::Read), err),
+            },
+            Ok(Words::Check(file)) => check_file(alloc, file, files, out, err),
+            Err(fault) => report(Fault::Words(fault), err),
         },
-        Err(fault) => report(Fault::Words(fault), err),
+        Err(unread) => report(Fault::Words(unread), err),
     }
-}
-
-// What the words ask for.
-fn asked<S: AsStr + Drop>(
-    alloc: Global,
-    args: Result<Vec<S>, WordFault>,
-) -> Result<Words, WordFault>
-    ensures ok { IfOk result (λ words. asked_by (λ given. map S.text given.items) args ≡ Some words) }
-    ensures refused { result ≡ Err WordFault.BadWords → asked_by (λ given. map S.text given.items) args ≡ None }
-    ensures unread { IfErr args (λ fault. result ≡ Err fault) }
-{
-    let args = args?;
-    words(alloc, args.as_slice())
 }

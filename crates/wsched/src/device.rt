@@ -1,14 +1,14 @@
 //! What a script is read from and the output is written to, over std's readers and writers.
-ghost use Rattle.std.specs.Prelude.{◌≡◌, ◌^◌, ◌<◌, length, IfOk};
+ghost use Rattle.std.specs.Prelude.{◌≡◌, ◌+◌, ◌^◌, ◌<◌, length, IfOk};
 ghost use Rattle.std.specs.Io.{ReadsAtMost, WritesAtMost};
 ghost use Rattle.std.specs.Io.KnownBytes.{ReadConsumes, WriteAppends};
 
 use engine::{DeviceFailed, Sink, Source};
 use std::io::{ErrorKind, Read, Write};
 
-// The most bytes that are read of one input. No clause says where standard input ends, and a run
-// needs an end.
-const MAX_INPUT: u64 = 1 << 63;
+/// The most bytes that are read of one input. No clause says where standard input ends, and a run
+/// needs an end.
+pub(crate) const MAX_INPUT: u64 = 1 << 63;
 
 /// A script that a reader gives. A read that is interrupted is tried again. Past the most bytes that
 /// are read a read fails, since it would else look like the end.
@@ -44,11 +44,7 @@ impl<R: Read> Source for Input<R> {
     }
 
     fn read(&mut self, buffer: &mut [u8]) -> Result<usize, DeviceFailed> {
-        let room = self.left.min(buffer.len() as u64) as usize;
-        if room > 0
-            && let Ok(n) = read_some(&mut self.reader, &mut buffer[..room])
-        {
-            self.left -= n as u64;
+        if let Ok(n) = read_bounded(&mut self.reader, &mut self.left, buffer) {
             return Ok(n);
         }
         self.failures += 1;
@@ -105,6 +101,25 @@ impl<W: Write> Sink for Output<W> {
         self.failures += 1;
         Err(DeviceFailed)
     }
+}
+
+/// Reads some bytes, of which so many may yet be read, and else fails.
+pub(crate) fn read_bounded<R: Read>(
+    reader: &mut R,
+    left: &mut u64,
+    buffer: &mut [u8],
+) -> Result<usize, DeviceFailed>
+    ensures bound { ReadsAtMost result buffer.new }
+    ensures bytes { ReadConsumes (R.remaining reader.old) (R.remaining reader.new) result buffer.new }
+    ensures less { IfOk result (λ n. left.new + n ≡ left.old) }
+{
+    let room = (*left).min(buffer.len() as u64) as usize;
+    if room > 0 {
+        let n = read_some(reader, &mut buffer[..room])?;
+        *left -= n as u64;
+        return Ok(n);
+    }
+    Err(DeviceFailed)
 }
 
 // Reads some bytes, as often as the read is interrupted.

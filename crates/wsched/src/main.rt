@@ -1,35 +1,49 @@
 //! The program `wsched`. `wsched run` reads a script from standard input and writes the answers to
-//! standard output; a fault goes to standard error as one line. It ends with status 0 when all was
-//! done, 1 at a faulty line, 2 at bad words, 3 for want of memory or of a place at the desk, and 4
-//! when a read or a write failed.
+//! standard output; `wsched check MODULE` says on standard output whether the module in that file is
+//! accepted. A fault goes to standard error as one line. It ends with status 0 when all was done or
+//! the module is accepted, 1 at a faulty line or a refused module, 2 at bad words, 3 for want of
+//! memory or of a place at the desk, and 4 when a read or a write failed.
 //!
 //! - `command_line`: the words, as the process has them and as `clap` reads them.
-//! - `answer`: what is done from the words to the status; `serve` does it where words are good.
-//! - `message`: the line that tells a fault.
-//! - `device`: standard input and output, as the engine reads and writes them.
+//! - `answer`: what is done from the words to the status: a run by `serve`, a check by `check`.
+//! - `message`: the line that tells a fault; `verdict`: what is found of a module, and its line.
+//! - `device`, `folder`: standard input and output, and files, as the engine reads and writes.
 #![tactic(auto)]
 
 mod answer;
+mod check;
 mod command;
 mod command_line;
 mod device;
 mod faults;
+mod folder;
 mod message;
 mod serve;
+mod verdict;
 
 use crate::answer::answer;
 use crate::command_line::arguments;
 use crate::device::{Input, Output};
+use crate::folder::Folder;
 use std::hash::RandomState;
 use std::process::ExitCode;
 
 fn main(rt: HostRuntime) -> ExitCode {
+    let mut files = Folder::new(&rt);
     let mut source = Input::new(rt.stdin());
     let mut out = Output::new(rt.stdout());
     let mut err = Output::new(rt.stderr());
     let args = arguments(&rt);
     let keys = RandomState::new(&rt).ok();
-    ExitCode::from(answer(rt.alloc(), args, keys, &mut source, &mut out, &mut err))
+    ExitCode::from(answer(
+        rt.alloc(),
+        args,
+        keys,
+        &mut files,
+        &mut source,
+        &mut out,
+        &mut err,
+    ))
 }
 
 #[cfg(test)]

@@ -9,25 +9,25 @@ use engine::{RunFault, Sink, write_all};
 use itoa::Buffer;
 use manifest::LineFault;
 
-// Room for the longest message: a number has up to 20 digits, a fault's name up to 10 bytes, and a
-// field's key up to 13. Each `push_..` below says how much of the room it wants at most.
-const MAX_MESSAGE: usize = 96;
+// Room for the longest line: a number has up to 20 digits, a fault's name up to 13 bytes, and a
+// field's key up to 13. Each `push_..` says how much of the room it wants at most.
+const MAX_MESSAGE: usize = 128;
 
-// A message takes no memory, so that want of memory can be told.
-type Message = ArrayVec<u8, MAX_MESSAGE>;
+/// A line that is made without memory, so that want of memory can be told.
+pub(crate) type Message = ArrayVec<u8, MAX_MESSAGE>;
 
-// Adds a piece to a message.
-fn push(message: &mut Message, piece: &[u8])
-    requires { length message.old.items + length piece.now ≤ 96 }
+/// Adds a piece to a message.
+pub(crate) fn push(message: &mut Message, piece: &[u8])
+    requires { length message.old.items + length piece.now ≤ 128 }
     ensures text { message.new.items ≡ message.old.items ++ piece.now }
     ensures len { length message.new.items ≡ length message.old.items + length piece.now }
 {
     message.try_extend_from_slice(piece).unwrap();
 }
 
-// Adds a number in decimal.
-fn push_number(message: &mut Message, n: u64)
-    requires { length message.old.items + 20 ≤ 96 }
+/// Adds a number in decimal.
+pub(crate) fn push_number(message: &mut Message, n: u64)
+    requires { length message.old.items + 20 ≤ 128 }
     ensures text { message.new.items ≡ message.old.items ++ decimal n }
     ensures len { length message.new.items ≤ length message.old.items + 20 }
 {
@@ -35,9 +35,9 @@ fn push_number(message: &mut Message, n: u64)
     push(message, buffer.format(n).as_bytes());
 }
 
-// Adds a fault's number and its name.
-fn push_fault(message: &mut Message, number: u8, name: &str)
-    requires { length message.old.items + (length name.now + 21) ≤ 96 }
+/// Adds a fault's number and its name.
+pub(crate) fn push_fault(message: &mut Message, number: u8, name: &str)
+    requires { length message.old.items + (length name.now + 21) ≤ 128 }
     ensures text { message.new.items ≡ message.old.items ++ fault_text number name.now }
     ensures len { length message.new.items ≤ length message.old.items + (length name.now + 21) }
 {
@@ -49,7 +49,7 @@ fn push_fault(message: &mut Message, number: u8, name: &str)
 // Adds a line's fault, with the field in which it stands.
 #[tactic(auto, using(crate::proofs::Lengths::line_name_short, crate::proofs::Lengths::key_short), unfolding(crate::specs::Message::line_fault_text))]
 fn push_line_fault(message: &mut Message, fault: LineFault)
-    requires { length message.old.items + 45 ≤ 96 }
+    requires { length message.old.items + 45 ≤ 128 }
     ensures text { message.new.items ≡ message.old.items ++ line_fault_text fault }
     ensures len { length message.new.items ≤ length message.old.items + 45 }
 {
@@ -63,7 +63,7 @@ fn push_line_fault(message: &mut Message, fault: LineFault)
 // Adds why a run ended early.
 #[tactic(auto, using(crate::proofs::Lengths::run_name_short), unfolding(crate::specs::Message::run_text))]
 fn push_run_fault(message: &mut Message, fault: RunFault)
-    requires { length message.old.items + 80 ≤ 96 }
+    requires { length message.old.items + 80 ≤ 128 }
     ensures text { message.new.items ≡ message.old.items ++ run_text fault }
     ensures len { length message.new.items ≤ length message.old.items + 80 }
 {

@@ -1,4 +1,4 @@
-//! What the program does at its words.
+//! A run of a script.
 ghost use Rattle.std.specs.Prelude.{◌≡◌, ◌≢◌, ◌⊎◌, ◌^◌, ◌<◌, ℕ, [], Some, None, IfSome};
 ghost use Rattle.std.specs.Io.KnownBytes.{Appends};
 ghost use Rattle.manifest.specs.declared.fault.LineFault.{LineFault};
@@ -8,20 +8,17 @@ ghost use Rattle.engine.specs.declared.fault.RunFault.TheVariants as run_fault;
 ghost use Rattle.wsched.specs.declared.faults.Fault.TheVariants.{Run};
 ghost use Rattle.wsched.specs.Message.{Tells, message_of};
 
-use crate::command::Words;
 use crate::faults::Fault;
 use crate::message::report;
 use engine::{Sink, Source, run};
 use std::alloc::Global;
 use std::hash::RandomState;
 
-/// Does what the words ask for, and gives the exit status. `run` reads a script from `source` and
-/// writes the answers to `out`; a fault goes to `err` as one line, and a failed write of that line
-/// changes nothing. Names are looked up under the keys, which whoever writes the script can't know.
+/// Reads a script from `source`, writes the answers to `out`, and gives the exit status. A fault goes
+/// to `err` as one line, and a failed write of that line changes nothing. Names are looked up under the keys, which whoever writes the script can't know.
 pub fn serve<R: Source, W: Sink, E: Sink>(
     alloc: Global,
     keys: RandomState,
-    words: &Words,
     source: &mut R,
     out: &mut W,
     err: &mut E,
@@ -72,10 +69,8 @@ pub fn serve<R: Source, W: Sink, E: Sink>(
     ensures front { IfSome (R.remaining source.old) (λ script.
         AppendsFront (W.written out.old) (W.written out.new) (output script)) }
 {
-    match words {
-        Words::Run => match run(alloc, keys, source, out) {
-            Ok(()) => 0,
-            Err(fault) => report(Fault::Run(fault), err),
-        },
+    match run(alloc, keys, source, out) {
+        Ok(()) => 0,
+        Err(fault) => report(Fault::Run(fault), err),
     }
 }

@@ -4,15 +4,18 @@ use crate::answer::answer;
 use crate::command_line::arguments;
 use crate::device::{Input, Output};
 use crate::faults::{Fault, WordFault};
+use crate::folder::Folder;
+use crate::verdict::{Verdict, line_of};
 use engine::RunFault;
 use std::alloc::{AllocError, Global};
 use std::env::FillError;
 use std::hash::RandomState;
-use std::io;
 use std::io::{Read, Write};
 use std::process::Abort;
 use std::rt::Env;
 use std::test::Fail;
+use std::{fs, io};
+use wtype::TypeFault;
 
 const FIRST_RUN: &str =
     "{\"op\":\"node\",\"v\":1,\"name\":\"a\",\"cpu\":\"4\",\"mem\":\"8Gi\",\"pods\":110}
@@ -149,8 +152,14 @@ struct Ended {
     err: Vec<u8>,
 }
 
-fn run_program(alloc: Global, keys: RandomState, given: Given) -> Result<Ended, AllocError> {
+fn run_program<R: fs::Files>(
+    files: &R,
+    alloc: Global,
+    keys: RandomState,
+    given: Given,
+) -> Result<Ended, AllocError> {
     let args = Vec::from_slice(alloc, given.args)?;
+    let mut folder = Folder::new(files);
     let mut source = Input::new(Pieces {
         rest: given.script,
         most: given.most,
@@ -166,7 +175,15 @@ fn run_program(alloc: Global, keys: RandomState, given: Given) -> Result<Ended, 
         most: given.most,
         calls: Calls::failing(0),
     });
-    let status = answer(alloc, Ok(args), Some(keys), &mut source, &mut out, &mut err);
+    let status = answer(
+        alloc,
+        Ok(args),
+        Some(keys),
+        &mut folder,
+        &mut source,
+        &mut out,
+        &mut err,
+    );
     Ok(Ended {
         status,
         out: out.into_inner().text,
@@ -178,7 +195,7 @@ fn run_program(alloc: Global, keys: RandomState, given: Given) -> Result<Ended, 
 // whole.
 #[track_caller]
 fn assert_ends(
-    rt: &impl Abort,
+    rt: &(impl Abort + fs::Files),
     alloc: Global,
     keys: RandomState,
     given: Given,
@@ -186,7 +203,7 @@ fn assert_ends(
     name: &str,
 ) -> Result<(), AllocError> {
     let (status, out, err) = want;
-    let ended = run_program(alloc, keys, given)?;
+    let ended = run_program(rt, alloc, keys, given)?;
     assert_eq!(rt; ended.err.as_slice(), err.as_bytes(), "{name}");
     assert!(rt; out.as_bytes().starts_with(ended.out.as_slice()), "{name}");
     assert!(rt; status == 4 || ended.out.len() == out.len(), "{name}");
@@ -363,6 +380,172 @@ fn each_failed_read_and_write_is_told(rt: HostRuntime) -> Result<(), Fail> {
         )?;
     }
     Ok(())
+}
+
+// Where a test keeps a module, in the folder that it runs in, and words that ask to check it.
+const MODULE: &str = "module_of_a_test.wasm";
+
+const CHECK: [&str; 2] = ["check", MODULE];
+
+// One function of a type from nothing to an i32; it gives 0, and is exported as `filter`.
+const ACCEPTED: &[u8] =
+    b"\0asm\x01\0\0\0\x01\x05\x01\x60\0\x01\x7F\x03\x02\x01\0\x07\x0A\x01\x06filter\0\0\x0A\x06\x01\x04\0\x41\0\x0B";
+
+// The same with a float in its body, with two exports of one name, with an import, and with 1,024
+// locals under its operand.
+const FLOAT: &[u8] =
+    b"\0asm\x01\0\0\0\x01\x05\x01\x60\0\x01\x7F\x03\x02\x01\0\x07\x0A\x01\x06filter\0\0\x0A\x09\x01\x07\0\x43\0\0\0\0\x0B";
+
+const TWICE: &[u8] =
+    b"\0asm\x01\0\0\0\x01\x05\x01\x60\0\x01\x7F\x03\x02\x01\0\x07\x13\x02\x06filter\0\0\x06filter\0\0\x0A\x06\x01\x04\0\x41\0\x0B";
+
+const IMPORTING: &[u8] =
+    b"\0asm\x01\0\0\0\x01\x05\x01\x60\0\x01\x7F\x02\x07\x01\x01a\x01b\0\0\x03\x02\x01\0\x07\x0A\x01\x06filter\0\0\x0A\x06\x01\x04\0\x41\0\x0B";
+
+const LARGE: &[u8] =
+    b"\0asm\x01\0\0\0\x01\x05\x01\x60\0\x01\x7F\x03\x02\x01\0\x07\x0A\x01\x06filter\0\0\x0A\x09\x01\x07\x01\x80\x08\x7F\x41\0\x0B";
+
+#[test]
+fn a_file_is_checked(rt: HostRuntime) -> Result<(), Fail> {
+    let keys = RandomState::new(&rt)?;
+    let check = CHECK.as_slice();
+    let rows = [
+        (check, ACCEPTED, 0, 0, "accepted\n", ""),
+        (
+            ["check", "--", MODULE].as_slice(),
+            ACCEPTED,
+            0,
+            0,
+            "accepted\n",
+            "",
+        ),
+        (
+            ["check", MODULE, "--"].as_slice(),
+            ACCEPTED,
+            0,
+            0,
+            "accepted\n",
+            "",
+        ),
+        (
+            check,
+            b"\0asm".as_slice(),
+            0,
+            1,
+            "refused decode 1 Malformed 1 Truncated at 4\n",
+            "",
+        ),
+        (check, FLOAT, 0, 1, "refused decode 2 Float\n", ""),
+        (check, TWICE, 0, 1, "refused type 1 Untyped module\n", ""),
+        (check, IMPORTING, 0, 1, "refused type 2 BadImport\n", ""),
+        (
+            check,
+            &ACCEPTED[..8],
+            0,
+            1,
+            "refused type 3 BadExport\n",
+            "",
+        ),
+        (check, LARGE, 0, 1, "refused type 4 OverLimit\n", ""),
+        (check, ACCEPTED, 1, 4, "accepted\n", "wsched: 4 Write\n"),
+        (
+            check,
+            LARGE,
+            2,
+            4,
+            "refused type 4 OverLimit\n",
+            "wsched: 4 Write\n",
+        ),
+        (
+            ["check", "/"].as_slice(),
+            ACCEPTED,
+            0,
+            4,
+            "",
+            "wsched: 3 Read\n",
+        ),
+        (
+            ["check", ""].as_slice(),
+            ACCEPTED,
+            0,
+            4,
+            "",
+            "wsched: 3 Read\n",
+        ),
+        (
+            ["check"].as_slice(),
+            ACCEPTED,
+            0,
+            2,
+            "",
+            "wsched: 1 BadWords\n",
+        ),
+        (
+            ["check", "--"].as_slice(),
+            ACCEPTED,
+            0,
+            2,
+            "",
+            "wsched: 1 BadWords\n",
+        ),
+        (
+            ["check", "-x"].as_slice(),
+            ACCEPTED,
+            0,
+            2,
+            "",
+            "wsched: 1 BadWords\n",
+        ),
+        (
+            ["check", MODULE, MODULE].as_slice(),
+            ACCEPTED,
+            0,
+            2,
+            "",
+            "wsched: 1 BadWords\n",
+        ),
+    ];
+    for (args, module, bad_write, status, out, err) in rows {
+        fs::write(&rt, MODULE, module)?;
+        let given = Given {
+            args,
+            script: b"",
+            most: 5,
+            bad_read: 0,
+            bad_write,
+        };
+        assert_ends(&rt, rt.alloc(), keys, given, (status, out, err), out)?;
+    }
+    fs::remove_file(&rt, MODULE)?;
+    let gone = Given {
+        args: check,
+        script: b"",
+        most: 5,
+        bad_read: 0,
+        bad_write: 0,
+    };
+    assert_ends(
+        &rt,
+        rt.alloc(),
+        keys,
+        gone,
+        (4, "", "wsched: 3 Read\n"),
+        "gone",
+    )?;
+    Ok(())
+}
+
+#[test]
+fn a_typing_fault_is_told_with_its_place(rt: HostRuntime) {
+    let fault = TypeFault::Untyped {
+        function: Some(1),
+        place: 42,
+    };
+    let line = line_of(Verdict::Untyped(fault));
+    assert_eq!(rt;
+        line.as_slice(),
+        b"refused type 1 Untyped function 1 at 42\n".as_slice()
+    );
 }
 
 #[test]
