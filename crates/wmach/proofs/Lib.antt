@@ -59,3 +59,9 @@ pub mod OverMemory
 pub mod OverIndirect
 pub mod NextCost
 pub mod OverHost
+pub mod LowHeights
+pub mod Bits
+pub mod Rooms
+pub mod Stepping
+pub mod Codes
+pub mod Arms

@@ -11,6 +11,7 @@ use Rattle.wbin.specs.Syntax.{Signature, FunctionSyntax}
 use Rattle.wbody.specs.Context.{Operands, Context, at_most_one, function_types}
 use Rattle.wbody.specs.Typing.{takes_gives, call_type, function_at, of_found, plain_type, Typed}
 use Rattle.wbody.specs.Heights.{height_by}
+use Rattle.wtype.specs.CheckedModule.{CheckedModule}
 use Rattle.wmach.specs.declared.activation.Activation.{Activation}
 use Rattle.wmach.specs.declared.outcome.Trap.TheVariants.{CallDepth}
 use Rattle.wmach.specs.Configuration.{Store, Setting, instructions, invoke, trap, Configuration, leads_to}
@@ -42,7 +43,7 @@ some_inside None type e = absurd (cc)
 some_inside (Some None) type e = absurd (cc)
 some_inside (Some (Some t)) type e = ap (λ x. Some x) e
 
-module _ (setting : Setting) (bytes : List ℕ) (start : Configuration) (spent : ℕ) (a : Activation) (waiting : List Activation) (slots : List ℕ) (store : Store) (o : On setting bytes start spent a waiting slots store) where
+module _ (setting : Setting) (bytes : List ℕ) (checked : CheckedModule) (start : Configuration) (spent : ℕ) (a : Activation) (waiting : List Activation) (slots : List ℕ) (store : Store) (o : On setting bytes checked start spent a waiting slots store) where
   -- A function that is called next, once so much was paid.
   pub record Called (paid function place : ℕ) (slots_here : List ℕ) : Type 0 where
     pub rest : Body
@@ -63,14 +64,14 @@ module _ (setting : Setting) (bytes : List ℕ) (start : Configuration) (spent :
   -- no more fuel for a call
   pub call_spent : (f : ℕ) (more : List ℕ) → SpellsWord (drop a.at bytes) (one (plains.Call f)) more → Spent setting start spent store
   call_spent f more read =
-      let p = plain_here setting bytes start spent a waiting slots store o (plains.Call f) more read in
-      spends_here setting bytes start spent a waiting slots store o (plain (plains.Call f) p.rest) p.is (record { reduction = record { cost = 1; to = at store o.locals (invoke o.values f p.rest) }; quiet = call_quiet (length o.callers + 1) f p.rest; one = refl })
+      let p = plain_here setting bytes checked start spent a waiting slots store o (plains.Call f) more read in
+      spends_here setting bytes checked start spent a waiting slots store o (plain (plains.Call f) p.rest) p.is (record { reduction = record { cost = 1; to = at store o.locals (invoke o.values f p.rest) }; quiet = call_quiet (length o.callers + 1) f p.rest; one = refl })
 
   -- a call
   pub over_call_word : FunctionsRight setting.module_syntax → (f place : ℕ) → place ≤ length bytes → SpellsWord (drop a.at bytes) (one (plains.Call f)) (drop place bytes) → Called 1 f place slots
   over_call_word right f place within read =
-      let p = plain_here setting bytes start spent a waiting slots store o (plains.Call f) (drop place bytes) read in
-      let s = stands_as setting bytes start spent a waiting slots store o (plain (plains.Call f) p.rest) p.is in
+      let p = plain_here setting bytes checked start spent a waiting slots store o (plains.Call f) (drop place bytes) read in
+      let s = stands_as setting bytes checked start spent a waiting slots store o (plain (plains.Call f) p.rest) p.is in
       let c = context_in o.whole o.labels in
       let t = found (call_type []) (function_at c f) (Typed c p.rest) (types_of o.values) s.leaves s.typed in
       let w = t.typed.first in
@@ -103,7 +104,7 @@ module _ (setting : Setting) (bytes : List ℕ) (start : Configuration) (spent :
       }
 
   -- a function of the module that is called
-  pub own_called : (paid f place : ℕ) (slots_here : List ℕ) (h : Called paid f place slots_here) (g : OwnFunction setting.module_syntax f h.type) → CallNext setting bytes start spent a waiting slots store o paid f place slots_here
+  pub own_called : (paid f place : ℕ) (slots_here : List ℕ) (h : Called paid f place slots_here) (g : OwnFunction setting.module_syntax f h.type) → CallNext setting bytes checked start spent a waiting slots store o paid f place slots_here
   own_called paid f place slots_here h g = record {
     rest = h.rest;
     values = h.values;
@@ -120,7 +121,7 @@ module _ (setting : Setting) (bytes : List ℕ) (start : Configuration) (spent :
 
   pub call_cursor : (paid f place : ℕ) (slots_here : List ℕ) (h : Called paid f place slots_here) → a.cursor ≡ before_place place o.all
   call_cursor paid f place slots_here h =
-      let c = cursor_moves setting bytes start spent a waiting slots store o place 0 h.within o.labels h.rest (at_most_one h.type.result ++ h.below) h.moves in omega (arith, c)
+      let c = cursor_moves setting bytes checked start spent a waiting slots store o place 0 h.within o.labels h.rest (at_most_one h.type.result ++ h.below) h.moves in omega (arith, c)
 
   -- where there is no room for another frame the call is cut off
   pub over_deep : (paid f place : ℕ) (slots_here : List ℕ) (h : Called paid f place slots_here) → OwnFunction setting.module_syntax f h.type → most_frames ≤ length o.callers + 1 → Trapped setting start (spent + paid) CallDepth store
@@ -136,7 +137,7 @@ module _ (setting : Setting) (bytes : List ℕ) (start : Configuration) (spent :
       let both = and_then setting frames (at store o.locals (instructions o.values o.body)) (at store o.locals (invoke h.values f h.rest)) (at store o.locals (trap CallDepth)) paid 0 (h.paying frames) step in
       let inner = leads_nest setting frames o.labels store store o.locals o.locals (instructions o.values o.body) (trap CallDepth) (paid + 0) both in
       let whole = leads_calling setting o.callers store store (arity_of o.type) o.locals o.locals (nest o.labels (instructions o.values o.body)) (nest o.labels (trap CallDepth)) (paid + 0) inner in
-      let out = and_then setting 0 (here_at setting bytes start spent a waiting slots store o) (calling o.callers store (arity_of o.type) o.locals (nest o.labels (trap CallDepth))) (at store [] (trap CallDepth)) (paid + 0) 0 whole (trap_calling setting o.callers store (arity_of o.type) o.locals o.labels CallDepth) in
-      let ch = chain_leads setting o.steps start (here_at setting bytes start spent a waiting slots store o) (at store [] (trap CallDepth)) spent (paid + 0 + 0) o.chain out in
+      let out = and_then setting 0 (here_at setting bytes checked start spent a waiting slots store o) (calling o.callers store (arity_of o.type) o.locals (nest o.labels (trap CallDepth))) (at store [] (trap CallDepth)) (paid + 0) 0 whole (trap_calling setting o.callers store (arity_of o.type) o.locals o.labels CallDepth) in
+      let ch = chain_leads setting o.steps start (here_at setting bytes checked start spent a waiting slots store o) (at store [] (trap CallDepth)) spent (paid + 0 + 0) o.chain out in
       let total : spent + (paid + 0 + 0) ≡ spent + paid = omega arith in
       record { steps = ch.0; chain = subst (λ n. Chain setting ch.0 start n (at store [] (trap CallDepth))) total ch.1 }

@@ -21,6 +21,7 @@ use Rattle.wcode.specs.Grammar.{one, SpellsWord}
 use Rattle.wbody.specs.Context.{Operands, Context}
 use Rattle.wbody.specs.Typing.{takes_gives, plain_type, TypeAllows, Weakened}
 use Rattle.wbody.specs.Branches.{plain_branches}
+use Rattle.wtype.specs.CheckedModule.{CheckedModule}
 use Rattle.wmach.specs.declared.activation.Activation.{Activation}
 use Rattle.wmach.specs.Configuration.{Store, Setting, instructions, trap, Configuration, Reduction, leads_to}
 use Rattle.wmach.specs.Operands.{InRange, value_of, width_of, with_one}
@@ -90,7 +91,7 @@ convert_is c conversion.WrapI64 = refl
 convert_is c conversion.ExtendI32S = refl
 convert_is c conversion.ExtendI32U = refl
 
-module _ (setting : Setting) (bytes : List ℕ) (start : Configuration) (spent : ℕ) (a : Activation) (waiting : List Activation) (slots : List ℕ) (store : Store) (o : On setting bytes start spent a waiting slots store) where
+module _ (setting : Setting) (bytes : List ℕ) (checked : CheckedModule) (start : Configuration) (spent : ℕ) (a : Activation) (waiting : List Activation) (slots : List ℕ) (store : Store) (o : On setting bytes checked start spent a waiting slots store) where
   -- An instruction that takes one value of this type, and gives these.
   pub record OneHere (p : Plain) (t : ValueType) (gives : Operands) : Type 0 where
     pub rest : Body
@@ -98,15 +99,15 @@ module _ (setting : Setting) (bytes : List ℕ) (start : Configuration) (spent :
     pub number : ℕ
     pub others : List Value
     pub values_are : o.values ≡ value_of t number ∷ others
-    pub typing : Typing (context_in o.whole o.labels) p rest (types_of o.values) (stands_as setting bytes start spent a waiting slots store o (plain p rest) is).leaves
+    pub typing : Typing (context_in o.whole o.labels) p rest (types_of o.values) (stands_as setting bytes checked start spent a waiting slots store o (plain p rest) is).leaves
     pub between_is : typing.between ≡ gives ++ types_of others
     pub in_range : number < 2 ^ width_of t
     pub others_fit : AllByRecursion InRange (others ++ belows o.labels)
 
   pub one_here : (p : Plain) (t : ValueType) (gives : Operands) (more : List ℕ) → plain_type (context_in o.whole o.labels) p ≡ takes_gives (t ∷ []) gives → SpellsWord (drop a.at bytes) (one p) more → OneHere p t gives
   one_here p t gives more type_is read =
-      let b = plain_here setting bytes start spent a waiting slots store o p more read in
-      let s = stands_as setting bytes start spent a waiting slots store o (plain p b.rest) b.is in
+      let b = plain_here setting bytes checked start spent a waiting slots store o p more read in
+      let s = stands_as setting bytes checked start spent a waiting slots store o (plain p b.rest) b.is in
       let first = subst (λ y. Weakened (TypeAllows y) (types_of o.values) s.typed.between) type_is s.typed.first in
       let types : types_of o.values ≡ t ∷ first.below = first.before_is ∙ ap (λ g. g ++ first.below) first.rule.0 in
       let v = top_value t o.values first.below types in
@@ -136,7 +137,7 @@ module _ (setting : Setting) (bytes : List ℕ) (start : Configuration) (spent :
       → length (plain_branches (labels_in o.whole o.labels) (place_of o.whole (drop a.at bytes)) p) ≡ 0
       → reduce_plain setting store o.locals (value_of t h.number ∷ h.others) p h.rest ≡ leads_to 1 store o.locals (instructions (value_of u gives ∷ h.others) h.rest)
       → gives < 2 ^ width_of u → slots ≡ left ++ x ∷ []
-      → On setting bytes start (spent + 1) (went a place a.cursor) waiting (left ++ gives ∷ []) store
+      → On setting bytes checked start (spent + 1) (went a place a.cursor) waiting (left ++ gives ∷ []) store
   over_one p t u h place gives left x within read staying no_note reduces in_range popped =
       let under_is = (snoc_same left (frame_words o.under o.locals (h.others ++ belows o.labels)) x h.number (sym popped ∙ one_slots p t (u ∷ []) h)).0 in
       let next_slots : left ++ gives ∷ [] ≡ frame_words o.under o.locals ((value_of u gives ∷ h.others) ++ belows o.labels) =
@@ -145,13 +146,13 @@ module _ (setting : Setting) (bytes : List ℕ) (start : Configuration) (spent :
       ∙ sym (frame_push o.under o.locals (h.others ++ belows o.labels) (value_of u gives)) in
       let reduces_here = ap (λ vs. reduce_plain setting store o.locals vs p h.rest) h.values_are ∙ reduces in
       let types : types_of (value_of u gives ∷ h.others) ≡ h.typing.between = ap (λ y. y ∷ types_of h.others) (type_is_of u gives) ∙ sym h.between_is in
-      over_plain setting bytes start spent a waiting slots store o p h.rest h.is place 1 (left ++ gives ∷ []) store o.locals (value_of u gives ∷ h.others) h.typing within read staying no_note reduces_here types refl next_slots
+      over_plain setting bytes checked start spent a waiting slots store o p h.rest h.is place 1 (left ++ gives ∷ []) store o.locals (value_of u gives ∷ h.others) h.typing within read staying no_note reduces_here types refl next_slots
       o.locals_in_range (value_in_range u gives in_range, h.others_fit) o.fits
 
   -- no more fuel for one that takes one value
   pub one_spent : (p : Plain) (t : ValueType) (gives : Operands) (h : OneHere p t gives) (r : Reduction) → Staying p → reduce_plain setting store o.locals (value_of t h.number ∷ h.others) p h.rest ≡ Some r → r.cost ≡ 1 → Spent setting start spent store
   one_spent p t gives h r staying reduces cost =
-      plain_spent setting bytes start spent a waiting slots store o p h.rest r h.is staying (ap (λ vs. reduce_plain setting store o.locals vs p h.rest) h.values_are ∙ reduces) cost
+      plain_spent setting bytes checked start spent a waiting slots store o p h.rest r h.is staying (ap (λ vs. reduce_plain setting store o.locals vs p h.rest) h.values_are ∙ reduces) cost
 
   -- the number on top of the slots is its operand
   pub one_top : (p : Plain) (t : ValueType) (gives : Operands) (h : OneHere p t gives) (left : List ℕ) (x : ℕ) → slots ≡ left ++ x ∷ [] → x ≡ h.number
@@ -169,7 +170,7 @@ module _ (setting : Setting) (bytes : List ℕ) (start : Configuration) (spent :
       let h = unary_here t op more read in
       one_spent (plains.Unary t op) t (t ∷ []) h (record { cost = 1; to = record { store = store; locals = o.locals; execution = instructions (value_of t (unary_gives op (width_of t) h.number) ∷ h.others) h.rest } }) (staying_unary t op) (unary_reduces t op h.rest h.number h.others) refl
 
-  pub over_unary : (t : ValueType) (op : UnOp) (place gives : ℕ) (left : List ℕ) (x : ℕ) → place ≤ length bytes → SpellsWord (drop a.at bytes) (one (plains.Unary t op)) (drop place bytes) → slots ≡ left ++ x ∷ [] → gives ≡ unary_gives op (width_of t) x → gives < 2 ^ width_of t → On setting bytes start (spent + 1) (went a place a.cursor) waiting (left ++ gives ∷ []) store
+  pub over_unary : (t : ValueType) (op : UnOp) (place gives : ℕ) (left : List ℕ) (x : ℕ) → place ≤ length bytes → SpellsWord (drop a.at bytes) (one (plains.Unary t op)) (drop place bytes) → slots ≡ left ++ x ∷ [] → gives ≡ unary_gives op (width_of t) x → gives < 2 ^ width_of t → On setting bytes checked start (spent + 1) (went a place a.cursor) waiting (left ++ gives ∷ []) store
   over_unary t op place gives left x within read popped is in_range =
       let h = unary_here t op (drop place bytes) read in
       let top = one_top (plains.Unary t op) t (t ∷ []) h left x popped in
@@ -188,7 +189,7 @@ module _ (setting : Setting) (bytes : List ℕ) (start : Configuration) (spent :
       let h = test_here t op more read in
       one_spent (plains.Test t op) t (I32 ∷ []) h (record { cost = 1; to = record { store = store; locals = o.locals; execution = instructions (value_of I32 (test_gives op (width_of t) h.number) ∷ h.others) h.rest } }) (staying_test t op) (test_reduces t op h.rest h.number h.others) refl
 
-  pub over_test : (t : ValueType) (op : TestOp) (place gives : ℕ) (left : List ℕ) (x : ℕ) → place ≤ length bytes → SpellsWord (drop a.at bytes) (one (plains.Test t op)) (drop place bytes) → slots ≡ left ++ x ∷ [] → gives ≡ test_gives op (width_of t) x → gives < 2 ^ 32 → On setting bytes start (spent + 1) (went a place a.cursor) waiting (left ++ gives ∷ []) store
+  pub over_test : (t : ValueType) (op : TestOp) (place gives : ℕ) (left : List ℕ) (x : ℕ) → place ≤ length bytes → SpellsWord (drop a.at bytes) (one (plains.Test t op)) (drop place bytes) → slots ≡ left ++ x ∷ [] → gives ≡ test_gives op (width_of t) x → gives < 2 ^ 32 → On setting bytes checked start (spent + 1) (went a place a.cursor) waiting (left ++ gives ∷ []) store
   over_test t op place gives left x within read popped is in_range =
       let h = test_here t op (drop place bytes) read in
       let top = one_top (plains.Test t op) t (I32 ∷ []) h left x popped in
@@ -207,7 +208,7 @@ module _ (setting : Setting) (bytes : List ℕ) (start : Configuration) (spent :
       let h = convert_here op more read in
       one_spent (plains.Convert op) (converted_from op) (converted_to op ∷ []) h (record { cost = 1; to = record { store = store; locals = o.locals; execution = instructions (value_of (converted_to op) (conversion_gives op h.number) ∷ h.others) h.rest } }) (staying_convert op) (convert_reduces op h.rest h.number h.others) refl
 
-  pub over_convert : (op : CvtOp) (place gives : ℕ) (left : List ℕ) (x : ℕ) → place ≤ length bytes → SpellsWord (drop a.at bytes) (one (plains.Convert op)) (drop place bytes) → slots ≡ left ++ x ∷ [] → gives ≡ conversion_gives op x → gives < 2 ^ width_of (converted_to op) → On setting bytes start (spent + 1) (went a place a.cursor) waiting (left ++ gives ∷ []) store
+  pub over_convert : (op : CvtOp) (place gives : ℕ) (left : List ℕ) (x : ℕ) → place ≤ length bytes → SpellsWord (drop a.at bytes) (one (plains.Convert op)) (drop place bytes) → slots ≡ left ++ x ∷ [] → gives ≡ conversion_gives op x → gives < 2 ^ width_of (converted_to op) → On setting bytes checked start (spent + 1) (went a place a.cursor) waiting (left ++ gives ∷ []) store
   over_convert op place gives left x within read popped is in_range =
       let h = convert_here op (drop place bytes) read in
       let top = one_top (plains.Convert op) (converted_from op) (converted_to op ∷ []) h left x popped in
@@ -222,7 +223,7 @@ module _ (setting : Setting) (bytes : List ℕ) (start : Configuration) (spent :
     pub second : ℕ
     pub others : List Value
     pub values_are : o.values ≡ value_of t second ∷ value_of t first ∷ others
-    pub typing : Typing (context_in o.whole o.labels) p rest (types_of o.values) (stands_as setting bytes start spent a waiting slots store o (plain p rest) is).leaves
+    pub typing : Typing (context_in o.whole o.labels) p rest (types_of o.values) (stands_as setting bytes checked start spent a waiting slots store o (plain p rest) is).leaves
     pub between_is : typing.between ≡ gives ++ types_of others
     pub first_in_range : first < 2 ^ width_of t
     pub second_in_range : second < 2 ^ width_of t
@@ -230,8 +231,8 @@ module _ (setting : Setting) (bytes : List ℕ) (start : Configuration) (spent :
 
   pub two_here : (p : Plain) (t : ValueType) (gives : Operands) (more : List ℕ) → plain_type (context_in o.whole o.labels) p ≡ takes_gives (t ∷ t ∷ []) gives → SpellsWord (drop a.at bytes) (one p) more → TwoHere p t gives
   two_here p t gives more type_is read =
-      let b = plain_here setting bytes start spent a waiting slots store o p more read in
-      let s = stands_as setting bytes start spent a waiting slots store o (plain p b.rest) b.is in
+      let b = plain_here setting bytes checked start spent a waiting slots store o p more read in
+      let s = stands_as setting bytes checked start spent a waiting slots store o (plain p b.rest) b.is in
       let first = subst (λ y. Weakened (TypeAllows y) (types_of o.values) s.typed.between) type_is s.typed.first in
       let types : types_of o.values ≡ t ∷ (t ∷ first.below) = first.before_is ∙ ap (λ g. g ++ first.below) first.rule.0 in
       let v = top_value t o.values (t ∷ first.below) types in
@@ -278,7 +279,7 @@ module _ (setting : Setting) (bytes : List ℕ) (start : Configuration) (spent :
       → length (plain_branches (labels_in o.whole o.labels) (place_of o.whole (drop a.at bytes)) p) ≡ 0
       → reduce_plain setting store o.locals (value_of t h.second ∷ value_of t h.first ∷ h.others) p h.rest ≡ leads_to 1 store o.locals (instructions (value_of u gives ∷ h.others) h.rest)
       → gives < 2 ^ width_of u → slots ≡ (left ++ x ∷ []) ++ y ∷ []
-      → On setting bytes start (spent + 1) (went a place a.cursor) waiting (left ++ gives ∷ []) store
+      → On setting bytes checked start (spent + 1) (went a place a.cursor) waiting (left ++ gives ∷ []) store
   over_two p t u h place gives left x y within read staying no_note reduces in_range popped =
       let top = two_top p t (u ∷ []) h left x y popped in
       let next_slots : left ++ gives ∷ [] ≡ frame_words o.under o.locals ((value_of u gives ∷ h.others) ++ belows o.labels) =
@@ -287,13 +288,13 @@ module _ (setting : Setting) (bytes : List ℕ) (start : Configuration) (spent :
       ∙ sym (frame_push o.under o.locals (h.others ++ belows o.labels) (value_of u gives)) in
       let reduces_here = ap (λ vs. reduce_plain setting store o.locals vs p h.rest) h.values_are ∙ reduces in
       let types : types_of (value_of u gives ∷ h.others) ≡ h.typing.between = ap (λ k. k ∷ types_of h.others) (type_is_of u gives) ∙ sym h.between_is in
-      over_plain setting bytes start spent a waiting slots store o p h.rest h.is place 1 (left ++ gives ∷ []) store o.locals (value_of u gives ∷ h.others) h.typing within read staying no_note reduces_here types refl next_slots
+      over_plain setting bytes checked start spent a waiting slots store o p h.rest h.is place 1 (left ++ gives ∷ []) store o.locals (value_of u gives ∷ h.others) h.typing within read staying no_note reduces_here types refl next_slots
       o.locals_in_range (value_in_range u gives in_range, h.others_fit) o.fits
 
   -- no more fuel for one that takes two values
   pub two_spent : (p : Plain) (t : ValueType) (gives : Operands) (h : TwoHere p t gives) (r : Reduction) → Staying p → reduce_plain setting store o.locals (value_of t h.second ∷ value_of t h.first ∷ h.others) p h.rest ≡ Some r → r.cost ≡ 1 → Spent setting start spent store
   two_spent p t gives h r staying reduces cost =
-      plain_spent setting bytes start spent a waiting slots store o p h.rest r h.is staying (ap (λ vs. reduce_plain setting store o.locals vs p h.rest) h.values_are ∙ reduces) cost
+      plain_spent setting bytes checked start spent a waiting slots store o p h.rest r h.is staying (ap (λ vs. reduce_plain setting store o.locals vs p h.rest) h.values_are ∙ reduces) cost
 
   -- t.relop
   relation_reduces : (t : ValueType) (op : RelOp) (rest : Body) (x y : ℕ) (others : List Value) → reduce_plain setting store o.locals (value_of t y ∷ value_of t x ∷ others) (plains.Relation t op) rest ≡ leads_to 1 store o.locals (instructions (value_of I32 (relation_gives op (width_of t) x y) ∷ others) rest)
@@ -309,7 +310,7 @@ module _ (setting : Setting) (bytes : List ℕ) (start : Configuration) (spent :
       let h = relation_here t op more read in
       two_spent (plains.Relation t op) t (I32 ∷ []) h (record { cost = 1; to = record { store = store; locals = o.locals; execution = instructions (value_of I32 (relation_gives op (width_of t) h.first h.second) ∷ h.others) h.rest } }) (staying_relation t op) (relation_reduces t op h.rest h.first h.second h.others) refl
 
-  pub over_relation : (t : ValueType) (op : RelOp) (place gives : ℕ) (left : List ℕ) (x y : ℕ) → place ≤ length bytes → SpellsWord (drop a.at bytes) (one (plains.Relation t op)) (drop place bytes) → slots ≡ (left ++ x ∷ []) ++ y ∷ [] → gives ≡ relation_gives op (width_of t) x y → gives < 2 ^ 32 → On setting bytes start (spent + 1) (went a place a.cursor) waiting (left ++ gives ∷ []) store
+  pub over_relation : (t : ValueType) (op : RelOp) (place gives : ℕ) (left : List ℕ) (x y : ℕ) → place ≤ length bytes → SpellsWord (drop a.at bytes) (one (plains.Relation t op)) (drop place bytes) → slots ≡ (left ++ x ∷ []) ++ y ∷ [] → gives ≡ relation_gives op (width_of t) x y → gives < 2 ^ 32 → On setting bytes checked start (spent + 1) (went a place a.cursor) waiting (left ++ gives ∷ []) store
   over_relation t op place gives left x y within read popped is in_range =
       let h = relation_here t op (drop place bytes) read in
       let top = two_top (plains.Relation t op) t (I32 ∷ []) h left x y popped in
@@ -340,7 +341,7 @@ module _ (setting : Setting) (bytes : List ℕ) (start : Configuration) (spent :
   binary_number : (t : ValueType) (op : BinOp) (h : TwoHere (plains.Binary t op) t (t ∷ [])) (left : List ℕ) (x y : ℕ) → TwoTop (plains.Binary t op) t (t ∷ []) h left x y → binary_gives op (width_of t) h.first h.second ≡ binary_gives op (width_of t) x y
   binary_number t op h left x y top = ap (λ n. binary_gives op (width_of t) n h.second) (sym top.x_is) ∙ ap (λ n. binary_gives op (width_of t) x n) (sym top.y_is)
 
-  pub over_binary : (t : ValueType) (op : BinOp) (place gives : ℕ) (left : List ℕ) (x y : ℕ) → place ≤ length bytes → SpellsWord (drop a.at bytes) (one (plains.Binary t op)) (drop place bytes) → slots ≡ (left ++ x ∷ []) ++ y ∷ [] → binary_gives op (width_of t) x y ≡ Ok gives → gives < 2 ^ width_of t → On setting bytes start (spent + 1) (went a place a.cursor) waiting (left ++ gives ∷ []) store
+  pub over_binary : (t : ValueType) (op : BinOp) (place gives : ℕ) (left : List ℕ) (x y : ℕ) → place ≤ length bytes → SpellsWord (drop a.at bytes) (one (plains.Binary t op)) (drop place bytes) → slots ≡ (left ++ x ∷ []) ++ y ∷ [] → binary_gives op (width_of t) x y ≡ Ok gives → gives < 2 ^ width_of t → On setting bytes checked start (spent + 1) (went a place a.cursor) waiting (left ++ gives ∷ []) store
   over_binary t op place gives left x y within read popped is in_range =
       let h = binary_here t op (drop place bytes) read in
       let top = two_top (plains.Binary t op) t (t ∷ []) h left x y popped in
@@ -352,4 +353,4 @@ module _ (setting : Setting) (bytes : List ℕ) (start : Configuration) (spent :
       let h = binary_here t op more read in
       let top = two_top (plains.Binary t op) t (t ∷ []) h left x y popped in
       let reduces = ap (λ vs. reduce_plain setting store o.locals vs (plains.Binary t op) h.rest) h.values_are ∙ binary_reduces t op h.rest h.first h.second h.others ∙ ap (λ g. after_binary store o.locals h.others t g h.rest) (binary_number t op h left x y top ∙ is) in
-      over_trap setting bytes start spent a waiting slots store o (plains.Binary t op) h.rest 1 store (trap_where u) h.is (staying_binary t op) reduces
+      over_trap setting bytes checked start spent a waiting slots store o (plains.Binary t op) h.rest 1 store (trap_where u) h.is (staying_binary t op) reduces

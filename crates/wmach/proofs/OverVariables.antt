@@ -14,6 +14,7 @@ use Rattle.wcode.specs.Syntax.{Body, plain}
 use Rattle.wcode.specs.Grammar.{one, SpellsWord}
 use Rattle.wbody.specs.Context.{Operands, Context}
 use Rattle.wbody.specs.Typing.{takes_gives, drops, selects, of_found, only_where, is_in_range, plain_type, Typed}
+use Rattle.wtype.specs.CheckedModule.{CheckedModule}
 use Rattle.wmach.specs.declared.activation.Activation.{Activation}
 use Rattle.wmach.specs.declared.outcome.Trap.TheVariants.{Unreachable}
 use Rattle.wmach.specs.Configuration.{Store, Setting, instructions, trap, Configuration, Reduction, leads_to}
@@ -85,12 +86,12 @@ pub any_on_top : (t : ValueType) (values : List Value) (types : Operands) → ty
 any_on_top t [] types e = absurd (cc)
 any_on_top t (v ∷ vs) types e = record { top = v; others = vs; is = refl; type_is = cc; others_are = cc }
 
-module _ (setting : Setting) (bytes : List ℕ) (start : Configuration) (spent : ℕ) (a : Activation) (waiting : List Activation) (slots : List ℕ) (store : Store) (o : On setting bytes start spent a waiting slots store) where
+module _ (setting : Setting) (bytes : List ℕ) (checked : CheckedModule) (start : Configuration) (spent : ℕ) (a : Activation) (waiting : List Activation) (slots : List ℕ) (store : Store) (o : On setting bytes checked start spent a waiting slots store) where
   -- a constant, at no cost
-  pub over_const : (v : Value) (place : ℕ) → place ≤ length bytes → SpellsWord (drop a.at bytes) (one (plains.Const v)) (drop place bytes) → On setting bytes start (spent + 0) (went a place a.cursor) waiting (slots ++ word_of v ∷ []) store
+  pub over_const : (v : Value) (place : ℕ) → place ≤ length bytes → SpellsWord (drop a.at bytes) (one (plains.Const v)) (drop place bytes) → On setting bytes checked start (spent + 0) (went a place a.cursor) waiting (slots ++ word_of v ∷ []) store
   over_const v place within read =
-      let b = plain_here setting bytes start spent a waiting slots store o (plains.Const v) (drop place bytes) read in
-      let s = stands_as setting bytes start spent a waiting slots store o (plain (plains.Const v) b.rest) b.is in
+      let b = plain_here setting bytes checked start spent a waiting slots store o (plains.Const v) (drop place bytes) read in
+      let s = stands_as setting bytes checked start spent a waiting slots store o (plain (plains.Const v) b.rest) b.is in
       let c = context_in o.whole o.labels in
       let h = holds (is_in_range v) (takes_gives [] (type_of v ∷ [])) (Typed c b.rest) (types_of o.values) s.leaves s.typed in
       let f = h.typed.first in
@@ -98,51 +99,51 @@ module _ (setting : Setting) (bytes : List ℕ) (start : Configuration) (spent :
       let t : Typing c (plains.Const v) b.rest (types_of o.values) s.leaves = record { type = takes_gives [] (type_of v ∷ []); type_is = type_is; left = tt; between = h.typed.between; first = f; others = h.typed.others } in
       let types : types_of (v ∷ o.values) ≡ h.typed.between = ap (λ l. type_of v ∷ l) (f.before_is ∙ ap (λ g. g ++ f.below) f.rule.0) ∙ sym (f.after_is ∙ ap (λ g. g ++ f.below) f.rule.1) in
       let pushed : slots ++ word_of v ∷ [] ≡ frame_words o.under o.locals ((v ∷ o.values) ++ belows o.labels) = ap (λ l. l ++ word_of v ∷ []) o.slots_are ∙ sym (frame_push o.under o.locals (o.values ++ belows o.labels) v) in
-      over_plain setting bytes start spent a waiting slots store o (plains.Const v) b.rest b.is place 0 (slots ++ word_of v ∷ []) store o.locals (v ∷ o.values) t within read (staying_const v) refl refl types refl pushed
+      over_plain setting bytes checked start spent a waiting slots store o (plains.Const v) b.rest b.is place 0 (slots ++ word_of v ∷ []) store o.locals (v ∷ o.values) t within read (staying_const v) refl refl types refl pushed
       o.locals_in_range (in_range_is v h.is, o.values_in_range) o.fits
 
   -- nop
   pub nop_spent : (more : List ℕ) → SpellsWord (drop a.at bytes) (one plains.Nop) more → Spent setting start spent store
   nop_spent more read =
-      let b = plain_here setting bytes start spent a waiting slots store o plains.Nop more read in
-      plain_spent setting bytes start spent a waiting slots store o plains.Nop b.rest (record { cost = 1; to = record { store = store; locals = o.locals; execution = instructions o.values b.rest } }) b.is staying_nop refl refl
+      let b = plain_here setting bytes checked start spent a waiting slots store o plains.Nop more read in
+      plain_spent setting bytes checked start spent a waiting slots store o plains.Nop b.rest (record { cost = 1; to = record { store = store; locals = o.locals; execution = instructions o.values b.rest } }) b.is staying_nop refl refl
 
-  pub over_nop : (place : ℕ) → place ≤ length bytes → SpellsWord (drop a.at bytes) (one plains.Nop) (drop place bytes) → On setting bytes start (spent + 1) (went a place a.cursor) waiting slots store
+  pub over_nop : (place : ℕ) → place ≤ length bytes → SpellsWord (drop a.at bytes) (one plains.Nop) (drop place bytes) → On setting bytes checked start (spent + 1) (went a place a.cursor) waiting slots store
   over_nop place within read =
-      let b = plain_here setting bytes start spent a waiting slots store o plains.Nop (drop place bytes) read in
-      let s = stands_as setting bytes start spent a waiting slots store o (plain plains.Nop b.rest) b.is in
+      let b = plain_here setting bytes checked start spent a waiting slots store o plains.Nop (drop place bytes) read in
+      let s = stands_as setting bytes checked start spent a waiting slots store o (plain plains.Nop b.rest) b.is in
       let f = s.typed.first in
       let t : Typing (context_in o.whole o.labels) plains.Nop b.rest (types_of o.values) s.leaves = record { type = takes_gives [] []; type_is = refl; left = tt; between = s.typed.between; first = f; others = s.typed.others } in
       let types : types_of o.values ≡ s.typed.between = f.before_is ∙ ap (λ g. g ++ f.below) f.rule.0 ∙ sym (f.after_is ∙ ap (λ g. g ++ f.below) f.rule.1) in
-      over_plain setting bytes start spent a waiting slots store o plains.Nop b.rest b.is place 1 slots store o.locals o.values t within read staying_nop refl refl types refl o.slots_are
+      over_plain setting bytes checked start spent a waiting slots store o plains.Nop b.rest b.is place 1 slots store o.locals o.values t within read staying_nop refl refl types refl o.slots_are
       o.locals_in_range o.values_in_range o.fits
 
   -- unreachable
   pub unreachable_spent : (more : List ℕ) → SpellsWord (drop a.at bytes) (one plains.Unreachable) more → Spent setting start spent store
   unreachable_spent more read =
-      let b = plain_here setting bytes start spent a waiting slots store o plains.Unreachable more read in
-      plain_spent setting bytes start spent a waiting slots store o plains.Unreachable b.rest (record { cost = 1; to = record { store = store; locals = o.locals; execution = trap Unreachable } }) b.is staying_unreachable refl refl
+      let b = plain_here setting bytes checked start spent a waiting slots store o plains.Unreachable more read in
+      plain_spent setting bytes checked start spent a waiting slots store o plains.Unreachable b.rest (record { cost = 1; to = record { store = store; locals = o.locals; execution = trap Unreachable } }) b.is staying_unreachable refl refl
 
   pub over_unreachable : (more : List ℕ) → SpellsWord (drop a.at bytes) (one plains.Unreachable) more → Trapped setting start (spent + 1) Unreachable store
   over_unreachable more read =
-      let b = plain_here setting bytes start spent a waiting slots store o plains.Unreachable more read in
-      over_trap setting bytes start spent a waiting slots store o plains.Unreachable b.rest 1 store Unreachable b.is staying_unreachable refl
+      let b = plain_here setting bytes checked start spent a waiting slots store o plains.Unreachable more read in
+      over_trap setting bytes checked start spent a waiting slots store o plains.Unreachable b.rest 1 store Unreachable b.is staying_unreachable refl
 
   -- drop
-  record DropHere : Type 0 where
-    rest : Body
-    is : o.body ≡ plain plains.Drop rest
-    top : Value
-    others : List Value
-    values_are : o.values ≡ top ∷ others
-    typing : Typing (context_in o.whole o.labels) plains.Drop rest (types_of o.values) (stands_as setting bytes start spent a waiting slots store o (plain plains.Drop rest) is).leaves
-    between_is : types_of others ≡ typing.between
-    others_fit : AllByRecursion InRange (others ++ belows o.labels)
+  pub record DropHere : Type 0 where
+    pub rest : Body
+    pub is : o.body ≡ plain plains.Drop rest
+    pub top : Value
+    pub others : List Value
+    pub values_are : o.values ≡ top ∷ others
+    pub typing : Typing (context_in o.whole o.labels) plains.Drop rest (types_of o.values) (stands_as setting bytes checked start spent a waiting slots store o (plain plains.Drop rest) is).leaves
+    pub between_is : types_of others ≡ typing.between
+    pub others_fit : AllByRecursion InRange (others ++ belows o.labels)
 
-  drop_here : (more : List ℕ) → SpellsWord (drop a.at bytes) (one plains.Drop) more → DropHere
+  pub drop_here : (more : List ℕ) → SpellsWord (drop a.at bytes) (one plains.Drop) more → DropHere
   drop_here more read =
-      let b = plain_here setting bytes start spent a waiting slots store o plains.Drop more read in
-      let s = stands_as setting bytes start spent a waiting slots store o (plain plains.Drop b.rest) b.is in
+      let b = plain_here setting bytes checked start spent a waiting slots store o plains.Drop more read in
+      let s = stands_as setting bytes checked start spent a waiting slots store o (plain plains.Drop b.rest) b.is in
       let f = s.typed.first in
       let types : types_of o.values ≡ f.rule.0 ∷ f.below = f.before_is ∙ ap (λ g. g ++ f.below) f.rule.1 in
       let v = any_on_top f.rule.0 o.values f.below types in
@@ -164,14 +165,14 @@ module _ (setting : Setting) (bytes : List ℕ) (start : Configuration) (spent :
   pub drop_spent : (more : List ℕ) → SpellsWord (drop a.at bytes) (one plains.Drop) more → Spent setting start spent store
   drop_spent more read =
       let h = drop_here more read in
-      plain_spent setting bytes start spent a waiting slots store o plains.Drop h.rest (record { cost = 1; to = record { store = store; locals = o.locals; execution = instructions h.others h.rest } }) h.is staying_drop (drop_reduces h) refl
+      plain_spent setting bytes checked start spent a waiting slots store o plains.Drop h.rest (record { cost = 1; to = record { store = store; locals = o.locals; execution = instructions h.others h.rest } }) h.is staying_drop (drop_reduces h) refl
 
-  pub over_drop : (place : ℕ) (left : List ℕ) (x : ℕ) → place ≤ length bytes → SpellsWord (drop a.at bytes) (one plains.Drop) (drop place bytes) → slots ≡ left ++ x ∷ [] → On setting bytes start (spent + 1) (went a place a.cursor) waiting left store
+  pub over_drop : (place : ℕ) (left : List ℕ) (x : ℕ) → place ≤ length bytes → SpellsWord (drop a.at bytes) (one plains.Drop) (drop place bytes) → slots ≡ left ++ x ∷ [] → On setting bytes checked start (spent + 1) (went a place a.cursor) waiting left store
   over_drop place left x within read popped =
       let h = drop_here (drop place bytes) read in
       let there = o.slots_are ∙ ap (λ vs. frame_words o.under o.locals (vs ++ belows o.labels)) h.values_are in
       let p = frame_pop o.under o.locals (h.others ++ belows o.labels) h.top slots left x there popped in
-      over_plain setting bytes start spent a waiting slots store o plains.Drop h.rest h.is place 1 left store o.locals h.others h.typing within read staying_drop refl (drop_reduces h) h.between_is refl p.0
+      over_plain setting bytes checked start spent a waiting slots store o plains.Drop h.rest h.is place 1 left store o.locals h.others h.typing within read staying_drop refl (drop_reduces h) h.between_is refl p.0
       o.locals_in_range h.others_fit o.fits
 
   -- the local that an index names
@@ -197,12 +198,12 @@ module _ (setting : Setting) (bytes : List ℕ) (start : Configuration) (spent :
     pub word : ℕ
     pub there : slice_get slots (a.base + x) ≡ Some word
     pub spent_here : Spent setting start spent store
-    pub goes : (place : ℕ) → place ≤ length bytes → SpellsWord (drop a.at bytes) (one (plains.LocalGet x)) (drop place bytes) → On setting bytes start (spent + 1) (went a place a.cursor) waiting (slots ++ word ∷ []) store
+    pub goes : (place : ℕ) → place ≤ length bytes → SpellsWord (drop a.at bytes) (one (plains.LocalGet x)) (drop place bytes) → On setting bytes checked start (spent + 1) (went a place a.cursor) waiting (slots ++ word ∷ []) store
 
   pub get_here : (x : ℕ) (more : List ℕ) → SpellsWord (drop a.at bytes) (one (plains.LocalGet x)) more → GetHere x
   get_here x more read =
-      let b = plain_here setting bytes start spent a waiting slots store o (plains.LocalGet x) more read in
-      let s = stands_as setting bytes start spent a waiting slots store o (plain (plains.LocalGet x) b.rest) b.is in
+      let b = plain_here setting bytes checked start spent a waiting slots store o (plains.LocalGet x) more read in
+      let s = stands_as setting bytes checked start spent a waiting slots store o (plain (plains.LocalGet x) b.rest) b.is in
       let c = context_in o.whole o.labels in
       let f = found (λ t. takes_gives [] (t ∷ [])) (slice_get c.locals x) (Typed c b.rest) (types_of o.values) s.leaves s.typed in
       let w = f.typed.first in
@@ -217,8 +218,8 @@ module _ (setting : Setting) (bytes : List ℕ) (start : Configuration) (spent :
       record {
         word = word_of v.local;
         there = ap (λ l. slice_get l (a.base + x)) o.slots_are ∙ ap (λ n. slice_get (frame_words o.under o.locals (o.values ++ belows o.labels)) n) place_is ∙ frame_local o.under o.locals (o.values ++ belows o.labels) x v.local v.is;
-        spent_here = plain_spent setting bytes start spent a waiting slots store o (plains.LocalGet x) b.rest (record { cost = 1; to = record { store = store; locals = o.locals; execution = instructions (v.local ∷ o.values) b.rest } }) b.is (staying_get x) reduces refl;
-        goes = λ place within read_on. over_plain setting bytes start spent a waiting slots store o (plains.LocalGet x) b.rest b.is place 1 (slots ++ word_of v.local ∷ []) store o.locals (v.local ∷ o.values) t within read_on (staying_get x) refl reduces types refl pushed
+        spent_here = plain_spent setting bytes checked start spent a waiting slots store o (plains.LocalGet x) b.rest (record { cost = 1; to = record { store = store; locals = o.locals; execution = instructions (v.local ∷ o.values) b.rest } }) b.is (staying_get x) reduces refl;
+        goes = λ place within read_on. over_plain setting bytes checked start spent a waiting slots store o (plains.LocalGet x) b.rest b.is place 1 (slots ++ word_of v.local ∷ []) store o.locals (v.local ∷ o.values) t within read_on (staying_get x) refl reduces types refl pushed
             o.locals_in_range (v.in_range, o.values_in_range) o.fits;
       }
 
@@ -226,7 +227,7 @@ module _ (setting : Setting) (bytes : List ℕ) (start : Configuration) (spent :
   pub record SetHere (x : ℕ) : Type 0 where
     pub less : a.base + x < length slots
     pub spent_here : Spent setting start spent store
-    pub goes : (place : ℕ) (left : List ℕ) (word : ℕ) → place ≤ length bytes → SpellsWord (drop a.at bytes) (one (plains.LocalSet x)) (drop place bytes) → slots ≡ left ++ word ∷ [] → On setting bytes start (spent + 1) (went a place a.cursor) waiting (slice_set left (a.base + x) word) store
+    pub goes : (place : ℕ) (left : List ℕ) (word : ℕ) → place ≤ length bytes → SpellsWord (drop a.at bytes) (one (plains.LocalSet x)) (drop place bytes) → slots ≡ left ++ word ∷ [] → On setting bytes checked start (spent + 1) (went a place a.cursor) waiting (slice_set left (a.base + x) word) store
 
   set_types : (ls : List Value) (x : ℕ) (old v : Value) → slice_get ls x ≡ Some old → type_of v ≡ type_of old → types_of (slice_set ls x v) ≡ types_of ls
   set_types [] x old v is same = refl
@@ -235,8 +236,8 @@ module _ (setting : Setting) (bytes : List ℕ) (start : Configuration) (spent :
 
   pub set_here : (x : ℕ) (more : List ℕ) → SpellsWord (drop a.at bytes) (one (plains.LocalSet x)) more → SetHere x
   set_here x more read =
-      let b = plain_here setting bytes start spent a waiting slots store o (plains.LocalSet x) more read in
-      let s = stands_as setting bytes start spent a waiting slots store o (plain (plains.LocalSet x) b.rest) b.is in
+      let b = plain_here setting bytes checked start spent a waiting slots store o (plains.LocalSet x) more read in
+      let s = stands_as setting bytes checked start spent a waiting slots store o (plain (plains.LocalSet x) b.rest) b.is in
       let c = context_in o.whole o.labels in
       let f = found (λ t. takes_gives (t ∷ []) []) (slice_get c.locals x) (Typed c b.rest) (types_of o.values) s.leaves s.typed in
       let w = f.typed.first in
@@ -255,7 +256,7 @@ module _ (setting : Setting) (bytes : List ℕ) (start : Configuration) (spent :
       let long = ap length o.slots_are ∙ frame_long o.under o.locals (o.values ++ belows o.labels) in
       record {
         less = omega (arith, long, less, o.base);
-        spent_here = plain_spent setting bytes start spent a waiting slots store o (plains.LocalSet x) b.rest (record { cost = 1; to = record { store = store; locals = slice_set o.locals x v.top; execution = instructions v.others b.rest } }) b.is (staying_set x) reduces refl;
+        spent_here = plain_spent setting bytes checked start spent a waiting slots store o (plains.LocalSet x) b.rest (record { cost = 1; to = record { store = store; locals = slice_set o.locals x v.top; execution = instructions v.others b.rest } }) b.is (staying_set x) reduces refl;
         goes = λ place left word within read_on popped.
             let p = frame_pop o.under o.locals (v.others ++ belows o.labels) v.top slots left word there popped in
             let written : slice_set left (a.base + x) word ≡ frame_words o.under (slice_set o.locals x v.top) (v.others ++ belows o.labels) =
@@ -263,7 +264,7 @@ module _ (setting : Setting) (bytes : List ℕ) (start : Configuration) (spent :
             ∙ ap (λ n. slice_set (frame_words o.under o.locals (v.others ++ belows o.labels)) n word) (ap (λ n. n + x) o.base)
             ∙ ap (λ k. slice_set (frame_words o.under o.locals (v.others ++ belows o.labels)) (length o.under + x) k) p.1
             ∙ frame_set o.under o.locals (v.others ++ belows o.labels) x v.top less in
-            over_plain setting bytes start spent a waiting slots store o (plains.LocalSet x) b.rest b.is place 1 (slice_set left (a.base + x) word) store (slice_set o.locals x v.top) v.others t within read_on (staying_set x) refl reduces types
+            over_plain setting bytes checked start spent a waiting slots store o (plains.LocalSet x) b.rest b.is place 1 (slice_set left (a.base + x) word) store (slice_set o.locals x v.top) v.others t within read_on (staying_set x) refl reduces types
             (set_types o.locals x l.local v.top l.is (v.type_is ∙ sym l.type_is)) written
             (all-set InRange o.locals x v.top fit.0 o.locals_in_range) fit.1 o.fits;
       }
@@ -273,12 +274,12 @@ module _ (setting : Setting) (bytes : List ℕ) (start : Configuration) (spent :
     pub less : a.base + x < length slots
     pub spent_first : Spent setting start spent store
     pub spent_second : Spent setting start (spent + 1) store
-    pub goes : (place : ℕ) (left : List ℕ) (word : ℕ) → place ≤ length bytes → SpellsWord (drop a.at bytes) (one (plains.LocalTee x)) (drop place bytes) → slots ≡ left ++ word ∷ [] → On setting bytes start (spent + 2) (went a place a.cursor) waiting (slice_set slots (a.base + x) word) store
+    pub goes : (place : ℕ) (left : List ℕ) (word : ℕ) → place ≤ length bytes → SpellsWord (drop a.at bytes) (one (plains.LocalTee x)) (drop place bytes) → slots ≡ left ++ word ∷ [] → On setting bytes checked start (spent + 2) (went a place a.cursor) waiting (slice_set slots (a.base + x) word) store
 
   pub tee_here : (x : ℕ) (more : List ℕ) → SpellsWord (drop a.at bytes) (one (plains.LocalTee x)) more → TeeHere x
   tee_here x more read =
-      let b = plain_here setting bytes start spent a waiting slots store o (plains.LocalTee x) more read in
-      let s = stands_as setting bytes start spent a waiting slots store o (plain (plains.LocalTee x) b.rest) b.is in
+      let b = plain_here setting bytes checked start spent a waiting slots store o (plains.LocalTee x) more read in
+      let s = stands_as setting bytes checked start spent a waiting slots store o (plain (plains.LocalTee x) b.rest) b.is in
       let c = context_in o.whole o.labels in
       let f = found (λ t. takes_gives (t ∷ []) (t ∷ [])) (slice_get c.locals x) (Typed c b.rest) (types_of o.values) s.leaves s.typed in
       let w = f.typed.first in
@@ -303,7 +304,7 @@ module _ (setting : Setting) (bytes : List ℕ) (start : Configuration) (spent :
       let first_step = one_step setting frames (at store o.locals (instructions o.values (plain (plains.LocalTee x) b.rest))) first_r first_quiet in
       let second_step = one_step setting frames (at store o.locals between) second_r second_quiet in
       let both = and_then setting frames (at store o.locals (instructions o.values (plain (plains.LocalTee x) b.rest))) (at store o.locals between) (at store locals after) 1 1 first_step second_step in
-      let first_leads = leads_here setting bytes start spent a waiting slots store o (plain (plains.LocalTee x) b.rest) store o.locals between 1 b.is first_step in
+      let first_leads = leads_here setting bytes checked start spent a waiting slots store o (plain (plains.LocalTee x) b.rest) store o.locals between 1 b.is first_step in
       let second_spends : Spends setting frames (at store o.locals (nest o.labels between)) = spends_nest setting frames o.labels store o.locals between (record { reduction = second_r; quiet = second_quiet; one = refl }) in
       -- where it stands
       let floor = floor_in o.labels in
@@ -311,11 +312,11 @@ module _ (setting : Setting) (bytes : List ℕ) (start : Configuration) (spent :
       let long = ap length o.slots_are ∙ frame_long o.under o.locals (o.values ++ belows o.labels) in
       record {
         less = omega (arith, long, less, o.base);
-        spent_first = plain_spent setting bytes start spent a waiting slots store o (plains.LocalTee x) b.rest first_r b.is (staying_tee x) first_reduces refl;
-        spent_second = spent_after setting bytes start spent a waiting slots store o 1 (nest o.labels between) first_leads second_spends;
+        spent_first = plain_spent setting bytes checked start spent a waiting slots store o (plains.LocalTee x) b.rest first_r b.is (staying_tee x) first_reduces refl;
+        spent_second = spent_after setting bytes checked start spent a waiting slots store o 1 (nest o.labels between) first_leads second_spends;
         goes = λ place left word within read_on popped.
             let m = stands_plain o.whole o.all o.labels (plains.LocalTee x) b.rest (types_of o.values) f.typed.between (drop a.at bytes) (drop place bytes) s read_on f.typed.others height in
-            let cursor = cursor_moves setting bytes start spent a waiting slots store o place 0 within o.labels b.rest f.typed.between m in
+            let cursor = cursor_moves setting bytes checked start spent a waiting slots store o place 0 within o.labels b.rest f.typed.between m in
             let there = o.slots_are ∙ ap (λ vs. frame_words o.under o.locals (vs ++ belows o.labels)) v.is in
             let p = frame_pop o.under o.locals (v.others ++ belows o.labels) v.top slots left word there popped in
             let values_are : types_of (v.top ∷ v.others) ≡ types_of o.values = ap types_of (sym v.is) in
@@ -325,16 +326,17 @@ module _ (setting : Setting) (bytes : List ℕ) (start : Configuration) (spent :
             ∙ ap (λ n. slice_set (frame_words o.under o.locals ((v.top ∷ v.others) ++ belows o.labels)) n word) (ap (λ n. n + x) o.base)
             ∙ ap (λ k. slice_set (frame_words o.under o.locals ((v.top ∷ v.others) ++ belows o.labels)) (length o.under + x) k) p.1
             ∙ frame_set o.under o.locals ((v.top ∷ v.others) ++ belows o.labels) x v.top less in
-            on_goes setting bytes start spent a waiting slots store o place a.cursor 2 (slice_set slots (a.base + x) word) store b.rest (v.top ∷ v.others) o.labels locals
+            on_goes setting bytes checked start spent a waiting slots store o place a.cursor 2 (slice_set slots (a.base + x) word) store b.rest (v.top ∷ v.others) o.labels locals
             (subst (λ ts. Stands o.whole o.all o.labels b.rest ts (drop place bytes)) (sym (values_are ∙ types)) m.stands) within (omega (arith, cursor))
             (set_types o.locals x l.local v.top l.is (v.type_is ∙ sym l.type_is)) written (all-set InRange o.locals x v.top fit.0 o.locals_in_range) fit o.fits
-            (leads_here setting bytes start spent a waiting slots store o (plain (plains.LocalTee x) b.rest) store locals after 2 b.is both);
+            (leads_here setting bytes checked start spent a waiting slots store o (plain (plains.LocalTee x) b.rest) store locals after 2 b.is both);
       }
 
   -- select: the number on top decides which of the two below it stays
   pub record SelectHere : Type 0 where
+    pub deep : 2 < length o.values
     pub spent_here : Spent setting start spent store
-    pub goes : (place : ℕ) (left : List ℕ) (x y condition : ℕ) → place ≤ length bytes → SpellsWord (drop a.at bytes) (one plains.Select) (drop place bytes) → slots ≡ ((left ++ x ∷ []) ++ y ∷ []) ++ condition ∷ [] → On setting bytes start (spent + 1) (went a place a.cursor) waiting (left ++ (if condition == 0 then y else x) ∷ []) store
+    pub goes : (place : ℕ) (left : List ℕ) (x y condition : ℕ) → place ≤ length bytes → SpellsWord (drop a.at bytes) (one plains.Select) (drop place bytes) → slots ≡ ((left ++ x ∷ []) ++ y ∷ []) ++ condition ∷ [] → On setting bytes checked start (spent + 1) (went a place a.cursor) waiting (left ++ (if condition == 0 then y else x) ∷ []) store
 
   word_either : (b : Bool) (v w : Value) → (if b then word_of v else word_of w) ≡ word_of (if b then v else w)
   word_either true v w = refl
@@ -350,8 +352,8 @@ module _ (setting : Setting) (bytes : List ℕ) (start : Configuration) (spent :
 
   pub select_here : (more : List ℕ) → SpellsWord (drop a.at bytes) (one plains.Select) more → SelectHere
   select_here more read =
-      let b = plain_here setting bytes start spent a waiting slots store o plains.Select more read in
-      let s = stands_as setting bytes start spent a waiting slots store o (plain plains.Select b.rest) b.is in
+      let b = plain_here setting bytes checked start spent a waiting slots store o plains.Select more read in
+      let s = stands_as setting bytes checked start spent a waiting slots store o (plain plains.Select b.rest) b.is in
       let f = s.typed.first in
       let u = f.rule.0 in
       let types : types_of o.values ≡ I32 ∷ (u ∷ (u ∷ f.below)) = f.before_is ∙ ap (λ g. g ++ f.below) f.rule.1 in
@@ -367,14 +369,16 @@ module _ (setting : Setting) (bytes : List ℕ) (start : Configuration) (spent :
       let left_types : types_of (chosen ∷ lower.others) ≡ s.typed.between = ap (λ y. y ∷ types_of lower.others) (type_either u (top.number == 0) upper.top lower.top upper.type_is lower.type_is) ∙ ap (λ l. u ∷ l) lower.others_are ∙ sym (f.after_is ∙ ap (λ g. g ++ f.below) f.rule.2) in
       let base = lower.others ++ belows o.labels in
       let there = o.slots_are ∙ ap (λ vs. frame_words o.under o.locals (vs ++ belows o.labels)) whole in
+      let long : length o.values ≡ suc (suc (suc (length lower.others))) = ap length whole in
       record {
-        spent_here = plain_spent setting bytes start spent a waiting slots store o plains.Select b.rest (record { cost = 1; to = at store o.locals (instructions (chosen ∷ lower.others) b.rest) }) b.is staying_select reduces refl;
+        deep = omega (arith, long);
+        spent_here = plain_spent setting bytes checked start spent a waiting slots store o plains.Select b.rest (record { cost = 1; to = at store o.locals (instructions (chosen ∷ lower.others) b.rest) }) b.is staying_select reduces refl;
         goes = λ place left x y condition within read_on popped.
             let p = frame_pop o.under o.locals (upper.top ∷ lower.top ∷ base) (value.I32 top.number) slots ((left ++ x ∷ []) ++ y ∷ []) condition there popped in
             let q = frame_pop o.under o.locals (lower.top ∷ base) upper.top ((left ++ x ∷ []) ++ y ∷ []) (left ++ x ∷ []) y p.0 refl in
             let r = frame_pop o.under o.locals base lower.top (left ++ x ∷ []) left x q.0 refl in
             let same : (if condition == 0 then y else x) ≡ word_of chosen = ap (λ n. if n == 0 then y else x) p.1 ∙ ap (λ n. if top.number == 0 then n else x) q.1 ∙ ap (λ n. if top.number == 0 then word_of upper.top else n) r.1 ∙ word_either (top.number == 0) upper.top lower.top in
             let pushed : left ++ (if condition == 0 then y else x) ∷ [] ≡ frame_words o.under o.locals ((chosen ∷ lower.others) ++ belows o.labels) = ap (λ l. l ++ (if condition == 0 then y else x) ∷ []) r.0 ∙ ap (λ n. frame_words o.under o.locals base ++ n ∷ []) same ∙ sym (frame_push o.under o.locals base chosen) in
-            over_plain setting bytes start spent a waiting slots store o plains.Select b.rest b.is place 1 (left ++ (if condition == 0 then y else x) ∷ []) store o.locals (chosen ∷ lower.others) t within read_on staying_select refl reduces left_types refl pushed
+            over_plain setting bytes checked start spent a waiting slots store o plains.Select b.rest b.is place 1 (left ++ (if condition == 0 then y else x) ∷ []) store o.locals (chosen ∷ lower.others) t within read_on staying_select refl reduces left_types refl pushed
             o.locals_in_range (fit_either (top.number == 0) upper.top lower.top fit.1.0 fit.1.1.0, fit.1.1.1) o.fits;
       }

@@ -9,7 +9,7 @@ use Rattle.wcode.proofs.Shorter.{word_shorter}
 use Rattle.wcode.proofs.Unique.{word_once}
 use Rattle.wbody.specs.Context.{Operands}
 use Rattle.wbody.specs.Typing.{PlainType, takes_gives, drops, selects, ends, untyped, TypeAllows, Weakened, Typed}
-use Rattle.wbody.specs.Heights.{without, height_by, height_after}
+use Rattle.wbody.specs.Heights.{without, height_by, height_after, greatest_height}
 use Rattle.wbody.specs.declared.trail.Branch.{Branch}
 use Rattle.wbody.specs.Branches.{plain_branches, branches_of}
 use Rattle.wmach.specs.OpenLabels.{Open}
@@ -18,6 +18,7 @@ use Rattle.wmach.proofs.Tails.{word_tail, ends_tail}
 use Rattle.wmach.proofs.BranchPlaces.{Between, plain_there}
 use Rattle.wmach.proofs.BehindPlaces.{weaker, next_cut}
 use Rattle.wmach.proofs.Cuts.{cuts_count}
+use Rattle.wmach.proofs.LowHeights.{second_low, low_at}
 
 -- what comes behind an instruction of this type is reached
 abbrev pub IsLeft : PlainType → Type 0
@@ -88,6 +89,8 @@ module _ (w : Whole) (all : List Branch) where
         leaves = s.leaves;
         typed = others_typed;
         typed_behind = s.typed_behind;
+        low = low_at c b (floor_in os) (height_after c p (floor_in os) (floor_in os + length types)) (floor_in os + length between) w.most height (second_low (floor_in os + length types) (greatest_height c b (floor_in os) (height_after c p (floor_in os) (floor_in os + length types))) w.most s.low);
+        low_behind = s.low_behind;
       } in
       let here = branches_in w os (length types) (plain p b) s.last front s.rest s.spelled in
       let here_next = branches_in w os (length between) b s.last there s.rest s.spelled.2 in

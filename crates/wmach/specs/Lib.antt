@@ -14,3 +14,6 @@ pub mod Trap
 pub mod OpenLabels
 pub mod InPlace
 pub mod Machine
+pub mod Running
+pub mod Coded
+pub mod Calling

@@ -6,10 +6,17 @@
 #![tactic(auto)]
 
 mod activation;
+mod calls;
+mod code;
+mod control;
 mod export;
 mod host;
 mod laws;
+pub mod numbers;
 mod outcome;
+mod plain;
+mod shape;
+mod state;
 
 pub use export::Export;
 pub use host::Host;

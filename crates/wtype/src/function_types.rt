@@ -36,7 +36,7 @@ fn type_index(decoded: &Module, index: u32) -> Option<u32>
     }
 }
 
-// The type that the module lists at this place.
+/// The type that the module lists at this place.
 pub fn listed(decoded: &Module, index: u32) -> Option<&FunctionType>
     ensures { slice_get (module_of decoded.now).types index ≡ option_map (λ t. signature_of t.now) result }
 {
@@ -48,6 +48,17 @@ fn only_gives(found: &FunctionType, gives: Option<ValueType>) -> bool
     ensures { MatchBool result (signature_of found.now ≡ record { parameters = []; result = gives }) (signature_of found.now ≡ record { parameters = []; result = gives } → ⊥) }
 {
     found.parameters.is_empty() && found.result == gives
+}
+
+/// The type of the function with this index, the imported ones first, if there is one.
+pub fn type_of_function(decoded: &Module, index: u32) -> Option<&FunctionType>
+    requires { ImportsRight (module_of decoded.now) }
+    ensures { option_and_then (λ t. t) (slice_get (function_types (module_of decoded.now)) index) ≡ option_map (λ t. signature_of t.now) result }
+{
+    match type_index(decoded, index) {
+        Some(place) => listed(decoded, place),
+        None => None,
+    }
 }
 
 // The function takes nothing, and gives this.

@@ -14,6 +14,8 @@ mod rules;
 mod sizes;
 
 pub use checked::{Checked, validate};
+pub use function_types::{listed, type_of_function};
+pub use sizes::count_locals;
 pub use wbody::TypeFault;
 
 #[cfg(test)]

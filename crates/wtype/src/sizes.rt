@@ -21,8 +21,8 @@ const MOST_ELEMENTS: u32 = 1024;
 
 const MOST_GLOBALS: usize = 1024;
 
-// How many locals the runs have, unless they are too many.
-fn count_locals(runs: &[LocalRun]) -> Option<usize>
+/// How many locals the runs have, unless they are more than 1,024.
+pub fn count_locals(runs: &[LocalRun]) -> Option<usize>
     ensures { MatchOption result (most_slots < length (locals_of runs.now)) (λ n. (n ≡ length (locals_of runs.now)) × (n ≤ most_slots)) }
 {
     let mut count = 0;

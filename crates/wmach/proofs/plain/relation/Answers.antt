@@ -1,0 +1,47 @@
+use Rattle.std.proofs.Common.{◌≡◌, ℕ, ◌+◌, ◌-◌, ◌^◌, ◌<◌, ◌≤◌, List, [], ◌∷◌, ◌++◌, Ok, Err, length, take, drop, refl, sym, ap, ◌∙◌, subst, arith}
+use Rattle.std.proofs.lemmas.Result.{err_from_is_err_and}
+use Rattle.wcode.specs.declared.instruction.Plain.TheVariants as plains
+use Rattle.wcode.specs.declared.value.ValueType.TheVariants.{I32}
+use Rattle.wmach.proofs.Arms.{pushed, spent_err, two_back, two_there}
+use Rattle.wmach.proofs.OverNumbers.{over_relation, relation_here, relation_spent, two_top}
+use Rattle.wmach.specs.Operands.{value_of, width_of}
+use Rattle.wmach.specs.Running.{activation_of, bytes_of}
+use Rattle.wmach.proofs.plain.relation.Goals as goal
+
+pub returns-in_err-left : goal.returns-in_err-left
+returns-in_err-left c w st r h q =
+    let s = c.args.state in let slots = c.args.slots.now in
+    let e = err_from_is_err_and c.from_residual.result c.from_residual.ensures.1 in
+    spent_err r s w slots st h c.from_residual.result e.0 c.in_err-left.field-0.0 e.1 e.2 c.in_err-left.ensures.none.0 c.in_err-left.ensures.none.1 (relation_spent r.setting (bytes_of r) r.checked r.start h.spent (activation_of s) w (take s.top slots) st.current h.on c.args.t c.args.op (drop c.args.next (bytes_of r)) q.spelled)
+
+pub topmost-second-requires-clause-some : goal.topmost-second-requires-clause-some
+topmost-second-requires-clause-some c =
+    let w = c.requires.0 in let st = c.requires.1 in let q = c.requires.2 in let r = q.run in let h = q.at in let s = c.args.state in let slots = c.args.slots.now in
+    let o = relation_here r.setting (bytes_of r) r.checked r.start h.spent (activation_of s) w (take s.top slots) st.current h.on c.args.t c.args.op (drop c.args.next (bytes_of r)) q.reads.spelled in let two = two_there r s w slots st h (value_of c.args.t o.second) (value_of c.args.t o.first) o.others o.values_are in omega (arith, two)
+
+pub topmost-first-requires-clause-some : goal.topmost-first-requires-clause-some
+topmost-first-requires-clause-some c =
+    let w = c.requires.0 in let st = c.requires.1 in let q = c.requires.2 in let r = q.run in let h = q.at in let s = c.args.state in let slots = c.args.slots.now in
+    let o = relation_here r.setting (bytes_of r) r.checked r.start h.spent (activation_of s) w (take s.top slots) st.current h.on c.args.t c.args.op (drop c.args.next (bytes_of r)) q.reads.spelled in let two = two_there r s w slots st h (value_of c.args.t o.second) (value_of c.args.t o.first) o.others o.values_are in omega (arith, two)
+
+pub relation_word-requires-clause-first : goal.relation_word-requires-clause-first
+relation_word-requires-clause-first c =
+    let w = c.requires.0 in let st = c.requires.1 in let q = c.requires.2 in let r = q.run in let h = q.at in let s = c.args.state in let slots = c.args.slots.now in
+    let o = relation_here r.setting (bytes_of r) r.checked r.start h.spent (activation_of s) w (take s.top slots) st.current h.on c.args.t c.args.op (drop c.args.next (bytes_of r)) q.reads.spelled in
+    let popped = two_back s.top slots c.topmost-first.result c.topmost-second.result c.topmost-second.ensures c.topmost-first.ensures in
+    let top = two_top r.setting (bytes_of r) r.checked r.start h.spent (activation_of s) w (take s.top slots) st.current h.on (plains.Relation c.args.t c.args.op) c.args.t (I32 ∷ []) o (take (s.top - 2) slots) c.topmost-first.result c.topmost-second.result popped in let fits = o.first_in_range in subst (λ n. n < 2 ^ width_of c.args.t) (sym top.x_is) fits
+
+pub relation_word-requires-clause-second : goal.relation_word-requires-clause-second
+relation_word-requires-clause-second c =
+    let w = c.requires.0 in let st = c.requires.1 in let q = c.requires.2 in let r = q.run in let h = q.at in let s = c.args.state in let slots = c.args.slots.now in
+    let o = relation_here r.setting (bytes_of r) r.checked r.start h.spent (activation_of s) w (take s.top slots) st.current h.on c.args.t c.args.op (drop c.args.next (bytes_of r)) q.reads.spelled in
+    let popped = two_back s.top slots c.topmost-first.result c.topmost-second.result c.topmost-second.ensures c.topmost-first.ensures in
+    let top = two_top r.setting (bytes_of r) r.checked r.start h.spent (activation_of s) w (take s.top slots) st.current h.on (plains.Relation c.args.t c.args.op) c.args.t (I32 ∷ []) o (take (s.top - 2) slots) c.topmost-first.result c.topmost-second.result popped in let fits = o.second_in_range in subst (λ n. n < 2 ^ width_of c.args.t) (sym top.y_is) fits
+
+pub returns : goal.returns
+returns c w st r h q =
+    let s = c.args.state in let slots = c.args.slots.now in
+    let o = relation_here r.setting (bytes_of r) r.checked r.start h.spent (activation_of s) w (take s.top slots) st.current h.on c.args.t c.args.op (drop c.args.next (bytes_of r)) q.spelled in let some = two_there r s w slots st h (value_of c.args.t o.second) (value_of c.args.t o.first) o.others o.values_are in
+    let popped = two_back s.top slots c.topmost-first.result c.topmost-second.result c.topmost-second.ensures c.topmost-first.ensures in
+    let on = over_relation r.setting (bytes_of r) r.checked r.start h.spent (activation_of s) w (take s.top slots) st.current h.on c.args.t c.args.op c.args.next c.relation_word.result (take (s.top - 2) slots) c.topmost-first.result c.topmost-second.result q.within q.spelled popped c.relation_word.ensures.gives c.relation_word.ensures.fits in
+    pushed r s w slots st h c.args.next s.cursor c.push-top.result c.in_ok-left.left 1 c.relation_word.result (take (s.top - 2) slots) c.push-top.new.slots st (omega arith) c.in_ok-left.ensures.some on c.push-top.ensures.slots (omega (arith, c.push-top.ensures.top, c.push-top.ensures.long, some, h.top)) c.push-top.ensures.long refl refl
