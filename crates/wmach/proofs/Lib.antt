@@ -65,3 +65,5 @@ pub mod Rooms
 pub mod Stepping
 pub mod Codes
 pub mod Arms
+pub mod OverEnds
+pub mod Branching
