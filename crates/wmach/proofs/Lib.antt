@@ -67,3 +67,5 @@ pub mod Codes
 pub mod Arms
 pub mod OverEnds
 pub mod Branching
+pub mod Invoking
+pub mod Zeros

@@ -104,7 +104,7 @@ module _ (setting : Setting) (bytes : List ℕ) (checked : CheckedModule) (start
       }
 
   -- a function of the module that is called
-  pub own_called : (paid f place : ℕ) (slots_here : List ℕ) (h : Called paid f place slots_here) (g : OwnFunction setting.module_syntax f h.type) → CallNext setting bytes checked start spent a waiting slots store o paid f place slots_here
+  abbrev pub own_called : (paid f place : ℕ) (slots_here : List ℕ) (h : Called paid f place slots_here) (g : OwnFunction setting.module_syntax f h.type) → CallNext setting bytes checked start spent a waiting slots store o paid f place slots_here
   own_called paid f place slots_here h g = record {
     rest = h.rest;
     values = h.values;

@@ -16,6 +16,7 @@ pub mod numbers;
 mod outcome;
 mod plain;
 mod shape;
+mod signature;
 mod state;
 
 pub use export::Export;
@@ -25,3 +26,4 @@ pub use laws::{
     one_outcome, what_a_call_leaves,
 };
 pub use outcome::{Outcome, Trap};
+pub use signature::same_signature;
