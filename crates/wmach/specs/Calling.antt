@@ -4,7 +4,8 @@ use Rattle.wmem.specs.Access.{with_bytes}
 use Rattle.wstore.specs.State.{StoreState, syntax_of, with_memory}
 use Rattle.wmach.specs.declared.activation.Activation.{Activation}
 use Rattle.wmach.specs.declared.code.Code.{Code}
-use Rattle.wmach.specs.declared.outcome.Trap.TheVariants.{CallDepth, NoRecord, HostOutOfBounds}
+use Rattle.wmach.specs.declared.outcome.Trap.{Trap}
+use Rattle.wmach.specs.declared.outcome.Trap.TheVariants.{UndefinedElement, UninitializedElement, CallDepth, NoRecord, HostOutOfBounds}
 use Rattle.wmach.specs.declared.shape.Shape.{Shape}
 use Rattle.wmach.specs.declared.state.State.{State}
 use Rattle.wmach.specs.declared.state.Stop.{Stop}
@@ -12,6 +13,11 @@ use Rattle.wmach.specs.declared.state.Stop.TheVariants as stop
 use Rattle.wmach.specs.Host.{cost_of_bytes, has_room}
 use Rattle.wmach.specs.Reduction.{most_frames}
 use Rattle.wmach.specs.Running.{activation_of}
+
+-- what the table has at a place: a function, or why there is none
+abbrev pub ElementGives : Option (Option ℕ) → Result ℕ Trap → Type 0
+ElementGives element (Ok function) = element ≡ Some (Some function)
+ElementGives element (Err trap) = ((element ≡ None) × (trap ≡ UndefinedElement)) ⊎ ((element ≡ Some None) × (trap ≡ UninitializedElement))
 
 -- the function that runs, where it goes on after a call
 abbrev pub waiting_at : State → (next_at : ℕ) → Activation
