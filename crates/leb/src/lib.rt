@@ -61,10 +61,8 @@ pub fn read_u32(bytes: &[u8], at: usize) -> Result<(u32, usize), LebFault>
     ensures too_long { IsErrOf result LebFault.TooLong ↔ IsTooLong 32 (drop at bytes.now) }
     ensures bad_last_byte { IsErrOf result LebFault.BadLastByte ↔ HasBadLastByte unsigned 32 (drop at bytes.now) }
 {
-    match read(bytes, at, 32, false) {
-        Ok(found) => Ok((found.low as u32, found.next)),
-        Err(fault) => Err(fault),
-    }
+    let found = read(bytes, at, 32, false)?;
+    Ok((found.low as u32, found.next))
 }
 
 /// Reads a signed number of 32 bits from `at` on. Gives the number, and the place after its last byte.
@@ -78,14 +76,10 @@ pub fn read_i32(bytes: &[u8], at: usize) -> Result<(i32, usize), LebFault>
     ensures too_long { IsErrOf result LebFault.TooLong ↔ IsTooLong 32 (drop at bytes.now) }
     ensures bad_last_byte { IsErrOf result LebFault.BadLastByte ↔ HasBadLastByte signed 32 (drop at bytes.now) }
 {
-    match read(bytes, at, 32, true) {
-        Ok(found) => {
-            let low = found.low as i32;
-            let value = if found.negative { -low - 1 } else { low };
-            Ok((value, found.next))
-        }
-        Err(fault) => Err(fault),
-    }
+    let found = read(bytes, at, 32, true)?;
+    let low = found.low as i32;
+    let value = if found.negative { -low - 1 } else { low };
+    Ok((value, found.next))
 }
 
 /// Reads a signed number of 64 bits from `at` on. Gives the number, and the place after its last byte.
@@ -99,14 +93,10 @@ pub fn read_i64(bytes: &[u8], at: usize) -> Result<(i64, usize), LebFault>
     ensures too_long { IsErrOf result LebFault.TooLong ↔ IsTooLong 64 (drop at bytes.now) }
     ensures bad_last_byte { IsErrOf result LebFault.BadLastByte ↔ HasBadLastByte signed 64 (drop at bytes.now) }
 {
-    match read(bytes, at, 64, true) {
-        Ok(found) => {
-            let low = found.low as i64;
-            let value = if found.negative { -low - 1 } else { low };
-            Ok((value, found.next))
-        }
-        Err(fault) => Err(fault),
-    }
+    let found = read(bytes, at, 64, true)?;
+    let low = found.low as i64;
+    let value = if found.negative { -low - 1 } else { low };
+    Ok((value, found.next))
 }
 
 // A number as it is found: `low`, or -1 - `low` where it is negative, and the place after it.

@@ -65,13 +65,9 @@ impl<A: Entry, B: Entry> Entry for Both<A, B> {
     ghost spells = { SpellsBoth A.spells B.spells };
 
     fn read(alloc: Global, bytes: &[u8], at: usize) -> Result<((A::Out, B::Out), usize), BinFault> {
-        match A::read(alloc, bytes, at) {
-            Ok((first, next)) => match B::read(alloc, bytes, next) {
-                Ok((second, end)) => Ok(((first, second), end)),
-                Err(fault) => Err(fault),
-            },
-            Err(fault) => Err(fault),
-        }
+        let (first, next) = A::read(alloc, bytes, at)?;
+        let (second, end) = B::read(alloc, bytes, next)?;
+        Ok(((first, second), end))
     }
 
     ghost once = { both_once A.spells B.spells A.once B.once };
@@ -100,11 +96,10 @@ pub fn read_index(bytes: &[u8], at: usize) -> Result<(u32, usize), BinFault>
     ensures read { Reads SpellsIndex (λ n. n) bytes.now at result }
     ensures memory { IfErr result (λ e. e ≢ NoMemory) }
 {
-    match read_u32(bytes, at) {
-        Ok(found) => Ok(found),
-        Err(LebFault::Truncated) => Err(truncated(bytes)),
-        Err(_) => Err(malformed(Kind::BadNumber, at)),
-    }
+    read_u32(bytes, at).map_err(|fault| match fault {
+        LebFault::Truncated => truncated(bytes),
+        _ => malformed(Kind::BadNumber, at),
+    })
 }
 
 /// The byte at `at`.
@@ -127,16 +122,10 @@ pub fn expect_byte(bytes: &[u8], at: usize, wanted: u8) -> Result<(), BinFault>
     ensures within { IfOk result (λ u. at < length bytes.now) }
     ensures none { OnErr result ((rest : List ℕ) → Byte wanted (drop at bytes.now) rest → ⊥) }
 {
-    match byte_at(bytes, at) {
-        Ok(byte) => {
-            if byte == wanted {
-                Ok(())
-            } else {
-                Err(malformed(Kind::BadType, at))
-            }
-        }
-        Err(fault) => Err(fault),
+    if byte_at(bytes, at)? != wanted {
+        return Err(malformed(Kind::BadType, at));
     }
+    Ok(())
 }
 
 /// Reads bytes with their number before them, from `at` on. Gives them, and the place after them. Where they are
@@ -147,16 +136,12 @@ pub fn read_sized(bytes: &[u8], at: usize) -> Result<(&[u8], usize), BinFault>
     ensures memory { IfErr result (λ e. e ≢ NoMemory) }
     ensures place { IfOk result (λ x. (length x.0.now ≤ x.1) × (at + length x.0.now < x.1) × (x.0.now ≡ drop (x.1 - length x.0.now) (take x.1 bytes.now))) }
 {
-    match read_index(bytes, at) {
-        Ok((size, start)) => {
-            let end = start + size as usize;
-            if end > bytes.len() {
-                return Err(malformed(Kind::Truncated, end));
-            }
-            Ok((&bytes[start..end], end))
-        }
-        Err(fault) => Err(fault),
+    let (size, start) = read_index(bytes, at)?;
+    let end = start + size as usize;
+    if end > bytes.len() {
+        return Err(malformed(Kind::Truncated, end));
     }
+    Ok((&bytes[start..end], end))
 }
 
 /// The same, where the place of what is wanting is the end of the bytes that are there.
@@ -166,16 +151,13 @@ pub fn read_bytes(bytes: &[u8], at: usize) -> Result<(&[u8], usize), BinFault>
     ensures memory { IfErr result (λ e. e ≢ NoMemory) }
     ensures place { IfOk result (λ x. (length x.0.now ≤ x.1) × (at + length x.0.now < x.1) × (x.0.now ≡ drop (x.1 - length x.0.now) (take x.1 bytes.now))) }
 {
-    match read_sized(bytes, at) {
-        Ok(found) => Ok(found),
-        Err(
-            BinFault::Malformed {
-                kind: Kind::Truncated,
-                ..
-            },
-        ) => Err(truncated(bytes)),
-        Err(fault) => Err(fault),
-    }
+    read_sized(bytes, at).map_err(|fault| match fault {
+        BinFault::Malformed {
+            kind: Kind::Truncated,
+            ..
+        } => truncated(bytes),
+        other => other,
+    })
 }
 
 /// Reads a name from `at` on, and gives it and the place after it.
@@ -184,15 +166,11 @@ pub fn read_name(bytes: &[u8], at: usize) -> Result<(&[u8], usize), BinFault>
     ensures read { Reads SpellsName (λ s. s.now) bytes.now at result }
     ensures memory { IfErr result (λ e. e ≢ NoMemory) }
 {
-    match read_bytes(bytes, at) {
-        Ok((name, next)) => {
-            if str::from_utf8(name).is_ok() {
-                Ok((name, next))
-            } else {
-                Err(malformed(Kind::BadName, at))
-            }
-        }
-        Err(fault) => Err(fault),
+    let (name, next) = read_bytes(bytes, at)?;
+    if str::from_utf8(name).is_ok() {
+        Ok((name, next))
+    } else {
+        Err(malformed(Kind::BadName, at))
     }
 }
 

@@ -72,15 +72,11 @@ fn read_entries<P: Part>(
     let mut entries = Vec::new(alloc);
     let mut place = at;
     for _i in 0..count {
-        match P::read(alloc, bytes, place) {
-            Ok((entry, next)) => {
-                if entries.push(entry).is_err() {
-                    return Err(BinFault::NoMemory);
-                }
-                place = next;
-            }
-            Err(fault) => return Err(fault),
+        let (entry, next) = P::read(alloc, bytes, place)?;
+        if entries.push(entry).is_err() {
+            return Err(BinFault::NoMemory);
         }
+        place = next;
     }
     Ok((entries, place))
 }

@@ -33,13 +33,11 @@ impl Entry for Name {
     ghost spells = { SpellsName };
 
     fn read(alloc: Global, bytes: &[u8], at: usize) -> Result<(Vec<u8>, usize), BinFault> {
-        match read_name(bytes, at) {
-            Ok((name, end)) => match Vec::from_slice(alloc, name) {
-                Ok(copy) => Ok((copy, end)),
-                Err(_) => Err(BinFault::NoMemory),
-            },
-            Err(fault) => Err(fault),
-        }
+        let (name, end) = read_name(bytes, at)?;
+        let Ok(copy) = Vec::from_slice(alloc, name) else {
+            return Err(BinFault::NoMemory);
+        };
+        Ok((copy, end))
     }
 
     ghost once = { name_once };
@@ -55,10 +53,9 @@ impl Entry for Import {
     ghost spells = { SpellsImport };
 
     fn read(alloc: Global, bytes: &[u8], at: usize) -> Result<(Import, usize), BinFault> {
-        match <Both<Name, Both<Name, ImportKind>>>::read(alloc, bytes, at) {
-            Ok(((module, (name, kind)), end)) => Ok((Import { module, name, kind }, end)),
-            Err(fault) => Err(fault),
-        }
+        let (found, end) = <Both<Name, Both<Name, ImportKind>>>::read(alloc, bytes, at)?;
+        let (module, (name, kind)) = found;
+        Ok((Import { module, name, kind }, end))
     }
 
     ghost once = { import_once };
@@ -76,10 +73,8 @@ impl Part for GlobalVariable {
     ghost placed = { IsGlobal };
 
     fn read(alloc: Global, bytes: &[u8], at: usize) -> Result<(GlobalVariable, usize), BinFault> {
-        match <Then<Plain<GlobalType>, Expression>>::read(alloc, bytes, at) {
-            Ok(((kind, first), end)) => Ok((GlobalVariable { kind, first }, end)),
-            Err(fault) => Err(fault),
-        }
+        let ((kind, first), end) = <Then<Plain<GlobalType>, Expression>>::read(alloc, bytes, at)?;
+        Ok((GlobalVariable { kind, first }, end))
     }
 
     ghost once = { global_once };
@@ -97,10 +92,9 @@ impl Entry for Export {
     ghost spells = { SpellsExport };
 
     fn read(alloc: Global, bytes: &[u8], at: usize) -> Result<(Export, usize), BinFault> {
-        match <Both<Name, Both<ExportKind, u32>>>::read(alloc, bytes, at) {
-            Ok(((name, (kind, index)), end)) => Ok((Export { name, kind, index }, end)),
-            Err(fault) => Err(fault),
-        }
+        let (found, end) = <Both<Name, Both<ExportKind, u32>>>::read(alloc, bytes, at)?;
+        let (name, (kind, index)) = found;
+        Ok((Export { name, kind, index }, end))
     }
 
     ghost once = { export_once };
@@ -118,20 +112,14 @@ impl Part for ElementSegment {
     ghost placed = { IsElement };
 
     fn read(alloc: Global, bytes: &[u8], at: usize) -> Result<(ElementSegment, usize), BinFault> {
-        match <Then<Plain<u32>, Expression>>::read(alloc, bytes, at) {
-            Ok(((table, offset), next)) => match <Many<u32>>::read(alloc, bytes, next) {
-                Ok((functions, end)) => {
-                    let segment = ElementSegment {
-                        table,
-                        offset,
-                        functions,
-                    };
-                    Ok((segment, end))
-                }
-                Err(fault) => Err(fault),
-            },
-            Err(fault) => Err(fault),
-        }
+        let ((table, offset), next) = <Then<Plain<u32>, Expression>>::read(alloc, bytes, at)?;
+        let (functions, end) = <Many<u32>>::read(alloc, bytes, next)?;
+        let segment = ElementSegment {
+            table,
+            offset,
+            functions,
+        };
+        Ok((segment, end))
     }
 
     ghost once = { element_once };
@@ -151,17 +139,14 @@ impl Part for DataSegment {
     ghost placed = { IsData };
 
     fn read(alloc: Global, bytes: &[u8], at: usize) -> Result<(DataSegment, usize), BinFault> {
-        match <Then<Plain<u32>, Then<Expression, Contents>>>::read(alloc, bytes, at) {
-            Ok(((memory, (offset, contents)), end)) => {
-                let segment = DataSegment {
-                    memory,
-                    offset,
-                    contents,
-                };
-                Ok((segment, end))
-            }
-            Err(fault) => Err(fault),
-        }
+        let (found, end) = <Then<Plain<u32>, Then<Expression, Contents>>>::read(alloc, bytes, at)?;
+        let (memory, (offset, contents)) = found;
+        let segment = DataSegment {
+            memory,
+            offset,
+            contents,
+        };
+        Ok((segment, end))
     }
 
     ghost once = { data_once };
@@ -179,10 +164,8 @@ impl Entry for LocalRun {
     ghost spells = { SpellsRun };
 
     fn read(alloc: Global, bytes: &[u8], at: usize) -> Result<(LocalRun, usize), BinFault> {
-        match <Both<u32, ValueType>>::read(alloc, bytes, at) {
-            Ok(((count, value), end)) => Ok((LocalRun { count, value }, end)),
-            Err(fault) => Err(fault),
-        }
+        let ((count, value), end) = <Both<u32, ValueType>>::read(alloc, bytes, at)?;
+        Ok((LocalRun { count, value }, end))
     }
 
     ghost once = { run_once };

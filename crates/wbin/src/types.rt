@@ -28,12 +28,10 @@ impl Entry for ValueType {
     ghost spells = { SpellsValueType };
 
     fn read(_alloc: Global, bytes: &[u8], at: usize) -> Result<(ValueType, usize), BinFault> {
-        match byte_at(bytes, at) {
-            Ok(byte) => match value_type_of(byte) {
-                Some(t) => Ok((t, at + 1)),
-                None => Err(no_value_type(byte, at)),
-            },
-            Err(fault) => Err(fault),
+        let byte = byte_at(bytes, at)?;
+        match value_type_of(byte) {
+            Some(t) => Ok((t, at + 1)),
+            None => Err(no_value_type(byte, at)),
         }
     }
 
@@ -76,20 +74,14 @@ impl Entry for Results {
         bytes: &[u8],
         at: usize,
     ) -> Result<(Option<ValueType>, usize), BinFault> {
-        match read_index(bytes, at) {
-            Ok((count, next)) => {
-                if count == 0 {
-                    Ok((None, next))
-                } else if count == 1 {
-                    match ValueType::read(alloc, bytes, next) {
-                        Ok((t, end)) => Ok((Some(t), end)),
-                        Err(fault) => Err(fault),
-                    }
-                } else {
-                    Err(malformed(Kind::BadType, at))
-                }
-            }
-            Err(fault) => Err(fault),
+        let (count, next) = read_index(bytes, at)?;
+        if count == 0 {
+            Ok((None, next))
+        } else if count == 1 {
+            let (t, end) = ValueType::read(alloc, bytes, next)?;
+            Ok((Some(t), end))
+        } else {
+            Err(malformed(Kind::BadType, at))
         }
     }
 
@@ -106,13 +98,10 @@ impl Entry for FunctionType {
     ghost spells = { SpellsFunctionType };
 
     fn read(alloc: Global, bytes: &[u8], at: usize) -> Result<(FunctionType, usize), BinFault> {
-        match expect_byte(bytes, at, 0x60) {
-            Ok(()) => match <Both<Many<ValueType>, Results>>::read(alloc, bytes, at + 1) {
-                Ok(((parameters, result), end)) => Ok((FunctionType { parameters, result }, end)),
-                Err(fault) => Err(fault),
-            },
-            Err(fault) => Err(fault),
-        }
+        expect_byte(bytes, at, 0x60)?;
+        let (found, end) = <Both<Many<ValueType>, Results>>::read(alloc, bytes, at + 1)?;
+        let (parameters, result) = found;
+        Ok((FunctionType { parameters, result }, end))
     }
 
     ghost once = { function_type_once };
@@ -128,26 +117,16 @@ impl Entry for Limits {
     ghost spells = { SpellsLimits };
 
     fn read(alloc: Global, bytes: &[u8], at: usize) -> Result<(Limits, usize), BinFault> {
-        match byte_at(bytes, at) {
-            Ok(byte) => {
-                if byte == 0 {
-                    match read_index(bytes, at + 1) {
-                        Ok((least, end)) => Ok((Limits { least, most: None }, end)),
-                        Err(fault) => Err(fault),
-                    }
-                } else if byte == 1 {
-                    match <Both<u32, u32>>::read(alloc, bytes, at + 1) {
-                        Ok(((least, most), end)) => {
-                            let most = Some(most);
-                            Ok((Limits { least, most }, end))
-                        }
-                        Err(fault) => Err(fault),
-                    }
-                } else {
-                    Err(malformed(Kind::BadType, at))
-                }
-            }
-            Err(fault) => Err(fault),
+        let byte = byte_at(bytes, at)?;
+        if byte == 0 {
+            let (least, end) = read_index(bytes, at + 1)?;
+            Ok((Limits { least, most: None }, end))
+        } else if byte == 1 {
+            let ((least, most), end) = <Both<u32, u32>>::read(alloc, bytes, at + 1)?;
+            let most = Some(most);
+            Ok((Limits { least, most }, end))
+        } else {
+            Err(malformed(Kind::BadType, at))
         }
     }
 
@@ -167,10 +146,8 @@ impl Entry for TableType {
     ghost spells = { SpellsTableType };
 
     fn read(alloc: Global, bytes: &[u8], at: usize) -> Result<(Limits, usize), BinFault> {
-        match expect_byte(bytes, at, 0x70) {
-            Ok(()) => Limits::read(alloc, bytes, at + 1),
-            Err(fault) => Err(fault),
-        }
+        expect_byte(bytes, at, 0x70)?;
+        Limits::read(alloc, bytes, at + 1)
     }
 
     ghost once = { table_type_once };
@@ -189,12 +166,9 @@ impl Entry for Mutability {
     ghost spells = { SpellsMutable };
 
     fn read(_alloc: Global, bytes: &[u8], at: usize) -> Result<(bool, usize), BinFault> {
-        match byte_at(bytes, at) {
-            Ok(byte) => match mutability_of(byte) {
-                Some(mutable) => Ok((mutable, at + 1)),
-                None => Err(malformed(Kind::BadType, at)),
-            },
-            Err(fault) => Err(fault),
+        match mutability_of(byte_at(bytes, at)?) {
+            Some(mutable) => Ok((mutable, at + 1)),
+            None => Err(malformed(Kind::BadType, at)),
         }
     }
 
@@ -221,10 +195,8 @@ impl Entry for GlobalType {
     ghost spells = { SpellsGlobalType };
 
     fn read(alloc: Global, bytes: &[u8], at: usize) -> Result<(GlobalType, usize), BinFault> {
-        match <Both<ValueType, Mutability>>::read(alloc, bytes, at) {
-            Ok(((value, mutable), end)) => Ok((GlobalType { value, mutable }, end)),
-            Err(fault) => Err(fault),
-        }
+        let ((value, mutable), end) = <Both<ValueType, Mutability>>::read(alloc, bytes, at)?;
+        Ok((GlobalType { value, mutable }, end))
     }
 
     ghost once = { global_type_once };
@@ -240,10 +212,8 @@ impl Entry for ImportKind {
     ghost spells = { SpellsImportKind };
 
     fn read(alloc: Global, bytes: &[u8], at: usize) -> Result<(ImportKind, usize), BinFault> {
-        match byte_at(bytes, at) {
-            Ok(byte) => read_imported(alloc, bytes, at, byte),
-            Err(fault) => Err(fault),
-        }
+        let byte = byte_at(bytes, at)?;
+        read_imported(alloc, bytes, at, byte)
     }
 
     ghost once = { import_kind_once };
@@ -262,25 +232,17 @@ fn read_imported(
 {
     let next = at + 1;
     if byte == 0 {
-        match read_index(bytes, next) {
-            Ok((signature, end)) => Ok((ImportKind::Function(signature), end)),
-            Err(fault) => Err(fault),
-        }
+        let (signature, end) = read_index(bytes, next)?;
+        Ok((ImportKind::Function(signature), end))
     } else if byte == 1 {
-        match TableType::read(alloc, bytes, next) {
-            Ok((limits, end)) => Ok((ImportKind::Table(limits), end)),
-            Err(fault) => Err(fault),
-        }
+        let (limits, end) = TableType::read(alloc, bytes, next)?;
+        Ok((ImportKind::Table(limits), end))
     } else if byte == 2 {
-        match Limits::read(alloc, bytes, next) {
-            Ok((limits, end)) => Ok((ImportKind::Memory(limits), end)),
-            Err(fault) => Err(fault),
-        }
+        let (limits, end) = Limits::read(alloc, bytes, next)?;
+        Ok((ImportKind::Memory(limits), end))
     } else if byte == 3 {
-        match GlobalType::read(alloc, bytes, next) {
-            Ok((global, end)) => Ok((ImportKind::Global(global), end)),
-            Err(fault) => Err(fault),
-        }
+        let (global, end) = GlobalType::read(alloc, bytes, next)?;
+        Ok((ImportKind::Global(global), end))
     } else {
         Err(malformed(Kind::BadType, at))
     }
@@ -296,12 +258,9 @@ impl Entry for ExportKind {
     ghost spells = { SpellsExportKind };
 
     fn read(_alloc: Global, bytes: &[u8], at: usize) -> Result<(ExportKind, usize), BinFault> {
-        match byte_at(bytes, at) {
-            Ok(byte) => match export_kind_of(byte) {
-                Some(kind) => Ok((kind, at + 1)),
-                None => Err(malformed(Kind::BadType, at)),
-            },
-            Err(fault) => Err(fault),
+        match export_kind_of(byte_at(bytes, at)?) {
+            Some(kind) => Ok((kind, at + 1)),
+            None => Err(malformed(Kind::BadType, at)),
         }
     }
 

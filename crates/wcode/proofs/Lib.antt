@@ -10,3 +10,4 @@ pub mod BlockLists
 pub mod BodyRead
 pub mod Longer
 pub mod Passing
+pub mod KnownWords

@@ -17,7 +17,7 @@ use Rattle.wcode.specs.declared.instruction.Op.{Op}
 use Rattle.wcode.specs.declared.fault.OpFault.{OpFault}
 use Rattle.wcode.proofs.Words.{word_of}
 
-index_shorter : (bytes : List ℕ) (n : ℕ) (rest : List ℕ) → SpellsIndex bytes n rest → length rest < length bytes
+pub index_shorter : (bytes : List ℕ) (n : ℕ) (rest : List ℕ) → SpellsIndex bytes n rest → length rest < length bytes
 index_shorter bytes n rest h = spelling_shorter unsigned 32 bytes (pos n) rest h
 
 indices_shorter : (bytes ns rest : List ℕ) → SpellsIndices bytes ns rest → length rest ≤ length bytes
@@ -25,7 +25,7 @@ unfolding SpellsIndices
 indices_shorter bytes [] rest h = let e : length bytes ≡ length rest = ap length h in omega arith
 indices_shorter bytes (n ∷ ns) rest h = omega (arith, index_shorter bytes n h.0 h.1, indices_shorter h.0 ns rest h.2)
 
-type_shorter : (bytes : List ℕ) (t : BlockType) (rest : List ℕ) → SpellsBlockType bytes t rest → length rest < length bytes
+pub type_shorter : (bytes : List ℕ) (t : BlockType) (rest : List ℕ) → SpellsBlockType bytes t rest → length rest < length bytes
 type_shorter bytes blocks.Empty rest h = let e : length bytes ≡ suc (length rest) = ap length h in omega arith
 type_shorter bytes (blocks.Result I32) rest h = let e : length bytes ≡ suc (length rest) = ap length h in omega arith
 type_shorter bytes (blocks.Result I64) rest h = let e : length bytes ≡ suc (length rest) = ap length h in omega arith

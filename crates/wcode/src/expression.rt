@@ -27,16 +27,11 @@ pub fn read_expr(alloc: Global, bytes: &[u8], at: usize) -> Result<(Vec<Instr>, 
     ensures end { IfOk result (λ x. x.1 ≤ length bytes.now) }
     ensures none { IfErr result (λ e. e ≢ NoMemory → (body : Body) (rest : List ℕ) → SpellsExpr (drop at bytes.now) body rest → ⊥) }
 {
-    match read_body(alloc, bytes, at, NESTING) {
-        Ok(ended) => {
-            if ended.by_else {
-                Err(bad_opcode(ended.last))
-            } else {
-                Ok((ended.body, ended.next))
-            }
-        }
-        Err(fault) => Err(fault),
+    let ended = read_body(alloc, bytes, at, NESTING)?;
+    if ended.by_else {
+        return Err(bad_opcode(ended.last));
     }
+    Ok((ended.body, ended.next))
 }
 
 // Instructions up to the `else` or `end` at `last`.
@@ -65,14 +60,14 @@ fn read_body(alloc: Global, bytes: &[u8], at: usize, room: u32) -> Result<Ended,
     let mut body = Vec::new(alloc);
     let mut place = at;
     'items: loop {
-        match read_item(alloc, bytes, place, room) {
-            Ok(Item::One(instr, next)) => {
+        match read_item(alloc, bytes, place, room)? {
+            Item::One(instr, next) => {
                 let Ok(()) = add(&mut body, instr) else {
                     return Err(BinFault::NoMemory);
                 };
                 place = next;
             }
-            Ok(Item::Ends(by_else, next)) => {
+            Item::Ends(by_else, next) => {
                 return Ok(Ended {
                     body,
                     by_else,
@@ -80,7 +75,6 @@ fn read_body(alloc: Global, bytes: &[u8], at: usize, room: u32) -> Result<Ended,
                     next,
                 });
             }
-            Err(fault) => return Err(fault),
         }
     }
 }
@@ -92,29 +86,27 @@ fn read_item(alloc: Global, bytes: &[u8], at: usize, room: u32) -> Result<Item, 
     requires { at ≤ length bytes.now }
     ensures { GivesItem bytes.now room at result }
 {
-    match read_op(bytes, at) {
-        Ok((Op::Plain(p), next)) => Ok(Item::One(plain_of(p), next)),
-        Ok((Op::Else, next)) => Ok(Item::Ends(true, next)),
-        Ok((Op::End, next)) => Ok(Item::Ends(false, next)),
-        Ok((Op::Block(t), next)) => match read_nested(alloc, bytes, at, next, room) {
-            Ok((inner, end)) => Ok(Item::One(block_of(t, inner), end)),
-            Err(fault) => Err(fault),
-        },
-        Ok((Op::Loop(t), next)) => match read_nested(alloc, bytes, at, next, room) {
-            Ok((inner, end)) => Ok(Item::One(loop_of(t, inner), end)),
-            Err(fault) => Err(fault),
-        },
-        Ok((Op::If(t), next)) => match read_arms(alloc, bytes, at, next, room) {
-            Ok((yes_arm, no_arm, end)) => Ok(Item::One(if_of(t, yes_arm, no_arm), end)),
-            Err(fault) => Err(fault),
-        },
-        Ok((Op::BrTable { count, labels_at }, next)) => {
-            match read_labels(alloc, bytes, labels_at, count) {
-                Ok((labels, default)) => Ok(Item::One(table_of(labels, default), next)),
-                Err(_) => Err(BinFault::NoMemory),
-            }
+    let (op, next) = read_op(bytes, at)?;
+    match op {
+        Op::Plain(p) => Ok(Item::One(plain_of(p), next)),
+        Op::Else => Ok(Item::Ends(true, next)),
+        Op::End => Ok(Item::Ends(false, next)),
+        Op::Block(t) => {
+            let (inner, end) = read_nested(alloc, bytes, at, next, room)?;
+            Ok(Item::One(block_of(t, inner), end))
         }
-        Err(fault) => Err(BinFault::from(fault)),
+        Op::Loop(t) => {
+            let (inner, end) = read_nested(alloc, bytes, at, next, room)?;
+            Ok(Item::One(loop_of(t, inner), end))
+        }
+        Op::If(t) => {
+            let (yes_arm, no_arm, end) = read_arms(alloc, bytes, at, next, room)?;
+            Ok(Item::One(if_of(t, yes_arm, no_arm), end))
+        }
+        Op::BrTable { count, labels_at } => match read_labels(alloc, bytes, labels_at, count) {
+            Ok((labels, default)) => Ok(Item::One(table_of(labels, default), next)),
+            Err(_) => Err(BinFault::NoMemory),
+        },
     }
 }
 
@@ -136,16 +128,11 @@ fn read_nested(
     if room == 0 {
         return Err(too_deep(at));
     }
-    match read_body(alloc, bytes, next, room - 1) {
-        Ok(inner) => {
-            if inner.by_else {
-                Err(bad_opcode(inner.last))
-            } else {
-                Ok((inner.body, inner.next))
-            }
-        }
-        Err(fault) => Err(fault),
+    let inner = read_body(alloc, bytes, next, room - 1)?;
+    if inner.by_else {
+        return Err(bad_opcode(inner.last));
     }
+    Ok((inner.body, inner.next))
 }
 
 // The bodies of the `if` at `at`, from `next` on, and the place after them.
@@ -166,18 +153,12 @@ fn read_arms(
     if room == 0 {
         return Err(too_deep(at));
     }
-    match read_body(alloc, bytes, next, room - 1) {
-        Ok(first) => {
-            if !first.by_else {
-                return Ok((first.body, Vec::new(alloc), first.next));
-            }
-            match read_nested(alloc, bytes, at, first.next, room) {
-                Ok((second, end)) => Ok((first.body, second, end)),
-                Err(fault) => Err(fault),
-            }
-        }
-        Err(fault) => Err(fault),
+    let first = read_body(alloc, bytes, next, room - 1)?;
+    if !first.by_else {
+        return Ok((first.body, Vec::new(alloc), first.next));
     }
+    let (second, end) = read_nested(alloc, bytes, at, first.next, room)?;
+    Ok((first.body, second, end))
 }
 
 // So many labels that stand at `at`, and the default label behind them.

@@ -1,8 +1,10 @@
 // What holds of the grammar of instructions. A law's function does nothing: its contract is the law.
 
-ghost use Rattle.std.specs.Prelude.{◌≡◌, List, ℕ, ◌≤◌, ◌++◌, length, drop};
+ghost use Rattle.std.specs.Prelude.{◌≡◌, List, ℕ, ◌+◌, ◌<◌, ◌≤◌, ◌++◌, length, drop, slice_index};
 ghost use Rattle.wcode.specs.Syntax.{Body};
-ghost use Rattle.wcode.specs.Grammar.{Word, end, SpellsWord, SpellsBody, SpellsExpr};
+ghost use Rattle.wcode.specs.declared.opcode.Form.TheVariants as forms;
+ghost use Rattle.wcode.specs.Opcodes.{form};
+ghost use Rattle.wcode.specs.Grammar.{Word, otherwise, end, SpellsWord, SpellsBody, SpellsExpr};
 ghost use Rattle.wcode.specs.declared.blocks.Block.{Block};
 ghost use Rattle.wcode.specs.Blocks.{SpellsBlocks, HasBlocks};
 ghost use Rattle.wcode.specs.BodyAt.{body_at};
@@ -11,6 +13,12 @@ ghost use Rattle.wcode.specs.BodyAt.{body_at};
 pub fn one_word()
     ensures { (bytes : List ℕ) (v w : Word) (rest more : List ℕ) →
         SpellsWord bytes v rest → SpellsWord bytes w more → (v ≡ w) × (rest ≡ more) }
+{}
+
+/// An `else` or an `end` is its opcode alone.
+pub fn marks_are_one_byte()
+    ensures else_mark { (bytes : List ℕ) (at : ℕ) → at < length bytes → form (slice_index bytes at) ≡ forms.Else → SpellsWord (drop at bytes) otherwise (drop (at + 1) bytes) }
+    ensures end_mark { (bytes : List ℕ) (at : ℕ) → at < length bytes → form (slice_index bytes at) ≡ forms.End → SpellsWord (drop at bytes) end (drop (at + 1) bytes) }
 {}
 
 /// Bytes begin with one expression at most, which ends at one place.

@@ -7,6 +7,7 @@ mod blocks;
 mod expression;
 mod fault;
 mod instruction;
+mod known;
 mod laws;
 mod opcode;
 mod operator;
@@ -18,7 +19,11 @@ pub use blocks::Block;
 pub use expression::{NESTING, read_expr};
 pub use fault::{BinFault, Kind, OpFault};
 pub use instruction::{Instr, MemArg, Op, Plain};
-pub use laws::{blocks_are_spelled, blocks_stay, one_body_at, one_expression, one_word};
+pub use known::{i32_at, i64_at, index_at, load_at, opening_at, plain_at, store_at, word_at};
+pub use laws::{
+    blocks_are_spelled, blocks_stay, marks_are_one_byte, one_body_at, one_expression, one_word,
+};
+pub use opcode::{Form, Indexed, Opening};
 pub use operator::{BinOp, CvtOp, LoadOp, RelOp, Sign, StoreOp, TestOp, UnOp};
 pub use reading::{read_label, read_op};
 pub use skipping::{read_constant, skip_expr};

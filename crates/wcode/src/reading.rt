@@ -58,23 +58,23 @@ fn read_form(bytes: &[u8], at: usize, f: Form) -> Result<(Op, usize), OpFault>
         Form::Opens(opening) => read_opening(bytes, next, opening),
         Form::Else => Ok((Op::Else, next)),
         Form::End => Ok((Op::End, next)),
-        Form::Indexed(i) => match read_index(bytes, next) {
-            Ok((n, end)) => Ok((Op::Plain(i.plain(n)), end)),
-            Err(fault) => Err(fault),
-        },
+        Form::Indexed(i) => {
+            let (n, end) = read_index(bytes, next)?;
+            Ok((Op::Plain(i.plain(n)), end))
+        }
         Form::BrTable => read_table(bytes, next),
-        Form::CallIndirect => match read_index(bytes, next) {
-            Ok((n, zero)) => read_zero(bytes, at, zero, Plain::CallIndirect(n)),
-            Err(fault) => Err(fault),
-        },
-        Form::Load(o) => match read_mem_arg(bytes, next) {
-            Ok((arg, end)) => Ok((Op::Plain(Plain::Load(o, arg)), end)),
-            Err(fault) => Err(fault),
-        },
-        Form::Store(o) => match read_mem_arg(bytes, next) {
-            Ok((arg, end)) => Ok((Op::Plain(Plain::Store(o, arg)), end)),
-            Err(fault) => Err(fault),
-        },
+        Form::CallIndirect => {
+            let (n, zero) = read_index(bytes, next)?;
+            read_zero(bytes, at, zero, Plain::CallIndirect(n))
+        }
+        Form::Load(o) => {
+            let (arg, end) = read_mem_arg(bytes, next)?;
+            Ok((Op::Plain(Plain::Load(o, arg)), end))
+        }
+        Form::Store(o) => {
+            let (arg, end) = read_mem_arg(bytes, next)?;
+            Ok((Op::Plain(Plain::Store(o, arg)), end))
+        }
         Form::ZeroByte(p) => read_zero(bytes, at, next, p),
         Form::Const(t) => read_const(bytes, next, t),
         Form::Float => Err(OpFault::Float),
@@ -90,10 +90,7 @@ fn read_index(bytes: &[u8], at: usize) -> Result<(u32, usize), OpFault>
     ensures end { IfOk result (λ x. x.1 ≤ length bytes.now) }
     ensures none { OnErr result ((n : ℕ) (rest : List ℕ) → SpellsIndex (drop at bytes.now) n rest → ⊥) }
 {
-    match read_u32(bytes, at) {
-        Ok(found) => Ok(found),
-        Err(fault) => Err(bad_number(bytes, at, fault)),
-    }
+    read_u32(bytes, at).map_err(|fault| bad_number(bytes, at, fault))
 }
 
 // An alignment, and an offset.
@@ -104,13 +101,9 @@ fn read_mem_arg(bytes: &[u8], at: usize) -> Result<(MemArg, usize), OpFault>
     ensures end { IfOk result (λ x. x.1 ≤ length bytes.now) }
     ensures none { OnErr result ((arg : MemArg) (rest : List ℕ) → SpellsMemArg (drop at bytes.now) arg rest → ⊥) }
 {
-    match read_index(bytes, at) {
-        Ok((align, next)) => match read_index(bytes, next) {
-            Ok((offset, end)) => Ok((MemArg { align, offset }, end)),
-            Err(fault) => Err(fault),
-        },
-        Err(fault) => Err(fault),
-    }
+    let (align, next) = read_index(bytes, at)?;
+    let (offset, end) = read_index(bytes, next)?;
+    Ok((MemArg { align, offset }, end))
 }
 
 // The type of a block.
@@ -140,10 +133,8 @@ fn read_opening(bytes: &[u8], at: usize, opening: Opening) -> Result<(Op, usize)
     requires { at ≤ length bytes.now }
     ensures { Reads bytes.now (forms.Opens opening) at result }
 {
-    match read_block_type(bytes, at) {
-        Ok(t) => Ok((opening.op(t), at + 1)),
-        Err(fault) => Err(fault),
-    }
+    let t = read_block_type(bytes, at)?;
+    Ok((opening.op(t), at + 1))
 }
 
 // An instruction whose last byte, at `zero`, is 0. Its opcode is at `at`.
@@ -187,16 +178,10 @@ fn read_table(bytes: &[u8], at: usize) -> Result<(Op, usize), OpFault>
     requires { at ≤ length bytes.now }
     ensures { Reads bytes.now forms.BrTable at result }
 {
-    match read_index(bytes, at) {
-        Ok((count, labels_at)) => match skip_labels(bytes, labels_at, count) {
-            Ok(last) => match read_index(bytes, last) {
-                Ok((_, end)) => Ok((Op::BrTable { count, labels_at }, end)),
-                Err(fault) => Err(fault),
-            },
-            Err(fault) => Err(fault),
-        },
-        Err(fault) => Err(fault),
-    }
+    let (count, labels_at) = read_index(bytes, at)?;
+    let last = skip_labels(bytes, labels_at, count)?;
+    let (_, end) = read_index(bytes, last)?;
+    Ok((Op::BrTable { count, labels_at }, end))
 }
 
 // The place after so many labels.
@@ -208,10 +193,8 @@ fn skip_labels(bytes: &[u8], at: usize, count: u32) -> Result<usize, OpFault>
 {
     let mut place = at;
     for _i in 0..count {
-        match read_index(bytes, place) {
-            Ok((_, next)) => place = next,
-            Err(fault) => return Err(fault),
-        }
+        let (_, next) = read_index(bytes, place)?;
+        place = next;
     }
     Ok(place)
 }

@@ -97,16 +97,15 @@ fn skip_body(
 {
     let mut place = at;
     'items: loop {
-        match skip_item(bytes, place, room, blocks) {
-            Ok(Step::Passes(next)) => place = next,
-            Ok(Step::Ends(by_else, next)) => {
+        match skip_item(bytes, place, room, blocks)? {
+            Step::Passes(next) => place = next,
+            Step::Ends(by_else, next) => {
                 return Ok(BodyEnd {
                     by_else,
                     last: place,
                     next,
                 });
             }
-            Err(fault) => return Err(fault),
         }
     }
 }
@@ -118,24 +117,24 @@ fn skip_item(bytes: &[u8], at: usize, room: u32, blocks: &mut Vec<Block>) -> Res
     requires { at ≤ length bytes.now }
     ensures { SkipsItem bytes.now room at blocks.old.items blocks.new.items result }
 {
-    match read_op(bytes, at) {
-        Ok((Op::Plain(_), next)) => Ok(Step::Passes(next)),
-        Ok((Op::BrTable { .. }, next)) => Ok(Step::Passes(next)),
-        Ok((Op::Else, next)) => Ok(Step::Ends(true, next)),
-        Ok((Op::End, next)) => Ok(Step::Ends(false, next)),
-        Ok((Op::Block(_), next)) => match skip_nested(bytes, at, next, room, blocks) {
-            Ok(end) => Ok(Step::Passes(end)),
-            Err(fault) => Err(fault),
-        },
-        Ok((Op::Loop(_), next)) => match skip_nested(bytes, at, next, room, blocks) {
-            Ok(end) => Ok(Step::Passes(end)),
-            Err(fault) => Err(fault),
-        },
-        Ok((Op::If(_), next)) => match skip_arms(bytes, at, next, room, blocks) {
-            Ok(end) => Ok(Step::Passes(end)),
-            Err(fault) => Err(fault),
-        },
-        Err(fault) => Err(BinFault::from(fault)),
+    let (op, next) = read_op(bytes, at)?;
+    match op {
+        Op::Plain(_) => Ok(Step::Passes(next)),
+        Op::BrTable { .. } => Ok(Step::Passes(next)),
+        Op::Else => Ok(Step::Ends(true, next)),
+        Op::End => Ok(Step::Ends(false, next)),
+        Op::Block(_) => {
+            let end = skip_nested(bytes, at, next, room, blocks)?;
+            Ok(Step::Passes(end))
+        }
+        Op::Loop(_) => {
+            let end = skip_nested(bytes, at, next, room, blocks)?;
+            Ok(Step::Passes(end))
+        }
+        Op::If(_) => {
+            let end = skip_arms(bytes, at, next, room, blocks)?;
+            Ok(Step::Passes(end))
+        }
     }
 }
 

@@ -6,17 +6,17 @@ use Rattle.wbin.proofs.entry.read_sized.Goals as goal
 pub returns-then-end-bytes-clause-read : goal.returns-then-end-bytes-clause-read
 unfolding Reads
 returns-then-end-bytes-clause-read c =
-    let a = c.in-Ok in λ m. part_none c.args.bytes.now c.args.at a.start a.size a.ensures.read.0 c.if-end-bytes.true a.ensures.read.1
+    let a = c.in_ok-size in λ m. part_none c.args.bytes.now c.args.at a.start a.size a.ensures.read.0 c.if-end-bytes.true a.ensures.read.1
 
-pub returns-else-end-bytes-clause-read : goal.returns-else-end-bytes-clause-read
+pub returns-clause-read : goal.returns-clause-read
 unfolding Reads
-returns-else-end-bytes-clause-read c =
-    let a = c.in-Ok in (c.if-end-bytes.false, part_spelled c.args.bytes.now c.args.at a.start a.size c.if-end-bytes.false a.ensures.read.1)
+returns-clause-read c =
+    let a = c.in_ok-size in (c.if-end-bytes.false, part_spelled c.args.bytes.now c.args.at a.start a.size c.if-end-bytes.false a.ensures.read.1)
 
-pub returns-else-end-bytes-clause-place : goal.returns-else-end-bytes-clause-place
+pub returns-clause-place : goal.returns-clause-place
 unfolding Reads
-returns-else-end-bytes-clause-place c =
-    let a = c.in-Ok in
+returns-clause-place c =
+    let a = c.in_ok-size in
     let l = part_length c.args.bytes.now a.start a.size c.if-end-bytes.false in
     let e = index_ends c.args.bytes.now c.args.at a.size a.start c.requires a.ensures.read.0 a.ensures.read.1 in
     (omega (arith, l), omega (arith, l, e), part_within c.args.bytes.now a.start a.size c.if-end-bytes.false)

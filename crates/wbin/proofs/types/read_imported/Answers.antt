@@ -1,22 +1,29 @@
 use Rattle.std.proofs.Common.{◌≡◌, ◌+◌, ◌∷◌, drop, subst}
+use Rattle.std.proofs.lemmas.Result.{err_from_is_err_and}
 use Rattle.wbin.specs.Reading.{Reads}
 use Rattle.wbin.proofs.SpelledTypes.{table_missing, memory_missing, global_missing}
 use Rattle.wbin.proofs.types.read_imported.Goals as goal
 
-pub returns-in-Err-read : goal.returns-in-Err-read
+pub returns-in_err-limits : goal.returns-in_err-limits
 unfolding Reads
-returns-in-Err-read c =
+returns-in_err-limits c =
     let rest = drop (c.args.at + 1) c.args.bytes.now in
-    λ m. table_missing (drop c.args.at c.args.bytes.now) rest (subst (λ b. drop c.args.at c.args.bytes.now ≡ b ∷ rest) c.if-byte-eq1.true c.requires.byte) (c.in-Err-read.ensures m)
+    let p = err_from_is_err_and c.from_residual-in_err-limits.result c.from_residual-in_err-limits.ensures.1 in
+    rw (p.1, p.2)
+    (λ m. table_missing (drop c.args.at c.args.bytes.now) rest (subst (λ b. drop c.args.at c.args.bytes.now ≡ b ∷ rest) c.if-byte-eq1.true c.requires.byte) (c.in_err-limits.ensures m))
 
-pub returns-in-Err-read-2 : goal.returns-in-Err-read-2
+pub returns-in_err-limits-2 : goal.returns-in_err-limits-2
 unfolding Reads
-returns-in-Err-read-2 c =
+returns-in_err-limits-2 c =
     let rest = drop (c.args.at + 1) c.args.bytes.now in
-    λ m. memory_missing (drop c.args.at c.args.bytes.now) rest (subst (λ b. drop c.args.at c.args.bytes.now ≡ b ∷ rest) c.if-byte-eq2.true c.requires.byte) (c.in-Err-read-2.ensures m)
+    let p = err_from_is_err_and c.from_residual-in_err-limits-2.result c.from_residual-in_err-limits-2.ensures.1 in
+    rw (p.1, p.2)
+    (λ m. memory_missing (drop c.args.at c.args.bytes.now) rest (subst (λ b. drop c.args.at c.args.bytes.now ≡ b ∷ rest) c.if-byte-eq2.true c.requires.byte) (c.in_err-limits-2.ensures m))
 
-pub returns-in-Err-read-3 : goal.returns-in-Err-read-3
+pub returns-in_err-global : goal.returns-in_err-global
 unfolding Reads
-returns-in-Err-read-3 c =
+returns-in_err-global c =
     let rest = drop (c.args.at + 1) c.args.bytes.now in
-    λ m. global_missing (drop c.args.at c.args.bytes.now) rest (subst (λ b. drop c.args.at c.args.bytes.now ≡ b ∷ rest) c.if-byte-eq3.true c.requires.byte) (c.in-Err-read-3.ensures m)
+    let p = err_from_is_err_and c.from_residual-in_err-global.result c.from_residual-in_err-global.ensures.1 in
+    rw (p.1, p.2)
+    (λ m. global_missing (drop c.args.at c.args.bytes.now) rest (subst (λ b. drop c.args.at c.args.bytes.now ≡ b ∷ rest) c.if-byte-eq3.true c.requires.byte) (c.in_err-global.ensures m))

@@ -3,7 +3,7 @@ use Rattle.wcode.specs.Shown.{Reads}
 use Rattle.wcode.specs.Grammar.{opens}
 use Rattle.wcode.proofs.reading.read_opening.Goals as goal
 
-pub returns-in-Ok : goal.returns-in-Ok
+pub returns : goal.returns
 unfolding Reads
-returns-in-Ok c =
-    (omega (arith, c.in-Ok.ensures.end), opens c.args.opening c.in-Ok.t, c.op.ensures c.args.bytes.now, (c.in-Ok.t, refl, c.in-Ok.ensures.found))
+returns c =
+    (omega (arith, c.in_ok-t.ensures.end), opens c.args.opening c.in_ok-t.t, c.op.ensures c.args.bytes.now, (c.in_ok-t.t, refl, c.in_ok-t.ensures.found))

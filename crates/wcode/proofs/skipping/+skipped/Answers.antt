@@ -127,100 +127,108 @@ skip_body-items-init t c = passed_begins c.args.bytes.now c.args.room c.args.at 
 pub skip_body-items-preserved : goal.skip_body-items-preserved
 unfolding SkipsItem
 skip_body-items-preserved t c =
-    let a = c.in-Ok-Passes in
-    let g = rw a.field-0-is at a.ensures in
-    passed_more c.args.bytes.now c.args.room c.args.at c.args.blocks.now.items c.items.place c.items.blocks.items a.next c.skip_item.new.blocks.items g.2 g.3 c.items.invariant g.0 g.4 g.5
+    let g = rw c.in-Passes.is at c.in_ok-next.ensures in
+    passed_more c.args.bytes.now c.args.room c.args.at c.args.blocks.now.items c.items.place c.items.blocks.items c.in-Passes.next c.skip_item.new.blocks.items g.2 g.3 c.items.invariant g.0 g.4 g.5
 
-pub skip_body-returns-in-Ok-Ends : goal.skip_body-returns-in-Ok-Ends
+pub skip_body-returns-in-Ends : goal.skip_body-returns-in-Ends
 unfolding SkipsBody SkipsItem
-skip_body-returns-in-Ok-Ends t c =
-    let a = c.in-Ok-Ends in
-    let g = rw a.field-0-is at a.ensures in
+skip_body-returns-in-Ends t c =
+    let a = c.in-Ends in
+    let g = rw a.is at c.in_ok-next.ensures in
     let h = c.items.invariant in
     (g.0, h.made done, h.inside, g.2 ∙ h.grown, passed_ends c.args.bytes.now c.args.room c.args.at c.args.blocks.now.items c.items.place c.items.blocks.items a.by_else a.next h g.1)
 
-pub skip_item-returns-in-Ok-Plain-default : goal.skip_item-returns-in-Ok-Plain-default
+pub skip_item-returns-in-Plain : goal.skip_item-returns-in-Plain
 unfolding SkipsItem
-skip_item-returns-in-Ok-Plain-default t c =
-    let a = c.in-Ok-Plain-default in (
+skip_item-returns-in-Plain t c =
+    let a = c.in_ok-op in
+    let p = c.in-Plain in (
       a.ensures.end.1,
       a.ensures.end.0,
-      plain a.field-0-0-0,
+      plain p.field-0,
       [],
       sym (append-nil c.args.blocks.now.items),
-      plain_passes c.args.bytes.now c.args.room c.args.at a.next a.field-0-0 a.field-0-0-0 a.field-0-0-is a.ensures.found,
+      plain_passes c.args.bytes.now c.args.room c.args.at a.next a.op p.field-0 p.is a.ensures.found,
     )
 
-pub skip_item-returns-in-Ok-BrTable-default : goal.skip_item-returns-in-Ok-BrTable-default
+pub skip_item-returns-in-BrTable : goal.skip_item-returns-in-BrTable
 unfolding SkipsItem
-skip_item-returns-in-Ok-BrTable-default t c =
-    let a = c.in-Ok-BrTable-default in
-    let p = table_passes c.args.bytes.now c.args.room c.args.at a.next a.field-0-0 _ _ a.field-0-0-is a.ensures.found in
+skip_item-returns-in-BrTable t c =
+    let a = c.in_ok-op in
+    let p = table_passes c.args.bytes.now c.args.room c.args.at a.next a.op _ _ c.in-BrTable.is a.ensures.found in
     (a.ensures.end.1, a.ensures.end.0, br_table p.0 p.1, [], sym (append-nil c.args.blocks.now.items), p.2)
 
-pub skip_item-returns-in-Ok : goal.skip_item-returns-in-Ok
+pub skip_item-returns-in_ok-end-in-Block : goal.skip_item-returns-in_ok-end-in-Block
 unfolding SkipsItem SkipsNested
-skip_item-returns-in-Ok t c =
-    let a = c.in-Ok-Block-default in
-    let b = c.in-Ok in
+skip_item-returns-in_ok-end-in-Block t c =
+    let a = c.in_ok-op in
+    let p = c.in-Block in
+    let b = c.in_ok-end-in-Block in
     let g = b.ensures in (
       g.0,
       nested_after c.args.bytes.now (c.args.room - 1) c.args.at a.next b.end g.2 a.ensures.end.0 g.0
           (blocks_spell c.args.bytes.now (c.args.room - 1) end (drop a.next c.args.bytes.now) g.2 (drop b.end c.args.bytes.now) g.4 g.7),
-      block a.field-0-0-0 g.2,
+      block p.field-0 g.2,
       g.3 ∷ g.4,
       g.5,
-      block_passes c.args.bytes.now c.args.room c.args.at a.next a.field-0-0 a.field-0-0-0 g.2 b.end g.3 g.4 a.field-0-0-is a.ensures.found g.1 g.6 g.7,
+      block_passes c.args.bytes.now c.args.room c.args.at a.next a.op p.field-0 g.2 b.end g.3 g.4 p.is a.ensures.found g.1 g.6 g.7,
     )
 
-pub skip_item-returns-in-Err-skip_nested : goal.skip_item-returns-in-Err-skip_nested
+pub skip_item-returns-in_err-end-in-Block : goal.skip_item-returns-in_err-end-in-Block
 unfolding SkipsItem SkipsNested
-skip_item-returns-in-Err-skip_nested t c =
-    let a = c.in-Ok-Block-default in
-    λ m. block_missing c.args.bytes.now c.args.room c.args.at a.next a.field-0-0 (λ b. b) a.field-0-0-0 a.field-0-0-is a.ensures.found (c.in-Err-skip_nested.ensures m)
+skip_item-returns-in_err-end-in-Block t c =
+    let a = c.in_ok-op in
+    let p = err_from_is_err_and c.from_residual-in_err-end-in-Block.result c.from_residual-in_err-end-in-Block.ensures.1 in
+    rw (p.1, p.2) (λ m. block_missing c.args.bytes.now c.args.room c.args.at a.next a.op (λ b. b) c.in-Block.field-0 c.in-Block.is a.ensures.found (c.in_err-end-in-Block.ensures m))
 
-pub skip_item-returns-in-Ok-skip_nested : goal.skip_item-returns-in-Ok-skip_nested
+pub skip_item-returns-in_ok-end-in-Loop : goal.skip_item-returns-in_ok-end-in-Loop
 unfolding SkipsItem SkipsNested
-skip_item-returns-in-Ok-skip_nested t c =
-    let a = c.in-Ok-Loop-default in
-    let b = c.in-Ok-skip_nested in
+skip_item-returns-in_ok-end-in-Loop t c =
+    let a = c.in_ok-op in
+    let p = c.in-Loop in
+    let b = c.in_ok-end-in-Loop in
     let g = b.ensures in (
       g.0,
       nested_after c.args.bytes.now (c.args.room - 1) c.args.at a.next b.end g.2 a.ensures.end.0 g.0
           (blocks_spell c.args.bytes.now (c.args.room - 1) end (drop a.next c.args.bytes.now) g.2 (drop b.end c.args.bytes.now) g.4 g.7),
-      loop a.field-0-0-0 g.2,
+      loop p.field-0 g.2,
       g.3 ∷ g.4,
       g.5,
-      loop_passes c.args.bytes.now c.args.room c.args.at a.next a.field-0-0 a.field-0-0-0 g.2 b.end g.3 g.4 a.field-0-0-is a.ensures.found g.1 g.6 g.7,
+      loop_passes c.args.bytes.now c.args.room c.args.at a.next a.op p.field-0 g.2 b.end g.3 g.4 p.is a.ensures.found g.1 g.6 g.7,
     )
 
-pub skip_item-returns-in-Err-skip_nested-2 : goal.skip_item-returns-in-Err-skip_nested-2
+pub skip_item-returns-in_err-end-in-Loop : goal.skip_item-returns-in_err-end-in-Loop
 unfolding SkipsItem SkipsNested
-skip_item-returns-in-Err-skip_nested-2 t c =
-    let a = c.in-Ok-Loop-default in
-    λ m. loop_missing c.args.bytes.now c.args.room c.args.at a.next a.field-0-0 (λ b. b) a.field-0-0-0 a.field-0-0-is a.ensures.found (c.in-Err-skip_nested-2.ensures m)
+skip_item-returns-in_err-end-in-Loop t c =
+    let a = c.in_ok-op in
+    let p = err_from_is_err_and c.from_residual-in_err-end-in-Loop.result c.from_residual-in_err-end-in-Loop.ensures.1 in
+    rw (p.1, p.2) (λ m. loop_missing c.args.bytes.now c.args.room c.args.at a.next a.op (λ b. b) c.in-Loop.field-0 c.in-Loop.is a.ensures.found (c.in_err-end-in-Loop.ensures m))
 
-pub skip_item-returns-in-Ok-skip_arms : goal.skip_item-returns-in-Ok-skip_arms
+pub skip_item-returns-in_ok-end-in-If : goal.skip_item-returns-in_ok-end-in-If
 unfolding SkipsItem SkipsArms
-skip_item-returns-in-Ok-skip_arms t c =
-    let a = c.in-Ok-If-default in
-    let b = c.in-Ok-skip_arms in
+skip_item-returns-in_ok-end-in-If t c =
+    let a = c.in_ok-op in
+    let p = c.in-If in
+    let b = c.in_ok-end-in-If in
     let g = b.ensures in (
       g.0,
       arms_after c.args.bytes.now (c.args.room - 1) c.args.at a.next b.end g.2 g.3 a.ensures.end.0 g.0
           (arms_spell c.args.bytes.now (c.args.room - 1) g.4 (drop a.next c.args.bytes.now) g.2 g.3 (drop b.end c.args.bytes.now) g.5 g.7),
-      if_else a.field-0-0-0 g.2 g.3,
+      if_else p.field-0 g.2 g.3,
       g.4 ∷ g.5,
       g.6,
-      if_passes c.args.bytes.now c.args.room c.args.at a.next a.field-0-0 a.field-0-0-0 g.2 g.3 b.end g.4 g.5 a.field-0-0-is a.ensures.found g.1 g.7,
+      if_passes c.args.bytes.now c.args.room c.args.at a.next a.op p.field-0 g.2 g.3 b.end g.4 g.5 p.is a.ensures.found g.1 g.7,
     )
 
-pub skip_item-returns-in-Err-skip_arms : goal.skip_item-returns-in-Err-skip_arms
+pub skip_item-returns-in_err-end-in-If : goal.skip_item-returns-in_err-end-in-If
 unfolding SkipsItem SkipsArms
-skip_item-returns-in-Err-skip_arms t c =
-    let a = c.in-Ok-If-default in
-    λ m. if_missing c.args.bytes.now c.args.room c.args.at a.next a.field-0-0 (λ b. b) a.field-0-0-0 a.field-0-0-is a.ensures.found (c.in-Err-skip_arms.ensures m)
+skip_item-returns-in_err-end-in-If t c =
+    let a = c.in_ok-op in
+    let p = err_from_is_err_and c.from_residual-in_err-end-in-If.result c.from_residual-in_err-end-in-If.ensures.1 in
+    rw (p.1, p.2) (λ m. if_missing c.args.bytes.now c.args.room c.args.at a.next a.op (λ b. b) c.in-If.field-0 c.in-If.is a.ensures.found (c.in_err-end-in-If.ensures m))
 
-pub skip_item-returns-in-Err : goal.skip_item-returns-in-Err
+pub skip_item-returns-in_err-op : goal.skip_item-returns-in_err-op
 unfolding SkipsItem
-skip_item-returns-in-Err t c = λ m. no_body c.args.room (drop c.args.at c.args.bytes.now) c.in-Err.ensures.none
+skip_item-returns-in_err-op t c =
+    let p = err_from_is_err_and c.from_residual.result c.from_residual.ensures.1 in
+    rw (p.1) (λ m. no_body c.args.room (drop c.args.at c.args.bytes.now) c.in_err-op.ensures.none)

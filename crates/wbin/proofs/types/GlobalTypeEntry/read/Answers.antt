@@ -1,6 +1,9 @@
+use Rattle.std.proofs.lemmas.Result.{err_from_is_err_and}
 use Rattle.wbin.specs.Reading.{Reads}
 use Rattle.wbin.proofs.types.GlobalTypeEntry.read.Goals as goal
 
-pub returns-in-Err : goal.returns-in-Err
+pub returns-in_err-value : goal.returns-in_err-value
 unfolding Reads
-returns-in-Err c = λ m x rest h. c.in-Err.ensures m (x.value, x.mutable) rest (h.0, h.1, h.2)
+returns-in_err-value c =
+    let p = err_from_is_err_and c.from_residual.result c.from_residual.ensures.1 in
+    rw (p.1, p.2) (λ m x rest h. c.in_err-value.ensures m (x.value, x.mutable) rest (h.0, h.1, h.2))

@@ -1,10 +1,13 @@
 use Rattle.std.proofs.Common.{◌≡◌, ◌+◌, ◌∷◌, drop, subst}
+use Rattle.std.proofs.lemmas.Result.{err_from_is_err_and}
 use Rattle.wbin.specs.Reading.{Reads}
 use Rattle.wbin.proofs.SpelledTypes.{most_missing}
 use Rattle.wbin.proofs.types.LimitsEntry.read.Goals as goal
 
-pub returns-in-Err-read : goal.returns-in-Err-read
+pub returns-in_err-least-2 : goal.returns-in_err-least-2
 unfolding Reads
-returns-in-Err-read c =
+returns-in_err-least-2 c =
     let rest = drop (c.args.at + 1) c.args.bytes.now in
-    λ m. most_missing (drop c.args.at c.args.bytes.now) rest (subst (λ b. drop c.args.at c.args.bytes.now ≡ b ∷ rest) c.if-byte-eq1.true c.in-Ok.ensures.found) (c.in-Err-read.ensures m)
+    let p = err_from_is_err_and c.from_residual-in_err-least-2.result c.from_residual-in_err-least-2.ensures.1 in
+    rw (p.1, p.2)
+    (λ m. most_missing (drop c.args.at c.args.bytes.now) rest (subst (λ b. drop c.args.at c.args.bytes.now ≡ b ∷ rest) c.if-byte-eq1.true c.in_ok-byte.ensures.found) (c.in_err-least-2.ensures m))
