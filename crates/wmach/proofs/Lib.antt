@@ -69,3 +69,4 @@ pub mod OverEnds
 pub mod Branching
 pub mod Invoking
 pub mod Zeros
+pub mod Words

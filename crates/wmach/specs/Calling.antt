@@ -1,5 +1,6 @@
 -- Only proofs need this: how a machine enters functions, and what it does for host functions.
-use Rattle.std.specs.Prelude.{◌≡◌, ℕ, ◌+◌, ◌-◌, ◌%◌, ◌^◌, ◌<◌, ◌≤◌, ◌⊎◌, List, [], ◌∷◌, ◌++◌, Option, Some, None, Result, Ok, Err, true, false, length, take, replicate, slice_get}
+use Rattle.std.specs.Prelude.{◌≡◌, ℕ, ◌+◌, ◌-◌, ◌%◌, ◌^◌, ◌<◌, ◌≤◌, ◌⊎◌, List, [], ◌∷◌, ◌++◌, Option, Some, None, Result, Ok, Err, true, false, IfSome, length, take, replicate, slice_get}
+use Rattle.std.specs.List.{AllByRecursion}
 use Rattle.wmem.specs.Access.{with_bytes}
 use Rattle.wstore.specs.State.{StoreState, syntax_of, with_memory}
 use Rattle.wmach.specs.declared.activation.Activation.{Activation}
@@ -76,6 +77,7 @@ pub record HandsOver (given : Option (List ℕ)) (next_at : ℕ) (s : State) (sl
   pub limit : ℕ
   pub below : List ℕ
   pub operands : take s.top slots ≡ (below ++ address ∷ []) ++ limit ∷ []
+  pub are_bytes : IfSome given (λ bytes. AllByRecursion (λ byte. byte < 256) bytes)
   pub done : HandsBy given address limit next_at s below slots store result slots_after store_after
 
 -- There is room for what a call of a function needs: of the host's, its two operands; of the module's own, its arguments and

@@ -18,6 +18,7 @@ mod plain;
 mod shape;
 mod signature;
 mod state;
+mod step;
 
 pub use export::Export;
 pub use host::Host;

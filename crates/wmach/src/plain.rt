@@ -17,6 +17,17 @@ use wcode::{BinOp, CvtOp, LoadOp, MemArg, RelOp, Sign, StoreOp, TestOp, UnOp, Va
 use wmem::{Load, Width};
 use wstore::Store;
 
+/// unreachable
+pub fn unreachable_here(slots: &[u64], state: State, next: usize) -> Result<State, Stop>
+    requires { (waiting : List Waits) × (store : StoreState) × Ready (one plains.Unreachable) next state waiting slots.now store }
+    ensures { (waiting : List Waits) (store : StoreState) → Goes (one plains.Unreachable) next state waiting slots.now store result waiting slots.now store }
+{
+    let _ = slots;
+    let _ = next;
+    let left = spend(state.left)?;
+    Err(Stop::Trap(Trap::Unreachable, left))
+}
+
 /// nop
 #[inline(always)]
 pub fn nop(slots: &[u64], state: State, next: usize) -> Result<State, Stop>
