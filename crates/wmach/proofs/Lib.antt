@@ -70,3 +70,4 @@ pub mod Branching
 pub mod Invoking
 pub mod Zeros
 pub mod Words
+pub mod Shapes
