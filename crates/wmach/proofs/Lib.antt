@@ -71,3 +71,4 @@ pub mod Invoking
 pub mod Zeros
 pub mod Words
 pub mod Shapes
+pub mod Recorded

@@ -15,6 +15,7 @@ mod laws;
 pub mod numbers;
 mod outcome;
 mod plain;
+mod records;
 mod shape;
 mod signature;
 mod state;

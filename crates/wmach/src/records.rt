@@ -1,0 +1,47 @@
+// Which records the functions that a module imports hand over.
+
+ghost use Rattle.std.specs.Prelude.{◌≡◌, ◌<◌, Some, length, slice_get, IfOk};
+ghost use Rattle.wbin.specs.Syntax.{module_of};
+ghost use Rattle.wtype.specs.Accepted.{ImportsRight};
+ghost use Rattle.wmach.specs.Coded.{RecordsAgree};
+ghost use Rattle.wmach.specs.Host.{imported_names, record_named as defined_record};
+
+use std::alloc::{AllocError, Global};
+use wbin::{Import, Module};
+
+// The record of a host function, by its name: 0 is the pod's, 1 the node's.
+fn record_named(name: &[u8]) -> Option<usize>
+    ensures { defined_record name.now ≡ result }
+{
+    if name == b"pod".as_slice() {
+        Some(0)
+    } else if name == b"node".as_slice() {
+        Some(1)
+    } else {
+        None
+    }
+}
+
+fn import_at(module: &Module, place: usize) -> &Import
+    requires { place < length module.now.tables.imports.items }
+    ensures { slice_get module.now.tables.imports.items place ≡ Some result.now }
+{
+    &module.tables().imports[place]
+}
+
+/// The record that each imported function hands over, in a module that imports host functions alone.
+pub fn records_of(alloc: Global, module: &Module) -> Result<Vec<usize>, AllocError>
+    requires { ImportsRight (module_of module.now) }
+    ensures { IfOk result (λ records. RecordsAgree (imported_names (module_of module.now).imports) records.items) }
+{
+    let count = module.tables().imports.len();
+    let mut records = Vec::with_capacity(alloc, count)?;
+    for place in 0..count {
+        let import = import_at(module, place);
+        let Some(record) = record_named(import.name.as_slice()) else {
+            unreachable!();
+        };
+        records.push(record)?;
+    }
+    Ok(records)
+}
