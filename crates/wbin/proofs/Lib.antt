@@ -6,3 +6,4 @@ pub mod Sections
 pub mod Modules
 pub mod Places
 pub mod Indices
+pub mod Mapped

@@ -8,7 +8,7 @@ ghost use Rattle.wbin.specs.Outline.{Within, ReadsStretch, Outlines};
 ghost use Rattle.wbin.specs.Ids.{id_of};
 ghost use Rattle.wbin.specs.Reading.{Nothing};
 
-use crate::entry::{malformed, read_name, read_sized, truncated};
+use crate::entry::{malformed, read_bytes, read_name, truncated};
 use std::alloc::{AllocError, Global};
 use wcode::{BinFault, Kind};
 
@@ -99,22 +99,10 @@ fn read_stretch(bytes: &[u8], at: usize, above: u8) -> Result<Stretch, BinFault>
     if !may_follow(above, id) {
         return Err(malformed(Kind::BadSection, at));
     }
-    match read_sized(bytes, at + 1) {
-        Ok((contents, end)) => {
-            let start = end - contents.len();
-            match check_name(&bytes[..end], start, id) {
-                Ok(()) => Ok(Stretch { id, at, start, end }),
-                Err(fault) => Err(fenced(fault, bytes, at)),
-            }
-        }
-        Err(
-            BinFault::Malformed {
-                kind: Kind::Truncated,
-                ..
-            },
-        ) => Err(truncated(bytes)),
-        Err(fault) => Err(fault),
-    }
+    let (contents, end) = read_bytes(bytes, at + 1)?;
+    let start = end - contents.len();
+    check_name(&bytes[..end], start, id).map_err(|fault| fenced(fault, bytes, at))?;
+    Ok(Stretch { id, at, start, end })
 }
 
 // Whether a section of this number can come next, where the greatest number before it is `above`.
@@ -135,10 +123,8 @@ fn check_name(bytes: &[u8], at: usize, id: u8) -> Result<(), BinFault>
     if id != 0 {
         return Ok(());
     }
-    match read_name(bytes, at) {
-        Ok(_) => Ok(()),
-        Err(fault) => Err(fault),
-    }
+    read_name(bytes, at)?;
+    Ok(())
 }
 
 /// A fault in a section at `at`. Bytes that are wanted beyond its size are its fault, but for those of a size that
