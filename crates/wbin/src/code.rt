@@ -30,10 +30,9 @@ impl Part for FunctionCode {
 
     fn read(alloc: Global, bytes: &[u8], at: usize) -> Result<(FunctionCode, usize), BinFault> {
         let (contents, end) = read_sized(bytes, at)?;
-        match read_code(alloc, &bytes[..end], end - contents.len()) {
-            Ok(code) => Ok((code, end)),
-            Err(fault) => Err(fenced_body(fault, at)),
-        }
+        let read = read_code(alloc, &bytes[..end], end - contents.len());
+        let code = read.map_err(|fault| fenced_body(fault, at))?;
+        Ok((code, end))
     }
 
     ghost once = { code_once };
