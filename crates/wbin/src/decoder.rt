@@ -153,10 +153,10 @@ fn read_start(alloc: Global, bytes: &[u8], sections: &[Stretch]) -> Result<Optio
     ensures { ReadsWhole (Starts (contents_of 8 (map (section_of bytes.now) sections.now))) (λ s. s) result }
 {
     match find_section(sections, SectionId::Start) {
-        Some(section) => match read_filling::<Plain<u32>>(alloc, bytes, section) {
-            Ok(index) => Ok(Some(index)),
-            Err(fault) => Err(fault),
-        },
+        Some(section) => {
+            let index = read_filling::<Plain<u32>>(alloc, bytes, section)?;
+            Ok(Some(index))
+        }
         None => Ok(None),
     }
 }
@@ -175,14 +175,10 @@ fn read_filling<P: Part>(alloc: Global, bytes: &[u8], section: Stretch) -> Resul
     ensures read { ReadsWhole (λ x. P.spells (drop section.start (take section.end bytes.now)) x []) (P.seen bytes.now) result }
     ensures placed { IfOk result (P.placed bytes.now) }
 {
-    match P::read(alloc, &bytes[..section.end], section.start) {
-        Ok((found, end)) => {
-            if end == section.end {
-                Ok(found)
-            } else {
-                Err(malformed(Kind::BadSection, section.at))
-            }
-        }
-        Err(fault) => Err(fenced(fault, bytes, section.at)),
+    let read = P::read(alloc, &bytes[..section.end], section.start);
+    let (found, end) = read.map_err(|fault| fenced(fault, bytes, section.at))?;
+    if end != section.end {
+        return Err(malformed(Kind::BadSection, section.at));
     }
+    Ok(found)
 }
