@@ -1,7 +1,6 @@
-use Rattle.std.proofs.Common.{◌≡◌, ◌≢◌, ◌+◌, ◌-◌, drop, take, length, get_or, refl, rules}
+use Rattle.std.proofs.Common.{◌+◌, ◌-◌, drop, take, length, get_or, rules}
 use Rattle.std.proofs.lemmas.Result.{err_from_is_err_and}
 use Rattle.leb.proofs.Digits.{at_place}
-use Rattle.wcode.specs.declared.fault.BinFault.TheVariants.{NoMemory}
 use Rattle.wbin.specs.Reading.{Reads}
 use Rattle.wbin.specs.Outline.{ReadsStretch}
 use Rattle.wbin.proofs.Mapped.{mapped_err}
