@@ -1,0 +1,2 @@
+pub mod KeyOrderLemmas
+pub mod RecordLemmas
