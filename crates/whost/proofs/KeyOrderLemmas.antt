@@ -1,10 +1,14 @@
 -- What it does to the order of labels to insert a place.
-use Rattle.std.proofs.Common.{◌≡◌, ℕ, suc, ◌+◌, ◌<◌, Bool, true, false, cond, List, [], ◌∷◌, length, take, drop, get_or, map, All, if◌then◌else◌, refl, sym, ap, subst, ◌∙◌, arith, drop-cons, add-one}
+use Rattle.std.proofs.Common.{◌≡◌, ℕ, zero, suc, ◌+◌, ◌<◌, Bool, true, false, cond, List, [], ◌∷◌, length, take, drop, get_or, map, All, if◌then◌else◌, refl, sym, ap, subst, ◌∙◌, arith, drop-cons, add-one}
 use Rattle.std.proofs.lemmas.List.{get_or_default}
 use Rattle.std.proofs.lemmas.List.Elements.{All-append, All-take, All-drop, All-cons}
 use Rattle.std.proofs.lemmas.List.Sorted.{IsPermutation-refl, IsPermutation-swap, IsPermutation-cons, IsPermutation-trans}
 use Rattle.std.specs.List.{insert, prefix_len}
-use Rattle.std.specs.List.Sorted.{IsPermutation}
+use Rattle.std.specs.List.Sorted.{IsPermutation, IsSortedByKey}
+use Rattle.std.specs.Ordering.{is_lt, nat_cmp, ordering_reverse}
+use Rattle.std.specs.declared.cmp.Ordering.{Ordering}
+use Rattle.std.specs.declared.cmp.Ordering.TheVariants.{Less, Equal, Greater}
+use Rattle.std.specs.Cmp.Lexicographic.{slice_cmp, nat_list_cmp_total}
 use Rattle.quant.specs.declared.objects.Label.{Label}
 use Rattle.whost.specs.KeyOrder.{is_before, put_in_order, in_key_order, label_at}
 
@@ -69,3 +73,61 @@ order_moves [] = IsPermutation-refl []
 order_moves (label ∷ rest) =
     IsPermutation-trans (label ∷ rest) (label ∷ in_key_order rest) (put_in_order label (in_key_order rest))
     (IsPermutation-cons label rest (in_key_order rest) (order_moves rest)) (put_moves label (in_key_order rest))
+
+-- what comes before isn't what comes behind
+less_reversed : (o : Ordering) → is_lt o ≡ true → is_lt (ordering_reverse o) ≡ false
+less_reversed Less e = refl
+less_reversed Equal e = refl
+less_reversed Greater e = sym e
+
+not_both : (a b : List ℕ) → is_before a b ≡ true → is_before b a ≡ false
+not_both a b e = rw (nat_list_cmp_total.antisymm b a) (less_reversed (slice_cmp nat_cmp a b) e)
+
+-- the key of a list's first label, if it has one, doesn't come before this key
+Follows : List ℕ → List Label → Type 0
+Follows key [] = Unit {0}
+Follows key (first ∷ rest) = is_before first.key key ≡ false
+
+-- no key of a list comes before the one in front of it
+Rises : List Label → Type 0
+Rises [] = Unit {0}
+Rises (first ∷ rest) = Follows first.key rest × Rises rest
+
+-- whatever follows a key still follows it with a label put in order that doesn't come before that key
+put_follows : (key : List ℕ) (label : Label) (labels : List Label) → is_before label.key key ≡ false → Follows key labels → Follows key (put_in_order label labels)
+unfolding Follows
+put_follows key label [] h f = h
+put_follows key label (first ∷ rest) h f =
+    elim (is_before first.key label.key) as (λ (b : Bool). Follows key (if b then first ∷ put_in_order label rest else label ∷ first ∷ rest)) [
+      | true ↦ f
+      | false ↦ h
+    ]
+
+-- a list that rises still does with a label put in order
+put_rises : (label : Label) (labels : List Label) → Rises labels → Rises (put_in_order label labels)
+unfolding Follows Rises
+put_rises label [] r = (tt, tt)
+put_rises label (first ∷ rest) r =
+    elim (is_before first.key label.key) as (λ (b : Bool). is_before first.key label.key ≡ b → Rises (if b then first ∷ put_in_order label rest else label ∷ first ∷ rest)) [
+      | true ↦ λ before. (put_follows first.key label rest (not_both first.key label.key before) r.0, put_rises label rest r.1)
+      | false ↦ λ behind. (behind, r)
+    ] refl
+
+in_order_rises : (labels : List Label) → Rises (in_key_order labels)
+unfolding Rises
+in_order_rises [] = tt
+in_order_rises (label ∷ rest) = put_rises label (in_key_order rest) (in_order_rises rest)
+
+-- the same by places
+rises_at : (labels : List Label) → Rises labels → (k : ℕ) (d : Label) → k + 1 < length labels → is_before (get_or labels (k + 1) d).key (get_or labels k d).key ≡ false
+unfolding Follows Rises
+rises_at [] r k d h = absurd (omega arith)
+rises_at (first ∷ []) r k d h = absurd (omega arith)
+rises_at (first ∷ next ∷ rest) r zero d h = r.0
+rises_at (first ∷ next ∷ rest) r (suc k) d h =
+    let later = rises_at (next ∷ rest) r.1 k d (omega arith) in
+    rw add-one (rw add-one at later)
+
+-- no key of the labels in order comes before the one in front of it
+pub order_rises : (labels : List Label) → IsSortedByKey (λ (label : Label). label.key) (slice_cmp nat_cmp) (in_key_order labels)
+order_rises labels k d low h = rises_at (in_key_order labels) (in_order_rises labels) k d h

@@ -5,8 +5,13 @@
 #![tactic(auto)]
 
 mod key_order;
+mod laws;
 mod record;
 mod rows;
 
+pub use laws::{fields_stand, labels_are_in_order, numbers_are_read_back};
 pub use record::{RECORD_SIZE, Record};
 pub use rows::{node_record, pod_record};
+
+#[cfg(test)]
+mod tests;
