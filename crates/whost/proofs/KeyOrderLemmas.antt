@@ -1,11 +1,11 @@
 -- What it does to the order of labels to insert a place.
-use Rattle.std.proofs.Common.{◌≡◌, ℕ, zero, suc, ◌+◌, ◌<◌, Bool, true, false, cond, List, [], ◌∷◌, length, take, drop, get_or, map, All, if◌then◌else◌, refl, sym, ap, subst, ◌∙◌, arith, drop-cons, add-one}
-use Rattle.std.proofs.lemmas.List.{get_or_default}
+use Rattle.std.proofs.Common.{◌≡◌, ℕ, zero, suc, ◌+◌, ◌<◌, ◌≤◌, Bool, true, false, cond, List, [], ◌∷◌, length, take, drop, get_or, map, All, if◌then◌else◌, refl, sym, ap, subst, ◌∙◌, arith, drop-cons, add-one}
+use Rattle.std.proofs.lemmas.List.{get_or_default, length-map}
 use Rattle.std.proofs.lemmas.List.Elements.{All-append, All-take, All-drop, All-cons}
-use Rattle.std.proofs.lemmas.List.Sorted.{IsPermutation-refl, IsPermutation-swap, IsPermutation-cons, IsPermutation-trans}
+use Rattle.std.proofs.lemmas.List.Sorted.{IsPermutation-refl, IsPermutation-swap, IsPermutation-cons, IsPermutation-trans, searchable_from_sorted}
 use Rattle.std.specs.List.{insert, prefix_len}
 use Rattle.std.specs.List.Sorted.{IsPermutation, IsSortedByKey}
-use Rattle.std.specs.Ordering.{is_lt, nat_cmp, ordering_reverse}
+use Rattle.std.specs.Ordering.{is_lt, nat_cmp, ordering_index, ordering_reverse}
 use Rattle.std.specs.declared.cmp.Ordering.{Ordering}
 use Rattle.std.specs.declared.cmp.Ordering.TheVariants.{Less, Equal, Greater}
 use Rattle.std.specs.Cmp.Lexicographic.{slice_cmp, nat_list_cmp_total}
@@ -31,14 +31,19 @@ pub one_more : (labels : List Label) (place : ℕ) → place < length labels
     → in_key_order (drop place labels) ≡ put_in_order (label_at labels place) (in_key_order (drop (place + 1) labels))
 one_more labels place h = rw (drop-cons labels place (record { key = []; value = [] }) h, add-one) refl
 
+-- how many pass in front, of the labels at some places
+prefix_mapped : {X : Type 0} (f : X → Label) (p : Label → Bool) (order : List X) → prefix_len p (map f order) ≡ prefix_len (λ q. p (f q)) order
+prefix_mapped f p [] = refl
+prefix_mapped f p (o ∷ os) = ap (λ (n : ℕ). cond (p (f o)) (1 + n) 0) (prefix_mapped f p os)
+
 -- one place more, in front of which so many stand whose keys come before its own
 pub step : (labels : List Label) (order new : List ℕ) (end place at : ℕ) (key : List ℕ) → place + 1 ≡ end → place < length labels
-    → key ≡ (label_at labels place).key → at ≡ prefix_len (λ p. is_before (label_at labels p).key key) order → new ≡ insert order at place
+    → key ≡ (label_at labels place).key → at ≡ prefix_len (λ label. is_before label.key key) (map (label_at labels) order) → new ≡ insert order at place
     → map (label_at labels) order ≡ in_key_order (drop end labels) → map (label_at labels) new ≡ in_key_order (drop place labels)
 step labels order new end place at key e h k is made before =
     let put : List Label → Type 0 = λ r. map (label_at labels) new ≡ put_in_order (label_at labels place) r in
     let here : map (label_at labels) new ≡ put_in_order (label_at labels place) (map (label_at labels) order) =
-    rw (made, is, k) (inserted (label_at labels) place order) in
+    rw (made, is, k, prefix_mapped (label_at labels) (λ label. is_before label.key (label_at labels place).key) order) (inserted (label_at labels) place order) in
     let rest : map (label_at labels) new ≡ put_in_order (label_at labels place) (in_key_order (drop (place + 1) labels)) =
     subst put (before ∙ ap (λ (n : ℕ). in_key_order (drop n labels)) (sym e)) here in
     rest ∙ sym (one_more labels place h)
@@ -131,3 +136,64 @@ rises_at (first ∷ next ∷ rest) r (suc k) d h =
 -- no key of the labels in order comes before the one in front of it
 pub order_rises : (labels : List Label) → IsSortedByKey (λ (label : Label). label.key) (slice_cmp nat_cmp) (in_key_order labels)
 order_rises labels k d low h = rises_at (in_key_order labels) (in_order_rises labels) k d h
+
+-- where one doesn't pass, no more pass in front
+stops : (p : Label → Bool) (xs : List Label) (m : ℕ) (d : Label) → m < length xs → p (get_or xs m d) ≡ false → prefix_len p xs ≤ m
+stops p [] m d h e = absurd (omega arith)
+stops p (x ∷ xs) zero d h e = rw e (omega arith)
+stops p (x ∷ xs) (suc m) d h e =
+    let ih : prefix_len p xs ≤ m = stops p xs m d (omega arith) e in
+    elim (p x) as (λ (b : Bool). cond b (1 + prefix_len p xs) 0 ≤ suc m) [ true ↦ omega (arith, ih) | false ↦ omega arith ]
+
+-- where one passes and all in front of it do, so many pass in front
+all_pass : (p : Label → Bool) (xs : List Label) (m : ℕ) → m < length xs → ((i : ℕ) (d : Label) → i ≤ m → p (get_or xs i d) ≡ true) → m + 1 ≤ prefix_len p xs
+all_pass p [] m h pass = absurd (omega arith)
+all_pass p (x ∷ xs) zero h pass = rw (pass 0 x (omega arith)) (omega arith)
+all_pass p (x ∷ xs) (suc m) h pass =
+    let ih : m + 1 ≤ prefix_len p xs = all_pass p xs m (omega arith) (λ i d le. pass (suc i) d (omega arith)) in
+    rw (pass 0 x (omega arith)) (omega (arith, ih))
+
+-- what comes before is `Less`, which has the number 0
+less_is_first : (o : Ordering) → is_lt o ≡ true → ordering_index o ≡ 0
+less_is_first Less e = refl
+less_is_first Equal e = absurd (cc)
+less_is_first Greater e = absurd (cc)
+
+first_is_less : (o : Ordering) → ordering_index o ≤ 0 → is_lt o ≡ true
+first_is_less Less e = refl
+first_is_less Equal e = absurd (omega arith)
+first_is_less Greater e = absurd (omega arith)
+
+-- among labels in order, all in front of one whose key comes before another come before it too
+passes : (xs : List Label) (key : List ℕ) (m : ℕ) (d : Label) → IsSortedByKey (λ (label : Label). label.key) (slice_cmp nat_cmp) xs
+    → m < length xs → is_before (get_or xs m d).key key ≡ true → m + 1 ≤ prefix_len (λ label. is_before label.key key) xs
+passes xs key m d sorted h e =
+    let rise = searchable_from_sorted nat_list_cmp_total (λ (label : Label). label.key) xs key sorted in
+    all_pass (λ label. is_before label.key key) xs m h (λ i other le.
+    let below = rise i m other le h in
+    let same = get_or_default xs m other d h in
+    let least : ordering_index (slice_cmp nat_cmp (get_or xs m other).key key) ≡ 0 = less_is_first _ (rw same e) in
+    first_is_less _ (omega (arith, below, least)))
+
+-- the label at a place of the order
+mapped_at : {X : Type 0} (f : X → Label) (order : List X) (m : ℕ) (d : Label) (q : X) → m < length order → get_or (map f order) m d ≡ f (get_or order m q)
+mapped_at f [] m d q h = absurd (omega arith)
+mapped_at f (o ∷ os) zero d q h = refl
+mapped_at f (o ∷ os) (suc m) d q h = mapped_at f os m d q (omega arith)
+
+-- what a comparison with the label at a place of the order tells of how many come before a key
+module _ (labels : List Label) (order : List ℕ) (key : List ℕ) (m : ℕ) (answer : Bool) (inside : m < length order)
+    (told : answer ≡ is_before (label_at labels (get_or order m 0)).key key) where
+  -- the same of the labels in the order
+  same_label : (b : Bool) → answer ≡ b → is_before (get_or (map (label_at labels) order) m (record { key = []; value = [] })).key key ≡ b
+  same_label b e =
+      ap (λ (l : Label). is_before l.key key) (mapped_at (label_at labels) order m (record { key = []; value = [] }) 0 inside) ∙ sym told ∙ e
+
+  pub more_before : IsSortedByKey (λ (label : Label). label.key) (slice_cmp nat_cmp) (map (label_at labels) order) → answer ≡ true
+      → m + 1 ≤ prefix_len (λ label. is_before label.key key) (map (label_at labels) order)
+  more_before sorted e =
+      passes (map (label_at labels) order) key m (record { key = []; value = [] }) sorted (rw (length-map order (label_at labels)) inside) (same_label true e)
+
+  pub no_more_before : answer ≡ false → prefix_len (λ label. is_before label.key key) (map (label_at labels) order) ≤ m
+  no_more_before e =
+      stops (λ label. is_before label.key key) (map (label_at labels) order) m (record { key = []; value = [] }) (rw (length-map order (label_at labels)) inside) (same_label false e)

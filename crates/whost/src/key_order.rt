@@ -1,6 +1,9 @@
 //! The order of labels in a record.
 ghost use Rattle.std.specs.Prelude.{◌≡◌, ◌<◌, ◌≤◌, length, map, All};
+ghost use Rattle.std.specs.Ordering.{nat_cmp};
+ghost use Rattle.std.specs.Cmp.Lexicographic.{slice_cmp};
 ghost use Rattle.std.specs.List.{prefix_len};
+ghost use Rattle.std.specs.List.Sorted.{IsSortedByKey};
 ghost use Rattle.whost.specs.KeyOrder.{is_before, in_key_order, label_at};
 
 use arrayvec::ArrayVec;
@@ -21,23 +24,34 @@ pub fn key_order(labels: &[Label]) -> ArrayVec<u8, MAX_LABELS>
     order
 }
 
-// How many labels stand in front of the first whose key doesn't come before `key`.
+// How many labels stand in front of the first whose key doesn't come before `key`. Where that is the first of all, it is
+// seen at once; else each comparison halves what is left.
 fn count_before(labels: &[Label], order: &[u8], key: &Name) -> usize
-    requires { All (λ place. place < length labels.now) order.now }
-    ensures value { result ≡ prefix_len (λ place. is_before (label_at labels.now place).key key.now) order.now }
+    requires there { All (λ place. place < length labels.now) order.now }
+    requires in_order { IsSortedByKey (λ label. label.key) (slice_cmp nat_cmp) (map (label_at labels.now) order.now) }
+    ensures value { result ≡ prefix_len (λ label. is_before label.key key.now) (map (label_at labels.now) order.now) }
     ensures within { result ≤ length order.now }
 {
-    for (at, place) in order.iter().enumerate() {
-        if !is_before(&labels[usize::from(*place)].key, key) {
-            return at;
+    let mut low = 0;
+    let mut high = order.len();
+    if high == 0 || !comes_before(labels, order[0], key) {
+        return 0;
+    }
+    while low < high {
+        let middle = low + (high - low) / 2;
+        if comes_before(labels, order[middle], key) {
+            low = middle + 1;
+        } else {
+            high = middle;
         }
     }
-    order.len()
+    low
 }
 
-// Whether a key comes before another.
-fn is_before(key: &Name, other: &Name) -> bool
-    ensures { result ≡ is_before key.now other.now }
+// Whether the key of the label at a place comes before `key`.
+fn comes_before(labels: &[Label], place: u8, key: &Name) -> bool
+    requires { place < length labels.now }
+    ensures { result ≡ is_before (label_at labels.now place).key key.now }
 {
-    key.cmp(other).is_lt()
+    labels[usize::from(place)].key.cmp(key).is_lt()
 }
