@@ -1,0 +1,24 @@
+-- Labels in rising order of their keys' bytes.
+use Rattle.std.specs.Prelude.{ℕ, Bool, List, [], ◌∷◌, if◌then◌else◌, slice_index_or}
+use Rattle.std.specs.Ordering.{is_lt, nat_cmp}
+use Rattle.std.specs.Cmp.Lexicographic.{slice_cmp}
+use Rattle.quant.specs.declared.objects.Label.{Label}
+
+-- a key comes before another: the first byte that differs is lesser, or it is a front of the other
+abbrev pub is_before : List ℕ → List ℕ → Bool
+is_before a b = is_lt (slice_cmp nat_cmp a b)
+
+-- a label among labels that are in order: behind each whose key comes before its own
+abbrev pub put_in_order : Label → List Label → List Label
+put_in_order label [] = label ∷ []
+put_in_order label (first ∷ rest) =
+    if is_before first.key label.key then first ∷ put_in_order label rest else label ∷ first ∷ rest
+
+-- the labels in rising order of their keys; where keys are equal, as they came
+abbrev pub in_key_order : List Label → List Label
+in_key_order [] = []
+in_key_order (label ∷ rest) = put_in_order label (in_key_order rest)
+
+-- the label at a place, and an empty one past the end
+abbrev pub label_at : List Label → ℕ → Label
+label_at labels place = slice_index_or labels place (record { key = []; value = [] })

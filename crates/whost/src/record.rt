@@ -1,0 +1,164 @@
+//! The buffer that a record is written into, field after field.
+ghost use Rattle.std.specs.Prelude.{◌≡◌, ◌+◌, ◌*◌, ◌<◌, ◌≤◌, [], ◌∷◌, ◌++◌, length};
+ghost use Rattle.std.specs.List.{AllByRecursion};
+ghost use Rattle.std.specs.Int.{cast_unsigned, w32};
+ghost use Rattle.whost.specs.Record.{number_field, text_field, mark_field, amounts_field, label_field, labels_field, labels_size};
+
+use crate::key_order::key_order;
+use arrayvec::ArrayVec;
+use byteorder::{ByteOrder, LittleEndian};
+use quant::{Label, Res};
+use std::marker::Model;
+
+/// The most bytes of a record.
+pub const RECORD_SIZE: usize = 8_192;
+
+/// A record: at most 8,192 bytes, all of whose room it has from the start. It is kilobytes large, so it is written in
+/// place and not moved about.
+#[derive(Debug, Drop)]
+pub struct Record {
+    bytes: ArrayVec<u8, RECORD_SIZE>,
+}
+
+impl Model for Record {
+    ghost use Rattle.std.specs.Prelude.{List, ℕ, ◌≤◌, ◌<◌, length};
+    ghost use Rattle.std.specs.List.{AllByRecursion};
+
+    ghost Value = { List ℕ };
+
+    ghost view = { λ r. r.bytes.items };
+
+    ghost invariant = { λ r. (length r.bytes.items ≤ 8192) × AllByRecursion (λ byte. byte < 256) r.bytes.items };
+}
+
+impl Record {
+    /// A record of no bytes.
+    pub fn new() -> Record
+        ensures { result ≡ [] }
+    {
+        Record {
+            bytes: ArrayVec::new(),
+        }
+    }
+
+    /// The bytes.
+    pub fn as_bytes(&self) -> &[u8]
+        ensures bytes { result.now ≡ self.now }
+        ensures each { AllByRecursion (λ byte. byte < 256) self.now }
+        ensures most { length self.now ≤ 8192 }
+    {
+        self.bytes.as_slice()
+    }
+
+    /// Takes all bytes out.
+    pub(crate) fn clear(&mut self)
+        ensures { self.new ≡ [] }
+    {
+        self.bytes.clear();
+    }
+
+    /// Writes bytes behind those that stand already.
+    pub(crate) fn put(&mut self, bytes: &[u8])
+        requires { length self.old + length bytes.now ≤ 8192 }
+        ensures { self.new ≡ self.old ++ bytes.now }
+    {
+        self.bytes.try_extend_from_slice(bytes).unwrap();
+    }
+
+    /// Writes one byte.
+    pub(crate) fn put_byte(&mut self, byte: u8)
+        requires { length self.old < 8192 }
+        ensures field { self.new ≡ self.old ++ byte ∷ [] }
+        ensures count { length self.new ≡ length self.old + 1 }
+    {
+        self.put(&[byte]);
+    }
+
+    /// Writes a number of 32 bits.
+    #[tactic(auto, unfolding(crate::specs::Record::number_field))]
+    pub(crate) fn put_u32(&mut self, number: u32)
+        requires { length self.old + 4 ≤ 8192 }
+        ensures field { self.new ≡ self.old ++ number_field 4 number }
+        ensures count { length self.new ≡ length self.old + 4 }
+    {
+        let mut bytes = [0; 4];
+        LittleEndian::write_u32(&mut bytes, number);
+        self.put(&bytes);
+    }
+
+    /// Writes a number of 32 bits with a sign, as two's complement.
+    pub(crate) fn put_i32(&mut self, number: i32)
+        requires { length self.old + 4 ≤ 8192 }
+        ensures field { self.new ≡ self.old ++ number_field 4 (cast_unsigned w32 number) }
+        ensures count { length self.new ≡ length self.old + 4 }
+    {
+        self.put_u32(number.cast_unsigned());
+    }
+
+    /// Writes a number of 64 bits.
+    #[tactic(auto, unfolding(crate::specs::Record::number_field))]
+    pub(crate) fn put_u64(&mut self, number: u64)
+        requires { length self.old + 8 ≤ 8192 }
+        ensures field { self.new ≡ self.old ++ number_field 8 number }
+        ensures count { length self.new ≡ length self.old + 8 }
+    {
+        let mut bytes = [0; 8];
+        LittleEndian::write_u64(&mut bytes, number);
+        self.put(&bytes);
+    }
+
+    /// Writes a mark.
+    pub(crate) fn put_mark(&mut self, mark: bool)
+        requires { length self.old < 8192 }
+        ensures field { self.new ≡ self.old ++ mark_field mark }
+        ensures count { length self.new ≡ length self.old + 1 }
+    {
+        self.put_byte(u8::from(mark));
+    }
+
+    /// Writes a text: its length and its bytes.
+    pub(crate) fn put_text(&mut self, text: &[u8])
+        requires short { length text.now ≤ 63 }
+        requires room { length self.old + 64 ≤ 8192 }
+        ensures field { self.new ≡ self.old ++ text_field text.now }
+        ensures count { length self.new ≡ length self.old + 1 + length text.now }
+    {
+        self.put_byte(text.len() as u8);
+        self.put(text);
+    }
+
+    /// Writes amounts.
+    pub(crate) fn put_amounts(&mut self, amounts: &Res)
+        requires { length self.old + 20 ≤ 8192 }
+        ensures field { self.new ≡ self.old ++ amounts_field amounts.now }
+        ensures count { length self.new ≡ length self.old + 20 }
+    {
+        self.put_u64(amounts.cpu.0);
+        self.put_u64(amounts.mem.0);
+        self.put_u32(amounts.pods);
+    }
+
+    /// Writes a label: its key and its value.
+    pub(crate) fn put_label(&mut self, label: &Label)
+        requires { length self.old + 128 ≤ 8192 }
+        ensures field { self.new ≡ self.old ++ label_field label.now }
+        ensures most { length self.new ≤ length self.old + 128 }
+    {
+        self.put_text(label.key.as_bytes());
+        self.put_text(label.value.as_bytes());
+    }
+
+    /// Writes labels in rising order of their keys' bytes.
+    pub(crate) fn put_labels(&mut self, labels: &[Label])
+        requires few { length labels.now ≤ 32 }
+        requires room { length self.old + 4097 ≤ 8192 }
+        ensures field { self.new ≡ self.old ++ labels_field labels.now }
+        ensures count { length self.new ≡ length self.old + labels_size labels.now }
+        ensures most { length self.new ≤ length self.old + 4097 }
+    {
+        self.put_byte(labels.len() as u8);
+        for place in key_order(labels).as_slice() {
+            self.put_label(&labels[usize::from(*place)]);
+        }
+    }
+}
