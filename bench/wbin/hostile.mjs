@@ -1,15 +1,8 @@
 // Writes modules of almost 1 MiB that ask for as much as they can of a decoder, into the folder that is named: many exports, one
 // long list of labels, many functions, many runs of locals, many blocks. All are within the binary format.
 import { writeFileSync } from "node:fs";
+import { unsigned } from "./unsigned.mjs";
 
-const unsigned = (n) => {
-  const bytes = [];
-  while (n >= 128) {
-    bytes.push((n % 128) + 128);
-    n = Math.floor(n / 128);
-  }
-  return [...bytes, n];
-};
 const header = [0x00, 0x61, 0x73, 0x6d, 0x01, 0x00, 0x00, 0x00];
 const section = (id, contents) => Buffer.concat([Buffer.from([id, ...unsigned(contents.length)]), Buffer.from(contents)]);
 const vector = (count, contents) => Buffer.concat([Buffer.from(unsigned(count)), contents]);

@@ -1,17 +1,10 @@
 // Writes a module of almost 1 MiB to the file that is named: functions of about 200 bytes with locals, loops, branches,
 // loads, stores and calls. It is valid, and within the integer instructions of the first edition.
 import { writeFileSync } from "node:fs";
+import { unsigned } from "./unsigned.mjs";
 
 const LONGEST = 1_048_576;
 
-const unsigned = (n) => {
-  const bytes = [];
-  while (n >= 128) {
-    bytes.push((n % 128) + 128);
-    n = Math.floor(n / 128);
-  }
-  return [...bytes, n];
-};
 const signed = (n) => {
   const bytes = [];
   while (n < -64 || n >= 64) {

@@ -1,7 +1,7 @@
 // Writes a module of about 1 MiB, whose `filter` sums 69,000 constants, each from within four nested blocks.
 import { writeFileSync } from "node:fs";
+import { unsigned } from "../wbin/unsigned.mjs";
 
-const unsigned = (n) => (n < 128 ? [n] : [(n & 0x7f) | 0x80, ...unsigned(Math.floor(n / 128))]);
 const body = [0, 0x41, 0];
 for (let i = 0; i < 69000; i++)
   body.push(2, 0x7f, 2, 0x7f, 2, 0x7f, 2, 0x7f, 0x41, 1, 0x0b, 0x0b, 0x0b, 0x0b, 0x6a);

@@ -22,22 +22,22 @@ fn record_named(name: &[u8]) -> Option<usize>
     }
 }
 
-fn import_at(module: &Module, place: usize) -> &Import
-    requires { place < length module.now.tables.imports.items }
-    ensures { slice_get module.now.tables.imports.items place ≡ Some result.now }
+fn import_at(decoded: &Module, place: usize) -> &Import
+    requires { place < length decoded.now.tables.imports.items }
+    ensures { slice_get decoded.now.tables.imports.items place ≡ Some result.now }
 {
-    &module.tables().imports[place]
+    &decoded.tables().imports[place]
 }
 
 /// The record that each imported function hands over, in a module that imports host functions alone.
-pub fn records_of(alloc: Global, module: &Module) -> Result<Vec<usize>, AllocError>
-    requires { ImportsRight (module_of module.now) }
-    ensures { IfOk result (λ records. RecordsAgree (imported_names (module_of module.now).imports) records.items) }
+pub fn records_of(alloc: Global, decoded: &Module) -> Result<Vec<usize>, AllocError>
+    requires { ImportsRight (module_of decoded.now) }
+    ensures { IfOk result (λ records. RecordsAgree (imported_names (module_of decoded.now).imports) records.items) }
 {
-    let count = module.tables().imports.len();
+    let count = decoded.tables().imports.len();
     let mut records = Vec::with_capacity(alloc, count)?;
     for place in 0..count {
-        let import = import_at(module, place);
+        let import = import_at(decoded, place);
         let Some(record) = record_named(import.name.as_slice()) else {
             unreachable!();
         };

@@ -1,4 +1,3 @@
-pub mod Bits
 pub mod Steps
 pub mod Reached
 pub mod Places

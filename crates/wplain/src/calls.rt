@@ -5,7 +5,7 @@ ghost use Rattle.wbin.specs.Syntax.{import_of, signature_of};
 ghost use Rattle.wbody.specs.Context.{imported_functions};
 ghost use Rattle.wbin.specs.Syntax.{Signature};
 ghost use Rattle.wmach.specs.Configuration.{Store as machine_store, invoke as invoke_of, leads_to};
-ghost use Rattle.wmach.specs.Indirect.{same_type as defined_same_type, same_types as defined_same_types, same_result as defined_same_result, same_signature as defined_same, type_of_function, call_as as defined_call_as, call_element as defined_call_element, reduce_call_indirect};
+ghost use Rattle.wmach.specs.Indirect.{type_of_function, call_as as defined_call_as, call_element as defined_call_element, reduce_call_indirect};
 ghost use Rattle.wmach.specs.Host.{imported_names, record_named as defined_record, hand_over as defined_hand_over, reduce_import};
 ghost use Rattle.wmach.specs.Reduction.{zero_of, imported_count as defined_count, enter as defined_enter, reduce_invoke};
 ghost use Rattle.wmach.specs.Operands.{topmost};
@@ -20,51 +20,8 @@ use crate::values::{pop_i32, push};
 use std::alloc::{AllocError, Global};
 use wbin::{FunctionType, Import, ImportKind};
 use wcode::{Value, ValueType};
-use wmach::Trap;
+use wmach::{Trap, same_signature};
 use wmem::Memory;
-
-// One type is the other.
-fn same_type(a: ValueType, b: ValueType) -> bool
-    ensures { result ≡ defined_same_type a b }
-{
-    match (a, b) {
-        (ValueType::I32, ValueType::I32) | (ValueType::I64, ValueType::I64) => true,
-        _ => false,
-    }
-}
-
-// The same types in the same order.
-fn same_types(a: &[ValueType], b: &[ValueType]) -> bool
-    ensures { result ≡ defined_same_types a.now b.now }
-{
-    match a {
-        [] => match b {
-            [] => true,
-            [_, ..] => false,
-        },
-        [t, ts @ ..] => match b {
-            [] => false,
-            [u, us @ ..] => same_type(*t, *u) && same_types(ts, us),
-        },
-    }
-}
-
-fn same_result(a: Option<ValueType>, b: Option<ValueType>) -> bool
-    ensures { result ≡ defined_same_result a b }
-{
-    match (a, b) {
-        (None, None) => true,
-        (Some(t), Some(u)) => same_type(t, u),
-        _ => false,
-    }
-}
-
-// The types of two functions are one.
-fn same_signature(a: &FunctionType, b: &FunctionType) -> bool
-    ensures { result ≡ defined_same (signature_of a.now) (signature_of b.now) }
-{
-    same_types(a.parameters.as_slice(), b.parameters.as_slice()) && same_result(a.result, b.result)
-}
 
 // How many functions are imported. It gives up where they can't be counted.
 fn count(imports: &[Import]) -> Option<usize>

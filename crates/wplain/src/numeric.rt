@@ -4,13 +4,16 @@ ghost use Rattle.std.specs.Prelude.{◌≡◌, ◌∷◌, Ok, Err, IfOk, IfSome}
 ghost use Rattle.wcode.specs.Operators.{type_of};
 ghost use Rattle.wcode.specs.declared.value.Value.TheVariants as value;
 ghost use Rattle.wmach.specs.Operands.{value_of, width_of};
-ghost use Rattle.wmach.specs.Numeric.{unary_gives, binary_gives, test_gives, relation_gives, converted_from, converted_to, conversion_gives, trap_where as trap_of, reduce_unary, reduce_binary, reduce_test, reduce_relation, reduce_convert};
+ghost use Rattle.wmach.specs.Numeric.{unary_gives, binary_gives, test_gives, relation_gives, converted_from, converted_to, conversion_gives, reduce_unary, reduce_binary, reduce_test, reduce_relation, reduce_convert};
 ghost use Rattle.wplain.specs.Done.{bits, typed_result, DoneBy};
 
 use crate::values::{pop, pop_any, push};
 use std::alloc::AllocError;
 use wcode::{BinOp, CvtOp, RelOp, TestOp, UnOp, Value, ValueType};
 use wmach::Trap;
+use wmach::numbers::{
+    binary32, binary64, relation32, relation64, trap_where, unary32, unary64,
+};
 use wnum::{convert as conversions, int32, int64};
 
 /// What an instruction did that works on operands alone: it gave up, left these operands, or is cut off.
@@ -19,104 +22,6 @@ pub enum Worked {
     GaveUp,
     Values,
     Cut(Trap),
-}
-
-fn unary32(op: UnOp, a: u32) -> u32
-    ensures { result ≡ unary_gives op 32 a }
-{
-    match op {
-        UnOp::Clz => int32::clz(a),
-        UnOp::Ctz => int32::ctz(a),
-        UnOp::Popcnt => int32::popcnt(a),
-    }
-}
-
-fn binary32(op: BinOp, a: u32, b: u32) -> Result<u32, wnum::Trap>
-    ensures { result ≡ binary_gives op 32 a b }
-{
-    match op {
-        BinOp::Add => Ok(int32::add(a, b)),
-        BinOp::Sub => Ok(int32::sub(a, b)),
-        BinOp::Mul => Ok(int32::mul(a, b)),
-        BinOp::DivS => int32::div_s(a, b),
-        BinOp::DivU => int32::div_u(a, b),
-        BinOp::RemS => int32::rem_s(a, b),
-        BinOp::RemU => int32::rem_u(a, b),
-        BinOp::And => Ok(int32::and(a, b)),
-        BinOp::Or => Ok(int32::or(a, b)),
-        BinOp::Xor => Ok(int32::xor(a, b)),
-        BinOp::Shl => Ok(int32::shl(a, b)),
-        BinOp::ShrS => Ok(int32::shr_s(a, b)),
-        BinOp::ShrU => Ok(int32::shr_u(a, b)),
-        BinOp::Rotl => Ok(int32::rotl(a, b)),
-        BinOp::Rotr => Ok(int32::rotr(a, b)),
-    }
-}
-
-fn relation32(op: RelOp, a: u32, b: u32) -> u32
-    ensures { result ≡ relation_gives op 32 a b }
-{
-    match op {
-        RelOp::Eq => int32::eq(a, b),
-        RelOp::Ne => int32::ne(a, b),
-        RelOp::LtS => int32::lt_s(a, b),
-        RelOp::LtU => int32::lt_u(a, b),
-        RelOp::GtS => int32::gt_s(a, b),
-        RelOp::GtU => int32::gt_u(a, b),
-        RelOp::LeS => int32::le_s(a, b),
-        RelOp::LeU => int32::le_u(a, b),
-        RelOp::GeS => int32::ge_s(a, b),
-        RelOp::GeU => int32::ge_u(a, b),
-    }
-}
-
-fn unary64(op: UnOp, a: u64) -> u64
-    ensures { result ≡ unary_gives op 64 a }
-{
-    match op {
-        UnOp::Clz => int64::clz(a),
-        UnOp::Ctz => int64::ctz(a),
-        UnOp::Popcnt => int64::popcnt(a),
-    }
-}
-
-fn binary64(op: BinOp, a: u64, b: u64) -> Result<u64, wnum::Trap>
-    ensures { result ≡ binary_gives op 64 a b }
-{
-    match op {
-        BinOp::Add => Ok(int64::add(a, b)),
-        BinOp::Sub => Ok(int64::sub(a, b)),
-        BinOp::Mul => Ok(int64::mul(a, b)),
-        BinOp::DivS => int64::div_s(a, b),
-        BinOp::DivU => int64::div_u(a, b),
-        BinOp::RemS => int64::rem_s(a, b),
-        BinOp::RemU => int64::rem_u(a, b),
-        BinOp::And => Ok(int64::and(a, b)),
-        BinOp::Or => Ok(int64::or(a, b)),
-        BinOp::Xor => Ok(int64::xor(a, b)),
-        BinOp::Shl => Ok(int64::shl(a, b)),
-        BinOp::ShrS => Ok(int64::shr_s(a, b)),
-        BinOp::ShrU => Ok(int64::shr_u(a, b)),
-        BinOp::Rotl => Ok(int64::rotl(a, b)),
-        BinOp::Rotr => Ok(int64::rotr(a, b)),
-    }
-}
-
-fn relation64(op: RelOp, a: u64, b: u64) -> u64
-    ensures { result ≡ relation_gives op 64 a b }
-{
-    match op {
-        RelOp::Eq => int64::eq(a, b),
-        RelOp::Ne => int64::ne(a, b),
-        RelOp::LtS => int64::lt_s(a, b),
-        RelOp::LtU => int64::lt_u(a, b),
-        RelOp::GtS => int64::gt_s(a, b),
-        RelOp::GtU => int64::gt_u(a, b),
-        RelOp::LeS => int64::le_s(a, b),
-        RelOp::LeU => int64::le_u(a, b),
-        RelOp::GeS => int64::ge_s(a, b),
-        RelOp::GeU => int64::ge_u(a, b),
-    }
 }
 
 // The operands are of one type.
@@ -154,15 +59,6 @@ pub fn binary(values: &mut Vec<Value>, t: ValueType, op: BinOp) -> Result<Worked
         }
         Some(Err(undefined)) => Ok(Worked::Cut(trap_where(undefined))),
         None => Ok(Worked::GaveUp),
-    }
-}
-
-fn trap_where(undefined: wnum::Trap) -> Trap
-    ensures { result ≡ trap_of undefined }
-{
-    match undefined {
-        wnum::Trap::DivideByZero => Trap::DivideByZero,
-        wnum::Trap::IntegerOverflow => Trap::IntegerOverflow,
     }
 }
 

@@ -4,4 +4,4 @@ use Rattle.wmach.proofs.records.records_of.Given as goal
 
 -- those of the imports so far
 abbrev pub invariant-loop-place : goal.invariant-loop-place
-invariant-loop-place l = SoFar l.module l.records.items l.place
+invariant-loop-place l = SoFar l.decoded l.records.items l.place

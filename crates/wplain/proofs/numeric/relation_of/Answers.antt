@@ -1,5 +1,5 @@
 use Rattle.std.proofs.Common.{arith}
-use Rattle.wplain.proofs.Bits.{relation_small}
+use Rattle.wmach.proofs.Bits.{relation_small}
 use Rattle.wplain.proofs.numeric.relation_of.Goals as goal
 
 pub overflow_cast-result : goal.overflow_cast-result

@@ -1,5 +1,5 @@
 use Rattle.std.proofs.Common.{arith}
-use Rattle.wplain.proofs.Bits.{test_small}
+use Rattle.wmach.proofs.Bits.{test_small}
 use Rattle.wplain.proofs.numeric.test_of.Goals as goal
 
 pub overflow_cast-result : goal.overflow_cast-result
