@@ -11,9 +11,7 @@ use crate::values::{pop, pop_any, push};
 use std::alloc::AllocError;
 use wcode::{BinOp, CvtOp, RelOp, TestOp, UnOp, Value, ValueType};
 use wmach::Trap;
-use wmach::numbers::{
-    binary32, binary64, relation32, relation64, trap_where, unary32, unary64,
-};
+use wmach::numbers::{binary32, binary64, relation32, relation64, trap_where, unary32, unary64};
 use wnum::{convert as conversions, int32, int64};
 
 /// What an instruction did that works on operands alone: it gave up, left these operands, or is cut off.

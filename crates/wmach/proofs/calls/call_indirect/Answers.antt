@@ -80,4 +80,3 @@ returns-then-is_of_type-clause-goes g c r records h q =
     let k = indirect_next r s w slots st h code coded c.args.wanted c.args.next c.topmost-place.result c.in-Ok.function q.within q.spelled c.topmost-place.ensures there f (sym checked ∙ yes) in
     invokes r s w slots st h code coded 1 c.in-Ok.function c.args.next (s.top - 1) c.in_ok-left.left k c.args.waiting.now.items c.invoke.result c.invoke.new.waiting.items c.invoke.new.slots c.invoke.new.store refl c.in_ok-left.ensures.some (omega arith) (let t = h.top in omega (arith, t))
     (subst (λ x. Invokes code x c.in-Ok.function c.args.next (paid_state r s w slots st h code coded (s.top - 1) c.in_ok-left.left) c.args.waiting.now.items slots st c.invoke.result c.invoke.new.waiting.items c.invoke.new.slots c.invoke.new.store) (sym records) c.invoke.ensures.invoked)
-
