@@ -66,7 +66,7 @@ counted_after s pass e k wide lt = by (eqb pass k) refl
         let same : pass ≡ k = eqb-true pass k is in
         let within : pass < length (step s pass e).state.calls = omega (arith, lt, wide, ap length (calls_kept s pass e)) in
         subst (λ j. slice_index (after s pass e).calls j ≡ slice_index s.calls j + 1) same
-            (get_or-set_same (step s pass e).state.calls pass (slice_index (step s pass e).state.calls pass + 1) 0 within ∙ ap (λ calls. slice_index calls pass + 1) (calls_kept s pass e))
+        (get_or-set_same (step s pass e).state.calls pass (slice_index (step s pass e).state.calls pass + 1) 0 within ∙ ap (λ calls. slice_index calls pass + 1) (calls_kept s pass e))
     by false is =
         get_or-set_other (step s pass e).state.calls pass k (slice_index (step s pass e).state.calls pass + 1) 0 (λ (same : k ≡ pass). true-not_false (sym (eq-eqb pass k (sym same)) ∙ is))
         ∙ ap (λ calls. slice_index calls k) (calls_kept s pass e) ∙ sym (add-zero (slice_index s.calls k))

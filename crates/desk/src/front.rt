@@ -122,15 +122,13 @@ impl Front {
             return None;
         }
         let mut seen = self.seen.again();
-        let mut offer: Offer<Entry, u64, Law, Nothing> = seen.plain::<Nothing, Next<'_>, Adds>(next);
-        let mut pen = seen.no_pen();
-        let found = head.word.compare_exchange::<Adds, Nothing>(
-            calls,
-            calls + 1,
-            &mut seen,
-            &mut offer,
-            &mut pen,
+        let mut offer: Offer<Entry, u64, Law, Nothing> = seen.plain::<Nothing, Next<'_>, Adds>(
+            next,
         );
+        let mut pen = seen.no_pen();
+        let found = head
+            .word
+            .compare_exchange::<Adds, Nothing>(calls, calls + 1, &mut seen, &mut offer, &mut pen);
         if found != calls {
             return None;
         }

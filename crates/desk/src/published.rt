@@ -78,11 +78,7 @@ impl Absorb<Order> for Published {
         Ok(())
     }
 
-    fn absorb_second(
-        &mut self,
-        order: Order,
-        _other: &Published,
-    ) -> Result<(), Order> {
+    fn absorb_second(&mut self, order: Order, _other: &Published) -> Result<(), Order> {
         let Order { pass, step, front } = order;
         self.take(pass, step, front);
         Ok(())

@@ -13,7 +13,7 @@ returns-then-begins g c alike =
     let stands : Stands book limits x = subst (Stands book limits) (sym c.published.view_is) c.requires.stands in
     let ahead : IsAhead (record { limits = limits; handed = c.args.handed }) p x.known.list = is_ahead book limits x stands c.args.handed p c.self.invariant.0 (c.begins.ensures c.if-begins.true) (c.counts_alike.ensures.calls alike) (c.counts_alike.ensures.handed alike) in
     subst (λ (q : Member). IsAhead (record { limits = limits; handed = c.args.handed }) q c.args.published.now.known.list) c.self.view_is
-        (subst (λ (y : Published). IsAhead (record { limits = limits; handed = c.args.handed }) p y.known.list) c.published.view_is ahead)
+    (subst (λ (y : Published). IsAhead (record { limits = limits; handed = c.args.handed }) p y.known.list) c.published.view_is ahead)
 
 -- both are of one history
 pub begins-requires : goal.begins-requires

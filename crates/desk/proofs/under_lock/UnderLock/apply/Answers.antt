@@ -16,7 +16,7 @@ publish-held-requires g c =
     let limits = g.J.Naming.limits in
     let ok = c.in-Ok.ensures in
     subst (Stands book limits) (sym (λ i. published_after (c.get_ready.ensures.same i) (ok.order i)))
-        (stands_after book limits c.args.self ok.stands c.args.handed c.args.pass.now.caller c.args.step c.requires.of c.requires.handed ok.left ok.ahead.own)
+    (stands_after book limits c.args.self ok.stands c.args.handed c.args.pass.now.caller c.args.step c.requires.of c.requires.handed ok.left ok.ahead.own)
 
 -- and is the pass's
 pub count-requires-clause-own : goal.count-requires-clause-own
@@ -44,5 +44,5 @@ returns-in-Ok-clause-applied g c =
     let told : c.with-answer.result ≡ answer = c.with-answer.ensures ∙ (λ i. reply_with (said i) (ok.pod i)) ∙ said_whole x.desk.state p.number e in
     let now : c.count.new.self ≡ record { caller = record { number = p.number; calls = p.calls + 1 }; seen = x.known.list ++ next_call x.desk.state p.number (p.calls + 1) e ∷ [] } = c.count.ensures ∙ ap (λ (k : Known). record { caller = record p { calls = p.calls + 1 }; seen = k.list }) front in
     subst (IsApplied (record { limits = limits; handed = c.args.handed }) c.args.pass.now e c.with-answer.result) (sym now)
-        (subst (λ r. IsApplied (record { limits = limits; handed = c.args.handed }) c.args.pass.now e r (record { caller = record { number = p.number; calls = p.calls + 1 }; seen = x.known.list ++ next_call x.desk.state p.number (p.calls + 1) e ∷ [] })) (sym told)
-            (applied_more book limits x ok.stands p.number p.calls e c.args.handed c.args.pass.now refl c.requires.of c.requires.handed ok.ahead))
+    (subst (λ r. IsApplied (record { limits = limits; handed = c.args.handed }) c.args.pass.now e r (record { caller = record { number = p.number; calls = p.calls + 1 }; seen = x.known.list ++ next_call x.desk.state p.number (p.calls + 1) e ∷ [] })) (sym told)
+    (applied_more book limits x ok.stands p.number p.calls e c.args.handed c.args.pass.now refl c.requires.of c.requires.handed ok.ahead))

@@ -15,4 +15,4 @@ invariant_of-self g c =
     let known : c.again-front.result ≡ x.known = c.again-front.ensures ∙ ap (λ (y : Published). y.known) (c.behind-self.view_is ∙ c.published.ensures) in
     let waits = ok.pending ∙ ap (λ o. drop w.behind w.log.items ++ o ∷ []) (c.no_order.ensures ∙ ap no_order known) in
     subst (λ d. Stands book limits d.shown.value × (fold published_after d.shown.value more ≡ d.shown.value)) (sym ok.desk)
-        (c.self.invariant.0, still_nothing book limits x (drop w.behind w.log.items) more c.self.invariant.0 c.self.invariant.1 waits)
+    (c.self.invariant.0, still_nothing book limits x (drop w.behind w.log.items) more c.self.invariant.0 c.self.invariant.1 waits)
