@@ -46,7 +46,7 @@ answered_more s [] c all e = (e, tt)
 answered_more s (d ∷ l) c all e = (all.0, answered_more (after s d.pass d.step) l c all.1 e)
 
 -- where its pass was handed out, each call's was
-handed_more : (n : ℕ) (l : List Call) (c : Call) → AllByRecursion (λ d. d.pass < n) l → c.pass < n → AllByRecursion (λ d. d.pass < n) (l ++ c ∷ [])
+pub handed_more : (n : ℕ) (l : List Call) (c : Call) → AllByRecursion (λ d. d.pass < n) l → c.pass < n → AllByRecursion (λ d. d.pass < n) (l ++ c ∷ [])
 handed_more n [] c all lt = (lt, tt)
 handed_more n (d ∷ l) c all lt = (all.0, handed_more n l c all.1 lt)
 
@@ -135,7 +135,7 @@ limits_after s pass Count = refl
 -- ---- what a pass has seen
 
 -- the calls of a pass in two parts
-calls_append : (pass : ℕ) (a b : List Call) → AreOthers pass b → calls_of pass (a ++ b) ≡ calls_of pass a
+pub calls_append : (pass : ℕ) (a b : List Call) → AreOthers pass b → calls_of pass (a ++ b) ≡ calls_of pass a
 calls_append pass [] b others = none b others
   where
     none : (b : List Call) → AreOthers pass b → calls_of pass b ≡ 0

@@ -7,10 +7,10 @@ use Rattle.book.specs.Step as book_step
 use Rattle.desk.specs.declared.step.Reply.{Reply}
 use Rattle.desk.specs.declared.step.Reply.TheVariants.{Refused}
 use Rattle.desk.specs.declared.step.Step.{Step}
-use Rattle.desk.specs.Machine.{Outcome, step}
-use Rattle.desk.specs.Caller.{Opened, with_state, hands_out}
-use Rattle.std.specs.Bool.{IsTrue}
-use Rattle.book.specs.declared.NoMemory.{NoMemory}
+use Rattle.desk.specs.Machine.{Outcome, step, reply}
+use Rattle.desk.specs.declared.said.Said.{Said}
+use Rattle.desk.specs.Said.{said_of}
+use Rattle.desk.specs.Caller.{Opened, with_state}
 
 -- the book took its part of a step, and nothing else changed; or it refused, and nothing changed
 abbrev pub IsTold : Opened → ClusterStep → Result BookReply Refusal → Opened → Type 0
@@ -35,9 +35,6 @@ IsDone old outcome result new =
     (λ reply. (outcome ≡ record { state = new.state; reply = reply }) × (new ≡ with_state old new.state))
     (λ why. (outcome ≡ record { state = old.state; reply = Refused why }) × (new ≡ old))
 
--- a step was done or refused, and no call was counted; or a pod that it hands out could have no further owner, and nothing changed
-abbrev pub IsAnswered : Opened → ℕ → Step → Result Reply NoMemory → Opened → Type 0
-IsAnswered old pass e result new =
-    MatchResult result
-    (λ reply. (step old.state pass e ≡ record { state = new.state; reply = reply }) × (new ≡ with_state old new.state))
-    (λ why. IsTrue (hands_out old.state e) × (new ≡ old))
+-- a step was done or refused, which was said without the pod that it hands out, and no call was counted
+abbrev pub IsSaid : Opened → ℕ → Step → Said → Opened → Type 0
+IsSaid old pass e said new = (said ≡ said_of (reply old.state pass e)) × ((step old.state pass e).state ≡ new.state) × (new ≡ with_state old new.state)

@@ -4,5 +4,8 @@ pub mod Caller
 pub mod History
 pub mod Calm
 pub mod Laws
+pub mod Shared
 pub mod Codes
+pub mod SharedCodes
+pub mod Said
 pub mod Done

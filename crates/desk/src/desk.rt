@@ -1,7 +1,11 @@
 //! The desk.
 ghost use Rattle.std.specs.Prelude.{◌≡◌, ◌≤◌, ◌<◌, ◌↔◌, ◌⊎◌, ◌+◌, ◌++◌, ◌∷◌, [], ℕ, List, IfOk, OnErr, OnOk, IsErr, MatchResult, slice_index};
+ghost use Rattle.std.specs.Bool.{IsTrue};
+ghost use Rattle.desk.specs.Caller.{HasNoCalls};
+ghost use Rattle.desk.specs.Said.{said_of};
 
 use crate::pass::{MAX_CALLS, MAX_PASSES, NoPlace, Pass};
+use crate::said::Said;
 use crate::snapshot::{Row, Snapshot};
 use crate::step::{Counts, Reply, Step};
 use book::{Book, ClusterStep, Entry, Limits, NoMemory, Refusal};
@@ -44,14 +48,15 @@ impl Model for Desk {
 
 impl Desk {
     ghost use Rattle.desk.specs.Caller.{new_desk, with_state, with_pass, IsTimely, hands_out};
+    ghost use Rattle.desk.specs.Shared.{may_call};
     ghost use Rattle.desk.specs.Machine.{both, of_node, moved, step, entry_for, counts, reply, after, snapshot};
     ghost use Rattle.desk.specs.Machine as machine;
-    ghost use Rattle.desk.specs.Done.{IsTold, IsTaken, IsDone, IsAnswered};
+    ghost use Rattle.desk.specs.Done.{IsTold, IsTaken, IsDone, IsSaid};
+    ghost use Rattle.desk.specs.Said.{said_of, handed_by};
     ghost use Rattle.std.specs.List.{All};
     ghost use Rattle.std.specs.FinMap.{len};
     ghost use Rattle.desk.specs.Calm.{IsCalm, HasRoom};
     ghost use Rattle.desk.specs.History.{Call, Leaves, IsOf, HasSeen, Applied, Looked, IsFairTicket, call, snap};
-    ghost use Rattle.std.specs.Bool.{IsTrue};
     ghost use Rattle.queue.specs.Queue as queue;
 
     /// A desk with no nodes and no pods, that has handed out no pass. Names are looked up under the keys, so that nobody
@@ -259,17 +264,29 @@ impl Desk {
         Ok(Reply::Done)
     }
 
-    // The pod that goes first is the pass's now. What can fail, a further owner of the pod, goes first.
-    #[tactic(auto, unfolding(queue::specs::Queue::after_pop))]
-    fn pop(&mut self, pass: usize) -> Result<Reply, NoMemory>
-        ensures { IsAnswered self.old pass Step.Pop result self.new }
+    // One more owner of the pod that a step hands out, if it hands one out.
+    pub(crate) fn pod_for(&self, step: &Step) -> Result<Option<SharedPod>, NoMemory>
+        ensures pod { IfOk result (λ pod. pod ≡ handed_by self.now.state step.now) }
+        ensures no_memory { IsErr result → IsTrue (hands_out self.now.state step.now) }
     {
-        let Some(first) = self.queue.peek() else {
-            return Ok(Reply::Idle);
-        };
-        let pod = first.share()?;
-        self.queue.pop(PassNumber(pass as u64));
-        Ok(Reply::Popped(pod))
+        if !matches!(step, Step::Pop) {
+            return Ok(None);
+        }
+        match self.queue.peek() {
+            None => Ok(None),
+            Some(first) => Ok(Some(first.share()?)),
+        }
+    }
+
+    // The pod that goes first is the pass's now.
+    #[tactic(auto, unfolding(queue::specs::Queue::after_pop))]
+    fn pop(&mut self, pass: usize) -> Said
+        ensures { IsSaid self.old pass Step.Pop result self.new }
+    {
+        match self.queue.pop(PassNumber(pass as u64)) {
+            Some(_) => Said::Popped,
+            None => Said::Idle,
+        }
     }
 
     // The watch tells of something.
@@ -290,20 +307,20 @@ impl Desk {
         }
     }
 
-    // Does a step for a pass, or refuses it. No call is counted.
-    fn do_step(&mut self, pass: usize, step: Step) -> Result<Reply, NoMemory>
+    // Does a step for a pass, or refuses it, and says so. It takes no memory and hands nothing out. No call is counted.
+    fn do_step(&mut self, pass: usize, step: Step) -> Said
         requires { IsTimely step }
-        ensures { IsAnswered self.old pass step result self.new }
+        ensures { IsSaid self.old pass step result self.new }
     {
         match step {
             Step::Pop => self.pop(pass),
-            Step::Event(event) => Ok(told(self.take_event(event))),
-            Step::Assume { uid, node } => Ok(told(self.assume(pass, uid, node))),
-            Step::BindDone { uid, ticket } => Ok(told(self.finish_bind(uid, ticket))),
-            Step::Forget { uid, ticket } => Ok(told(self.forget(uid, ticket))),
-            Step::Fail { uid, how } => Ok(told(self.fail(pass, uid, how))),
-            Step::Tick(now) => Ok(told(self.tick(now))),
-            Step::Count => Ok(Reply::Counts(self.counts())),
+            Step::Event(event) => said(self.take_event(event)),
+            Step::Assume { uid, node } => said(self.assume(pass, uid, node)),
+            Step::BindDone { uid, ticket } => said(self.finish_bind(uid, ticket)),
+            Step::Forget { uid, ticket } => said(self.forget(uid, ticket)),
+            Step::Fail { uid, how } => said(self.fail(pass, uid, how)),
+            Step::Tick(now) => said(self.tick(now)),
+            Step::Count => Said::Counts(self.counts()),
         }
     }
 
@@ -379,6 +396,44 @@ impl Desk {
         Ok(answer)
     }
 
+    /// Whether a pass of this number was handed out, and has a call left.
+    pub(crate) fn has_call_for(&self, pass: usize) -> bool
+        ensures { result ≡ may_call self.now pass }
+    {
+        pass < self.handed && self.calls[pass] < MAX_CALLS
+    }
+
+    /// A desk with no nodes and no pods, whose passes count as handed out.
+    pub(crate) fn for_all_passes(
+        alloc: Global,
+        keys: RandomState,
+        limits: Limits,
+    ) -> Result<Self, NoMemory>
+        ensures opening { IfOk result (λ desk. desk ≡ record (new_desk limits) { handed = MAX_PASSES }) }
+    {
+        let desk = Desk::new(alloc, keys, limits)?;
+        Ok(Desk {
+            handed: MAX_PASSES,
+            ..desk
+        })
+    }
+
+    /// Whether so many calls of this pass were answered, and none of the passes from this number on.
+    pub(crate) fn counts_alike(&self, pass: usize, calls: u64, handed: usize) -> bool
+        requires { pass < MAX_PASSES }
+        ensures calls { IsTrue result → slice_index self.now.state.calls pass ≡ calls }
+        ensures handed { IsTrue result → HasNoCalls handed self.now.state.calls }
+    {
+        self.calls[pass] == calls && has_none_from(&self.calls, handed)
+    }
+
+    /// The book as it is.
+    pub(crate) fn into_book(self) -> Book
+        ensures { result ≡ self.state.cluster }
+    {
+        self.book
+    }
+
     // Does a step for a pass, or refuses it, and counts the call.
     fn answer_call(&mut self, pass: usize, step: Step) -> Result<Reply, NoMemory>
         requires handed { pass < self.old.handed }
@@ -390,11 +445,25 @@ impl Desk {
         ensures counted { OnOk result (slice_index self.new.state.calls pass ≡ slice_index self.old.state.calls pass + 1) }
         ensures err { OnErr result (self.new ≡ self.old) }
     {
+        let pod = self.pod_for(&step)?;
+        let said = self.take_call(pass, step);
+        Ok(said.with(pod))
+    }
+
+    // Does a step for a pass, or refuses it, says so, and counts the call. It takes no memory and hands nothing out.
+    pub(crate) fn take_call(&mut self, pass: usize, step: Step) -> Said
+        requires handed { pass < self.old.handed }
+        requires fits { slice_index self.old.state.calls pass < MAX_CALLS }
+        requires timely { IsTimely step }
+        ensures said { result ≡ said_of (reply self.old.state pass step) }
+        ensures after { self.new ≡ with_state self.old (after self.old.state pass step) }
+        ensures counted { slice_index self.new.state.calls pass ≡ slice_index self.old.state.calls pass + 1 }
+    {
         // A pass's number is within its desk's counts.
         let _ = &self.calls;
-        let answer = self.do_step(pass, step)?;
+        let said = self.do_step(pass, step);
         self.calls[pass] += 1;
-        Ok(answer)
+        said
     }
 
     /// Shows the nodes and what is used of them. It copies a pointer and the totals of each node.
@@ -416,6 +485,15 @@ impl Desk {
             → IfOk result (λ shown. Looked self.now.state.cluster.limits self.now.handed pass.old seen l shown × HasSeen pass.new l l) }
     {
         let _ = pass;
+        let shown = self.show()?;
+        Ok(shown)
+    }
+
+    // The rows of the nodes, with what is used of each.
+    pub(crate) fn show(&self) -> Result<Snapshot, NoMemory>
+        ensures snapshot { IfOk result (λ shown. shown ≡ snapshot self.now.state.cluster) }
+        ensures no_memory { IsErr result → 1 ≤ len self.now.state.cluster.nodes }
+    {
         let nodes = self.book.rows();
         let mut rows = Vec::with_capacity(self.alloc, nodes.len())?;
         for node in nodes {
@@ -427,12 +505,24 @@ impl Desk {
     }
 }
 
-// The answer to a step that was done or refused.
-fn told(done: Result<Reply, Refusal>) -> Reply
-    ensures { MatchResult done (λ reply. result ≡ reply) (λ why. result ≡ Reply.Refused why) }
+// Whether no call of the passes from this number on was answered.
+fn has_none_from(calls: &[u64; MAX_PASSES], handed: usize) -> bool
+    ensures { IsTrue result → HasNoCalls handed calls.now }
+{
+    for pass in handed..MAX_PASSES {
+        if calls[pass] != 0 {
+            return false;
+        }
+    }
+    true
+}
+
+// What there is to say of a step that was done or refused.
+fn said(done: Result<Reply, Refusal>) -> Said
+    ensures { MatchResult done (λ reply. result ≡ said_of reply) (λ why. result ≡ Said.Refused why) }
 {
     match done {
-        Ok(reply) => reply,
-        Err(why) => Reply::Refused(why),
+        Ok(reply) => Said::of(&reply),
+        Err(why) => Said::Refused(why),
     }
 }

@@ -1,7 +1,10 @@
 //! What a caller may ask of the desk, and what is answered.
+ghost use Rattle.std.specs.Prelude.{◌≡◌, IfOk};
+
 use book::Refusal;
 use quant::{Event, Moment, Name, SharedPod, Ticket, Version};
 use queue::Failure;
+use std::alloc::AllocError;
 
 /// A step.
 #[derive(Debug, Drop)]
@@ -42,6 +45,70 @@ pub enum Step {
     Tick(Moment),
     /// Nothing changes; the desk tells its numbers.
     Count,
+}
+
+impl Step {
+    // The same step, with one more owner of its row.
+    pub(crate) fn share(&self) -> Result<Step, AllocError>
+        ensures { IfOk result (λ step. step ≡ self.now) }
+    {
+        Ok(match self {
+            Step::Event(event) => Step::Event(share_event(event)?),
+            Step::Pop => Step::Pop,
+            Step::Assume { uid, node } => Step::Assume {
+                uid: uid.copied(),
+                node: node.copied(),
+            },
+            Step::BindDone { uid, ticket } => Step::BindDone {
+                uid: uid.copied(),
+                ticket: *ticket,
+            },
+            Step::Forget { uid, ticket } => Step::Forget {
+                uid: uid.copied(),
+                ticket: *ticket,
+            },
+            Step::Fail { uid, how } => Step::Fail {
+                uid: uid.copied(),
+                how: *how,
+            },
+            Step::Tick(now) => Step::Tick(*now),
+            Step::Count => Step::Count,
+        })
+    }
+}
+
+fn share_event(event: &Event) -> Result<Event, AllocError>
+    ensures { IfOk result (λ shared. shared ≡ event.now) }
+{
+    Ok(match event {
+        Event::NodeSet { version, node } => Event::NodeSet {
+            version: *version,
+            node: node.share()?,
+        },
+        Event::NodeGone { version, name } => Event::NodeGone {
+            version: *version,
+            name: name.copied(),
+        },
+        Event::PodPending { version, pod } => Event::PodPending {
+            version: *version,
+            pod: pod.share()?,
+        },
+        Event::PodBound {
+            version,
+            uid,
+            node,
+            request,
+        } => Event::PodBound {
+            version: *version,
+            uid: uid.copied(),
+            node: node.copied(),
+            request: *request,
+        },
+        Event::PodGone { version, uid } => Event::PodGone {
+            version: *version,
+            uid: uid.copied(),
+        },
+    })
 }
 
 /// The desk's numbers.

@@ -3,6 +3,8 @@ ghost use Rattle.std.specs.Prelude.{◌≡◌, IfOk, OnOk};
 ghost use Rattle.desk.specs.Caller.{IsTimely};
 ghost use Rattle.desk.specs.History.{IsOf};
 
+mod sharing;
+
 use crate::{Counts, Desk, Limits, Pass, Refusal, Reply, Step};
 use quant::{
     Bytes, Cpu, Event, Moment, Name, Node, Pod, Request, Res, SharedNode, SharedPod, Ticket,
@@ -275,6 +277,27 @@ fn assert_used(
     Ok(())
 }
 
+/// Pod p gets the one place.
+fn place_first(rt: &impl Abort, alloc: Global, desk: &mut Desk, pass: &mut Pass) -> Result<(), Fail>
+    requires { IsOf pass.old desk.old }
+    ensures { OnOk result (IsOf pass.new desk.new) }
+{
+    tell_events(rt, alloc, desk, pass)?;
+    place_one(rt, desk, pass)?;
+    assert_used(rt, desk, pass, 600, 1)
+}
+
+/// It loses it, gets it again, and goes.
+fn place_second(rt: &impl Abort, desk: &mut Desk, pass: &mut Pass) -> Result<(), Fail>
+    requires { IsOf pass.old desk.old }
+{
+    place_again(rt, desk, pass)?;
+    assert_counts(rt, desk, pass)?;
+    assert_used(rt, desk, pass, 600, 1)?;
+    take(rt, desk, pass, gone(4, b'p'), Answer::Done)?;
+    assert_used(rt, desk, pass, 0, 0)
+}
+
 /// Two pods for one place: the second waits until the first one's bind failed, and what is used is
 /// counted once.
 #[test]
@@ -282,12 +305,6 @@ fn places_a_pod_once(rt: HostRuntime) -> Result<(), Fail> {
     let alloc = rt.alloc();
     let mut desk = opened(alloc, RandomState::new(&rt)?)?;
     let mut pass = desk.pass()?;
-    tell_events(&rt, alloc, &mut desk, &mut pass)?;
-    place_one(&rt, &mut desk, &mut pass)?;
-    assert_used(&rt, &desk, &mut pass, 600, 1)?;
-    place_again(&rt, &mut desk, &mut pass)?;
-    assert_counts(&rt, &mut desk, &mut pass)?;
-    assert_used(&rt, &desk, &mut pass, 600, 1)?;
-    take(&rt, &mut desk, &mut pass, gone(4, b'p'), Answer::Done)?;
-    assert_used(&rt, &desk, &mut pass, 0, 0)
+    place_first(&rt, alloc, &mut desk, &mut pass)?;
+    place_second(&rt, &mut desk, &mut pass)
 }

@@ -1,0 +1,35 @@
+-- What there is to say of a step: its answer without the pod that a pop hands out, and that pod.
+use Rattle.std.specs.Prelude.{Option, None, Some, option_map}
+use Rattle.quant.specs.declared.objects.Pod.{Pod}
+use Rattle.queue.specs.Queue.{next_of}
+use Rattle.desk.specs.declared.said.Said.{Said}
+use Rattle.desk.specs.declared.said.Said.TheVariants as said
+use Rattle.desk.specs.declared.step.Step.{Step}
+use Rattle.desk.specs.declared.step.Step.TheVariants.{Pop}
+use Rattle.desk.specs.declared.step.Reply.{Reply}
+use Rattle.desk.specs.declared.step.Reply.TheVariants as replies
+use Rattle.desk.specs.Machine.{State}
+
+-- an answer without its pod
+abbrev pub said_of : Reply → Said
+said_of replies.Done = said.Done
+said_of replies.Idle = said.Idle
+said_of (replies.Popped pod) = said.Popped
+said_of (replies.Ticket ticket) = said.Ticket ticket
+said_of (replies.Counts n) = said.Counts n
+said_of (replies.Refused why) = said.Refused why
+
+-- the answer with its pod
+abbrev pub reply_with : Said → Option Pod → Reply
+reply_with said.Done pod = replies.Done
+reply_with said.Idle pod = replies.Idle
+reply_with said.Popped None = replies.Idle
+reply_with said.Popped (Some pod) = replies.Popped pod
+reply_with (said.Ticket ticket) pod = replies.Ticket ticket
+reply_with (said.Counts n) pod = replies.Counts n
+reply_with (said.Refused why) pod = replies.Refused why
+
+-- the pod that a step hands out
+abbrev pub handed_by : State → Step → Option Pod
+handed_by s Pop = option_map (λ item. item.1.pod) (next_of s.queue)
+handed_by s e = None

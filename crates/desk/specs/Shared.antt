@@ -1,0 +1,152 @@
+-- A desk that many passes share: what a pass has seen, what is published, and what each call tells its pass.
+use Rattle.std.specs.Prelude.{◌≡◌, ℕ, ◌+◌, ◌-◌, ◌<◌, ◌==◌, Bool, true, ◌&&◌, nat_lt, if◌then◌else◌, List, [], ◌∷◌, ◌++◌, length, slice_index, MatchBool}
+use Rattle.logbook.specs.Pages.{Cell, Step as WordStep, View, Book, Named}
+use Rattle.book.specs.declared.limits.Limits.{Limits}
+use Rattle.book.specs.Cluster.{Cluster}
+use Rattle.desk.specs.declared.pass.TheConstants.{MAX_PASSES, MAX_CALLS}
+use Rattle.desk.specs.declared.said.Said.{Said}
+use Rattle.desk.specs.declared.said.Said.TheVariants as said
+use Rattle.desk.specs.declared.step.Step.{Step}
+use Rattle.desk.specs.declared.step.Step.TheVariants.{Count}
+use Rattle.desk.specs.declared.step.Reply.{Reply}
+use Rattle.desk.specs.declared.step.Reply.TheVariants as replies
+use Rattle.desk.specs.Machine.{State, opening, reply, after}
+use Rattle.desk.specs.Caller.{Caller, Opened, with_state}
+use Rattle.desk.specs.Said.{said_of}
+use Rattle.desk.specs.Shown.{Shown}
+use Rattle.desk.specs.Calm.{IsCalm, HasRoom}
+use Rattle.std.specs.List.{All}
+use Rattle.desk.specs.History.{Call, Legal, Leaves, HasCallsOf, GoesOn, IsFairTicket, state_after, call, snap}
+
+-- ---- the history that passes share
+
+-- the first word is the length of the history. The book has two words, of which the second stays 0
+pub record IsKept (cells : List Cell) (log : List Call) : Type 0 where
+  pub words : cells ≡ (length log, true) ∷ (0, true) ∷ []
+
+abbrev pub head_of : Book → Named
+head_of b = record { tracked = true; key = 0; book = b }
+
+-- the call was added to all that had been seen; or the history was longer, and nothing was added
+abbrev pub IsAdded : WordStep Call → View Call ℕ → ℕ → View Call ℕ → Type 0
+IsAdded s v found w = MatchBool (found == s.old) (w.0 ≡ v.0 ++ s.ask ∷ []) (Unit {0})
+
+-- some call
+abbrev pub no_call : Call
+no_call = record { pass = 0; number = 0; step = Count; reply = replies.Done }
+
+-- a call of a pass, with the answer that the state has for it
+abbrev pub next_call : State → ℕ → ℕ → Step → Call
+next_call s pass number e = record { pass = pass; number = number; step = e; reply = reply s pass e }
+
+-- ---- what is published
+
+-- a beginning of the history that this book keeps
+pub record Known : Type 0 where
+  pub book : Book
+  pub list : List Call
+
+-- the published desk, what there is to say of its last call, and the history that left it so
+pub record Published : Type 0 where
+  pub desk : Opened
+  pub said : Said
+  pub known : Known
+
+-- with one call more
+abbrev pub with_call : Known → Call → Known
+with_call known c = record known { list = known.list ++ c ∷ [] }
+
+-- a call that is to be published: its pass, its step, and the history with it
+pub record Ordered : Type 0 where
+  pub pass : ℕ
+  pub step : Step
+  pub known : Known
+
+-- whether a desk has a call left for this pass
+abbrev pub may_call : Opened → ℕ → Bool
+may_call d pass = nat_lt pass d.handed && nat_lt (slice_index d.state.calls pass) MAX_CALLS
+
+-- what is published after a call: the state that it leaves, its answer, and the history with it
+abbrev pub published_after : Published → Ordered → Published
+published_after x o =
+    if may_call x.desk o.pass
+    then record { desk = with_state x.desk (after x.desk.state o.pass o.step); said = said_of (reply x.desk.state o.pass o.step); known = o.known }
+    else record x { known = o.known }
+
+-- the rule of what is published: its history is legal, but for which passes were handed out, and leaves the desk so, the
+-- counts of calls among the rest; and the desk has these limits, and its history is in this book
+pub record Stands (book : Book) (limits : Limits) (x : Published) : Type 0 where
+  pub leaves : Leaves x.known.list x.desk
+  pub book_is : x.known.book ≡ book
+  pub limits_are : x.desk.state.cluster.limits ≡ limits
+  pub handed_are : x.desk.handed ≡ MAX_PASSES
+
+-- what is published of a desk on which nothing was done
+abbrev pub first_published : Book → Limits → Published
+first_published book limits = record { desk = record { state = opening limits; handed = MAX_PASSES }; said = said.Done; known = record { book = book; list = [] } }
+
+-- a call of no pass, which changes nothing but the history that stands there
+abbrev pub no_order : Known → Ordered
+no_order known = record { pass = MAX_PASSES; step = Count; known = known }
+
+-- the call of a pass as it is to be published
+abbrev pub order_of : Published → Caller → Step → Ordered
+order_of x p e = record { pass = p.number; step = e; known = with_call x.known (next_call x.desk.state p.number (p.calls + 1) e) }
+
+-- ---- what a pass has seen
+
+-- a pass of a locked desk: its number and how many of its calls were answered, and the history that it has seen
+pub record Member : Type 0 where
+  pub caller : Caller
+  pub seen : List Call
+
+-- a locked desk: its limits, and how many passes it has handed out
+pub record Locked : Type 0 where
+  pub limits : Limits
+  pub handed : ℕ
+
+-- a pass of this desk: it was handed out
+abbrev pub IsMember : Member → Locked → Type 0
+IsMember p desk = p.caller.number < desk.handed
+
+-- a history that a pass may go on to: it is legal, begins with what the pass has seen, and has of the pass's calls just
+-- those that it made
+pub record IsAhead (desk : Locked) (p : Member) (l : List Call) : Type 0 where
+  pub legal : Legal desk.limits desk.handed l
+  pub goes_on : GoesOn p.caller.number p.seen l
+  pub own : HasCallsOf p.caller l
+
+-- a step of a pass was answered so: the pass now has seen a legal history, which begins with what it had seen, goes on with
+-- calls of other passes, and ends with this call; it has just the calls of the pass that it made. A ticket is fair by the
+-- history before the call
+pub record IsApplied (desk : Locked) (p : Member) (e : Step) (answer : Reply) (p' : Member) : Type 0 where
+  pub until : List Call
+  pub ahead : IsAhead desk p until
+  pub ends : p'.seen ≡ until ++ call p.caller e answer ∷ []
+  pub counted : p'.caller ≡ record p.caller { calls = p.caller.calls + 1 }
+  pub legal : Legal desk.limits desk.handed p'.seen
+  pub own : HasCallsOf p'.caller p'.seen
+  pub fair : IsFairTicket until p.caller.number e answer
+
+-- a look showed these rows: they are the snapshot of the history that the pass now has seen, which it could go on to; where
+-- that history is calm, no node has more used than it can allot
+pub record IsLooked (desk : Locked) (p : Member) (rows : List Shown) (p' : Member) : Type 0 where
+  pub ahead : IsAhead desk p p'.seen
+  pub same : p'.caller ≡ p.caller
+  pub shows : rows ≡ snap p'.seen
+  pub room : IsCalm p'.seen → All HasRoom rows
+
+-- two passes met: both have now seen one history, which each could go on to
+pub record Met (desk : Locked) (p q p' q' : Member) : Type 0 where
+  pub list : List Call
+  pub first : IsAhead desk p list
+  pub second : IsAhead desk q list
+  pub first_new : p' ≡ record p { seen = list }
+  pub second_new : q' ≡ record q { seen = list }
+
+-- a desk was closed by a pass: the book is as a history left it that the pass could go on to, and now has seen
+pub record Closed (desk : Locked) (p p' : Member) (book : Cluster) : Type 0 where
+  pub list : List Call
+  pub ahead : IsAhead desk p list
+  pub new : p' ≡ record p { seen = list }
+  pub book_is : book ≡ (state_after (opening desk.limits) list).cluster

@@ -1,0 +1,140 @@
+//! The history that all passes of a locked desk share. It exists in the proofs alone: what threads share is a word, its
+//! length, and a `Front` is a beginning of it that was seen.
+ghost use Rattle.std.specs.Prelude.{◌≡◌, [], IfSome};
+ghost use Rattle.std.specs.Bool.{IsTrue};
+ghost use mathlib.Core.List.{IsPrefix};
+ghost use Rattle.desk.specs.Shared.{head_of, next_call, with_call};
+
+use crate::entry::{Adds, Entry, Law, Nothing};
+use crate::next::Next;
+use logbook::{Offer, Seen, Start, Word};
+use std::marker::{Brand, Model, PhantomData};
+
+/// Which locked desk it is, and how large it may grow. Whoever opens a desk picks it.
+pub trait Naming {
+    ghost use Rattle.logbook.specs.Pages.{Book};
+    ghost use Rattle.book.specs.declared.limits.Limits.{Limits};
+
+    ghost book: { Book };
+
+    ghost limits: { Limits };
+}
+
+impl Naming for Brand {
+    ghost use Rattle.std.proofs.Common.{zero-le};
+
+    ghost book = { record { number = 0; log_name = 0; cells_name = 0 } };
+
+    ghost limits = { record { nodes = 0; placed = 0; queued = 0; few_nodes = zero-le; few_placed = zero-le; few_queued = zero-le } };
+}
+
+/// An empty history, before it has a name.
+pub struct Blank {
+    head: Word<Entry, u64, Law>,
+    seen: Seen<Entry, u64, Law>,
+    pub ghost empty: { seen.log ≡ [] },
+    pub ghost head_is: { head ≡ head_of seen.book },
+}
+
+/// The word that all threads share: the length of the history.
+#[derive(Drop)]
+pub struct Head<J: Naming> {
+    word: Word<Entry, u64, Law>,
+    of: PhantomData<J>,
+    ghost word_is: { word ≡ head_of J.book },
+}
+
+/// A beginning of the history that was seen. Contracts see it as its calls.
+#[derive(Drop)]
+pub struct Front {
+    calls: u64,
+    seen: Seen<Entry, u64, Law>,
+}
+
+impl Model for Front {
+    ghost use Rattle.std.specs.Prelude.{◌≡◌, length};
+    ghost use Rattle.desk.specs.Shared.{Known};
+    ghost use Rattle.desk.specs.SharedCodes.{known_code};
+
+    ghost Value = { Known };
+
+    ghost coded = { known_code };
+
+    ghost view = { λ f. record { book = f.seen.book; list = f.seen.log } };
+
+    ghost invariant = { λ f. f.calls ≡ length f.seen.log };
+}
+
+impl Blank {
+    /// An empty history.
+    pub fn new() -> Blank {
+        let (seen, mut first, _second) = Seen::open(Start::alone(), 0, 0);
+        Blank {
+            head: Word::tracked(0, &mut first),
+            seen,
+        }
+    }
+
+    /// The history under a name.
+    pub(crate) fn named<J: Naming>(self) -> (Head<J>, Front)
+        requires { self.seen.book ≡ J.book }
+        ensures { result.1 ≡ record { book = J.book; list = [] } }
+    {
+        let Blank { head, seen } = self;
+        (
+            Head {
+                word: head,
+                of: PhantomData,
+            },
+            Front { calls: 0, seen },
+        )
+    }
+}
+
+impl Front {
+    /// A copy.
+    pub(crate) fn again(&self) -> Front
+        ensures { result ≡ self.now }
+    {
+        Front {
+            calls: self.calls,
+            seen: self.seen.again(),
+        }
+    }
+
+    /// Whether the other is no shorter, and so begins with this one.
+    pub(crate) fn begins(&self, other: &Front) -> bool
+        requires { other.now.book ≡ self.now.book }
+        ensures { IsTrue result → IsPrefix self.now.list other.now.list }
+    {
+        let mut both = self.seen.again();
+        both.learn(&other.seen);
+        self.calls <= other.calls
+    }
+
+    /// With one call more, if this is the whole history and there is room for a call in it.
+    pub(crate) fn with_call<J: Naming>(&self, head: &Head<J>, next: &Next<'_>) -> Option<Front>
+        requires { self.now.book ≡ J.book }
+        ensures { IfSome result (λ more. more ≡ with_call self.now (next_call next.now.desk.now.state next.now.pass next.now.number next.now.step.now)) }
+    {
+        let calls = self.calls;
+        if calls >= 1 << 62 {
+            return None;
+        }
+        let mut seen = self.seen.again();
+        let mut offer: Offer<Entry, u64, Law, Nothing> = seen.plain::<Nothing, Next<'_>, Adds>(
+            next,
+        );
+        let mut pen = seen.no_pen();
+        let found = head
+            .word
+            .compare_exchange::<Adds, Nothing>(calls, calls + 1, &mut seen, &mut offer, &mut pen);
+        if found != calls {
+            return None;
+        }
+        Some(Front {
+            calls: calls + 1,
+            seen,
+        })
+    }
+}

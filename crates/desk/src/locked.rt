@@ -1,0 +1,194 @@
+//! The desk that many passes share, from any thread.
+ghost use Rattle.std.specs.Prelude.{◌≡◌, ◌≤◌, ◌+◌, [], IfOk, OnOk, OnErr, IsErr};
+ghost use Rattle.desk.specs.Caller.{IsTimely};
+ghost use Rattle.desk.specs.Shared.{IsMember, IsApplied, IsLooked, Met, Closed};
+ghost use Rattle.desk.specs.declared.pass.TheConstants.{MAX_PASSES, MAX_CALLS};
+
+use crate::front::{Blank, Front, Head, Naming};
+use crate::member::LockedPass;
+use crate::pass::{MAX_PASSES, NoPlace};
+use crate::snapshot::Snapshot;
+use crate::step::{Reply, Step};
+use crate::under_lock::UnderLock;
+use book::{Book, Limits, NoMemory};
+use std::alloc::Global;
+use std::hash::RandomState;
+use std::marker::Model;
+use std::sync::{Mutex, MutexGuard, Wait};
+
+/// A desk that many passes share, each from one thread at a time. A step is decided, written and published under the one
+/// lock; a look reads what is published, without the lock, and waits for nobody.
+///
+/// It isn't `Drop`: end it by `close` or `discard`.
+pub struct LockedDesk<J: Naming> {
+    head: Head<J>,
+    nothing: Front,
+    // It is there, but while a call under the lock has it.
+    lock: Mutex<Option<UnderLock<J>>>,
+    handed: usize,
+}
+
+impl<J: Naming> Model for LockedDesk<J> {
+    ghost use Rattle.std.specs.Prelude.{◌≡◌, ◌≤◌, []};
+    ghost use Rattle.desk.specs.Shared.{Locked};
+    ghost use Rattle.desk.specs.SharedCodes.{locked_code};
+    ghost use Rattle.desk.specs.declared.pass.TheConstants.{MAX_PASSES};
+
+    ghost Value = { Locked };
+
+    ghost coded = { locked_code };
+
+    ghost view = { λ d. record { limits = J.limits; handed = d.handed } };
+
+    ghost invariant = { λ d. (d.handed ≤ MAX_PASSES) × (d.nothing ≡ record { book = J.book; list = [] }) };
+}
+
+impl<J: Naming> LockedDesk<J> {
+    /// A desk with no nodes and no pods, that has handed out no pass, over a history that is empty yet. Names are looked up
+    /// under the keys, so that nobody can choose names that are slow to look up.
+    ///
+    /// Errors: `NoMemory`.
+    pub fn new(
+        blank: Blank,
+        alloc: Global,
+        keys: RandomState,
+        limits: Limits,
+    ) -> Result<Self, NoMemory>
+        requires named { blank.seen.book ≡ J.book }
+        requires limits { limits ≡ J.limits }
+        ensures { IfOk result (λ desk. desk ≡ record { limits = limits; handed = 0 }) }
+    {
+        let (head, nothing) = blank.named::<J>();
+        let held = UnderLock::new(alloc, keys, limits, &nothing)?;
+        Ok(LockedDesk {
+            head,
+            nothing,
+            lock: Mutex::new(Some(held)),
+            handed: 0,
+        })
+    }
+
+    /// Hands out a pass, which has made no call and seen nothing. All passes are handed out before the desk is shared.
+    ///
+    /// Errors: `NoPlace` where all were handed out, and where no reader's place was got; nothing changes.
+    pub fn pass(&mut self) -> Result<LockedPass<J>, NoPlace>
+        ensures pass { IfOk result (λ pass. pass ≡ record { caller = record { number = self.old.handed; calls = 0 }; seen = [] }) }
+        ensures handed { OnOk result (self.new ≡ record self.old { handed = self.old.handed + 1 }) }
+        ensures of { IfOk result (λ pass. IsMember pass self.new) }
+        ensures all_handed { self.old.handed ≡ MAX_PASSES → IsErr result }
+        ensures err { OnErr result (self.new ≡ self.old) }
+    {
+        if self.handed == MAX_PASSES {
+            return Err(NoPlace);
+        }
+        let Some(held) = self.lock.get_mut() else {
+            return Err(NoPlace);
+        };
+        let Ok(reader) = held.reader() else {
+            return Err(NoPlace);
+        };
+        let pass = LockedPass::new(self.handed, self.nothing.again(), reader);
+        self.handed += 1;
+        Ok(pass)
+    }
+
+    /// Does a step, or refuses it and changes nothing but the pass's count of calls. It waits for the lock.
+    ///
+    /// Errors: `NoMemory` where `MAX_CALLS` calls of the pass were answered, where a popped pod can have no further owner,
+    /// and where there is no room to publish a call; nothing changes.
+    pub fn apply<R: Wait>(
+        &self,
+        rt: &R,
+        pass: &mut LockedPass<J>,
+        step: Step,
+    ) -> Result<Reply, NoMemory>
+        requires of { IsMember pass.old self.now }
+        requires timely { IsTimely step }
+        ensures applied { IfOk result (λ answer. IsApplied self.now pass.old step answer pass.new) }
+        ensures used_up { MAX_CALLS ≤ pass.old.caller.calls → IsErr result }
+        ensures err { OnErr result (pass.new ≡ pass.old) }
+    {
+        let mut place = self.lock.lock(rt);
+        let answer = match place.take() {
+            None => Err(NoMemory),
+            Some(held) => {
+                let (held, answer) = held.apply(rt, &self.head, self.handed, pass, step);
+                put_back(rt, &mut *place, held);
+                answer
+            }
+        };
+        MutexGuard::unlock(place);
+        answer
+    }
+
+    /// Shows the nodes and what is used of them, as they are published. It takes no lock and waits for nobody. It copies a
+    /// pointer and the totals of each node.
+    ///
+    /// Errors: `NoMemory`; nothing changes.
+    pub fn look(&self, pass: &mut LockedPass<J>) -> Result<Snapshot, NoMemory>
+        requires of { IsMember pass.old self.now }
+        ensures looked { IfOk result (λ shown. IsLooked self.now pass.old shown pass.new) }
+        ensures err { OnErr result (pass.new ≡ pass.old) }
+    {
+        pass.look(self.handed)
+    }
+
+    /// Tells each of two passes what the other has seen: both then have seen one history. It waits for the lock.
+    pub fn meet<R: Wait>(&self, rt: &R, first: &mut LockedPass<J>, second: &mut LockedPass<J>)
+        requires first { IsMember first.old self.now }
+        requires second { IsMember second.old self.now }
+        ensures { Met self.now first.old second.old first.new second.new }
+    {
+        for _ in rt.forever() {
+            let place = self.lock.lock(rt);
+            let have_met = match place.as_ref() {
+                Some(held) => held.meet(self.handed, first, second),
+                None => false,
+            };
+            MutexGuard::unlock(place);
+            if have_met {
+                return;
+            }
+        }
+        unreachable!()
+    }
+
+    /// Ends the desk, and gives its book. The pass then has seen the history that left the book so: all calls that it made
+    /// or was told of are among it.
+    pub fn close<R: Wait>(self, rt: &R, pass: &mut LockedPass<J>) -> Book
+        requires { IsMember pass.old self }
+        ensures { Closed self pass.old pass.new result }
+    {
+        let LockedDesk {
+            head: _head,
+            nothing: _nothing,
+            lock,
+            handed,
+        } = self;
+        if let Some(held) = lock.into_inner() {
+            return held.close(rt, handed, pass);
+        }
+        for _ in rt.forever() {}
+        unreachable!()
+    }
+
+    /// Ends the desk, and drops its book.
+    pub fn discard<R: Wait>(self, rt: &R) {
+        let LockedDesk {
+            head: _head,
+            nothing: _nothing,
+            lock,
+            handed: _,
+        } = self;
+        if let Some(held) = lock.into_inner() {
+            held.discard(rt);
+        }
+    }
+}
+
+// What was taken from under the lock is there again.
+fn put_back<J: Naming, R: Wait>(rt: &R, place: &mut Option<UnderLock<J>>, held: UnderLock<J>) {
+    if let Some(other) = place.replace(held) {
+        other.discard(rt);
+    }
+}

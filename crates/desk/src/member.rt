@@ -1,0 +1,142 @@
+//! Leave to use a locked desk.
+ghost use Rattle.std.specs.Prelude.{◌≡◌, ◌<◌, ◌≤◌, ◌+◌, ◌^◌, [], IfOk, OnErr};
+ghost use Rattle.std.specs.Bool.{IsTrue};
+ghost use Rattle.desk.specs.History.{HasCallsOf};
+ghost use Rattle.desk.specs.Shared.{Stands, IsAhead, IsLooked};
+ghost use Rattle.desk.specs.declared.pass.TheConstants.{MAX_PASSES};
+
+use crate::front::{Front, Naming};
+use crate::published::Published;
+use crate::rule::{History, Sees};
+use crate::snapshot::Snapshot;
+use book::NoMemory;
+use left_right::reader::Reader;
+use std::marker::Model;
+
+/// A caller's leave to use a locked desk, from one thread at a time: its number among the desk's passes, and how many of its
+/// calls were answered. Contracts see the history that it has seen too, of which memory has the length.
+#[derive(Drop)]
+pub struct LockedPass<J: Naming> {
+    number: usize,
+    calls: u64,
+    front: Front,
+    // It is there between calls.
+    reader: Option<Reader<Published, (), History<J>>>,
+}
+
+impl<J: Naming> Model for LockedPass<J> {
+    ghost use Rattle.std.specs.Prelude.{◌≡◌};
+    ghost use Rattle.desk.specs.History.{HasCallsOf};
+    ghost use Rattle.desk.specs.Shared.{Member};
+    ghost use Rattle.desk.specs.SharedCodes.{member_code};
+
+    ghost Value = { Member };
+
+    ghost coded = { member_code };
+
+    ghost view = { λ p. record { caller = record { number = p.number; calls = p.calls }; seen = p.front.list } };
+
+    ghost invariant = { λ p. HasCallsOf (record { number = p.number; calls = p.calls }) p.front.list × (p.front.book ≡ J.book) };
+}
+
+impl<J: Naming> LockedPass<J> {
+    // A pass that has made no call and seen nothing.
+    pub(crate) fn new(
+        number: usize,
+        nothing: Front,
+        reader: Reader<Published, (), History<J>>,
+    ) -> Self
+        requires { nothing ≡ record { book = J.book; list = [] } }
+        ensures { result ≡ record { caller = record { number = number; calls = 0 }; seen = [] } }
+    {
+        LockedPass {
+            number,
+            calls: 0,
+            front: nothing,
+            reader: Some(reader),
+        }
+    }
+
+    pub(crate) fn number(&self) -> usize
+        ensures { result ≡ self.now.caller.number }
+    {
+        self.number
+    }
+
+    pub(crate) fn calls(&self) -> u64
+        ensures { result ≡ self.now.caller.calls }
+    {
+        self.calls
+    }
+
+    /// Whether the published history begins with what the pass has seen, has just the calls that it made, and none of a
+    /// pass that wasn't handed out. It is always so; but what threads share tells a proof no more than its rule.
+    pub(crate) fn may_go_on(&self, published: &Published, handed: usize) -> bool
+        requires stands { Stands J.book J.limits published.now }
+        requires of { self.now.caller.number < handed }
+        requires handed { handed ≤ MAX_PASSES }
+        ensures { IsTrue result → IsAhead (record { limits = J.limits; handed = handed }) self.now published.now.known.list }
+    {
+        self.front.begins(&published.front)
+            && published.desk.counts_alike(self.number, self.calls, handed)
+    }
+
+    /// It has seen this history from now on.
+    pub(crate) fn see(&mut self, front: &Front)
+        requires own { HasCallsOf self.old.caller front.now.list }
+        requires book { front.now.book ≡ J.book }
+        ensures { self.new ≡ record self.old { seen = front.now.list } }
+    {
+        self.front = front.again();
+    }
+
+    /// One more of its calls was answered, which this history ends with.
+    pub(crate) fn count(&mut self, front: Front)
+        requires calls { self.old.caller.calls < 10 ^ 18 }
+        requires own { HasCallsOf (record self.old.caller { calls = self.old.caller.calls + 1 }) front.list }
+        requires book { front.book ≡ J.book }
+        ensures { self.new ≡ record { caller = record self.old.caller { calls = self.old.caller.calls + 1 }; seen = front.list } }
+    {
+        self.calls += 1;
+        self.front = front;
+    }
+
+    /// Shows what is published, and has then seen its history.
+    pub(crate) fn look(&mut self, handed: usize) -> Result<Snapshot, NoMemory>
+        requires of { self.old.caller.number < handed }
+        requires handed { handed ≤ MAX_PASSES }
+        ensures looked { IfOk result (λ shown. IsLooked (record { limits = J.limits; handed = handed }) self.old shown self.new) }
+        ensures err { OnErr result (self.new ≡ self.old) }
+    {
+        let Some(reader) = self.reader.take() else {
+            return Err(NoMemory);
+        };
+        match reader.enter_as::<Sees<J>>() {
+            Err(reader) => {
+                self.reader = Some(reader);
+                Err(NoMemory)
+            }
+            Ok(reading) => {
+                let shown = self.look_at(reading.get(), handed);
+                self.reader = Some(reading.leave());
+                shown
+            }
+        }
+    }
+
+    // Shows this, and has then seen its history.
+    fn look_at(&mut self, published: &Published, handed: usize) -> Result<Snapshot, NoMemory>
+        requires stands { Stands J.book J.limits published.now }
+        requires of { self.old.caller.number < handed }
+        requires handed { handed ≤ MAX_PASSES }
+        ensures looked { IfOk result (λ shown. IsLooked (record { limits = J.limits; handed = handed }) self.old shown self.new) }
+        ensures err { OnErr result (self.new ≡ self.old) }
+    {
+        if !self.may_go_on(published, handed) {
+            return Err(NoMemory);
+        }
+        let shown = published.desk.show()?;
+        self.see(&published.front);
+        Ok(shown)
+    }
+}
