@@ -2,7 +2,8 @@
 //! and what holds of every call.
 //!
 //! The rules stand in the definitions: `Reduction` has one case for each instruction, and `HasOutcome` says how chains of
-//! reductions end. The laws are functions that do nothing and promise what the rules keep.
+//! reductions end. The laws are functions that do nothing and promise what the rules keep. A machine's steps in the module's own
+//! bytes, and their run to where a call stops, stand beside them (`step`); the type that makes them is to come.
 #![tactic(auto)]
 
 mod activation;
