@@ -1,5 +1,5 @@
 -- What a line asks for.
-use Rattle.std.specs.Prelude.{ℕ, pos, false, List, [], length, Result, Ok, Err, nat_le, if◌then◌else◌}
+use Rattle.std.specs.Prelude.{ℕ, ◌≤◌, pos, false, List, [], length, Result, Ok, Err, nat_le, if◌then◌else◌, ⊤}
 use Rattle.std.specs.Option.{ok_or}
 use Rattle.serde_json.specs.Data.{Data}
 use Rattle.quant.specs.Request.{pod_request}
@@ -138,3 +138,8 @@ command_in json = do
 -- what a line asks for, or its first fault; a line that is too long is not read
 unfoldable pub meaning : List ℕ → Result Command LineFault
 meaning line = if nat_le (length line) MAX_LINE then parsed line >>= command_in else Err (OverLimit fields.Op)
+
+-- a moment that a command tells is one that clocks have
+abbrev pub IsTimely : Command → Type 0
+IsTimely (commands.Tick now) = now.0 ≤ LATEST_MOMENT
+IsTimely command = ⊤

@@ -1,8 +1,8 @@
 //! From a line to its command.
-ghost use Rattle.std.specs.Prelude.{◌≡◌};
+ghost use Rattle.std.specs.Prelude.{◌≡◌, IfOk};
 ghost use Rattle.serde_json.specs.View.{view};
 ghost use Rattle.manifest.specs.Reading.{Answers};
-ghost use Rattle.manifest.specs.Line.{version_in, ticket_in, node_in, gone_in, pod_in, bound_in, deleted_in, tick_in, done_in, forget_in, command_in, meaning};
+ghost use Rattle.manifest.specs.Line.{version_in, ticket_in, node_in, gone_in, pod_in, bound_in, deleted_in, tick_in, done_in, forget_in, command_in, meaning, IsTimely};
 
 use crate::command::Command;
 use crate::container::request_within;
@@ -50,7 +50,8 @@ pub const MAX_LINE: usize = 65_536;
 /// which is told last; `NoMemory`, which may come in place of any other answer.
 #[tactic(auto, unfolding(crate::specs::Line::meaning))]
 pub fn read_line(alloc: Global, line: &[u8]) -> Result<Command, LineFault>
-    ensures { Answers result (meaning line.now) }
+    ensures value { Answers result (meaning line.now) }
+    ensures timely { IfOk result IsTimely }
 {
     if line.len() > MAX_LINE {
         return Err(LineFault::OverLimit(Field::Op));
@@ -62,7 +63,8 @@ pub fn read_line(alloc: Global, line: &[u8]) -> Result<Command, LineFault>
 // The command that an object spells.
 #[tactic(auto, unfolding(crate::specs::Line::command_in, crate::specs::Line::fields_of))]
 fn command_of(alloc: Global, object: &Value) -> Result<Command, LineFault>
-    ensures { Answers result (command_in (view object.now)) }
+    ensures value { Answers result (command_in (view object.now)) }
+    ensures timely { IfOk result IsTimely }
 {
     let op = text_at(object, Field::Op)?;
     let operation = Operation::named(op).ok_or(LineFault::BadField(Field::Op))?;
@@ -83,7 +85,8 @@ fn command_of(alloc: Global, object: &Value) -> Result<Command, LineFault>
 // The node that an object tells of.
 #[tactic(auto, unfolding(crate::specs::Line::node_in))]
 fn node_of(alloc: Global, object: &Value) -> Result<Command, LineFault>
-    ensures { Answers result (node_in (view object.now)) }
+    ensures value { Answers result (node_in (view object.now)) }
+    ensures timely { IfOk result IsTimely }
 {
     let version = version_at(object)?;
     let name = name_at(object, Field::Name)?;
@@ -111,7 +114,8 @@ fn node_of(alloc: Global, object: &Value) -> Result<Command, LineFault>
 // The node that an object says is gone.
 #[tactic(auto, unfolding(crate::specs::Line::gone_in))]
 fn gone_of(object: &Value) -> Result<Command, LineFault>
-    ensures { Answers result (gone_in (view object.now)) }
+    ensures value { Answers result (gone_in (view object.now)) }
+    ensures timely { IfOk result IsTimely }
 {
     let version = version_at(object)?;
     let name = name_at(object, Field::Name)?;
@@ -121,7 +125,8 @@ fn gone_of(object: &Value) -> Result<Command, LineFault>
 // The pod that an object tells of.
 #[tactic(auto, unfolding(crate::specs::Line::pod_in))]
 fn pod_of(alloc: Global, object: &Value) -> Result<Command, LineFault>
-    ensures { Answers result (pod_in (view object.now)) }
+    ensures value { Answers result (pod_in (view object.now)) }
+    ensures timely { IfOk result IsTimely }
 {
     let version = version_at(object)?;
     let uid = name_at(object, Field::Uid)?;
@@ -150,7 +155,8 @@ fn pod_of(alloc: Global, object: &Value) -> Result<Command, LineFault>
 // The place that an object tells of.
 #[tactic(auto, unfolding(crate::specs::Line::bound_in, crate::specs::Reading::request))]
 fn bound_of(object: &Value) -> Result<Command, LineFault>
-    ensures { Answers result (bound_in (view object.now)) }
+    ensures value { Answers result (bound_in (view object.now)) }
+    ensures timely { IfOk result IsTimely }
 {
     let version = version_at(object)?;
     let uid = name_at(object, Field::Uid)?;
@@ -168,7 +174,8 @@ fn bound_of(object: &Value) -> Result<Command, LineFault>
 // The pod that an object says is gone.
 #[tactic(auto, unfolding(crate::specs::Line::deleted_in))]
 fn deleted_of(object: &Value) -> Result<Command, LineFault>
-    ensures { Answers result (deleted_in (view object.now)) }
+    ensures value { Answers result (deleted_in (view object.now)) }
+    ensures timely { IfOk result IsTimely }
 {
     let version = version_at(object)?;
     let uid = name_at(object, Field::Uid)?;
@@ -178,7 +185,8 @@ fn deleted_of(object: &Value) -> Result<Command, LineFault>
 // The moment that an object tells of.
 #[tactic(auto, unfolding(crate::specs::Line::tick_in))]
 fn tick_of(object: &Value) -> Result<Command, LineFault>
-    ensures { Answers result (tick_in (view object.now)) }
+    ensures value { Answers result (tick_in (view object.now)) }
+    ensures timely { IfOk result IsTimely }
 {
     let moment = natural_at(object, Field::At, 0, LATEST_MOMENT)?;
     Ok(Command::Tick(Moment(moment)))
@@ -187,7 +195,8 @@ fn tick_of(object: &Value) -> Result<Command, LineFault>
 // The pod that an object says was bound.
 #[tactic(auto, unfolding(crate::specs::Line::done_in))]
 fn done_of(object: &Value) -> Result<Command, LineFault>
-    ensures { Answers result (done_in (view object.now)) }
+    ensures value { Answers result (done_in (view object.now)) }
+    ensures timely { IfOk result IsTimely }
 {
     let uid = name_at(object, Field::Uid)?;
     let ticket = ticket_at(object)?;
@@ -197,7 +206,8 @@ fn done_of(object: &Value) -> Result<Command, LineFault>
 // The pod that an object says could not be bound.
 #[tactic(auto, unfolding(crate::specs::Line::forget_in))]
 fn forget_of(object: &Value) -> Result<Command, LineFault>
-    ensures { Answers result (forget_in (view object.now)) }
+    ensures value { Answers result (forget_in (view object.now)) }
+    ensures timely { IfOk result IsTimely }
 {
     let uid = name_at(object, Field::Uid)?;
     let ticket = ticket_at(object)?;
