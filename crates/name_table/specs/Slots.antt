@@ -1,5 +1,5 @@
 -- What contracts see of a table by name: its slots, and the finite map that they hold.
-use Rattle.std.specs.Prelude.{◌≡◌, ℕ, Bool, false, List, [], ◌∷◌, Option, None, Some, slice_index_or, slice_set}
+use Rattle.std.specs.Prelude.{◌≡◌, ℕ, ◌-◌, Bool, false, List, [], ◌∷◌, ◌++◌, Option, None, Some, length, replicate, slice_index_or, slice_set}
 use Rattle.std.specs.declared.cmp.Ordering.{Ordering}
 use Rattle.std.specs.Ordering.{nat_cmp}
 use Rattle.std.specs.Option.{option_map, option_map_or}
@@ -16,6 +16,10 @@ name_cmp = slice_cmp nat_cmp
 -- a table's slots, each free or with a name and its value
 abbrev pub Slots : Type 0 → Type 0
 Slots X = List (Option (Entry X))
+
+-- these slots, and free ones up to so many
+abbrev pub with_free : {X : Type 0} → Slots X → ℕ → Slots X
+with_free s room = s ++ replicate (room - length s) None
 
 -- what a slot has, and None past the last
 abbrev pub entry_in : {X : Type 0} → Slots X → ℕ → Option (Entry X)

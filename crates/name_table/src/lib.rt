@@ -1,10 +1,12 @@
 //! A table by name with a fixed room: slots that keep their entries, found by a keyed hash.
 //!
-//! All room is made by `NameTable::new`. After it nothing takes memory, nothing fails, and no step does the work of
-//! others: there is no rehash, no migration and no mark for what was removed.
+//! All room is reserved by `NameTable::new`. After it nothing takes memory, nothing fails, and no step does the work of
+//! others: there is no rehash, no migration and no mark for what was removed. What is reserved for entries is touched only as
+//! they come.
 #![tactic(auto)]
 
 mod chains;
+mod entries;
 mod entry;
 mod table;
 #[cfg(test)]

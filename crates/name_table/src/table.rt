@@ -1,14 +1,15 @@
 //! A table by name.
 ghost use Rattle.std.specs.Prelude.{◌≡◌, ℕ, ◌<◌, ◌≤◌, List, None, Some, IsSome, IfSome, IfNone, IfOk, MatchOption, is_some, nat_le, length, replicate, slice_set, count_by};
 ghost use Rattle.std.specs.Borrow.{sem};
-ghost use Rattle.std.specs.Option.{option_copied, option_map};
+ghost use Rattle.std.specs.Option.{option_copied};
 ghost use Rattle.std.specs.FinMap as fin;
-ghost use Rattle.name_table.specs.Slots.{entry_in, name_in, value_in, has_name, slot_of, map_of, NamesOnce, put_in};
-ghost use Rattle.name_table.specs.Lends.{lends_value, lends_slot};
+ghost use Rattle.name_table.specs.Slots.{entry_in, name_in, value_in, slot_of, map_of, NamesOnce, put_in, with_free};
+ghost use Rattle.name_table.specs.Lends.{lends_slot};
 ghost use Rattle.name_table.specs.Woven.{Ends, chain, times};
 ghost use Rattle.name_table.specs.Buckets.{bucket_of};
 
 use crate::chains::Chains;
+use crate::entries::Entries;
 use crate::entry::Entry;
 use quant::Name;
 use std::alloc::{AllocError, Global};
@@ -27,7 +28,7 @@ pub struct NameTable<V> {
     // The number of buckets, a power of two, less 1.
     mask: u64,
     chains: Chains,
-    entries: Vec<Option<Entry<V>>>,
+    entries: Entries<V>,
     len: usize,
 }
 
@@ -39,9 +40,9 @@ impl<V> Model for NameTable<V> {
 
     ghost use Rattle.name_table.specs.Buckets.{IsFiled};
 
-    ghost view = { λ t. t.entries.items };
+    ghost view = { λ t. t.entries };
 
-    ghost invariant = { λ t. IsFiled t.keys t.mask t.chains t.entries.items t.len };
+    ghost invariant = { λ t. IsFiled t.keys t.mask t.chains t.entries t.len };
 }
 
 impl<V: Drop> NameTable<V> {
@@ -54,7 +55,7 @@ impl<V: Drop> NameTable<V> {
     {
         let buckets = room.next_power_of_two();
         let chains = Chains::new(alloc, buckets, room)?;
-        let entries = free_slots(alloc, room)?;
+        let entries = Entries::new(alloc, room)?;
         Ok(NameTable {
             keys,
             mask: (buckets - 1) as u64,
@@ -68,7 +69,7 @@ impl<V: Drop> NameTable<V> {
     pub fn room(&self) -> usize
         ensures { result ≡ length self.now }
     {
-        self.entries.len()
+        self.entries.room()
     }
 
     /// How many names there are.
@@ -86,14 +87,14 @@ impl<V: Drop> NameTable<V> {
         ensures full { result ≡ nat_le (length self.now) (fin.len (map_of self.now)) }
         ensures few { fin.len (map_of self.now) ≤ length self.now }
     {
-        self.len >= self.entries.len()
+        self.len >= self.entries.room()
     }
 
-    /// All slots.
+    /// The slots up to the last that ever had a name. Those after it are free.
     pub fn slots(&self) -> &[Option<Entry<V>>]
-        ensures { result.now ≡ self.now }
+        ensures { with_free result.now (length self.now) ≡ self.now }
     {
-        &self.entries
+        self.entries.written()
     }
 
     /// The slot of a name.
@@ -114,15 +115,24 @@ impl<V: Drop> NameTable<V> {
         )
     }
 
+    /// What a slot has.
+    pub fn entry_at(&self, slot: usize) -> &Entry<V>
+        requires { IsSome (entry_in self.now slot) }
+        ensures entry { entry_in self.now slot ≡ Some result.now }
+        ensures once { NamesOnce self.now }
+    {
+        match self.entries.get(slot) {
+            Some(entry) => entry,
+            None => unreachable!(),
+        }
+    }
+
     /// The name in a slot.
     pub fn name_at(&self, slot: usize) -> &Name
         requires { IsSome (entry_in self.now slot) }
         ensures { name_in self.now slot ≡ Some result.now }
     {
-        match &self.entries[slot] {
-            Some(entry) => &entry.name,
-            None => unreachable!(),
-        }
+        &self.entry_at(slot).name
     }
 
     /// The value in a slot.
@@ -131,10 +141,7 @@ impl<V: Drop> NameTable<V> {
         ensures value { value_in self.now slot ≡ Some result.now }
         ensures by_name { (name : List ℕ) → name_in self.now slot ≡ Some name → fin.get (map_of self.now) name ≡ Some result.now }
     {
-        match &self.entries[slot] {
-            Some(entry) => &entry.value,
-            None => unreachable!(),
-        }
+        &self.entry_at(slot).value
     }
 
     /// The value of a name.
@@ -161,7 +168,7 @@ impl<V: Drop> NameTable<V> {
         let bucket = bucket(&self.keys, self.mask, &name);
         let slot = self.chains.heads[self.mask as usize + 1] as usize;
         self.chains.transfer(slot, bucket);
-        self.entries[slot] = Some(Entry { name, value });
+        self.entries.put(slot, Entry { name, value });
         self.len += 1;
         slot
     }
@@ -177,7 +184,7 @@ impl<V: Drop> NameTable<V> {
     {
         self.chains.transfer(slot, self.mask as usize + 1);
         self.len -= 1;
-        self.entries[slot].take().unwrap()
+        self.entries.take(slot)
     }
 
     /// Takes out the entry of a name, if there is one, and answers its value.
@@ -199,7 +206,7 @@ impl<V: Drop> NameTable<V> {
         ensures value { value_in self.old slot ≡ Some result.now }
         ensures once { NamesOnce self.old }
     {
-        value_of(&mut self.entries[slot])
+        self.entries.value_mut(slot)
     }
 
     /// Gives a slot's name another value, and answers the one before.
@@ -214,18 +221,6 @@ impl<V: Drop> NameTable<V> {
     }
 }
 
-// The value in a slot that has one, to write.
-fn value_of<V>(slot: &mut Option<Entry<V>>) -> &mut V
-    requires { IsSome slot.old }
-    ensures* lends { sem 𝓛 (lends_value V.row slot.entry result) }
-    ensures value { option_map (λ e. e.value) slot.old ≡ Some result.now }
-{
-    match slot {
-        Some(entry) => &mut entry.value,
-        None => unreachable!(),
-    }
-}
-
 // The bucket of a name.
 fn bucket(keys: &RandomState, mask: u64, name: &Name) -> usize
     ensures bucket { result ≡ bucket_of keys.now mask name.now }
@@ -236,42 +231,20 @@ fn bucket(keys: &RandomState, mask: u64, name: &Name) -> usize
     (hasher.finish() & mask) as usize
 }
 
-// Free slots.
-fn free_slots<V: Drop>(alloc: Global, room: usize) -> Result<Vec<Option<Entry<V>>>, AllocError>
-    ensures { IfOk result (λ v. v.items ≡ replicate room None) }
-{
-    let mut slots = Vec::with_capacity(alloc, room)?;
-    for _ in 0..room {
-        slots.push(None)?;
-    }
-    Ok(slots)
-}
-
-// Whether a slot has this name.
-fn holds<V>(slot: &Option<Entry<V>>, name: &Name) -> bool
-    ensures { result ≡ has_name name.now slot.now }
-{
-    match slot {
-        Some(entry) => name == &entry.name,
-        None => false,
-    }
-}
-
 // The slot of a name in the chain that begins with a slot.
-fn find_from<V>(
+fn find_from<V: Drop>(
     links: &[u32],
-    entries: &[Option<Entry<V>>],
+    entries: &Entries<V>,
     first: usize,
     name: &Name,
 ) -> Option<usize>
-    requires as_many { length links.now ≡ length entries.now }
     requires ends { Ends links.now first }
     ensures found { IfSome result (λ i. name_in entries.now i ≡ Some name.now) }
     ensures none { IfNone result ((i : ℕ) → name_in entries.now i ≡ Some name.now → times i (chain links.now first) ≡ 0) }
 {
     let mut at = first;
     while at < links.len() {
-        if holds(&entries[at], name) {
+        if entries.holds(at, name) {
             return Some(at);
         }
         at = links[at] as usize;

@@ -1,7 +1,6 @@
 -- What each step of a heap of slots keeps.
-use Rattle.std.proofs.Common.{◌≡◌, ℕ, zero, suc, ◌+◌, ◌-◌, ◌*◌, ◌/◌, ◌<◌, ◌≤◌, Bool, true, false, ⊎_elim, List, [], ◌∷◌, length, get_or, arith, refl, sym, ap, ◌∙◌}
-use Rattle.std.specs.Prelude.{◌≢◌, Option, None, Some, IsSome, option_map}
-use Rattle.std.proofs.lemmas.List.{get_or_default}
+use Rattle.std.proofs.Common.{◌≡◌, ℕ, zero, suc, ◌+◌, ◌-◌, ◌*◌, ◌/◌, ◌<◌, ◌≤◌, Bool, true, false, ⊎_elim, List, [], ◌∷◌, length, arith, refl, sym, ap, ◌∙◌}
+use Rattle.std.specs.Prelude.{◌≢◌, IsSome}
 use Rattle.name_table.specs.declared.entry.Entry.{Entry as Named}
 use Rattle.name_table.specs.Slots.{entry_in}
 use Rattle.queue.specs.Entry.{Entry}
@@ -49,11 +48,6 @@ pub a_slot : (pods : Pods) (s : ℕ) → IsSome (entry_in pods s) → s < length
 a_slot [] s there = cc
 a_slot (o ∷ pods) zero there = omega arith
 a_slot (o ∷ pods) (suc s) there = let rest : s < length pods = a_slot pods s there in omega arith
-
--- what a slot has that was read
-pub item_at : (pods : Pods) (s : ℕ) (o : Option Kept) (x : Kept) → IsSome (entry_in pods s) → o ≡ get_or pods s o → o ≡ Some x → item_in pods s ≡ Some (x.name, x.value)
-item_at pods s o x there read is =
-    ap (option_map (λ (e : Kept). (e.name, e.value))) (sym (read ∙ get_or_default pods s o None (a_slot pods s there)) ∙ is)
 
 -- the same, of other slots that are equal
 by : (pods : Pods) (a b x y : ℕ) → a ≡ x → b ≡ y → goes_before pods x y ≡ false → goes_before pods a b ≡ false

@@ -9,7 +9,8 @@ use Rattle.std.proofs.lemmas.List.{get_or-set_same, get_or-set_other, length-rep
 use Rattle.quant.specs.declared.amount.Moment.{Moment}
 use Rattle.quant.specs.declared.name.Name.{Name}
 use Rattle.quant.specs.declared.objects.Pod.{Pod}
-use Rattle.name_table.specs.Slots.{entry_in, name_in, value_in, filled, map_of, NamesOnce}
+use Rattle.name_table.specs.Slots.{entry_in, name_in, value_in, filled, map_of, NamesOnce, with_free}
+use Rattle.name_table.proofs.FreeLemmas.{free_sum}
 use Rattle.name_table.proofs.SlotLemmas.{map_at, slot_with, len_map, sum_map}
 use Rattle.std.proofs.lemmas.List.Sums.{count_by-le-length}
 use Rattle.queue.specs.declared.state.State.{State}
@@ -189,6 +190,15 @@ counts-state pods once i = record {
   backoff = sym (sum_map (one_if is_backoff) pods once) i;
   unschedulable = sym (sum_map (one_if is_unschedulable) pods once) i;
   in_flight = sym (sum_map (one_if is_in_flight) pods once) i;
+}
+
+-- free slots count for nothing
+pub counts-free : (pods : Pods) (room : ℕ) → counts_so_far (with_free pods room) ≡ counts_so_far pods
+counts-free pods room i = record {
+  active = free_sum (one_if is_active) pods room i;
+  backoff = free_sum (one_if is_backoff) pods room i;
+  unschedulable = free_sum (one_if is_unschedulable) pods room i;
+  in_flight = free_sum (one_if is_in_flight) pods room i;
 }
 
 -- nothing changes where nothing is taken out

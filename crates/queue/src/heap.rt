@@ -6,7 +6,7 @@ ghost use Rattle.queue.specs.Heap.{wait_cmp, goes_before, AllThere, IsHeap, Goes
 
 use crate::row::Row;
 use crate::slot::Slot;
-use name_table::Entry;
+use name_table::{Entry, NameTable};
 use std::cmp::Ordering;
 
 /// How two entries go: by the moment that they wait for, then as they are popped.
@@ -29,7 +29,7 @@ fn order_of(x: &Entry<Slot>, y: &Entry<Slot>) -> Ordering
 }
 
 /// Whether what the first slot has goes before what the second has. It counts as one comparison.
-fn before(pods: &[Option<Entry<Slot>>], a: usize, b: usize, count: &mut u32) -> bool
+fn before(pods: &NameTable<Slot>, a: usize, b: usize, count: &mut u32) -> bool
     requires first { IsSome (entry_in pods.now a) }
     requires second { IsSome (entry_in pods.now b) }
     requires few { count.old < 100 }
@@ -37,14 +37,11 @@ fn before(pods: &[Option<Entry<Slot>>], a: usize, b: usize, count: &mut u32) -> 
     ensures counted { count.new ≡ count.old + 1 }
 {
     *count += 1;
-    match (&pods[a], &pods[b]) {
-        (Some(x), Some(y)) => order_of(x, y).is_lt(),
-        _ => unreachable!(),
-    }
+    order_of(pods.entry_at(a), pods.entry_at(b)).is_lt()
 }
 
 /// The child of a place that goes first.
-fn first_child(row: &Row, pods: &[Option<Entry<Slot>>], place: usize, count: &mut u32) -> usize
+fn first_child(row: &Row, pods: &NameTable<Slot>, place: usize, count: &mut u32) -> usize
     requires there { AllThere pods.now row.now.slots }
     requires parent { place * 2 + 1 < length row.now.slots }
     requires few { count.old < 100 }
@@ -69,7 +66,7 @@ fn first_child(row: &Row, pods: &[Option<Entry<Slot>>], place: usize, count: &mu
 }
 
 /// The slot at a place goes up until its parent goes before it.
-pub(crate) fn rise(row: &mut Row, pods: &[Option<Entry<Slot>>], from: usize, count: &mut u32)
+pub(crate) fn rise(row: &mut Row, pods: &NameTable<Slot>, from: usize, count: &mut u32)
     requires inside { from < length row.old.slots }
     requires short { length row.old.slots ≤ 10000 }
     requires there { AllThere pods.now row.old.slots }
@@ -94,7 +91,7 @@ pub(crate) fn rise(row: &mut Row, pods: &[Option<Entry<Slot>>], from: usize, cou
 }
 
 /// The place of a slot goes down to where it has no children. At each step the child that goes first takes its place.
-fn fall(row: &mut Row, pods: &[Option<Entry<Slot>>], from: usize, count: &mut u32) -> usize
+fn fall(row: &mut Row, pods: &NameTable<Slot>, from: usize, count: &mut u32) -> usize
     requires inside { from < length row.old.slots }
     requires short { length row.old.slots ≤ 10000 }
     requires there { AllThere pods.now row.old.slots }
@@ -118,7 +115,7 @@ fn fall(row: &mut Row, pods: &[Option<Entry<Slot>>], from: usize, count: &mut u3
 }
 
 /// A slot comes.
-pub(crate) fn insert(row: &mut Row, pods: &[Option<Entry<Slot>>], slot: usize, count: &mut u32)
+pub(crate) fn insert(row: &mut Row, pods: &NameTable<Slot>, slot: usize, count: &mut u32)
     requires a_slot { slot < row.old.room }
     requires new { IsIn row.old.slots slot → ⊥ }
     requires filled { IsSome (entry_in pods.now slot) }
@@ -137,7 +134,7 @@ pub(crate) fn insert(row: &mut Row, pods: &[Option<Entry<Slot>>], slot: usize, c
 }
 
 /// A slot goes, wherever it stands.
-pub(crate) fn remove(row: &mut Row, pods: &[Option<Entry<Slot>>], slot: usize, count: &mut u32)
+pub(crate) fn remove(row: &mut Row, pods: &NameTable<Slot>, slot: usize, count: &mut u32)
     requires here { IsIn row.old.slots slot }
     requires there { AllThere pods.now row.old.slots }
     requires heap { IsHeap pods.now row.old.slots }

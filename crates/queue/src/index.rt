@@ -10,7 +10,7 @@ use crate::heap::{insert, remove};
 use crate::row::Row;
 use crate::slot::Slot;
 use crate::state::State;
-use name_table::Entry;
+use name_table::NameTable;
 use quant::Moment;
 use std::alloc::{AllocError, Global};
 
@@ -48,7 +48,7 @@ impl Index {
     /// A slot leaves where it stands, before its pod changes or goes.
     pub(crate) fn leave(
         &mut self,
-        pods: &[Option<Entry<Slot>>],
+        pods: &NameTable<Slot>,
         slot: usize,
         state: State,
         count: &mut u32,
@@ -72,7 +72,7 @@ impl Index {
     /// A slot that is nowhere enters where its pod stands now.
     pub(crate) fn enter(
         &mut self,
-        pods: &[Option<Entry<Slot>>],
+        pods: &NameTable<Slot>,
         slot: usize,
         state: State,
         count: &mut u32,
@@ -104,7 +104,7 @@ impl Index {
     }
 
     /// A slot whose pod is released at this moment, if there is any.
-    pub(crate) fn due(&self, pods: &[Option<Entry<Slot>>], now: Moment) -> Option<usize>
+    pub(crate) fn due(&self, pods: &NameTable<Slot>, now: Moment) -> Option<usize>
         requires { IsIndex pods.now self.now }
         ensures some { IfSome result (λ s. stands_in (is_due now) pods.now s ≡ true) }
         ensures none { IfNone result ((s : ℕ) → stands_in (is_due now) pods.now s ≡ false) }
@@ -133,7 +133,7 @@ impl Index {
 }
 
 /// The top of a heap, if its pod is released at this moment.
-fn due_in(row: &Row, pods: &[Option<Entry<Slot>>], now: Moment) -> Option<usize>
+fn due_in(row: &Row, pods: &NameTable<Slot>, now: Moment) -> Option<usize>
     requires { AllThere pods.now row.now.slots }
     ensures some { IfSome result (λ s. stands_in (is_due now) pods.now s ≡ true) }
     ensures none { IfNone result (0 < length row.now.slots → stands_in (is_due now) pods.now (at row.now.slots 0) ≡ false) }
@@ -150,12 +150,9 @@ fn due_in(row: &Row, pods: &[Option<Entry<Slot>>], now: Moment) -> Option<usize>
 }
 
 /// Whether the pod in a slot is released at this moment.
-fn is_over(pods: &[Option<Entry<Slot>>], slot: usize, now: Moment) -> bool
+fn is_over(pods: &NameTable<Slot>, slot: usize, now: Moment) -> bool
     requires { IsSome (entry_in pods.now slot) }
     ensures { result ≡ stands_in (is_due now) pods.now slot }
 {
-    match &pods[slot] {
-        Some(entry) => entry.value.is_due(now),
-        None => unreachable!(),
-    }
+    pods.value_at(slot).is_due(now)
 }

@@ -133,7 +133,7 @@ impl Queue {
         let uid = pod.uid.copied();
         let slot = self.pods.insert(uid, Slot::new(pod, now));
         self.index
-            .enter(self.pods.slots(), slot, State::Active, &mut self.compared);
+            .enter(&self.pods, slot, State::Active, &mut self.compared);
         Ok(())
     }
 
@@ -217,7 +217,7 @@ impl Queue {
         let slot = self.pods.find(uid)?;
         let state = self.pods.value_at(slot).state();
         self.index
-            .leave(self.pods.slots(), slot, state, &mut self.compared);
+            .leave(&self.pods, slot, state, &mut self.compared);
         Some(self.pods.remove_at(slot).value.into_pod())
     }
 }

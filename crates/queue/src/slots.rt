@@ -29,11 +29,11 @@ pub(crate) fn change(
 {
     let mut count = 0;
     let before = pods.value_at(slot).state();
-    index.leave(pods.slots(), slot, before, &mut count);
+    index.leave(pods, slot, before, &mut count);
     let value = pods.value_at_mut(slot);
     value.apply(change);
     let after = pods.value_at(slot).state();
-    index.enter(pods.slots(), slot, after, &mut count);
+    index.enter(pods, slot, after, &mut count);
     count
 }
 
@@ -62,7 +62,7 @@ pub(crate) fn tick_each(pods: &mut NameTable<Slot>, index: &mut Index, now: Mome
     ensures room { length pods.new ≡ length pods.old }
     ensures after { map_of pods.new ≡ each_changed (ticked now) (map_of pods.old) }
 {
-    while let Some(slot) = index.due(pods.slots(), now) {
+    while let Some(slot) = index.due(pods, now) {
         change(pods, index, slot, Change::Tick(now));
     }
 }

@@ -1,10 +1,9 @@
 -- A slot with the name is still to come, until the chain is over.
-use Rattle.std.proofs.Common.{◌≡◌, ◌<◌, true, false, length, None, sym, ap, ◌∙◌, arith}
+use Rattle.std.proofs.Common.{◌≡◌, true, false, length, sym, ap, ◌∙◌, arith}
 use Rattle.name_table.specs.Slots.{name_in, entry_in, has_name}
 use Rattle.name_table.specs.Woven.{times}
 use Rattle.name_table.proofs.ChainLemmas.{in_rest, ends_step, chain_over}
 use Rattle.name_table.proofs.SlotLemmas.{has_true, has_back}
-use Rattle.std.proofs.lemmas.List.{get_or_read}
 use Rattle.name_table.proofs.table.find_from.Goals as goal
 
 pub loop-at-smaller : goal.loop-at-smaller
@@ -16,9 +15,7 @@ pub loop-at-preserved : goal.loop-at-preserved
 loop-at-preserved g c =
     let at = c.loop-at.at in
     let slots = c.args.entries.now in
-    let lt : at < length slots = let l = c.loop-at-test.true in let e = c.requires.as_many in omega arith in
-    let read : c.index-entries-at.result ≡ entry_in slots at = get_or_read slots at c.index-entries-at.result lt c.index-entries-at.is None in
-    let other : has_name c.args.name.now (entry_in slots at) ≡ false = ap (has_name c.args.name.now) (sym read) ∙ sym c.holds.ensures ∙ c.if-holds.false in
+    let other : has_name c.args.name.now (entry_in slots at) ≡ false = sym c.holds.ensures ∙ c.if-holds.false in
     record {
       ends = (ends_step c.args.links.now at c.loop-at.invariant.ends c.loop-at-test.true).0;
       to_come = λ i has.
@@ -34,6 +31,4 @@ pub returns-then-holds-clause-found : goal.returns-then-holds-clause-found
 returns-then-holds-clause-found g c =
     let at = c.loop-at.at in
     let slots = c.args.entries.now in
-    let lt : at < length slots = let l = c.loop-at-test.true in let e = c.requires.as_many in omega arith in
-    let read : c.index-entries-at.result ≡ entry_in slots at = get_or_read slots at c.index-entries-at.result lt c.index-entries-at.is None in
-    has_back c.args.name.now (entry_in slots at) (ap (has_name c.args.name.now) (sym read) ∙ sym c.holds.ensures ∙ c.if-holds.true)
+    has_back c.args.name.now (entry_in slots at) (sym c.holds.ensures ∙ c.if-holds.true)

@@ -1,16 +1,12 @@
-use Rattle.std.proofs.Common.{sym, subst}
 use Rattle.name_table.specs.Slots.{put_in}
-use Rattle.queue.specs.Heap.{Pods}
-use Rattle.queue.specs.Index.{applied, IsIndexBut}
+use Rattle.queue.specs.Index.{applied}
 use Rattle.queue.proofs.Indexes.{changed, written}
 use Rattle.queue.proofs.Changes.{put_is}
 use Rattle.queue.proofs.slots.change.Goals as goal
 
 pub enter-requires-clause-index : goal.enter-requires-clause-index
 enter-requires-clause-index c =
-    subst (λ (p : Pods). IsIndexBut p c.leave.new.self c.args.slot) (sym c.slots-2.ensures)
-    (changed c.args.pods.now (put_in c.args.pods.now c.args.slot c.apply.new.self) c.leave.new.self c.args.slot (written c.args.pods.now c.args.slot _)
-    (subst (λ (p : Pods). IsIndexBut p c.leave.new.self c.args.slot) c.slots.ensures c.leave.ensures.index))
+    changed c.args.pods.now (put_in c.args.pods.now c.args.slot c.apply.new.self) c.leave.new.self c.args.slot (written c.args.pods.now c.args.slot _) c.leave.ensures.index
 
 pub returns-clause-after : goal.returns-clause-after
 returns-clause-after c =

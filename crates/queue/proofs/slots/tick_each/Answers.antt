@@ -12,14 +12,14 @@ use Rattle.queue.proofs.slots.tick_each.Goals as goal
 
 pub change-requires-clause-there : goal.change-requires-clause-there
 change-requires-clause-there c =
-    let stands : stands_in (is_due c.args.now) c.loop-slot.pods c.in-Some.slot ≡ true = subst (λ (p : Pods). stands_in (is_due c.args.now) p c.in-Some.slot ≡ true) c.slots.ensures c.in-Some.ensures.some in
+    let stands : stands_in (is_due c.args.now) c.loop-slot.pods c.in-Some.slot ≡ true = c.in-Some.ensures.some in
     there_if (is_due c.args.now) (entry_in c.loop-slot.pods c.in-Some.slot) stands
 
 pub loop-slot-preserved : goal.loop-slot-preserved
 loop-slot-preserved c =
     let was = c.loop-slot.invariant in
     let after = c.change.ensures.after in
-    let stands : stands_in (is_due c.args.now) c.loop-slot.pods c.in-Some.slot ≡ true = subst (λ (p : Pods). stands_in (is_due c.args.now) p c.in-Some.slot ≡ true) c.slots.ensures c.in-Some.ensures.some in
+    let stands : stands_in (is_due c.args.now) c.loop-slot.pods c.in-Some.slot ≡ true = c.in-Some.ensures.some in
     let there : IsSome (entry_in c.loop-slot.pods c.in-Some.slot) = there_if (is_due c.args.now) (entry_in c.loop-slot.pods c.in-Some.slot) stands in
     record {
       index = c.change.ensures.index;
@@ -31,11 +31,11 @@ loop-slot-preserved c =
 
 pub loop-slot-smaller : goal.loop-slot-smaller
 loop-slot-smaller c =
-    let stands : stands_in (is_due c.args.now) c.loop-slot.pods c.in-Some.slot ≡ true = subst (λ (p : Pods). stands_in (is_due c.args.now) p c.in-Some.slot ≡ true) c.slots.ensures c.in-Some.ensures.some in
+    let stands : stands_in (is_due c.args.now) c.loop-slot.pods c.in-Some.slot ≡ true = c.in-Some.ensures.some in
     subst (λ (p : Pods). tally (is_due c.args.now) p < tally (is_due c.args.now) c.loop-slot.pods) (sym c.change.ensures.after)
     (one_less (is_due c.args.now) c.loop-slot.pods c.in-Some.slot (ticked c.args.now) stands (ticked_rests c.args.now))
 
 pub returns-clause-after : goal.returns-clause-after
 returns-clause-after c =
-    let rests : (s : ℕ) → stands_in (is_due c.args.now) c.loop-slot.pods s ≡ false = subst (λ (p : Pods). (s : ℕ) → stands_in (is_due c.args.now) p s ≡ false) c.slots.ensures c.in_default.ensures.none in
+    let rests : (s : ℕ) → stands_in (is_due c.args.now) c.loop-slot.pods s ≡ false = c.in_default.ensures.none in
     sym (unchanged (ticked c.args.now) c.loop-slot.pods c.loop-slot.invariant.once (tick_leaves c.args.now c.loop-slot.pods rests)) ∙ c.loop-slot.invariant.after

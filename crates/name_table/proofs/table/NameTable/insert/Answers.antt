@@ -1,14 +1,15 @@
 -- The first slot of the last chain is free, and moves to the name's bucket.
-use Rattle.std.proofs.Common.{◌≡◌, ◌<◌, length, set, None, sym, ap, subst, ◌∙◌, arith}
+use Rattle.std.proofs.Common.{◌≡◌, ◌+◌, ◌<◌, length, set, None, sym, ap, subst, ◌∙◌, arith}
 use Rattle.std.specs.FinMap as fin
-use Rattle.name_table.specs.Slots.{Slots, entry_in, map_of}
+use Rattle.name_table.specs.Slots.{Slots, entry_in, map_of, NamesOnce}
+use Rattle.name_table.specs.Buckets.{IsFiled}
 use Rattle.name_table.proofs.SlotLemmas.{map_insert, once_insert}
 use Rattle.name_table.proofs.TableLemmas.{free_head, homes_many, home_chain, filed_insert}
 use Rattle.name_table.proofs.table.NameTable.insert.Goals as goal
 
 pub transfer-requires-clause-a_slot : goal.transfer-requires-clause-a_slot
 transfer-requires-clause-a_slot g c =
-    let s = c.self.inside.entries.items in
+    let s = c.self.inside.entries in
     let f = c.self.invariant in
     let slot = c.index.result.now in
     let free = free_head c.self.inside.keys c.self.inside.mask c.self.inside.chains s c.self.inside.len f c.args.self.now c.self.view_is slot c.index.ensures c.requires.room in
@@ -19,35 +20,36 @@ transfer-requires-clause-a_slot g c =
 
 pub transfer-requires-clause-at_home : goal.transfer-requires-clause-at_home
 transfer-requires-clause-at_home g c =
-    let s = c.self.inside.entries.items in
+    let s = c.self.inside.entries in
     let f = c.self.invariant in
     let slot = c.index.result.now in
     let free = free_head c.self.inside.keys c.self.inside.mask c.self.inside.chains s c.self.inside.len f c.args.self.now c.self.view_is slot c.index.ensures c.requires.room in
     home_chain c.self.inside.keys c.self.inside.mask c.self.inside.chains s c.self.inside.len f slot free.0
 
-pub index_mut-requires : goal.index_mut-requires
-index_mut-requires g c =
-    let s = c.self.inside.entries.items in
+pub put-requires : goal.put-requires
+put-requires g c =
+    let s = c.self.inside.entries in
     let f = c.self.invariant in
     let slot = c.index.result.now in
     let free = free_head c.self.inside.keys c.self.inside.mask c.self.inside.chains s c.self.inside.len f c.args.self.now c.self.view_is slot c.index.ensures c.requires.room in
-    let len = c.self.inside.entries.ok.0 in
-    let lt = free.0 in
-    omega arith
+    free.0
 
 pub invariant_of-self : goal.invariant_of-self
 invariant_of-self g c =
-    let s = c.self.inside.entries.items in
+    let s = c.self.inside.entries in
     let f = c.self.invariant in
     let slot = c.index.result.now in
     let free = free_head c.self.inside.keys c.self.inside.mask c.self.inside.chains s c.self.inside.len f c.args.self.now c.self.view_is slot c.index.ensures c.requires.room in
     let new : fin.get (map_of s) c.args.name ≡ None = ap (λ (z : Slots _). fin.get (map_of z) c.args.name) c.self.view_is ∙ c.requires.new in
+    subst (λ (z : Slots _). IsFiled c.self.inside.keys c.self.inside.mask c.transfer.new.self z (c.self.inside.len + 1)) (sym c.put.ensures)
+    (
     filed_insert c.self.inside.keys c.self.inside.mask c.self.inside.chains s c.self.inside.len f c.transfer.new.self slot c.args.name c.args.value c.transfer.ensures.woven c.transfer.ensures.heads
     (c.transfer.ensures.homes ∙ ap (set c.self.inside.chains.homes.items slot) c.bucket-bucket.ensures.bucket) free.0 free.1 new
+    )
 
 pub returns-clause-free : goal.returns-clause-free
 returns-clause-free g c =
-    let s = c.self.inside.entries.items in
+    let s = c.self.inside.entries in
     let f = c.self.invariant in
     let slot = c.index.result.now in
     let free = free_head c.self.inside.keys c.self.inside.mask c.self.inside.chains s c.self.inside.len f c.args.self.now c.self.view_is slot c.index.ensures c.requires.room in
@@ -55,7 +57,7 @@ returns-clause-free g c =
 
 pub returns-clause-a_slot : goal.returns-clause-a_slot
 returns-clause-a_slot g c =
-    let s = c.self.inside.entries.items in
+    let s = c.self.inside.entries in
     let f = c.self.invariant in
     let slot = c.index.result.now in
     let free = free_head c.self.inside.keys c.self.inside.mask c.self.inside.chains s c.self.inside.len f c.args.self.now c.self.view_is slot c.index.ensures c.requires.room in
@@ -63,18 +65,18 @@ returns-clause-a_slot g c =
 
 pub returns-clause-map : goal.returns-clause-map
 returns-clause-map g c =
-    let s = c.self.inside.entries.items in
+    let s = c.self.inside.entries in
     let f = c.self.invariant in
     let slot = c.index.result.now in
     let free = free_head c.self.inside.keys c.self.inside.mask c.self.inside.chains s c.self.inside.len f c.args.self.now c.self.view_is slot c.index.ensures c.requires.room in
     let new : fin.get (map_of s) c.args.name ≡ None = ap (λ (z : Slots _). fin.get (map_of z) c.args.name) c.self.view_is ∙ c.requires.new in
-    map_insert s slot c.args.name c.args.value free.0 f.once free.1 new ∙ ap (λ (z : Slots _). fin.insert (map_of z) c.args.name c.args.value) c.self.view_is
+    ap (λ (z : Slots _). map_of z) c.put.ensures ∙ map_insert s slot c.args.name c.args.value free.0 f.once free.1 new ∙ ap (λ (z : Slots _). fin.insert (map_of z) c.args.name c.args.value) c.self.view_is
 
 pub returns-clause-once : goal.returns-clause-once
 returns-clause-once g c =
-    let s = c.self.inside.entries.items in
+    let s = c.self.inside.entries in
     let f = c.self.invariant in
     let slot = c.index.result.now in
     let free = free_head c.self.inside.keys c.self.inside.mask c.self.inside.chains s c.self.inside.len f c.args.self.now c.self.view_is slot c.index.ensures c.requires.room in
     let new : fin.get (map_of s) c.args.name ≡ None = ap (λ (z : Slots _). fin.get (map_of z) c.args.name) c.self.view_is ∙ c.requires.new in
-    once_insert s slot c.args.name c.args.value free.0 f.once new
+    subst NamesOnce (sym c.put.ensures) (once_insert s slot c.args.name c.args.value free.0 f.once new)

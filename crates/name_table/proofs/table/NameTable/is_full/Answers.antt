@@ -9,7 +9,7 @@ use Rattle.name_table.proofs.table.NameTable.is_full.Goals as goal
 pub returns-clause-full : goal.returns-clause-full
 returns-clause-full g c =
     let now = c.args.self.now in
-    let room : c.len.result ≡ length now = c.len.ensures ∙ c.self.inside.entries.ok.0 ∙ ap length c.self.view_is in
+    let room : c.room.result ≡ length now = c.room.ensures ∙ ap length c.self.view_is in
     let many : c.self.inside.len ≡ fin.len (map_of now) = c.self.invariant.counted ∙ ap (count_by is_some) c.self.view_is ∙ sym (len_map now (subst NamesOnce c.self.view_is c.self.invariant.once)) in
     λ t. nat_le (room t) (many t)
 

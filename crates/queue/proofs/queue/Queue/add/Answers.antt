@@ -1,9 +1,7 @@
-use Rattle.std.proofs.Common.{◌≡◌, true, false, sym, ap, ◌∙◌, subst}
+use Rattle.std.proofs.Common.{◌≡◌, true, false, sym, ap, ◌∙◌}
 use Rattle.quant.specs.declared.objects.Pod.{Pod}
 use Rattle.queue.specs.declared.refusal.Refusal.TheVariants.{Known, Full}
 use Rattle.queue.specs.Entry.{new_entry}
-use Rattle.queue.specs.Heap.{Pods}
-use Rattle.queue.specs.Index.{IsIndexBut}
 use Rattle.queue.specs.Queue.{has_entry, is_full_queue, with_entry, refusal_to_add, after_add}
 use Rattle.queue.specs.Slots.{state_of}
 use Rattle.queue.proofs.States.{refused, known_to_add, full_to_add, may_add, add_some, index_added}
@@ -37,8 +35,7 @@ returns-then-is_full-clause-after c =
 
 pub enter-requires-clause-index : goal.enter-requires-clause-index
 enter-requires-clause-index c =
-    subst (λ (p : Pods). IsIndexBut p c.self.inside.index c.insert-slot.result) (sym c.slots.ensures)
-    (index_added c.self.inside.pods c.insert-slot.new.self c.self.inside.index c.insert-slot.result _ c.self.invariant.index c.insert-slot.ensures.free c.insert-slot.ensures.slots)
+    index_added c.self.inside.pods c.insert-slot.new.self c.self.inside.index c.insert-slot.result _ c.self.invariant.index c.insert-slot.ensures.free c.insert-slot.ensures.slots
 
 pub returns-clause-answer : goal.returns-clause-answer
 returns-clause-answer c =

@@ -1,6 +1,4 @@
-use Rattle.std.proofs.Common.{arith, ap, ◌∙◌, subst}
-use Rattle.queue.specs.Heap.{Pods}
-use Rattle.queue.specs.Index.{IsIndexBut}
+use Rattle.std.proofs.Common.{arith, ap, ◌∙◌}
 use Rattle.queue.specs.Queue.{after_remove}
 use Rattle.queue.proofs.States.{remove_none, remove_some, kept_without}
 use Rattle.queue.proofs.queue.Queue.remove.Goals as goal
@@ -13,7 +11,7 @@ returns-in_err-slot-clause-after c =
 pub invariant_of-self-2 : goal.invariant_of-self-2
 invariant_of-self-2 c =
     kept_without c.self.inside.pods c.remove_at.new.self c.self.inside.index c.leave.new.self c.in_ok-slot.slot c.self.inside.compared c.leave.new.count c.self.invariant c.in_ok-slot.ensures.filled c.remove_at.ensures.slots c.remove_at.ensures.once c.remove_at.ensures.room
-    (subst (λ (p : Pods). IsIndexBut p c.leave.new.self c.in_ok-slot.slot) c.slots.ensures c.leave.ensures.index)
+    c.leave.ensures.index
     (omega (arith, c.leave.ensures.counted))
 
 pub returns-clause-after : goal.returns-clause-after
