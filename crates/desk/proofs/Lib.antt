@@ -15,3 +15,4 @@ pub mod CallCounts
 pub mod Beginnings
 pub mod Adding
 pub mod Sharing
+pub mod Alone

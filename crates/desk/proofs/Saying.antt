@@ -1,13 +1,11 @@
 -- What is said of a step, with the pod that it hands out, is its answer.
 use Rattle.std.proofs.Common.{◌≡◌, ℕ, Option, None, Some, refl}
 use Rattle.book.specs.Step as book_step
-use Rattle.book.specs.Cluster.{Cluster}
 use Rattle.book.specs.declared.refusal.Refusal.{Refusal}
 use Rattle.book.specs.declared.step.ClusterStep.{ClusterStep}
 use Rattle.book.specs.declared.step.Reply.{Reply as BookReply}
 use Rattle.book.specs.declared.step.Reply.TheVariants as book_reply
 use Rattle.quant.specs.declared.event.Event.TheVariants.{NodeSet, NodeGone, PodPending, PodBound, PodGone}
-use Rattle.quant.specs.declared.objects.Pod.{Pod}
 use Rattle.queue.specs.Order.{Item}
 use Rattle.queue.specs.Queue.{QueueState, next_of, after_add, after_remove, after_forget, after_fail, after_tick}
 use Rattle.desk.specs.declared.step.Step.{Step}

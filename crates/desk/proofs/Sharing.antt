@@ -1,18 +1,17 @@
 -- What is published stands, a pass may go on to it, and one call more stands too.
-use Rattle.std.proofs.Common.{◌≡◌, ℕ, ◌+◌, ◌<◌, ◌≤◌, Bool, true, false, cond, List, [], ◌∷◌, ◌++◌, refl, sym, ap, subst, ◌∙◌, arith, slice_index, nat_lt, ◌&&◌, fold}
+use Rattle.std.proofs.Common.{◌≡◌, ℕ, ◌+◌, ◌<◌, ◌≤◌, Bool, true, cond, List, [], ◌∷◌, ◌++◌, refl, sym, ap, subst, ◌∙◌, arith, slice_index, nat_lt, ◌&&◌, fold}
 use mathlib.Core.List.{IsPrefix}
 use Rattle.std.proofs.lemmas.Bool.Decides.{nat_tests}
 use Rattle.logbook.specs.Pages.{Book}
 use Rattle.book.specs.declared.limits.Limits.{Limits}
-use Rattle.book.specs.Cluster.{Cluster}
 use Rattle.desk.specs.declared.step.Step.{Step}
 use Rattle.desk.specs.declared.step.Step.TheVariants.{Count}
-use Rattle.desk.specs.Machine.{State, reply, after, snapshot}
+use Rattle.desk.specs.Machine.{reply, after, snapshot}
 use Rattle.desk.specs.Said.{said_of}
-use Rattle.desk.specs.Caller.{Caller, Opened, HasNoCalls, with_state}
+use Rattle.desk.specs.Caller.{Caller, HasNoCalls, with_state}
 use Rattle.desk.specs.History.{Call, Legal, Leaves, AreHanded, HasCallsOf, GoesOn, calls_of, call, state_after}
-use Rattle.desk.specs.Shared.{Known, Published, with_call, Ordered, Stands, Locked, Member, IsAhead, IsApplied, IsLooked, published_after, may_call, next_call, order_of, first_published, no_order}
-use Rattle.desk.proofs.Histories.{append_nil, handed_more, legal_more, leaves_more, calls_made, limits_after}
+use Rattle.desk.specs.Shared.{Known, Published, with_call, Ordered, Stands, Member, IsAhead, IsApplied, IsLooked, published_after, may_call, next_call, order_of, first_published, no_order}
+use Rattle.desk.proofs.Histories.{handed_more, legal_more, leaves_more, calls_made, limits_after}
 use Rattle.desk.proofs.CallCounts.{leaves_counts, none_own, handed_fewer, calls_parts}
 use Rattle.desk.proofs.Fair.{fair}
 use Rattle.desk.proofs.Readings.{snapshot_told}

@@ -9,3 +9,4 @@ pub mod Codes
 pub mod SharedCodes
 pub mod Said
 pub mod Done
+pub mod Alone

@@ -1,5 +1,5 @@
 -- A desk that many passes share: what a pass has seen, what is published, and what each call tells its pass.
-use Rattle.std.specs.Prelude.{◌≡◌, ℕ, ◌+◌, ◌-◌, ◌<◌, ◌==◌, Bool, true, ◌&&◌, nat_lt, if◌then◌else◌, List, [], ◌∷◌, ◌++◌, length, slice_index, MatchBool}
+use Rattle.std.specs.Prelude.{◌≡◌, ℕ, ◌+◌, ◌<◌, ◌==◌, Bool, true, ◌&&◌, nat_lt, if◌then◌else◌, List, [], ◌∷◌, ◌++◌, length, slice_index, MatchBool}
 use Rattle.logbook.specs.Pages.{Cell, Step as WordStep, View, Book, Named}
 use Rattle.book.specs.declared.limits.Limits.{Limits}
 use Rattle.book.specs.Cluster.{Cluster}

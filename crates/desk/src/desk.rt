@@ -431,7 +431,8 @@ impl Desk {
     pub(crate) fn into_book(self) -> Book
         ensures { result ≡ self.state.cluster }
     {
-        self.book
+        let Desk { book, .. } = self;
+        book
     }
 
     // Does a step for a pass, or refuses it, and counts the call.

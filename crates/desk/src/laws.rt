@@ -4,6 +4,7 @@ ghost use Rattle.book.specs.declared.limits.Limits.{Limits};
 ghost use Rattle.desk.specs.Machine.{opening};
 ghost use Rattle.desk.specs.History.{Call, Legal, state_after, rows_of, places_of};
 ghost use Rattle.desk.specs.Laws.{TicketsOnce, TicketsInOrder, EntryOrPlace, EntryGoesWithPlace, InFlightIsUnanswered};
+ghost use Rattle.desk.specs.Alone.{AnswersAlone, LooksAlone};
 
 use crate::pass::{MAX_CALLS, MAX_PASSES};
 
@@ -37,4 +38,11 @@ pub fn entry_or_place()
 /// passes together that is as much as `Count` tells.
 pub fn in_flight_is_unanswered()
     ensures { InFlightIsUnanswered }
+{}
+
+/// The only pass of a shared desk knows its state: each of its steps is answered and done on the state that it has seen, and
+/// each look shows that state.
+pub fn one_pass_is_alone()
+    ensures answers { AnswersAlone }
+    ensures looks { LooksAlone }
 {}

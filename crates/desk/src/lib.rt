@@ -23,7 +23,7 @@ pub use desk::Desk;
 pub use front::{Blank, Naming};
 pub use laws::{
     desk_limits_are_these, entry_or_place, history_tells_the_state, in_flight_is_unanswered,
-    tickets_are_given_once,
+    one_pass_is_alone, tickets_are_given_once,
 };
 pub use locked::LockedDesk;
 pub use member::LockedPass;

@@ -3,6 +3,7 @@ ghost use Rattle.std.specs.Prelude.{◌≡◌, IfOk, OnOk};
 ghost use Rattle.desk.specs.Caller.{IsTimely};
 ghost use Rattle.desk.specs.History.{IsOf};
 
+mod at_once;
 mod sharing;
 
 use crate::{Counts, Desk, Limits, Pass, Refusal, Reply, Step};

@@ -213,9 +213,10 @@ impl<J: Naming> UnderLock<J> {
             return Err(NoMemory);
         }
         let pod = published.desk.pod_for(&step)?;
+        let by = pass.number();
         let next = Next {
             desk: &published.desk,
-            pass: pass.number(),
+            pass: by,
             number: pass.calls() + 1,
             step: &step,
         };
@@ -223,7 +224,7 @@ impl<J: Naming> UnderLock<J> {
             return Err(NoMemory);
         };
         let order = Order {
-            pass: pass.number(),
+            pass: by,
             step,
             front,
         };

@@ -1,5 +1,5 @@
-use Rattle.std.proofs.Common.{◌≡◌, sym, ◌∙◌, ap, subst, fold, drop}
-use Rattle.desk.specs.Shared.{Published, Stands, published_after}
+use Rattle.std.proofs.Common.{sym, ◌∙◌, subst, fold}
+use Rattle.desk.specs.Shared.{Stands, published_after}
 use Rattle.desk.proofs.under_lock.publish_orders.Goals as goal
 
 -- what is published next stands

@@ -1,4 +1,4 @@
-use Rattle.std.proofs.Common.{◌≡◌, ap, ◌∙◌}
+use Rattle.std.proofs.Common.{ap, ◌∙◌}
 use Rattle.desk.specs.Said.{said_of, reply_with}
 use Rattle.desk.specs.Machine.{reply}
 use Rattle.desk.proofs.Saying.{said_whole}

@@ -1,4 +1,4 @@
-use Rattle.std.proofs.Common.{◌≡◌, sym, ◌∙◌, subst}
+use Rattle.std.proofs.Common.{sym, ◌∙◌, subst}
 use Rattle.std.specs.List.{All}
 use Rattle.desk.specs.Calm.{HasRoom}
 use Rattle.desk.proofs.Calm.{calm_has_room}

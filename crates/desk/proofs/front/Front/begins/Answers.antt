@@ -1,6 +1,5 @@
-use Rattle.std.proofs.Common.{◌≡◌, ◌≤◌, ap, subst, arith, length, List, Bool, true, nat_le}
+use Rattle.std.proofs.Common.{◌≤◌, ap, subst, arith, length, List}
 use Rattle.std.proofs.lemmas.Bool.Decides.{nat_tests}
-use Rattle.std.specs.Bool.{IsTrue}
 use mathlib.Core.List.{IsPrefix}
 use Rattle.desk.specs.History.{Call}
 use Rattle.desk.specs.Shared.{Known}

@@ -1,5 +1,4 @@
-use Rattle.std.proofs.Common.{◌≡◌, sym, ◌∙◌, ap, length, subst, List}
-use Rattle.desk.specs.History.{Call}
+use Rattle.std.proofs.Common.{◌≡◌, sym, ◌∙◌, ap, length}
 use Rattle.desk.specs.Shared.{Known}
 use Rattle.desk.proofs.Adding.{adds_moves}
 use Rattle.desk.proofs.front.Front.with_call.Goals as goal

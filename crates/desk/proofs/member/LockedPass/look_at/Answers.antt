@@ -1,4 +1,4 @@
-use Rattle.std.proofs.Common.{◌≡◌, refl, ap, ◌∙◌}
+use Rattle.std.proofs.Common.{refl, ap, ◌∙◌}
 use Rattle.desk.specs.Machine.{snapshot}
 use Rattle.desk.specs.Shared.{Published}
 use Rattle.desk.proofs.Sharing.{looked}

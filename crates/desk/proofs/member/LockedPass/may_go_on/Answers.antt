@@ -1,4 +1,4 @@
-use Rattle.std.proofs.Common.{◌≡◌, sym, ap, ◌∙◌, subst}
+use Rattle.std.proofs.Common.{sym, ap, ◌∙◌, subst}
 use Rattle.desk.specs.Shared.{Published, Member, Stands, IsAhead}
 use Rattle.desk.proofs.Sharing.{is_ahead}
 use Rattle.desk.proofs.member.LockedPass.may_go_on.Goals as goal

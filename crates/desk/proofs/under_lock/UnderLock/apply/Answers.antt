@@ -1,9 +1,8 @@
 use Rattle.std.proofs.Common.{◌≡◌, ◌+◌, ◌++◌, ◌∷◌, [], sym, ap, ◌∙◌, refl, subst}
 use Rattle.desk.specs.Machine.{reply}
-use Rattle.desk.specs.Caller.{Caller}
 use Rattle.desk.specs.History.{HasCallsOf}
 use Rattle.desk.specs.Said.{said_of, reply_with}
-use Rattle.desk.specs.Shared.{Known, Published, Ordered, Member, Stands, IsApplied, published_after, order_of, with_call, next_call}
+use Rattle.desk.specs.Shared.{Known, Published, Ordered, Stands, IsApplied, published_after, order_of, next_call}
 use Rattle.desk.proofs.Histories.{calls_made}
 use Rattle.desk.proofs.Saying.{said_whole}
 use Rattle.desk.proofs.Sharing.{stands_after, said_after, applied_more}

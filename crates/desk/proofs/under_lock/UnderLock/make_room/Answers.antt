@@ -1,5 +1,5 @@
 use Rattle.std.proofs.Common.{◌≡◌, ◌++◌, ◌∷◌, [], sym, ap, ◌∙◌, subst, drop, fold}
-use Rattle.desk.specs.Shared.{Known, Published, Stands, published_after, no_order}
+use Rattle.desk.specs.Shared.{Published, Stands, published_after, no_order}
 use Rattle.desk.proofs.Sharing.{still_nothing}
 use Rattle.desk.proofs.under_lock.UnderLock.make_room.Goals as goal
 

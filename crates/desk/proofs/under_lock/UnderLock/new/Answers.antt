@@ -1,5 +1,5 @@
-use Rattle.std.proofs.Common.{◌≡◌, sym, ap, ◌∙◌, subst, drop, fold}
-use Rattle.desk.specs.Shared.{Known, Published, Stands, published_after, first_published}
+use Rattle.std.proofs.Common.{◌≡◌, sym, ap, ◌∙◌, subst, fold}
+use Rattle.desk.specs.Shared.{Stands, published_after, first_published}
 use Rattle.desk.proofs.Sharing.{stands_first}
 use Rattle.desk.proofs.under_lock.UnderLock.new.Goals as goal
 
