@@ -11,3 +11,4 @@ pub mod BodyRead
 pub mod Longer
 pub mod Passing
 pub mod KnownWords
+mod SeveralBytes

@@ -12,6 +12,7 @@ mod laws;
 mod opcode;
 mod operator;
 mod reading;
+mod several_bytes;
 mod skipping;
 mod value;
 
