@@ -72,3 +72,6 @@ pub mod Zeros
 pub mod Words
 pub mod Shapes
 pub mod Recorded
+pub mod Widening
+pub mod Invocations
+pub mod Keeping

@@ -1,5 +1,5 @@
 -- How many slots a call takes.
-use Rattle.std.proofs.Common.{◌≡◌, ℕ, suc, ◌+◌, ◌*◌, ◌<◌, ◌≤◌, List, [], ◌∷◌, ◌++◌, Some, length, drop, refl, sym, ap, ◌∙◌, subst, arith}
+use Rattle.std.proofs.Common.{◌≡◌, ℕ, suc, ◌+◌, ◌*◌, ◌≤◌, List, [], ◌∷◌, ◌++◌, Some, length, drop, refl, sym, ap, ◌∙◌, subst, arith}
 use Rattle.std.specs.Prelude.{slice_get}
 use Rattle.std.proofs.Math.Nat.{suc-mul, mul-le-mul_right}
 use Rattle.std.proofs.lemmas.List.{length-append, length-map}
@@ -10,17 +10,16 @@ use Rattle.wcode.specs.declared.value.ValueType.{ValueType}
 use Rattle.wcode.specs.Syntax.{Body}
 use Rattle.wbin.specs.Syntax.{Signature, FunctionSyntax, ModuleSyntax, module_of}
 use Rattle.wbody.specs.Context.{Operands, at_most_one}
-use Rattle.wbody.specs.declared.notes.Notes.{Notes}
 use Rattle.wbody.specs.declared.trail.Branch.{Branch}
 use Rattle.wtype.specs.CheckedModule.{CheckedModule, NotesAgree}
 use Rattle.wmach.specs.declared.activation.Activation.{Activation}
-use Rattle.wmach.specs.Configuration.{Store, Setting, Configuration}
+use Rattle.wmach.specs.Configuration.{Store}
 use Rattle.wmach.specs.Fits.{types_of}
 use Rattle.wmach.specs.Reduction.{most_frames}
 use Rattle.wmach.specs.OpenLabels.{Open, Caller}
 use Rattle.wmach.specs.InPlace.{Whole, Stands, context_in, floor_in}
-use Rattle.wmach.specs.Machine.{frame_words, belows, IsCode, Waiting, On}
-use Rattle.wmach.specs.Running.{Run, Widest, bytes_of, At}
+use Rattle.wmach.specs.Machine.{belows, IsCode, Waiting, On}
+use Rattle.wmach.specs.Running.{Run, Widest, bytes_of}
 use Rattle.wmach.proofs.LowHeights.{height_least}
 use Rattle.wmach.proofs.OverBranches.{floor_is}
 use Rattle.wmach.proofs.OverBr.{slice_get_some}

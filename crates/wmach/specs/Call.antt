@@ -107,14 +107,20 @@ records_for Filter records = records
 records_for Score records = records
 records_for Start records = λ import. None
 
--- what a machine is seen as: its module, and its store
+-- what a machine is seen as: its module, its store, and the image that the store can be brought back to
 pub record MachineState : Type 0 where
   pub content : ModuleParts
   pub store : Store
+  pub image : Store
 
--- a call of a machine, and the machine after it: the module stays, and the outcome and the store are the call's
+-- a new one: the module's first store, which is also the image
+abbrev pub first_machine : ModuleParts → MachineState
+first_machine p = record { content = p; store = first_store (module_of p); image = first_store (module_of p) }
+
+-- a call of a machine, and the machine after it: module and image stay, and the outcome and the store are the call's
 pub record Calls (before : MachineState) (export : Export) (records : ℕ → Option (List ℕ)) (fuel : ℕ) (outcome : Outcome) (after : MachineState) : Type 0 where
   pub content : after.content ≡ before.content
+  pub image : after.image ≡ before.image
   pub function : ℕ
   pub function_is : called_function (module_of before.content) export ≡ Some function
   pub ends : HasOutcome (record { module_syntax = module_of before.content; records = records_for export records }) before.store function fuel outcome after.store

@@ -17,3 +17,6 @@ pub mod Machine
 pub mod Running
 pub mod Coded
 pub mod Calling
+pub mod Known
+pub mod Kept
+pub mod Went

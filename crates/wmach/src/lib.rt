@@ -2,8 +2,8 @@
 //! and what holds of every call.
 //!
 //! The rules stand in the definitions: `Reduction` has one case for each instruction, and `HasOutcome` says how chains of
-//! reductions end. The laws are functions that do nothing and promise what the rules keep. A machine's steps in the module's own
-//! bytes, and their run to where a call stops, stand beside them (`step`); the type that makes them is to come.
+//! reductions end. The laws are functions that do nothing and promise what the rules keep. The `Machine` runs the module's own
+//! bytes: one step of it (`step`) is a chain of reductions of the same cost.
 #![tactic(auto)]
 
 mod activation;
@@ -11,16 +11,21 @@ mod calls;
 mod code;
 mod control;
 mod export;
+mod frequent;
 mod host;
+mod invocation;
 mod laws;
+mod machine;
 pub mod numbers;
 mod outcome;
 mod plain;
 mod records;
+mod run;
 mod shape;
 mod signature;
 mod state;
 mod step;
+mod widest;
 
 pub use export::Export;
 pub use host::Host;
@@ -28,5 +33,6 @@ pub use laws::{
     calls_end, cost_within_fuel, first_store_fits, more_fuel_changes_nothing, never_stuck,
     one_outcome, what_a_call_leaves,
 };
+pub use machine::Machine;
 pub use outcome::{Outcome, Trap};
 pub use signature::same_signature;

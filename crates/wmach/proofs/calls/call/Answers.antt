@@ -1,4 +1,4 @@
-use Rattle.std.proofs.Common.{◌≡◌, ◌+◌, ◌<◌, List, ℕ, Option, reverse, take, drop, refl, sym, ap, subst, arith}
+use Rattle.std.proofs.Common.{reverse, take, drop, refl, sym, subst, arith}
 use Rattle.std.proofs.lemmas.Result.{err_from_is_err_and}
 use Rattle.wmach.specs.Running.{bytes_of, activation_of}
 use Rattle.wmach.specs.Calling.{Invokes}

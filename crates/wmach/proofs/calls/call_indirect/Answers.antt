@@ -1,9 +1,8 @@
-use Rattle.std.proofs.Common.{rules, inl, inr, ◌≡◌, ◌+◌, ◌-◌, ◌<◌, ◌≤◌, ◌^◌, List, ℕ, Option, Some, None, [], ◌∷◌, ◌++◌, true, false, reverse, take, drop, refl, sym, ap, ◌∙◌, subst, arith}
+use Rattle.std.proofs.Common.{rules, inl, inr, ◌≡◌, ◌-◌, true, false, reverse, take, drop, refl, sym, ◌∙◌, subst, arith}
 use Rattle.std.proofs.lemmas.Result.{err_from_is_err_and}
 use Rattle.wmach.specs.declared.outcome.Trap.TheVariants.{UndefinedElement, UninitializedElement, SignatureMismatch}
 use Rattle.wcode.specs.declared.value.ValueType.TheVariants.{I32}
 use Rattle.wmach.specs.Operands.{value_of}
-use Rattle.wmach.specs.Indirect.{same_signature}
 use Rattle.wmach.specs.Running.{bytes_of, activation_of}
 use Rattle.std.specs.Prelude.{slice_get}
 use Rattle.wmach.specs.declared.state.Stop.TheVariants as stop

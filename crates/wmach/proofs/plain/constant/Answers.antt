@@ -1,4 +1,4 @@
-use Rattle.std.proofs.Common.{◌≡◌, ℕ, ◌+◌, ◌-◌, ◌^◌, ◌<◌, ◌≤◌, List, [], ◌∷◌, ◌++◌, Ok, Err, length, take, drop, refl, sym, ap, ◌∙◌, subst, arith}
+use Rattle.std.proofs.Common.{[], ◌∷◌, ◌++◌, take, ap, ◌∙◌, arith}
 use Rattle.wmach.proofs.Arms.{pushed_free, room_above}
 use Rattle.wmach.proofs.OverVariables.{over_const}
 use Rattle.wmach.specs.Machine.{word_of}

@@ -1,4 +1,4 @@
-use Rattle.std.proofs.Common.{◌≡◌, Some, None, refl, sym, ap, ◌∙◌, rules, arith}
+use Rattle.std.proofs.Common.{◌≡◌, Some, None, sym, ap, ◌∙◌, rules}
 use Rattle.wmach.specs.Host.{record_named}
 use Rattle.wmach.proofs.Recorded.{has_record, one_more, all_of}
 use Rattle.wmach.proofs.records.records_of.Goals as goal

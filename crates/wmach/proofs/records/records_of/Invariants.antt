@@ -1,4 +1,3 @@
-use Rattle.std.proofs.Common.{◌≡◌}
 use Rattle.wmach.proofs.Recorded.{SoFar}
 use Rattle.wmach.proofs.records.records_of.Given as goal
 

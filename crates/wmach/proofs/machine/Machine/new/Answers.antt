@@ -1,0 +1,40 @@
+use Rattle.std.proofs.Common.{◌≡◌, ◌*◌, length, sym, ap, ◌∙◌, subst, rules}
+use Rattle.std.specs.Arc.{arc_value}
+use Rattle.wbin.specs.Syntax.{ModuleParts, module_of}
+use Rattle.wtype.specs.Accepted.{most_slots}
+use Rattle.wtype.specs.CheckedModule.{CheckedModule}
+use Rattle.wstore.specs.State.{StoreState}
+use Rattle.wmach.specs.Coded.{ShapesAgree, RecordsAgree}
+use Rattle.wmach.specs.Host.{imported_names}
+use Rattle.wmach.specs.Kept.{AllFrames}
+use Rattle.wmach.specs.Known.{IsChecked}
+use Rattle.wmach.specs.Reduction.{most_frames}
+use Rattle.wmach.specs.Running.{Widest}
+use Rattle.wmach.proofs.Widening.{few_frames, wide_is}
+use Rattle.wmach.proofs.machine.Machine.new.Goals as goal
+
+pub widest_frame-widest-requires-clause-few : goal.widest_frame-widest-requires-clause-few
+widest_frame-widest-requires-clause-few c =
+    let checked = arc_value c.args.checked in let shapes = c.in_ok-shapes.shapes.items in
+    let ok = subst IsChecked c.deref.ensures c.is_checked.ensures in
+    let agree = subst (λ (p : ModuleParts). ShapesAgree p shapes) (c.module.ensures.value ∙ ap (λ (x : CheckedModule). x.content) c.deref-2.ensures) c.in_ok-shapes.ensures in
+    subst (λ l. AllFrames l c.notes.result.now most_slots) (sym c.as_slice.ensures.value)
+    (subst (λ l. AllFrames shapes l most_slots) (sym (c.notes.ensures.value ∙ ap (λ (x : CheckedModule). x.notes) c.deref-4.ensures)) (few_frames checked shapes agree ok))
+
+pub invariant_of-result : goal.invariant_of-result
+invariant_of-result c =
+    let checked = arc_value c.args.checked in let shapes = c.in_ok-shapes.shapes.items in
+    let same : c.in_ok-store.store.checked ≡ checked = ap (λ (s : StoreState). s.checked) c.in_ok-store.ensures ∙ c.in_ok-clone.ensures.cases in
+    let agree = subst (λ (p : ModuleParts). ShapesAgree p shapes) (c.module.ensures.value ∙ ap (λ (x : CheckedModule). x.content) c.deref-2.ensures) c.in_ok-shapes.ensures in
+    let records = subst (λ (p : ModuleParts). RecordsAgree (imported_names (module_of p).imports) c.in_ok-records.records.items) (c.module-2.ensures.value ∙ ap (λ (x : CheckedModule). x.content) c.deref-3.ensures) c.in_ok-records.ensures in
+    let widest = c.widest_frame-widest.result in
+    let frames = subst (λ l. AllFrames l c.notes.result.now widest) c.as_slice.ensures.value c.widest_frame-widest.ensures.widest in
+    let wide = wide_is checked shapes agree widest (subst (λ l. AllFrames shapes l widest) (c.notes.ensures.value ∙ ap (λ (x : CheckedModule). x.notes) c.deref-4.ensures) frames) in
+    let long : length c.in_ok-slots.slots.items ≡ most_frames * widest = search rules in
+    record {
+      checked_is = same;
+      shapes = subst (λ (x : CheckedModule). ShapesAgree x.content shapes) (sym same) agree;
+      records = subst (λ (x : CheckedModule). RecordsAgree (imported_names (module_of x.content).imports) c.in_ok-records.records.items) (sym same) records;
+      slots = (widest, subst (λ x. Widest x widest) (sym same) wide, long);
+      room = c.in_ok-waiting.ensures.capacity;
+    }
