@@ -20,6 +20,3 @@ pub use code::Code;
 pub use evaluation::evaluate;
 pub use setting::{Function, Program, Records, Setting};
 pub use store::Store;
-
-#[cfg(test)]
-mod tests;
