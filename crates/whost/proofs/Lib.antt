@@ -1,3 +1,6 @@
 pub mod KeyOrderLemmas
 pub mod RecordLemmas
 pub mod FieldLemmas
+pub mod SegmentLemmas
+pub mod InstanceLemmas
+pub mod ImageLemmas

@@ -1,16 +1,25 @@
-//! Records: what the host functions of a module hand over about a pod and a node.
+//! Records, which are what the host functions of a module hand over about a pod and a node; and instances, which are modules
+//! that are ready to be called with them.
 //!
 //! A record is a list of at most 8,192 bytes, in one buffer that is written in place, so that no call takes memory. The
-//! layout stands in `specs/Record.antt`, byte by byte.
+//! layout stands in `specs/Record.antt`, byte by byte. An instance takes all its room when it is made; each of its calls
+//! begins from one image, which `specs/Image.antt` says.
 #![tactic(auto)]
 
+mod fault;
+mod instance;
+mod instantiation;
 mod key_order;
 mod laws;
 mod record;
+mod records;
 mod rows;
 
-pub use laws::{fields_stand, labels_are_in_order, numbers_are_read_back};
+pub use fault::InstanceFault;
+pub use instance::Instance;
+pub use laws::{calls_agree, fields_stand, labels_are_in_order, numbers_are_read_back, one_image};
 pub use record::{RECORD_SIZE, Record};
+pub use records::Records;
 pub use rows::{node_record, pod_record};
 
 #[cfg(test)]

@@ -1,4 +1,5 @@
-//! Records beside the bytes that another program makes of the same rows.
+//! Records beside the bytes that another program makes of the same rows; and instances.
+mod instances;
 mod rows;
 
 use crate::{Record, node_record, pod_record};

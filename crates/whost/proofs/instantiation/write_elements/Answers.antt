@@ -1,0 +1,10 @@
+use Rattle.std.proofs.Common.{◌<◌, length, arith}
+use Rattle.wbin.specs.Syntax.{module_of}
+use Rattle.whost.proofs.SegmentLemmas.{elements_step}
+use Rattle.whost.proofs.instantiation.write_elements.Goals as goal
+
+pub loop-segment-preserved : goal.loop-segment-preserved
+loop-segment-preserved c =
+    let before = c.args.machine.now in
+    let less : c.loop-segment.segment < length (module_of before.content).element_segments = omega (arith, c.element_segment_count-segment-end.ensures, c.loop-segment-test.true) in
+    elements_step before c.loop-segment.machine c.put_elements.new.self c.loop-segment.segment less c.loop-segment.invariant c.put_elements.ensures

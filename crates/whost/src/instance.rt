@@ -1,0 +1,97 @@
+//! An instance: a module that is ready to be called.
+ghost use Rattle.std.specs.Prelude.{◌≡◌, ◌≢◌, ◌≤◌, ◌↔◌, IfErr, IfOk, IsSome, IsTrue};
+ghost use Rattle.std.specs.Arc.{arc_value};
+ghost use Rattle.wbin.specs.Syntax.{module_of};
+ghost use Rattle.wstore.specs.Fits.{StoreFits};
+ghost use Rattle.wmach.specs.Call.{called_function, result_type, ResultFits};
+ghost use Rattle.wmach.specs.Outcome.{cost_of};
+ghost use Rattle.whost.specs.Image.{IsImage};
+ghost use Rattle.whost.specs.Refused.{WhyRefused};
+ghost use Rattle.whost.specs.Calls.{CallsFromImage};
+
+use crate::fault::InstanceFault;
+use crate::instantiation::{start, test_bounds, write_segments};
+use crate::records::Records;
+use std::alloc::Global;
+use std::marker::Model;
+use std::sync::Arc;
+use wmach::{Export, Machine, Outcome};
+use wtype::Checked;
+
+/// An accepted module with its segments written and its start function run. What its store was then is the image, from which
+/// each call begins. It takes all its room when it is made; after that no call allocates.
+#[derive(Drop)]
+pub struct Instance {
+    machine: Machine,
+}
+
+impl Model for Instance {
+    ghost use Rattle.std.specs.Coded.{codes};
+    ghost use Rattle.wmach.specs.Call.{MachineState};
+
+    ghost Value = { MachineState };
+
+    ghost coded = { Prim.hlevel codes };
+
+    ghost view = { λ instance. instance.machine };
+}
+
+impl Instance {
+    /// An instance of the module, whose start function has so much fuel. The bounds of all element segments are tested, then
+    /// those of all data segments, and only then anything is written.
+    ///
+    /// # Errors
+    ///
+    /// The first of the module's parts that fails, or `NoMemory` where there is no memory for its room.
+    pub fn new(alloc: Global, checked: Arc<Checked>, fuel: u64) -> Result<Instance, InstanceFault>
+        ensures content { IfOk result (λ i. i.content ≡ (arc_value checked).content) }
+        ensures image { IfOk result (λ i. IsImage (module_of (arc_value checked).content) fuel i.image) }
+        ensures store { IfOk result (λ i. i.store ≡ i.image) }
+        ensures refused { IfErr result (WhyRefused (module_of (arc_value checked).content) fuel) }
+    {
+        let Ok(mut machine) = Machine::new(alloc, checked) else {
+            return Err(InstanceFault::NoMemory);
+        };
+        test_bounds(&machine)?;
+        write_segments(&mut machine);
+        start(&mut machine, fuel)?;
+        machine.keep();
+        Ok(Instance { machine })
+    }
+
+    /// The module has this to be called.
+    pub fn has(&self, export: Export) -> bool
+        ensures { IsTrue result ↔ IsSome (called_function (module_of self.now.content) export) }
+    {
+        self.machine.has(export)
+    }
+
+    /// Calls it, from the image, with these records and so much fuel. What earlier calls wrote is gone.
+    pub fn call(&mut self, records: &Records, export: Export, fuel: u64) -> Outcome
+        requires there { IsSome (called_function (module_of self.old.content) export) }
+        requires by_name { export ≢ Export.Start }
+        ensures calls { CallsFromImage self.old export records.now fuel result self.new }
+        ensures result { ResultFits (result_type export) result }
+        ensures cost { cost_of result ≤ fuel }
+        ensures stays { self.new ≡ record self.old { store = self.new.store } }
+    {
+        wmach::cost_within_fuel();
+        self.reset();
+        self.machine.invoke(export, records, fuel)
+    }
+
+    /// Makes the store the image again.
+    pub fn reset(&mut self)
+        ensures { self.new ≡ record self.old { store = self.old.image } }
+    {
+        self.machine.reset();
+    }
+
+    /// Does nothing: it promises what is so of every instance.
+    pub fn always_fits(&self)
+        ensures store { StoreFits (module_of self.now.content) self.now.store }
+        ensures image { StoreFits (module_of self.now.content) self.now.image }
+    {
+        self.machine.always_fits();
+    }
+}
