@@ -1,0 +1,4 @@
+pub mod KitLemmas
+pub mod LawLemmas
+pub mod EntryLemmas
+pub mod MakingLemmas

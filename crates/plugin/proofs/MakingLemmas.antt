@@ -1,0 +1,69 @@
+-- How a kit is made, plugin by plugin.
+use Rattle.std.proofs.Common.{◌≡◌, ℕ, zero, suc, ◌+◌, ◌<◌, ◌≤◌, List, [], ◌∷◌, ◌++◌, length, map, take, Option, Some, IfSome, Result, Ok, Err, OnOk, slice_get, All, sym, subst, arith, add-one}
+use Rattle.std.specs.List.{AllZip}
+use Rattle.std.proofs.lemmas.List.{map-append, length-map, length-take}
+use Rattle.std.proofs.lemmas.List.Elements.{All-nil, All-cons, All-push}
+use Rattle.std.proofs.lemmas.Slice.Zip.{AllZip-long}
+use Rattle.wmach.proofs.OverBr.{slice_get_some}
+use Rattle.plugin.specs.declared.fault.KitFault.{KitFault}
+use Rattle.plugin.specs.declared.member.Member.{Member}
+use Rattle.plugin.specs.Plugins.{Configured, IsWeight}
+use Rattle.plugin.specs.Refused.{HasImage, WhyNotReady, WhyNoKit}
+use Rattle.plugin.specs.Kit.{Ready, ready, IsReadyOf, OneMoreReady, AreMembers}
+
+-- one more of each of two lists
+zipped_more : {A B : Type 0} (R : A → B → Type 0) (xs : List A) (ys : List B) (i : ℕ) (x : A) (y : B) → slice_get xs i ≡ Some x → AllZip R (take i xs) ys → R x y → AllZip R (take (suc i) xs) (ys ++ y ∷ [])
+zipped_more R [] ys i x y at zip now = cc
+zipped_more R (a ∷ xs) [] zero x y at zip now =
+    let same : x ≡ a = cc in
+    (subst (λ b. R b y) same now, tt)
+zipped_more R (a ∷ xs) (b ∷ ys) zero x y at zip now = absurd zip
+zipped_more R (a ∷ xs) [] (suc i) x y at zip now = absurd zip
+zipped_more R (a ∷ xs) (b ∷ ys) (suc i) x y at zip now = (zip.0, zipped_more R xs ys i x y at zip.1 now)
+
+-- one more plugin is ready
+pub ready_more : (plugins : List Configured) (old new : List Member) (i : ℕ) → i < length plugins → AllZip IsReadyOf (take i plugins) (map ready old)
+    → IfSome (slice_get plugins i) (λ p. OneMoreReady p old new) → AllZip IsReadyOf (take (i + 1) plugins) (map ready new)
+ready_more plugins old new i below zip joined =
+    let there = slice_get_some plugins i below in
+    let more = subst (λ (o : Option Configured). IfSome o (λ p. OneMoreReady p old new)) there.1 joined in
+    rw (add-one, more.joined, map-append ready old (more.member ∷ [])) (zipped_more IsReadyOf plugins (map ready old) i there.0 (ready more.member) there.1 zip more.is)
+
+-- and its weight is one as well
+pub weights_more : (plugins : List Configured) (old new : List Member) (i : ℕ) → i < length plugins → All (λ m. IsWeight m.weight) old
+    → IfSome (slice_get plugins i) (λ p. OneMoreReady p old new) → All (λ m. IsWeight m.weight) new
+weights_more plugins old new i below weights joined =
+    let there = slice_get_some plugins i below in
+    let more = subst (λ (o : Option Configured). IfSome o (λ p. OneMoreReady p old new)) there.1 joined in
+    subst (λ (ms : List Member). All (λ m. IsWeight m.weight) ms) (sym more.joined) (All-push (λ (m : Member). IsWeight m.weight) old more.member weights more.weight)
+
+-- each plugin of which an instance was made has an image
+have_images : (plugins : List Configured) (kit : List Ready) → AllZip IsReadyOf plugins kit → All HasImage plugins
+have_images [] [] zip = All-nil HasImage
+have_images [] (r ∷ kit) zip = absurd zip
+have_images (p ∷ plugins) [] zip = absurd zip
+have_images (p ∷ plugins) (r ∷ kit) zip = All-cons HasImage p plugins (r.image, zip.0.image) (have_images plugins kit zip.1)
+
+-- the first plugin that isn't ready
+pub no_kit : (plugins : List Configured) (kit : List Ready) (place : ℕ) (fault : KitFault) → place < length plugins → AllZip IsReadyOf (take place plugins) kit
+    → IfSome (slice_get plugins place) (λ p. WhyNotReady p fault) → WhyNoKit plugins fault
+no_kit plugins kit place fault below zip why =
+    let there = slice_get_some plugins place below in
+    record {
+      place = place;
+      plugin = there.0;
+      there = there.1;
+      fails = subst (λ (o : Option Configured). IfSome o (λ p. WhyNotReady p fault)) there.1 why;
+      before = have_images (take place plugins) kit zip;
+    }
+
+-- all members of a kit
+pub all_members : (plugins : List Configured) (members : List Member) (i : ℕ) → length plugins ≤ 16 → AllZip IsReadyOf (take i plugins) (map ready members) → All (λ m. IsWeight m.weight) members → AreMembers members
+all_members plugins members i most zip weights =
+    let long = AllZip-long IsReadyOf (take i plugins) (map ready members) zip in
+    record { most = omega (arith, long, length-map members ready, length-take i plugins); weights = weights }
+
+-- what follows from what holds where there is no error
+pub on_ok_more : {T E : Type 0} (r : Result T E) (P Q : Type 0) → (P → Q) → OnOk r P → OnOk r Q
+on_ok_more (Ok x) P Q more holds = more holds
+on_ok_more (Err e) P Q more holds = tt

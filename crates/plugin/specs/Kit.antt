@@ -1,0 +1,96 @@
+-- What a kit is seen as, and what its plugins say.
+use Rattle.std.specs.Prelude.{◌≡◌, ℕ, ◌≤◌, List, [], ◌∷◌, ◌++◌, map, length, ◌⊎◌, Option, Some, None, slice_get, slice_set}
+use Rattle.std.specs.List.{All, AllZip}
+use Rattle.wbin.specs.Syntax.{ModuleParts, module_of}
+use Rattle.wstore.specs.Store.{Store}
+use Rattle.wmach.specs.declared.export.Export.{Export}
+use Rattle.wmach.specs.declared.export.Export.TheVariants as export
+use Rattle.wmach.specs.declared.outcome.Outcome.{Outcome}
+use Rattle.wmach.specs.Call.{MachineState, called_function}
+use Rattle.whost.specs.Calls.{CallsFromImage}
+use Rattle.whost.specs.Image.{IsImage}
+use Rattle.plugin.specs.declared.member.Member.{Member}
+use Rattle.plugin.specs.declared.verdict.FilterVerdict.{FilterVerdict}
+use Rattle.plugin.specs.declared.verdict.FilterVerdict.TheVariants as filter
+use Rattle.plugin.specs.declared.verdict.ScoreVerdict.{ScoreVerdict}
+use Rattle.plugin.specs.declared.verdict.ScoreVerdict.TheVariants as score
+use Rattle.plugin.specs.Verdict.{filter_said, score_said}
+use Rattle.plugin.specs.RuleSet.{RuleSet}
+use Rattle.plugin.specs.Plugins.{Configured, IsWeight}
+
+-- A plugin that is ready to be asked: how much its score counts, the fuel of each call, its module, and the image from which
+-- each call begins. What its instance's store is between two calls isn't seen, since no call can tell it.
+pub record Ready : Type 0 where
+  pub weight : ℕ
+  pub fuel : ℕ
+  pub content : ModuleParts
+  pub image : Store
+
+-- its instance, as it is before its first call
+abbrev pub at_image : Ready → MachineState
+at_image plugin = record { content = plugin.content; store = plugin.image; image = plugin.image }
+
+-- the plugin has this to be called
+abbrev pub called : Ready → Export → Option ℕ
+called plugin export = called_function (module_of plugin.content) export
+
+-- A call of the plugin, which begins from its image with these records, ends with this outcome.
+pub record Ends (plugin : Ready) (export : Export) (pod node : List ℕ) (outcome : Outcome) : Type 0 where
+  pub after : MachineState
+  pub calls : CallsFromImage (at_image plugin) export (record { pod = pod; node = node }) plugin.fuel outcome after
+
+-- What a plugin says of a pod and a node: what is said by how its call ends, or, where it has nothing to be called, this.
+abbrev pub Says : {Verdict : Type 0} → Ready → Export → (without : Verdict) → (said : Outcome → Verdict) → (pod node : List ℕ) → Verdict → Type 0
+Says plugin export without said pod node verdict =
+    ((called plugin export ≡ None) × (verdict ≡ without))
+    ⊎ ((outcome : Outcome) × Ends plugin export pod node outcome × (verdict ≡ said outcome))
+
+-- its filter says this; a plugin without one lets the node pass
+abbrev pub FilterSays : Ready → (pod node : List ℕ) → FilterVerdict → Type 0
+FilterSays plugin pod node verdict = Says plugin export.Filter filter.Passes filter_said pod node verdict
+
+-- its score says this; a plugin without one gives 0
+abbrev pub ScoreSays : Ready → (pod node : List ℕ) → ScoreVerdict → Type 0
+ScoreSays plugin pod node verdict = Says plugin export.Score (score.Good 0) score_said pod node verdict
+
+-- what the plugins of a kit say, each at its place
+abbrev pub rules_of : List Ready → RuleSet
+rules_of kit = record {
+  weights = map (λ p. p.weight) kit;
+  Filters = λ place pod node verdict. (p : Ready) × (slice_get kit place ≡ Some p) × FilterSays p pod node verdict;
+  Scores = λ place pod node verdict. (p : Ready) × (slice_get kit place ≡ Some p) × ScoreSays p pod node verdict;
+}
+
+-- a plugin that is ready is this one, from its image
+pub record IsReadyOf (plugin : Configured) (ready : Ready) : Type 0 where
+  pub weight : ready.weight ≡ plugin.weight
+  pub fuel : ready.fuel ≡ plugin.fuel
+  pub content : ready.content ≡ plugin.content
+  pub image : IsImage (module_of plugin.content) plugin.fuel ready.image
+
+-- a kit of the plugins has each of them ready, in their order
+abbrev pub IsKitOf : List Configured → List Ready → Type 0
+IsKitOf plugins kit = AllZip IsReadyOf plugins kit
+
+-- what a member of a kit is seen as, whatever its instance's store
+abbrev pub ready : Member → Ready
+ready m = record { weight = m.weight; fuel = m.fuel; content = m.instance.content; image = m.instance.image }
+
+-- there is one more member, behind the others, and it is this plugin
+pub record OneMoreReady (plugin : Configured) (old new : List Member) : Type 0 where
+  pub member : Member
+  pub joined : new ≡ old ++ member ∷ []
+  pub is : IsReadyOf plugin (ready member)
+  pub weight : IsWeight member.weight
+
+-- there are at most 16 members, and each one's score counts 1 to 10 times
+pub record AreMembers (members : List Member) : Type 0 where
+  pub most : length members ≤ 16
+  pub weights : All (λ m. IsWeight m.weight) members
+
+-- Of all members only the one at a place has changed, and of it only its instance's store.
+pub record OnlyItsStore (place : ℕ) (old new : List Member) : Type 0 where
+  pub member : Member
+  pub there : slice_get old place ≡ Some member
+  pub store : Store
+  pub others : new ≡ slice_set old place (record member { instance = record member.instance { store = store } })

@@ -1,0 +1,8 @@
+pub mod Verdict
+pub mod RuleSet
+pub mod Plugins
+pub mod Entries
+pub mod Refused
+pub mod Kit
+pub mod OneAnswer
+pub mod Laws

@@ -1,0 +1,24 @@
+-- What a site's rules say, rule by rule in the order in which they are configured.
+use Rattle.std.specs.Prelude.{◌≡◌, ℕ, List, []}
+use Rattle.plugin.specs.declared.verdict.FilterVerdict.{FilterVerdict}
+use Rattle.plugin.specs.declared.verdict.ScoreVerdict.{ScoreVerdict}
+
+-- A rule is told of a pod and a node by their records. A filter that a rule doesn't have passes every node, a score gives 0.
+pub record RuleSet : Type 1 where
+  -- how much each rule's score counts: there are as many rules as weights
+  pub weights : List ℕ
+  -- the filter of the rule at this place says this
+  pub Filters : (place : ℕ) → (pod node : List ℕ) → FilterVerdict → Type 0
+  -- its score says this
+  pub Scores : (place : ℕ) → (pod node : List ℕ) → ScoreVerdict → Type 0
+
+-- of one pod and one node a filter says one thing, and so does a score
+pub record SayOneThing (rules : RuleSet) : Type 0 where
+  pub filter : (place : ℕ) (pod node : List ℕ) (one other : FilterVerdict) →
+      rules.Filters place pod node one → rules.Filters place pod node other → one ≡ other
+  pub score : (place : ℕ) (pod node : List ℕ) (one other : ScoreVerdict) →
+      rules.Scores place pod node one → rules.Scores place pod node other → one ≡ other
+
+-- no rules, of which nothing is said
+abbrev pub no_rules : RuleSet
+no_rules = record { weights = []; Filters = λ place pod node said. ⊥; Scores = λ place pod node said. ⊥ }

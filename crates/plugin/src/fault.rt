@@ -1,0 +1,55 @@
+//! Why a plugin isn't configured, and why there is no kit.
+ghost use Rattle.std.specs.Prelude.{◌≡◌, codes};
+ghost use Rattle.plugin.specs.Refused.{number_of, name_of};
+
+use quant::Name;
+use thiserror::Error;
+use whost::InstanceFault;
+
+/// What keeps a plugin from being added to those that are configured.
+#[derive(Clone, Copy, PartialEq, Eq, Debug, Error)]
+pub enum AddFault {
+    /// One of this name is configured already.
+    #[error("{} {}", self.number(), self.name())]
+    Twice,
+    /// As many are configured as may be. None of them has this name.
+    #[error("{} {}", self.number(), self.name())]
+    Full,
+    /// Memory ran out.
+    #[error("{} {}", self.number(), self.name())]
+    NoMemory,
+}
+
+/// Of all plugins, in the order in which they are configured, the first of which no instance can be made, and why.
+#[derive(PartialEq, Eq, Debug, Drop, Error)]
+#[error("{} {}", self.plugin.as_str(), self.fault)]
+pub struct KitFault {
+    /// The plugin's name.
+    pub plugin: Name,
+    /// What keeps its module from being made an instance.
+    pub fault: InstanceFault,
+}
+
+impl AddFault {
+    /// The fault's number.
+    pub fn number(self) -> u8
+        ensures { result ≡ number_of self }
+    {
+        match self {
+            AddFault::Twice => 1,
+            AddFault::Full => 2,
+            AddFault::NoMemory => 3,
+        }
+    }
+
+    /// The fault's name: the variant as it is written.
+    pub fn name(self) -> &'static str
+        ensures { result.now ≡ name_of self }
+    {
+        match self {
+            AddFault::Twice => "Twice",
+            AddFault::Full => "Full",
+            AddFault::NoMemory => "NoMemory",
+        }
+    }
+}

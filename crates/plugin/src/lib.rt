@@ -1,0 +1,27 @@
+//! What a site's own rules say of a node: verdicts, what a set of rules promises, and kits, which are the rules of a site's
+//! plugins.
+//!
+//! A rule is asked of a pod and a node by their records. Its verdicts carry all that may be told of them: no number of a module
+//! travels above this crate but as what it means. `Plugins` are the modules that a site configures, in order; a `Kit` of them has
+//! one instance of each, belongs to one thread, and can be moved to another.
+#![tactic(auto)]
+
+mod fault;
+mod kit;
+mod laws;
+mod member;
+mod no_rules;
+mod plugins;
+mod rules;
+mod verdict;
+
+pub use fault::{AddFault, KitFault};
+pub use kit::Kit;
+pub use laws::kits_are_alike;
+pub use no_rules::NoRules;
+pub use plugins::{MAX_FUEL, MAX_PLUGINS, MAX_WEIGHT, Plugin, Plugins};
+pub use rules::Rules;
+pub use verdict::{Cause, FilterVerdict, Rejection, ScoreVerdict, filter_verdict, score_verdict};
+
+#[cfg(test)]
+mod tests;
