@@ -1,0 +1,89 @@
+-- What is known of the rules that were asked, one after the other.
+use Rattle.std.proofs.Common.{◌≡◌, ℕ, ◌+◌, ◌*◌, ◌≤◌, List, [], ◌∷◌, ◌++◌, length, Some, None, Ok, MatchOption, slice_get, get_or, refl, ap, sym, ◌∙◌, subst, arith, length-append}
+use Rattle.std.proofs.lemmas.List.{get_or_append_left, get_or_push}
+use Rattle.std.proofs.lemmas.Nat.{mul-le}
+use borrow.Author.Count.{below_more}
+use Rattle.plugin.specs.RuleSet.{RuleSet}
+use Rattle.plugin.specs.declared.verdict.ScoreVerdict.TheVariants as score
+use Rattle.quant.specs.declared.objects.Pod.{Pod}
+use Rattle.fit.specs.Score.{least_allocated_score}
+use Rattle.taints.specs.Tolerance.{prefer_not}
+use Rattle.desk.specs.Shown.{Shown}
+use Rattle.choose.specs.declared.decision.Verdict.{Verdict}
+use Rattle.choose.specs.declared.decision.Verdict.TheVariants.{Rejected, Passes}
+use Rattle.choose.specs.Verdict.{AreScores, weighted, built_in, ByRules, HasVerdict}
+
+-- the scores of the rules before a place are good, and this is their weighted sum
+pub record GoodBefore (rules : RuleSet) (pod node : List ℕ) (place sum : ℕ) : Type 0 where
+  pub scores : List ℕ
+  pub many : length scores ≡ place
+  pub are : AreScores rules pod node scores
+  pub adds : sum ≡ weighted rules.weights scores
+
+-- where no score is known, nothing is added
+pub nothing : (weights : List ℕ) → 0 ≡ weighted weights []
+nothing [] = refl
+nothing (w ∷ ws) = refl
+
+pub good_before_none : (rules : RuleSet) (pod node : List ℕ) → GoodBefore rules pod node 0 0
+good_before_none rules pod node = record {
+  scores = [];
+  many = refl;
+  are = λ k below. absurd (omega (arith, below));
+  adds = nothing rules.weights;
+}
+
+-- one score more adds it as often as its rule's weight says
+weighted_push : (weights scores : List ℕ) (w s : ℕ) → slice_get weights (length scores) ≡ Some w → weighted weights (scores ++ s ∷ []) ≡ weighted weights scores + w * s
+weighted_push [] [] w s at = cc
+weighted_push [] (x ∷ scores) w s at = cc
+weighted_push (v ∷ weights) [] w s at =
+    let e : v ≡ w = cc in
+    let none : 0 ≡ weighted weights [] = nothing weights in
+    ap (λ x. x * s + weighted weights []) e ∙ omega (arith, none)
+weighted_push (v ∷ weights) (x ∷ scores) w s at =
+    let more : weighted weights (scores ++ s ∷ []) ≡ weighted weights scores + w * s = weighted_push weights scores w s at in
+    omega (arith, more)
+
+-- one good score more
+are_push : (rules : RuleSet) (pod node : List ℕ) (scores : List ℕ) (s : ℕ) → AreScores rules pod node scores → rules.Scores (length scores) pod node (score.Good s) → AreScores rules pod node (scores ++ s ∷ [])
+are_push rules pod node scores s are says = λ k below.
+    below_more (λ n. rules.Scores n pod node (score.Good (get_or (scores ++ s ∷ []) n 0))) (length scores)
+    (λ n lower. subst (λ v. rules.Scores n pod node (score.Good v)) (sym (get_or_append_left scores (s ∷ []) 0 n lower)) (are n lower))
+    (subst (λ v. rules.Scores (length scores) pod node (score.Good v)) (sym (get_or_push scores s 0 (length scores) refl)) says)
+    k (omega (arith, below, length-append scores (s ∷ [])))
+
+pub good_before_more : (rules : RuleSet) (pod node : List ℕ) (place sum w s : ℕ) → GoodBefore rules pod node place sum → slice_get rules.weights place ≡ Some w → rules.Scores place pod node (score.Good s) → GoodBefore rules pod node (place + 1) (sum + w * s)
+good_before_more rules pod node place sum w s before at says = record {
+  scores = before.scores ++ s ∷ [];
+  many = simp length-append (omega (arith, before.many));
+  are = are_push rules pod node before.scores s before.are (subst (λ n. rules.Scores n pod node (score.Good s)) (sym before.many) says);
+  adds = omega (arith, before.adds, weighted_push rules.weights before.scores w s (rw before.many at));
+}
+
+-- a weight and a good score make at most 1,000
+pub product_within : (w s : ℕ) → w ≤ 10 → s ≤ 100 → w * s ≤ 1000
+product_within w s few good = mul-le w s 10 100 few good
+
+-- where no built-in filter rejects a node, the rules decide
+pub by_rules : (rules : RuleSet) (pod : Pod) (shown : Shown) (verdict : Verdict) → built_in shown pod ≡ None → ByRules rules pod shown verdict → HasVerdict rules pod shown verdict
+by_rules rules pod shown verdict none by =
+    subst (λ found. MatchOption found (ByRules rules pod shown verdict) (λ reason. verdict ≡ Rejected reason)) (sym none) by
+
+-- where there is no rule, a node that no built-in filter rejects passes with nothing added
+pub without_rules : (rules : RuleSet) (pod : Pod) (shown : Shown) (verdict : Verdict) → length rules.weights ≡ 0 →
+    verdict ≡ Passes (prefer_not shown.node pod) (least_allocated_score shown.node.allocatable shown.used pod.request) → ByRules rules pod shown verdict
+without_rules rules pod shown verdict none is = record {
+  filtered = None;
+  are = λ k below. absurd (omega (arith, below, none));
+  is = record {
+    scored = Ok 0;
+    are = record {
+      scores = [];
+      all = sym none;
+      are = λ k below. absurd (omega (arith, below));
+      adds = nothing rules.weights;
+    };
+    is = is ∙ ap (λ score. Passes (prefer_not shown.node pod) score) (omega arith);
+  };
+}

@@ -1,0 +1,11 @@
+use Rattle.std.proofs.Common.{◌≡◌, ◌≤◌, length}
+use Rattle.choose.specs.Verdict.{PassBefore}
+use Rattle.choose.proofs.asking.filtered.Given as goal
+
+abbrev pub invariant-loop-place : goal.invariant-loop-place
+invariant-loop-place g l = record {
+  stays : l.rules ≡ l.fn.rules;
+  last : l.place-end ≡ length (g.R.Rules.answers l.fn.rules).weights;
+  within : l.place ≤ l.place-end;
+  before : PassBefore (g.R.Rules.answers l.fn.rules) l.place l.records.pod l.records.node;
+}

@@ -1,0 +1,13 @@
+use Rattle.std.proofs.Common.{◌≡◌, ◌≤◌, ◌*◌, length}
+use Rattle.choose.proofs.AskedRules.{GoodBefore}
+use Rattle.choose.proofs.asking.scored.Given as goal
+
+abbrev pub invariant-loop-place : goal.invariant-loop-place
+invariant-loop-place g l = record {
+  stays : l.rules ≡ l.fn.rules;
+  last : l.place-end ≡ length (g.R.Rules.answers l.fn.rules).weights;
+  within : l.place ≤ l.place-end;
+  few : l.place-end ≤ 16;
+  small : l.sum ≤ 1000 * l.place;
+  before : GoodBefore (g.R.Rules.answers l.fn.rules) l.records.pod l.records.node l.place l.sum;
+}

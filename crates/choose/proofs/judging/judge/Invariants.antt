@@ -1,0 +1,14 @@
+use Rattle.std.proofs.Common.{◌≡◌, length, map, take}
+use Rattle.desk.specs.Shown.{shown}
+use Rattle.whost.specs.Record.{pod_bytes}
+use Rattle.choose.specs.Choice.{AreVerdicts}
+use Rattle.choose.proofs.judging.judge.Given as goal
+
+abbrev pub invariant-loop-at : goal.invariant-loop-at
+invariant-loop-at g l = record {
+  last : l.at-end ≡ length l.rows;
+  places : length l.verdicts ≡ length l.rows;
+  stays : l.rules ≡ l.fn.rules;
+  told : l.records.pod ≡ pod_bytes l.pod;
+  are : AreVerdicts (g.R.Rules.answers l.fn.rules) l.pod (map shown (take l.at l.rows)) (take l.at l.verdicts);
+}

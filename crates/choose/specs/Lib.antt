@@ -1,0 +1,4 @@
+pub mod Verdict
+pub mod Choice
+pub mod Finding
+pub mod Laws

@@ -1,0 +1,126 @@
+-- What is decided of one node. It depends on that node, the pod and the rules alone.
+use Rattle.std.specs.Prelude.{◌≡◌, ℕ, ◌+◌, ◌*◌, ◌<◌, List, [], ◌∷◌, length, Option, Some, None, Result, Ok, Err, MatchOption, slice_index}
+use Rattle.quant.specs.declared.objects.Pod.{Pod}
+use Rattle.fit.specs.declared.room.Shortage.{Shortage}
+use Rattle.fit.specs.declared.room.Shortage.TheVariants as shortage
+use Rattle.fit.specs.Fit.{fit_of}
+use Rattle.fit.specs.Score.{least_allocated_score}
+use Rattle.taints.specs.declared.tolerance.Rejection.{Rejection as TaintRejection}
+use Rattle.taints.specs.declared.tolerance.Rejection.TheVariants as taint
+use Rattle.taints.specs.Tolerance.{rejection, prefer_not}
+use Rattle.desk.specs.Shown.{Shown}
+use Rattle.whost.specs.Record.{pod_bytes, node_bytes}
+use Rattle.plugin.specs.RuleSet.{RuleSet}
+use Rattle.plugin.specs.declared.verdict.Rejection.{Rejection}
+use Rattle.plugin.specs.declared.verdict.Rejection.TheVariants.{Unschedulable, UnschedulableAndUnresolvable}
+use Rattle.plugin.specs.declared.verdict.Cause.{Cause}
+use Rattle.plugin.specs.declared.verdict.FilterVerdict.{FilterVerdict}
+use Rattle.plugin.specs.declared.verdict.FilterVerdict.TheVariants as filter
+use Rattle.plugin.specs.declared.verdict.ScoreVerdict.TheVariants as score
+use Rattle.choose.specs.declared.decision.Reason.{Reason}
+use Rattle.choose.specs.declared.decision.Reason.TheVariants.{Marked, Taint, Cpu, Memory, Pods, Plugin, Final}
+use Rattle.choose.specs.declared.decision.Verdict.{Verdict}
+use Rattle.choose.specs.declared.decision.Verdict.TheVariants.{Rejected, Errs, Passes}
+
+-- the resource of which there is too little
+abbrev pub too_little : Result (Unit {0}) Shortage → Option Reason
+too_little (Ok fits) = None
+too_little (Err shortage.Cpu) = Some Cpu
+too_little (Err shortage.Memory) = Some Memory
+too_little (Err shortage.Pods) = Some Pods
+
+-- the first of the built-in filters that rejects a node: its mark, its taints, and then what it has for pods
+abbrev pub first_reason : Option TaintRejection → Result (Unit {0}) Shortage → Option Reason
+first_reason (Some taint.Marked) room = Some Marked
+first_reason (Some taint.Tainted) room = Some Taint
+first_reason None room = too_little room
+
+unfoldable pub built_in : Shown → Pod → Option Reason
+built_in shown pod = first_reason (rejection shown.node pod) (fit_of shown.node.allocatable shown.used pod.request)
+
+-- why a rule's filter rejects
+abbrev pub reason_of : Rejection → Reason
+reason_of Unschedulable = Plugin
+reason_of UnschedulableAndUnresolvable = Final
+
+-- what a filter's answer makes of a node, where it doesn't pass
+abbrev pub stopped_by : (place : ℕ) → FilterVerdict → Option Verdict
+stopped_by place filter.Passes = None
+stopped_by place (filter.Rejects how) = Some (Rejected (reason_of how))
+stopped_by place (filter.Errs why) = Some (Errs place why)
+
+-- the filters of all rules before a place pass a node
+abbrev pub PassBefore : RuleSet → (place : ℕ) → (pod node : List ℕ) → Type 0
+PassBefore rules place pod node = (k : ℕ) → k < place → rules.Filters k pod node filter.Passes
+
+-- the first rule whose filter doesn't pass a node
+pub record StopsAt (rules : RuleSet) (pod node : List ℕ) (verdict : Verdict) : Type 0 where
+  pub place : ℕ
+  pub there : place < length rules.weights
+  pub before : PassBefore rules place pod node
+  pub said : FilterVerdict
+  pub says : rules.Filters place pod node said
+  pub makes : stopped_by place said ≡ Some verdict
+
+-- what the filters of the rules make of a node: nothing where all of them pass
+abbrev pub Filtered : RuleSet → (pod node : List ℕ) → Option Verdict → Type 0
+Filtered rules pod node None = PassBefore rules (length rules.weights) pod node
+Filtered rules pod node (Some verdict) = StopsAt rules pod node verdict
+
+-- these are the scores of the first rules, all of them good
+abbrev pub AreScores : RuleSet → (pod node : List ℕ) → (scores : List ℕ) → Type 0
+AreScores rules pod node scores = (k : ℕ) → k < length scores → rules.Scores k pod node (score.Good (slice_index scores k))
+
+-- each score as often as its rule's weight says, added up
+abbrev pub weighted : (weights scores : List ℕ) → ℕ
+weighted [] scores = 0
+weighted (w ∷ ws) [] = 0
+weighted (w ∷ ws) (s ∷ ss) = w * s + weighted ws ss
+
+-- all rules give good scores, and this is their weighted sum
+pub record ScoresSum (rules : RuleSet) (pod node : List ℕ) (sum : ℕ) : Type 0 where
+  pub scores : List ℕ
+  pub all : length scores ≡ length rules.weights
+  pub are : AreScores rules pod node scores
+  pub adds : sum ≡ weighted rules.weights scores
+
+-- the first rule whose score isn't good
+pub record ScoreErrs (rules : RuleSet) (pod node : List ℕ) (verdict : Verdict) : Type 0 where
+  pub before : List ℕ
+  pub there : length before < length rules.weights
+  pub are : AreScores rules pod node before
+  pub why : Cause
+  pub says : rules.Scores (length before) pod node (score.Errs why)
+  pub makes : verdict ≡ Errs (length before) why
+
+-- what the scores of the rules make of a node that all filters pass
+abbrev pub Scored : RuleSet → (pod node : List ℕ) → Result ℕ Verdict → Type 0
+Scored rules pod node (Ok sum) = ScoresSum rules pod node sum
+Scored rules pod node (Err verdict) = ScoreErrs rules pod node verdict
+
+-- a node that passes: its untolerated taints `PreferNoSchedule`, and its score for free room with what the rules add
+abbrev pub passing : Shown → Pod → ℕ → Verdict
+passing shown pod sum =
+    Passes (prefer_not shown.node pod) (least_allocated_score shown.node.allocatable shown.used pod.request + sum)
+
+-- the verdict that the scores make
+abbrev pub made_by : Shown → Pod → Result ℕ Verdict → Verdict
+made_by shown pod (Ok sum) = passing shown pod sum
+made_by shown pod (Err verdict) = verdict
+
+-- the verdict on a node that all filters pass: the first score that isn't good, else it passes
+pub record ByScores (rules : RuleSet) (pod : Pod) (shown : Shown) (verdict : Verdict) : Type 0 where
+  pub scored : Result ℕ Verdict
+  pub are : Scored rules (pod_bytes pod) (node_bytes shown.node shown.used) scored
+  pub is : verdict ≡ made_by shown pod scored
+
+-- the verdict on a node that no built-in filter rejects: the first filter of the rules that doesn't pass, else by the scores
+pub record ByRules (rules : RuleSet) (pod : Pod) (shown : Shown) (verdict : Verdict) : Type 0 where
+  pub filtered : Option Verdict
+  pub are : Filtered rules (pod_bytes pod) (node_bytes shown.node shown.used) filtered
+  pub is : MatchOption filtered (ByScores rules pod shown verdict) (λ stopped. verdict ≡ stopped)
+
+-- the verdict on a node
+abbrev pub HasVerdict : RuleSet → Pod → Shown → Verdict → Type 0
+HasVerdict rules pod shown verdict =
+    MatchOption (built_in shown pod) (ByRules rules pod shown verdict) (λ reason. verdict ≡ Rejected reason)

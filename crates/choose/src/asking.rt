@@ -1,0 +1,51 @@
+//! What the rules make of a node.
+ghost use Rattle.std.specs.Prelude.{◌≡◌, ◌≤◌, IfOk};
+ghost use Rattle.choose.specs.Verdict.{Filtered, Scored, reason_of};
+
+use crate::decision::{Reason, Verdict};
+use plugin::{FilterVerdict, Rejection, Rules, ScoreVerdict};
+use whost::Records;
+
+// Why a rule's filter rejects.
+fn reason_of(how: Rejection) -> Reason
+    ensures { result ≡ reason_of how }
+{
+    match how {
+        Rejection::Unschedulable => Reason::Plugin,
+        Rejection::UnschedulableAndUnresolvable => Reason::Final,
+    }
+}
+
+/// What the filters of the rules make of the node whose record is shown, in their order: the first that doesn't pass ends it.
+pub fn filtered<R: Rules>(records: &Records, rules: &mut R) -> Option<Verdict>
+    ensures is { Filtered (R.answers rules.old) records.now.pod records.now.node result }
+    ensures stays { rules.new ≡ rules.old }
+{
+    for place in 0..rules.count() {
+        match rules.filter(place, records) {
+            FilterVerdict::Passes => {}
+            FilterVerdict::Rejects(how) => return Some(Verdict::Rejected(reason_of(how))),
+            FilterVerdict::Errs(why) => return Some(Verdict::Errs(place, why)),
+        }
+    }
+    None
+}
+
+/// What the scores of the rules add to the node whose record is shown, each as often as its weight says, or the verdict where
+/// one isn't good.
+pub fn scored<R: Rules>(records: &Records, rules: &mut R) -> Result<u16, Verdict>
+    ensures is { Scored (R.answers rules.old) records.now.pod records.now.node result }
+    ensures stays { rules.new ≡ rules.old }
+    ensures few { IfOk result (λ sum. sum ≤ 16000) }
+{
+    let mut sum = 0;
+    for place in 0..rules.count() {
+        match rules.score(place, records) {
+            ScoreVerdict::Good(score) => {
+                sum += u16::from(rules.weight(place)) * u16::from(score);
+            }
+            ScoreVerdict::Errs(why) => return Err(Verdict::Errs(place, why)),
+        }
+    }
+    Ok(sum)
+}

@@ -1,0 +1,62 @@
+//! What is decided of a node, and of a pod.
+use plugin::Cause;
+use quant::Name;
+
+/// The first reason for which a node isn't for a pod.
+#[derive(Clone, Copy, PartialEq, Eq, Debug)]
+pub enum Reason {
+    /// It is marked unschedulable.
+    Marked,
+    /// It has a taint that the pod doesn't tolerate.
+    Taint,
+    /// It has too little CPU.
+    Cpu,
+    /// It has too little memory.
+    Memory,
+    /// It has no place for one more pod.
+    Pods,
+    /// A rule answered `Unschedulable`.
+    Plugin,
+    /// A rule answered `UnschedulableAndUnresolvable`.
+    Final,
+}
+
+/// What is decided of a node.
+#[derive(Clone, Copy, PartialEq, Eq, Debug)]
+pub enum Verdict {
+    /// It isn't for the pod.
+    Rejected(Reason),
+    /// The rule at this place said nothing of it, for this cause.
+    Errs(usize, Cause),
+    /// It is for the pod: how many of its taints `PreferNoSchedule` the pod doesn't tolerate, and the node's score but for
+    /// these taints, which count beside those of all nodes.
+    Passes(u8, u16),
+}
+
+/// What stands in a place for a verdict before the node is judged.
+pub const UNJUDGED: Verdict = Verdict::Rejected(Reason::Marked);
+
+/// How many nodes were rejected for each first reason.
+#[derive(Clone, Copy, PartialEq, Eq, Debug)]
+pub struct Counts {
+    pub marked: usize,
+    pub taint: usize,
+    pub cpu: usize,
+    pub memory: usize,
+    pub pods: usize,
+    /// Those of which a rule answered `Unschedulable`.
+    pub plugin: usize,
+    /// Those of which a rule answered `UnschedulableAndUnresolvable`.
+    pub plugin_final: usize,
+}
+
+/// What is decided of a pod.
+#[derive(PartialEq, Eq, Debug, Drop)]
+pub enum Decision {
+    /// The node that the pod goes to, and its total.
+    Node(Name, u32),
+    /// Every node is rejected.
+    Unschedulable(Counts),
+    /// The rule at this place said nothing of this node, for this cause.
+    PluginError(usize, Name, Cause),
+}
