@@ -1,0 +1,14 @@
+-- Kits that are as good as one another.
+use Rattle.std.specs.List.{Contains}
+use Rattle.std.specs.Prelude.{List}
+use Rattle.quant.specs.declared.objects.Pod.{Pod}
+use Rattle.desk.specs.Shown.{Shown}
+use Rattle.plugin.specs.RuleSet.{RuleSet}
+use Rattle.choose.specs.declared.decision.Verdict.{Verdict}
+use Rattle.choose.specs.Verdict.{HasVerdict}
+
+-- the verdict that one of the kits has on a node is the verdict of each of them
+abbrev pub JudgeAlike : {Kit : Type 0} → (answers : Kit → RuleSet) → (kits : List Kit) → Type 0
+JudgeAlike answers kits =
+    (one other : _) (pod : Pod) (shown : Shown) (verdict : Verdict) → Contains kits one → Contains kits other →
+    HasVerdict (answers one) pod shown verdict → HasVerdict (answers other) pod shown verdict

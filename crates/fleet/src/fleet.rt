@@ -1,0 +1,128 @@
+//! A fleet: kits, and the workers that decide with them.
+ghost use Rattle.std.specs.Prelude.{◌≡◌, ◌<◌, ◌≤◌, [], ◌∷◌, length, vec_len, map, IfOk, OnErr, OnOk};
+ghost use Rattle.std.specs.List.{All};
+ghost use Rattle.desk.specs.Shown.{shown};
+ghost use Rattle.choose.specs.Choice.{Choice};
+ghost use Rattle.fleet.specs.Alike.{JudgeAlike};
+
+#[cfg(test)]
+mod tests;
+
+use crate::gate::Gate;
+use crate::pieces::{Work, judge_pieces};
+use choose::{Decision, NoMemory, UNJUDGED, Verdict, decide};
+use desk::{Row, Snapshot};
+use plugin::Rules;
+use quant::Pod;
+use std::alloc::Global;
+use std::marker::Model;
+use std::thread::Threads;
+
+/// The most kits of a fleet.
+pub const MAX_KITS: usize = 64;
+
+/// Kits that judge alike, one a worker, and the room for the verdicts of a decision, which stays between two decisions.
+#[derive(Drop)]
+pub struct Fleet<K: Rules + Send> {
+    kits: Vec<K>,
+    verdicts: Vec<Verdict>,
+}
+
+impl<K: Rules + Send> Model for Fleet<K> {
+    ghost use Rattle.std.specs.Prelude.{◌<◌, ◌≤◌, length, vec_capacity};
+    ghost use Rattle.fleet.specs.Alike.{JudgeAlike};
+    ghost use Rattle.fleet.specs.Team.{Team};
+
+    ghost Value = { Team K };
+
+    ghost view = { λ f. record { kits = f.kits.items; room = vec_capacity f.verdicts } };
+
+    ghost invariant = { λ f. (0 < length f.kits.items) × (length f.kits.items ≤ 64) × JudgeAlike K.answers f.kits.items };
+}
+
+impl<K: Rules + Send + Drop> Fleet<K> {
+    /// A fleet of one kit, which decides on one thread.
+    ///
+    /// Errors: `NoMemory` where there is none for the list of one kit.
+    #[tactic(auto, using(crate::proofs::Alike::one_alike))]
+    pub fn of_one(alloc: Global, kit: K) -> Result<Fleet<K>, NoMemory>
+        ensures { IfOk result (λ fleet. fleet.kits ≡ kit ∷ []) }
+    {
+        let mut kits = Vec::new(alloc);
+        if kits.push(kit).is_err() {
+            return Err(NoMemory);
+        }
+        Ok(Fleet::new(alloc, kits))
+    }
+}
+
+impl<K: Rules + Send> Fleet<K> {
+    /// A fleet of 1 to 64 kits that judge alike, as those of the same plugins do. It takes no memory yet.
+    pub fn new(alloc: Global, kits: Vec<K>) -> Fleet<K>
+        requires some { 0 < vec_len kits }
+        requires most { vec_len kits ≤ MAX_KITS }
+        requires alike { JudgeAlike K.answers kits.items }
+        ensures { result.kits ≡ kits.items }
+    {
+        Fleet {
+            kits,
+            verdicts: Vec::new(alloc),
+        }
+    }
+
+    /// Where a pod goes, by a look at the nodes: the choice that each of the kits would make alone.
+    ///
+    /// The nodes are cut into as many pieces as there are kits, of which each is judged with a kit of its own: the first one here,
+    /// and each other one that has a node in a thread of its own, where one can be started. Then it is decided among all nodes.
+    ///
+    /// Errors: `NoMemory` where the look has more nodes than any before and there is no memory for a verdict each. Nothing is
+    /// decided then, and the fleet can be used again.
+    pub fn decide<R: Threads + Sync, G: Gate + Sync>(
+        &mut self,
+        rt: &R,
+        snapshot: &Snapshot,
+        pod: &Pod,
+        gate: &G,
+    ) -> Result<Decision, NoMemory>
+        ensures chosen { IfOk result (λ decision. All (λ kit. Choice (K.answers kit) snapshot.now pod.now decision) self.old.kits) }
+        ensures some { 0 < length self.old.kits }
+        ensures kits { self.new.kits ≡ self.old.kits }
+        ensures no_memory { OnErr result (self.old.room < length snapshot.now) }
+        ensures room { OnOk result (length snapshot.now ≤ self.new.room) }
+        ensures kept { self.old.room ≤ self.new.room }
+    {
+        self.decide_among(rt, snapshot.rows(), pod, gate)
+    }
+
+    // The decision among these nodes.
+    fn decide_among<R: Threads + Sync, G: Gate + Sync>(
+        &mut self,
+        rt: &R,
+        rows: &[Row],
+        pod: &Pod,
+        gate: &G,
+    ) -> Result<Decision, NoMemory>
+        ensures chosen { IfOk result (λ decision. All (λ kit. Choice (K.answers kit) (map shown rows.now) pod.now decision) self.old.kits) }
+        ensures some { 0 < length self.old.kits }
+        ensures kits { self.new.kits ≡ self.old.kits }
+        ensures no_memory { OnErr result (self.old.room < length rows.now) }
+        ensures room { OnOk result (length rows.now ≤ self.new.room) }
+        ensures kept { self.old.room ≤ self.new.room }
+    {
+        self.verdicts.resize(rows.len(), UNJUDGED)?;
+        let work = Work {
+            rows,
+            pod,
+            gate,
+            pieces: self.kits.len(),
+        };
+        judge_pieces(
+            rt,
+            &work,
+            0,
+            self.kits.as_mut_slice(),
+            self.verdicts.as_mut_slice(),
+        );
+        Ok(decide(rows, self.verdicts.as_slice()))
+    }
+}

@@ -1,0 +1,14 @@
+//! Which node a pod goes to, decided by several workers: each judges a piece of the nodes with a kit of its own, and the decision
+//! is the one that any of the kits would make alone.
+#![tactic(auto)]
+
+mod cut;
+mod fleet;
+mod gate;
+mod laws;
+mod pieces;
+
+pub use choose::{Decision, NoMemory};
+pub use fleet::{Fleet, MAX_KITS};
+pub use gate::{Gate, NoGate};
+pub use laws::{most_kits_are_these, pieces_are_all_nodes};
