@@ -1,3 +1,5 @@
+pub mod Cycles
+pub mod Either
 pub mod Known
 pub mod Pieces
 pub mod Progress

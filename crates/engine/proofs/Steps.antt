@@ -1,6 +1,5 @@
 -- Limits are told by their numbers.
-use Rattle.std.proofs.Common.{◌≡◌, ℕ, ◌^◌, ◌≤◌, min, ap, subst, ◌∙◌, lit≤}
-use Rattle.std.proofs.Math.Nat.{min-le_right, min-eq_left}
+use Rattle.std.proofs.Common.{◌≡◌, ℕ, ◌≤◌, ap, subst, ◌∙◌, lit≤}
 use Rattle.std.proofs.Math.Bridge.{le_prop}
 use Rattle.book.specs.declared.limits.Limits.{Limits}
 use Rattle.engine.specs.Answers.{limits}

@@ -1,8 +1,8 @@
 -- What is answered to the lines of a script, by the machine of a desk that has one pass.
-use Rattle.std.specs.Prelude.{ℕ, List, [], ◌∷◌, ◌++◌, Result, Ok, Err}
+use Rattle.std.specs.Prelude.{◌≡◌, ℕ, List, [], ◌∷◌, ◌++◌, ⊤}
 use Rattle.std.specs.List.{flat_map}
 use Rattle.std.proofs.Common.{lit≤}
-use Rattle.quant.specs.declared.event.Event.TheVariants.{NodeSet, NodeGone, PodPending, PodBound, PodGone}
+use Rattle.quant.specs.declared.name.Name.{Name}
 use Rattle.book.specs.declared.limits.Limits.{Limits}
 use Rattle.desk.specs.declared.step.Step.{Step}
 use Rattle.desk.specs.declared.step.Step.TheVariants as steps
@@ -12,10 +12,13 @@ use Rattle.desk.specs.Machine as machine
 use Rattle.desk.specs.Shown.{Shown}
 use Rattle.manifest.specs.declared.command.Command.{Command}
 use Rattle.manifest.specs.declared.command.Command.TheVariants as commands
-use Rattle.manifest.specs.declared.field.Field.TheVariants.{Op}
-use Rattle.manifest.specs.declared.fault.LineFault.{LineFault}
-use Rattle.manifest.specs.declared.fault.LineFault.TheVariants.{BadField}
-use Rattle.engine.specs.Text.{ok_line, refused_line, node_line, places_line, queue_line, clock_line}
+use Rattle.desk.specs.Caller as caller
+use Rattle.plugin.specs.RuleSet.{RuleSet}
+use Rattle.engine.specs.declared.asked.Asked.{Asked}
+use Rattle.engine.specs.declared.asked.Asked.TheVariants as asked
+use Rattle.engine.specs.declared.one_cycle.Cycled.{Cycled}
+use Rattle.engine.specs.CycleAlone.{IsCycleAlone}
+use Rattle.engine.specs.Text.{ok_line, refused_line, node_line, places_line, queue_line, clock_line, cycle_line}
 
 -- the state in which steps are done
 abbrev pub State : Type 0
@@ -29,25 +32,25 @@ limits = record { nodes = 1000; placed = 150000; queued = 10000; few_nodes = lit
 abbrev pub opening : State
 opening = machine.opening limits
 
--- the step that a command asks of the desk, a dump's after its look. The others aren't served yet: their operation is
--- told as one that isn't known
-abbrev pub served : Command → Result Step LineFault
-served (commands.Event (NodeSet version node)) = Ok (steps.Event (NodeSet version node))
-served (commands.Event (NodeGone version name)) = Err (BadField Op)
-served (commands.Event (PodPending version pod)) = Err (BadField Op)
-served (commands.Event (PodBound version uid node request)) = Ok (steps.Event (PodBound version uid node request))
-served (commands.Event (PodGone version uid)) = Err (BadField Op)
-served (commands.Tick now) = Err (BadField Op)
-served commands.Cycle = Err (BadField Op)
-served (commands.BindDone uid ticket) = Err (BadField Op)
-served (commands.Forget uid ticket) = Err (BadField Op)
-served commands.Dump = Ok steps.Count
+-- what a command asks for; a dump is a look, and then its numbers
+abbrev pub served : Command → Asked
+served (commands.Event event) = asked.Step (steps.Event event)
+served (commands.Tick now) = asked.Step (steps.Tick now)
+served commands.Cycle = asked.Cycle
+served (commands.BindDone uid ticket) = asked.Step (steps.BindDone uid ticket)
+served (commands.Forget uid ticket) = asked.Step (steps.Forget uid ticket)
+served commands.Dump = asked.Step steps.Count
+
+-- a moment that is asked for is one that clocks have
+abbrev pub IsTimely : Asked → Type 0
+IsTimely (asked.Step step) = caller.IsTimely step
+IsTimely asked.Cycle = ⊤
 
 -- the state after a step, which is by pass 0; a look changes nothing
 unfoldable pub after : State → Step → State
 after state step = machine.after state 0 step
 
--- the lines that answer a step. No step that a line asks for yet gives a pod or a ticket
+-- the lines that answer a step. No step that a line asks for gives a pod or a ticket: a cycle does
 unfoldable pub reply_lines : Reply → List ℕ
 reply_lines Done = ok_line
 reply_lines Idle = ok_line
@@ -69,7 +72,13 @@ look_lines state _ = []
 unfoldable pub text_of : State → Step → List ℕ
 text_of state step = look_lines state step ++ reply_lines (machine.reply state 0 step)
 
--- the answers to steps, one after another
-abbrev pub answers : State → List Step → List ℕ
-answers state [] = []
-answers state (step ∷ later) = text_of state step ++ answers (after state step) later
+-- what a line asks for is done and answered
+abbrev pub Answered : RuleSet → (names : List Name) → State → Asked → State → List ℕ → Type 0
+Answered rules names s (asked.Step step) s' text = (s' ≡ after s step) × (text ≡ text_of s step)
+Answered rules names s asked.Cycle s' text = (came : Cycled) × IsCycleAlone rules s came s' × (text ≡ cycle_line names came)
+
+-- this is done and answered, and then what is asked later
+abbrev pub AllAnswered : RuleSet → (names : List Name) → State → List Asked → State → List ℕ → Type 0
+AllAnswered rules names s [] s' text = (s' ≡ s) × (text ≡ [])
+AllAnswered rules names s (first ∷ later) s' text =
+    (between : State) × (answer rest : List ℕ) × Answered rules names s first between answer × AllAnswered rules names between later s' rest × (text ≡ answer ++ rest)

@@ -1,31 +1,34 @@
 -- The output of a script.
 use Rattle.std.specs.Prelude.{◌≡◌, ℕ, ◌+◌, ◌==◌, List, [], ◌∷◌, ◌++◌, length, Option, Some, None, Result, Ok, Err, if◌then◌else◌}
 use Rattle.manifest.specs.declared.fault.LineFault.{LineFault}
-use Rattle.desk.specs.declared.step.Step.{Step}
+use Rattle.quant.specs.declared.name.Name.{Name}
+use Rattle.plugin.specs.RuleSet.{RuleSet}
+use Rattle.engine.specs.declared.asked.Asked.{Asked}
 use Rattle.manifest.specs.Line.{meaning}
 use Rattle.manifest.specs.Reading.{◌>>=◌}
 use Rattle.engine.specs.declared.fault.RunFault.{RunFault}
 use Rattle.engine.specs.declared.fault.RunFault.TheVariants.{Line, NoMemory, Read, Write, NoPlace}
 use Rattle.engine.specs.Lines.{lines_of}
-use Rattle.engine.specs.Answers.{State, opening, served, after, text_of, answers}
+use Rattle.engine.specs.Answers.{State, opening, served, Answered, AllAnswered}
+use Rattle.std.specs.Io.KnownBytes.{Appends}
 
 -- what a line asks for: nothing, where it is empty
-unfoldable pub asked_by : List ℕ → Result (Option Step) LineFault
-asked_by line = if length line == 0 then Ok None else (meaning line >>= λ command. served command >>= λ asked. Ok (Some asked))
+unfoldable pub asked_by : List ℕ → Result (Option Asked) LineFault
+asked_by line = if length line == 0 then Ok None else (meaning line >>= λ command. Ok (Some (served command)))
 
 -- what a line asks for, and then what the later ones do; a fault ends it
-abbrev pub asked_then : Result (Option Step) LineFault → List Step → List Step
+abbrev pub asked_then : Result (Option Asked) LineFault → List Asked → List Asked
 asked_then (Ok None) later = later
 asked_then (Ok (Some asked)) later = asked ∷ later
 asked_then (Err fault) later = []
 
 -- what the lines ask for, up to the first faulty one
-abbrev pub asked_in : List (List ℕ) → List Step
+abbrev pub asked_in : List (List ℕ) → List Asked
 asked_in [] = []
 asked_in (line ∷ lines) = asked_then (asked_by line) (asked_in lines)
 
 -- this line and its fault, where it has one
-abbrev pub fault_or : ℕ → Result (Option Step) LineFault → Option (ℕ × LineFault) → Option (ℕ × LineFault)
+abbrev pub fault_or : ℕ → Result (Option Asked) LineFault → Option (ℕ × LineFault) → Option (ℕ × LineFault)
 fault_or number (Ok asked) later = later
 fault_or number (Err fault) later = Some (number, fault)
 
@@ -38,18 +41,38 @@ fault_from number (line ∷ lines) = fault_or number (asked_by line) (fault_from
 unfoldable pub first_fault : List ℕ → Option (ℕ × LineFault)
 first_fault script = fault_from 1 (lines_of script)
 
--- the output of a script: the answers to its lines in order, up to the first faulty one
-unfoldable pub output : List ℕ → List ℕ
-output script = answers opening (asked_in (lines_of script))
+-- the output of a script for these rules, which have these names: the answers to its lines in order, up to the first faulty one
+pub record IsOutput (rules : RuleSet) (names : List Name) (script text : List ℕ) : Type 0 where
+  pub end : State
+  pub answered : AllAnswered rules names opening (asked_in (lines_of script)) end text
+
+-- a beginning of the output: it begins the answers to the first lines, which may be all
+pub record BeginsOutput (rules : RuleSet) (names : List Name) (script front : List ℕ) : Type 0 where
+  pub asked : List Asked
+  pub later : List Asked
+  pub cut : asked_in (lines_of script) ≡ asked ++ later
+  pub end : State
+  pub text : List ℕ
+  pub answered : AllAnswered rules names opening asked end text
+  pub rest : List ℕ
+  pub begins : text ≡ front ++ rest
+
+-- the output of a script is written
+abbrev pub WritesOutput : RuleSet → (names : List Name) → (script : List ℕ) → (old new : Option (List ℕ)) → Type 0
+WritesOutput rules names script old new = (text : List ℕ) × IsOutput rules names script text × Appends old new text
+
+-- a beginning of it is written
+abbrev pub WritesFront : RuleSet → (names : List Name) → (script : List ℕ) → (old new : Option (List ℕ)) → Type 0
+WritesFront rules names script old new = (text : List ℕ) × BeginsOutput rules names script text × Appends old new text
 
 -- what a line asks for is done and answered: nothing, where it is empty
-abbrev pub IsAnswered : Result (Option Step) LineFault → State → State → List ℕ → List ℕ → Type 0
-IsAnswered (Ok None) old new waits later = (new ≡ old) × (later ≡ waits)
-IsAnswered (Ok (Some asked)) old new waits later = (new ≡ after old asked) × (later ≡ waits ++ text_of old asked)
-IsAnswered (Err fault) old new waits later = ⊥
+abbrev pub IsAnswered : RuleSet → (names : List Name) → Result (Option Asked) LineFault → State → State → List ℕ → List ℕ → Type 0
+IsAnswered rules names (Ok None) old new waits later = (new ≡ old) × (later ≡ waits)
+IsAnswered rules names (Ok (Some asked)) old new waits later = (text : List ℕ) × Answered rules names old asked new text × (later ≡ waits ++ text)
+IsAnswered rules names (Err fault) old new waits later = ⊥
 
 -- a run ends at this line by its fault, or for want of memory
-abbrev pub IsLineFault : ℕ → Result (Option Step) LineFault → RunFault → Type 0
+abbrev pub IsLineFault : ℕ → Result (Option Asked) LineFault → RunFault → Type 0
 IsLineFault number asked (Line n fault) = (n ≡ number) × (asked ≡ Err fault)
 IsLineFault number asked NoMemory = Unit {0}
 IsLineFault number asked Read = ⊥

@@ -1,9 +1,17 @@
 -- The lines of the output. Each ends with a newline, and numbers are decimal.
-use Rattle.std.specs.Prelude.{ℕ, List, [], ◌∷◌, ◌++◌, codes, decimal}
+use Rattle.std.specs.Prelude.{ℕ, List, [], ◌∷◌, ◌++◌, codes, decimal, slice_index_or}
+use Rattle.std.specs.Fmt.{signed_decimal}
 use Rattle.quant.specs.declared.amount.Res.{Res}
 use Rattle.quant.specs.declared.objects.Node.{Node}
 use Rattle.book.specs.declared.refusal.Refusal.{Refusal}
 use Rattle.book.specs.Refusal.{number_of, name_of}
+use Rattle.wmach.specs.Trap as trap
+use Rattle.quant.specs.declared.name.Name.{Name}
+use Rattle.plugin.specs.declared.verdict.Cause.{Cause}
+use Rattle.plugin.specs.declared.verdict.Cause.TheVariants as cause
+use Rattle.choose.specs.declared.decision.Counts.{Counts}
+use Rattle.engine.specs.declared.one_cycle.Cycled.{Cycled}
+use Rattle.engine.specs.declared.one_cycle.Cycled.TheVariants as cycled
 
 -- a line of these parts
 abbrev pub line_of : List ℕ → List ℕ
@@ -50,3 +58,50 @@ queue_line active backoff unschedulable inflight =
 -- the clock, and the version of the last accepted event
 abbrev pub clock_line : ℕ → ℕ → List ℕ
 clock_line clock version = line_of (counts (codes "clock ") clock (codes " version ") version)
+
+-- ---- what a cycle came to
+
+-- no pod waits
+abbrev pub idle_line : List ℕ
+idle_line = line_of (codes "idle")
+
+-- a pod has its place, with the total of its node and the ticket
+unfoldable pub assumed_line : Name → Name → ℕ → ℕ → List ℕ
+assumed_line uid node total ticket = line_of (uid ++ codes " on " ++ node ++ counts (codes " total ") total (codes " ticket ") ticket)
+
+-- how many nodes are rejected for which reason
+unfoldable pub reasons_text : Counts → List ℕ
+reasons_text n =
+    counts (codes " marked ") n.marked (codes " taint ") n.taint
+    ++ counts (codes " cpu ") n.cpu (codes " memory ") n.memory
+    ++ counts (codes " pods ") n.pods (codes " plugin ") n.plugin
+    ++ codes " final "
+    ++ decimal n.plugin_final
+
+-- every node is rejected
+abbrev pub unschedulable_line : Name → Counts → List ℕ
+unschedulable_line uid n = line_of ((uid ++ codes " unschedulable") ++ reasons_text n)
+
+-- why a rule said nothing of a node
+unfoldable pub cause_text : Cause → List ℕ
+cause_text (cause.Code code) = codes "code " ++ signed_decimal code
+cause_text (cause.Score score) = codes "score " ++ signed_decimal score
+cause_text (cause.Trap why) = codes "trap " ++ decimal (trap.number_of why) ++ codes " " ++ trap.name_of why
+cause_text cause.Exhausted = codes "exhausted"
+
+-- the rule of this name said nothing of a node
+unfoldable pub error_line : Name → Name → Name → Cause → List ℕ
+error_line uid rule node why =
+    line_of ((uid ++ codes " error plugin ") ++ (rule ++ codes " node ") ++ (node ++ codes " ") ++ cause_text why)
+
+-- the chosen place was refused
+unfoldable pub lost_line : Name → Refusal → List ℕ
+lost_line uid why = line_of (uid ++ codes " lost " ++ decimal (number_of why) ++ codes " " ++ name_of why)
+
+-- the line that tells what a cycle came to, where the rules have these names in their order
+unfoldable pub cycle_line : List Name → Cycled → List ℕ
+cycle_line names cycled.Idle = idle_line
+cycle_line names (cycled.Assumed uid node total ticket) = assumed_line uid node total ticket.0
+cycle_line names (cycled.Unschedulable uid counts) = unschedulable_line uid counts
+cycle_line names (cycled.Errs uid place node why) = error_line uid (slice_index_or names place []) node why
+cycle_line names (cycled.Lost uid why) = lost_line uid why

@@ -3,6 +3,7 @@ ghost use Rattle.std.specs.Prelude.{◌≡◌};
 ghost use Rattle.engine.specs.Fault.{number_of, name_of};
 ghost use Rattle.engine.specs.declared.fault.RunFault.TheVariants as faults;
 
+use crate::one_cycle::CutShort;
 use desk::{NoMemory, NoPlace};
 use manifest::LineFault;
 use std::alloc::AllocError;
@@ -77,5 +78,13 @@ impl From<NoPlace> for RunFault {
 
     fn from(_refused: NoPlace) -> Self {
         RunFault::NoPlace
+    }
+}
+
+impl From<CutShort> for RunFault {
+    ghost from_gives = { λ _ fault. fault ≡ faults.NoMemory };
+
+    fn from(_short: CutShort) -> Self {
+        RunFault::NoMemory
     }
 }

@@ -1,23 +1,28 @@
 //! A script from its first line to its last.
-ghost use Rattle.std.specs.Prelude.{◌≡◌, ◌≢◌, ℕ, ◌^◌, ◌<◌, Some, None, Ok, Err, [], vec_len, IsTrue, IfSome, IfOk, OnOk, OnErr, IfErr};
+ghost use Rattle.std.specs.Prelude.{◌≡◌, ◌≢◌, ℕ, ◌^◌, ◌<◌, Some, None, Ok, Err, [], length, vec_len, IsTrue, IfSome, IfOk, OnOk, OnErr, IfErr};
 ghost use Rattle.std.specs.Io.KnownBytes.{Appends};
 ghost use Rattle.engine.specs.Device.{AppendsFront, WritesSome, CountsFailure};
 ghost use Rattle.manifest.specs.Reading.{Answers};
 ghost use Rattle.manifest.specs.declared.fault.LineFault.{LineFault};
-ghost use Rattle.engine.specs.Output.{asked_by, first_fault, output, IsAnswered, IsLineFault};
-ghost use Rattle.engine.specs.Answers.{served};
-ghost use Rattle.engine.specs.Session.{state_of};
-ghost use Rattle.desk.specs.Caller.{IsTimely};
+ghost use Rattle.fleet.specs.Team.{rules_of};
+ghost use Rattle.engine.specs.Output.{asked_by, first_fault, WritesOutput, WritesFront, IsAnswered, IsLineFault};
+ghost use Rattle.engine.specs.Answers.{opening, limits, IsTimely};
 
+use crate::asked::{Asked, asked_for};
 use crate::device::{Sink, Source, write_all};
 use crate::fault::RunFault;
 use crate::lines::LineReader;
 use crate::session::Session;
-use desk::Step;
-use manifest::{Command, Field, LineFault, read_line};
-use quant::Event;
+use desk::{Blank, Limits, Naming};
+use fleet::Fleet;
+use manifest::{LineFault, read_line};
+use plugin::Rules;
+use quant::Name;
 use std::alloc::Global;
 use std::hash::RandomState;
+use std::marker::Brand;
+use std::sync::Wait;
+use std::thread::Threads;
 
 // So much output may wait before it is written, while whole lines are there to be answered. One
 // piece of input can ask for thousands of dumps, each as long as all nodes' lines.
@@ -53,110 +58,74 @@ fn flush_if<W: Sink>(sink: &mut W, pending: &mut Vec<u8>, due: bool) -> Result<(
     Ok(())
 }
 
-// The step that a command asks of the desk, where the program serves it.
-fn step_for(command: Command) -> Result<Step, LineFault>
-    ensures step { result ≡ served command }
-    ensures timely { IfOk result IsTimely }
-{
-    match command {
-        Command::Dump => Ok(Step::Count),
-        Command::Event(event) => step_of(event),
-        _ => Err(LineFault::BadField(Field::Op)),
-    }
-}
-
-// The step that an event asks for.
-fn step_of(event: Event) -> Result<Step, LineFault>
-    ensures step { result ≡ served (Command.Event event) }
-    ensures timely { IfOk result IsTimely }
-{
-    match event {
-        Event::NodeSet { version, node } => Ok(Step::Event(Event::NodeSet { version, node })),
-        Event::PodBound {
-            version,
-            uid,
-            node,
-            request,
-        } => Ok(Step::Event(Event::PodBound {
-            version,
-            uid,
-            node,
-            request,
-        })),
-        _ => Err(LineFault::BadField(Field::Op)),
-    }
-}
-
 // What a line asks for: nothing, where it is empty.
 #[tactic(auto, unfolding(crate::specs::Output::asked_by))]
-fn step_in(alloc: Global, line: &[u8]) -> Result<Option<Step>, LineFault>
-    ensures step { Answers result (asked_by line.now) }
+fn asked_in(alloc: Global, line: &[u8]) -> Result<Option<Asked>, LineFault>
+    ensures asked { Answers result (asked_by line.now) }
     ensures timely { IfOk result (λ asked. IfSome asked IsTimely) }
 {
     if line.is_empty() {
         return Ok(None);
     }
     let command = read_line(alloc, line)?;
-    let step = step_for(command)?;
-    Ok(Some(step))
+    Ok(Some(asked_for(command)))
 }
 
 // Does what a line asks for, and adds the answer to what waits, so that no more waits than the most
 // that may and this answer. A faulty line changes nothing.
-fn answer_line(
+fn answer_line<J: Naming, T: Wait + Threads + Sync, K: Rules + Send>(
+    rt: &T,
     alloc: Global,
-    session: &mut Session,
+    names: &[Name],
+    fleet: &mut Fleet<K>,
+    session: &mut Session<J>,
     line: &[u8],
     number: u64,
     pending: &mut Vec<u8>,
 ) -> Result<(), RunFault>
     requires { vec_len pending.old < MAX_PENDING }
-    ensures answered { OnOk result (IsAnswered (asked_by line.now) (state_of session.old) (state_of session.new)
+    ensures answered { OnOk result (IsAnswered (rules_of K.answers fleet.old.kits) names.now (asked_by line.now) session.old.desk session.new.desk
         pending.old.items pending.new.items) }
     ensures kept { OnErr result (pending.new.items ≡ pending.old.items) }
+    ensures kits { fleet.new.kits ≡ fleet.old.kits }
     ensures faults { IfErr result (IsLineFault number (asked_by line.now)) }
 {
-    match step_in(alloc, line) {
+    match asked_in(alloc, line) {
         Ok(None) => Ok(()),
-        Ok(Some(step)) => session.answer(step, pending),
+        Ok(Some(asked)) => session.answer(rt, names, fleet, asked, pending),
         Err(LineFault::NoMemory) => Err(RunFault::NoMemory),
         Err(fault) => Err(RunFault::Line(number, fault)),
     }
 }
 
-/// Reads a script to its end or its first faulty line, does what its lines ask of a new desk with
-/// one pass, and writes the answers. Names are looked up under the keys. A line ends at a newline, which the last one may lack; an
-/// empty line is passed over and counted.
-///
-/// Before more is read, all answers so far are written, so that a peer that waits for them goes on.
-/// While whole lines are there, fewer than 64 KiB of output wait, and the answer to one line.
-///
-/// Errors: `Line` with the number of the first faulty line and its fault, when the answers to all
-/// lines before it are written; `NoMemory`, `Read` and `Write`, when a beginning of the output is
-/// written; `NoPlace`, when nothing is read or written.
-pub fn run<R: Source, W: Sink>(
+// Does what the lines of a script ask of a new desk, up to the first faulty one, and writes the answers.
+fn run_lines<J: Naming, T: Wait + Threads + Sync, K: Rules + Send, R: Source, W: Sink>(
+    rt: &T,
     alloc: Global,
-    keys: RandomState,
+    names: &[Name],
+    fleet: &mut Fleet<K>,
+    session: &mut Session<J>,
     source: &mut R,
     sink: &mut W,
 ) -> Result<(), RunFault>
+    requires opening { session.old.desk ≡ opening }
     requires reads { R.failure_count source.old < 10 ^ 18 }
     requires writes { W.failure_count sink.old < 10 ^ 18 }
     requires finite { R.bytes_left source.old < 2 ^ 64 }
 
     // No line is faulty, the output is written whole, and everything is read.
     ensures done { OnOk result (IfSome (R.remaining source.old) (λ script. (first_fault script ≡ None)
-        × Appends (W.written sink.old) (W.written sink.new) (output script)
+        × WritesOutput (rules_of K.answers fleet.old.kits) names.now script (W.written sink.old) (W.written sink.new)
         × (R.remaining source.new ≡ Some []))) }
 
     // The line is the first faulty one, and the output of the lines before it is written whole.
     ensures line { (number : ℕ) (fault : LineFault) → result ≡ Err (RunFault.Line number fault)
         → IfSome (R.remaining source.old) (λ script. (first_fault script ≡ Some (number, fault))
-        × Appends (W.written sink.old) (W.written sink.new) (output script)) }
+        × WritesOutput (rules_of K.answers fleet.old.kits) names.now script (W.written sink.old) (W.written sink.new)) }
 
     // At any fault a beginning of the output is written, and nothing else.
     ensures front { OnErr result (IfSome (R.remaining source.old) (λ script.
-        AppendsFront (W.written sink.old) (W.written sink.new) (output script))) }
+        WritesFront (rules_of K.answers fleet.old.kits) names.now script (W.written sink.old) (W.written sink.new))) }
 
     // A failure is told only where the device failed in this call.
     ensures read { result ≡ Err RunFault.Read → R.failure_count source.old < R.failure_count source.new }
@@ -166,9 +135,9 @@ pub fn run<R: Source, W: Sink>(
     ensures read_told { result ≢ Err RunFault.Read → R.failure_count source.new ≡ R.failure_count source.old }
     ensures write_told { result ≢ Err RunFault.Write → W.failure_count sink.new ≡ W.failure_count sink.old }
 
-    ensures no_place { result ≡ Err RunFault.NoPlace → (source.new ≡ source.old) × (sink.new ≡ sink.old) }
+    ensures placed { result ≢ Err RunFault.NoPlace }
+    ensures kits { fleet.new.kits ≡ fleet.old.kits }
 {
-    let mut session = Session::new(alloc, keys)?;
     let mut reader = LineReader::new(alloc)?;
     let mut line = Vec::new(alloc);
     let mut pending = Vec::new(alloc);
@@ -179,9 +148,131 @@ pub fn run<R: Source, W: Sink>(
             return flush(sink, &mut pending);
         }
         number += 1;
-        if let Err(fault) = answer_line(alloc, &mut session, &line, number, &mut pending) {
+        let answered = answer_line(
+            rt,
+            alloc,
+            names,
+            fleet,
+            session,
+            &line,
+            number,
+            &mut pending,
+        );
+        if let Err(fault) = answered {
             flush(sink, &mut pending)?;
             return Err(fault);
         }
     }
+}
+
+// Opens a desk, does what the lines of a script ask of it, and ends it.
+fn run_desk<J: Naming, T: Wait + Threads + Sync, K: Rules + Send, R: Source, W: Sink>(
+    rt: &T,
+    blank: Blank,
+    alloc: Global,
+    keys: RandomState,
+    greatest: Limits,
+    names: &[Name],
+    fleet: &mut Fleet<K>,
+    source: &mut R,
+    sink: &mut W,
+) -> Result<(), RunFault>
+    requires named { blank.seen.book ≡ J.book }
+    requires limits { greatest ≡ J.limits }
+    requires greatest { greatest ≡ limits }
+    requires reads { R.failure_count source.old < 10 ^ 18 }
+    requires writes { W.failure_count sink.old < 10 ^ 18 }
+    requires finite { R.bytes_left source.old < 2 ^ 64 }
+
+    // No line is faulty, the output is written whole, and everything is read.
+    ensures done { OnOk result (IfSome (R.remaining source.old) (λ script. (first_fault script ≡ None)
+        × WritesOutput (rules_of K.answers fleet.old.kits) names.now script (W.written sink.old) (W.written sink.new)
+        × (R.remaining source.new ≡ Some []))) }
+
+    // The line is the first faulty one, and the output of the lines before it is written whole.
+    ensures line { (number : ℕ) (fault : LineFault) → result ≡ Err (RunFault.Line number fault)
+        → IfSome (R.remaining source.old) (λ script. (first_fault script ≡ Some (number, fault))
+        × WritesOutput (rules_of K.answers fleet.old.kits) names.now script (W.written sink.old) (W.written sink.new)) }
+
+    // At any fault a beginning of the output is written, and nothing else.
+    ensures front { OnErr result (IfSome (R.remaining source.old) (λ script.
+        WritesFront (rules_of K.answers fleet.old.kits) names.now script (W.written sink.old) (W.written sink.new))) }
+
+    // A failure is told only where the device failed in this call.
+    ensures read { result ≡ Err RunFault.Read → R.failure_count source.old < R.failure_count source.new }
+    ensures write { result ≡ Err RunFault.Write → W.failure_count sink.old < W.failure_count sink.new }
+
+    // And each failure is told: at any other end no read, and no write, has failed.
+    ensures read_told { result ≢ Err RunFault.Read → R.failure_count source.new ≡ R.failure_count source.old }
+    ensures write_told { result ≢ Err RunFault.Write → W.failure_count sink.new ≡ W.failure_count sink.old }
+
+    ensures no_place { result ≡ Err RunFault.NoPlace → (source.new ≡ source.old) × (sink.new ≡ sink.old) }
+    ensures kits { fleet.new.kits ≡ fleet.old.kits }
+{
+    let mut session = Session::<J>::new(rt, blank, alloc, keys, greatest)?;
+    let done = run_lines(rt, alloc, names, fleet, &mut session, source, sink);
+    session.end(rt);
+    done
+}
+
+/// Reads a script to its end or its first faulty line, does what its lines ask of a new desk with
+/// one pass, and writes the answers. A cycle goes by the fleet, and has a worker for each of its kits; the names of its rules are handed in beside it, in their order. Names
+/// are looked up under the keys. A line ends at a newline, which the last one may lack; an
+/// empty line is passed over and counted.
+///
+/// Before more is read, all answers so far are written, so that a peer that waits for them goes on.
+/// While whole lines are there, fewer than 64 KiB of output wait, and the answer to one line.
+///
+/// Errors: `Line` with the number of the first faulty line and its fault, when the answers to all
+/// lines before it are written; `NoMemory`, `Read` and `Write`, when a beginning of the output is
+/// written; `NoPlace`, when nothing is read or written.
+pub fn run<T: Wait + Threads + Sync, K: Rules + Send, R: Source, W: Sink>(
+    rt: &T,
+    alloc: Global,
+    keys: RandomState,
+    names: &[Name],
+    fleet: &mut Fleet<K>,
+    source: &mut R,
+    sink: &mut W,
+) -> Result<(), RunFault>
+    requires reads { R.failure_count source.old < 10 ^ 18 }
+    requires writes { W.failure_count sink.old < 10 ^ 18 }
+    requires finite { R.bytes_left source.old < 2 ^ 64 }
+
+    // No line is faulty, the output is written whole, and everything is read.
+    ensures done { OnOk result (IfSome (R.remaining source.old) (λ script. (first_fault script ≡ None)
+        × WritesOutput (rules_of K.answers fleet.old.kits) names.now script (W.written sink.old) (W.written sink.new)
+        × (R.remaining source.new ≡ Some []))) }
+
+    // The line is the first faulty one, and the output of the lines before it is written whole.
+    ensures line { (number : ℕ) (fault : LineFault) → result ≡ Err (RunFault.Line number fault)
+        → IfSome (R.remaining source.old) (λ script. (first_fault script ≡ Some (number, fault))
+        × WritesOutput (rules_of K.answers fleet.old.kits) names.now script (W.written sink.old) (W.written sink.new)) }
+
+    // At any fault a beginning of the output is written, and nothing else.
+    ensures front { OnErr result (IfSome (R.remaining source.old) (λ script.
+        WritesFront (rules_of K.answers fleet.old.kits) names.now script (W.written sink.old) (W.written sink.new))) }
+
+    // A failure is told only where the device failed in this call.
+    ensures read { result ≡ Err RunFault.Read → R.failure_count source.old < R.failure_count source.new }
+    ensures write { result ≡ Err RunFault.Write → W.failure_count sink.old < W.failure_count sink.new }
+
+    // And each failure is told: at any other end no read, and no write, has failed.
+    ensures read_told { result ≢ Err RunFault.Read → R.failure_count source.new ≡ R.failure_count source.old }
+    ensures write_told { result ≢ Err RunFault.Write → W.failure_count sink.new ≡ W.failure_count sink.old }
+
+    ensures no_place { result ≡ Err RunFault.NoPlace → (source.new ≡ source.old) × (sink.new ≡ sink.old) }
+    ensures kits { fleet.new.kits ≡ fleet.old.kits }
+{
+    run_desk::<Brand, T, K, R, W>(
+        rt,
+        Blank::new(),
+        alloc,
+        keys,
+        Limits::greatest(),
+        names,
+        fleet,
+        source,
+        sink,
+    )
 }

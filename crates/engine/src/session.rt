@@ -1,84 +1,139 @@
 //! What a script's commands are done on.
-ghost use Rattle.std.specs.Prelude.{◌≡◌, ◌++◌, ◌⊎◌, length, slice_index, OnOk, OnErr, IfOk, IfErr};
-ghost use Rattle.desk.specs.Caller.{IsTimely};
+ghost use Rattle.std.specs.Prelude.{◌≡◌, ◌++◌, ◌⊎◌, ℕ, List, OnOk, OnErr, IfOk, IfErr};
+ghost use Rattle.desk.specs.Caller as caller;
 ghost use Rattle.desk.specs.Machine as machine;
-ghost use Rattle.engine.specs.Answers.{after, text_of, opening, reply_lines, snapshot_lines};
+ghost use Rattle.engine.specs.Answers.{after, text_of, opening, limits, reply_lines, snapshot_lines, Answered, IsTimely};
+ghost use Rattle.fleet.specs.Team.{rules_of};
+ghost use Rattle.engine.specs.CycleAlone.{IsCycleAlone};
+ghost use Rattle.engine.specs.Text.{cycle_line};
+ghost use Rattle.engine.specs.declared.one_cycle.Cycled.{Cycled};
+ghost use Rattle.engine.specs.declared.asked.Asked.TheVariants as asked;
 
+use crate::asked::Asked;
 use crate::fault::RunFault;
-use crate::text::{push_clock, push_node, push_places, push_queue, push_refused};
-use desk::{Counts, Desk, Limits, Pass, Reply, Snapshot, Step};
+use crate::lone_desk::LoneDesk;
+use crate::text::{push_clock, push_cycled, push_node, push_places, push_queue, push_refused};
+use desk::{Blank, Counts, Limits, Naming, Reply, Snapshot, Step};
+use fleet::Fleet;
+use plugin::Rules;
+use quant::Name;
 use std::alloc::{AllocError, Global};
 use std::hash::RandomState;
+use std::sync::Wait;
+use std::thread::Threads;
 
-// A desk with its one pass, and room for an answer.
-#[derive(Drop)]
-pub(crate) struct Session {
-    desk: Desk,
-    pass: Pass,
+// A desk with its one pass, and room for an answer. It isn't `Drop`: end it by `end`.
+pub(crate) struct Session<J: Naming> {
+    desk: LoneDesk<J>,
     text: Vec<u8>,
-    ghost first: { pass.number ≡ 0 },
-    ghost only: { desk.handed ≡ 1 },
-    ghost counted: { slice_index desk.state.calls 0 ≡ pass.calls },
 }
 
-impl Session {
-    ghost use Rattle.engine.specs.Session.{state_of};
-
+impl<J: Naming> Session<J> {
     // A new desk, with room for as much as the program allows.
-    #[tactic(auto, using(crate::proofs::Steps::limits_same))]
-    pub(crate) fn new(alloc: Global, keys: RandomState) -> Result<Session, RunFault>
-        ensures opening { IfOk result (λ session. state_of session ≡ opening) }
+    pub(crate) fn new<R: Wait>(
+        rt: &R,
+        blank: Blank,
+        alloc: Global,
+        keys: RandomState,
+        greatest: Limits,
+    ) -> Result<Self, RunFault>
+        requires named { blank.seen.book ≡ J.book }
+        requires limits { greatest ≡ J.limits }
+        requires greatest { greatest ≡ limits }
+        ensures opening { IfOk result (λ session. session.desk ≡ opening) }
         ensures faults { IfErr result (λ e. (e ≡ RunFault.NoMemory) ⊎ (e ≡ RunFault.NoPlace)) }
     {
-        let mut desk = Desk::new(alloc, keys, Limits::greatest())?;
-        let pass = desk.pass()?;
+        let desk = LoneDesk::<J>::new(rt, blank, alloc, keys, greatest)?;
         Ok(Session {
             desk,
-            pass,
             text: Vec::new(alloc),
         })
     }
 
-    // Does a step, shows the nodes where the desk's numbers are asked for, and adds the answer to the output.
-    #[tactic(auto, unfolding(crate::specs::Answers::after, crate::specs::Answers::text_of))]
-    pub(crate) fn answer(&mut self, step: Step, out: &mut Vec<u8>) -> Result<(), RunFault>
-        requires { IsTimely step }
-        ensures state { OnOk result (state_of self.new ≡ after (state_of self.old) step) }
-        ensures text { OnOk result (out.new.items ≡ out.old.items ++ text_of (state_of self.old) step) }
+    // Does what is asked for, and adds the answer to the output. The fleet's rules have these names, in their order.
+    pub(crate) fn answer<R: Wait + Threads + Sync, K: Rules + Send>(
+        &mut self,
+        rt: &R,
+        names: &[Name],
+        fleet: &mut Fleet<K>,
+        asked: Asked,
+        out: &mut Vec<u8>,
+    ) -> Result<(), RunFault>
+        requires { IsTimely asked }
+        ensures answered { OnOk result ((text : List ℕ) × Answered (rules_of K.answers fleet.old.kits) names.now self.old.desk asked self.new.desk text
+            × (out.new.items ≡ out.old.items ++ text)) }
         ensures kept { OnErr result (out.new.items ≡ out.old.items) }
+        ensures kits { fleet.new.kits ≡ fleet.old.kits }
         ensures faults { IfErr result (λ e. e ≡ RunFault.NoMemory) }
     {
         self.text.clear();
-        if let Step::Count = step {
-            self.show()?;
+        match asked {
+            Asked::Step(step) => self.step(rt, step)?,
+            Asked::Cycle => self.cycle(rt, names, fleet)?,
         }
-        self.apply(step)?;
         add(out, &self.text)
     }
 
-    // Takes a step, and adds the lines that answer it to the text.
-    fn apply(&mut self, step: Step) -> Result<(), RunFault>
-        requires { IsTimely step }
-        ensures state { OnOk result (state_of self.new ≡ machine.after (state_of self.old) 0 step) }
-        ensures text { OnOk result (self.new.text.items ≡ self.old.text.items
-            ++ reply_lines (machine.reply (state_of self.old) 0 step)) }
+    // Does a step, shows the nodes where the desk's numbers are asked for, and adds the answer to the text.
+    #[tactic(auto, unfolding(crate::specs::Answers::after, crate::specs::Answers::text_of))]
+    fn step<R: Wait>(&mut self, rt: &R, step: Step) -> Result<(), RunFault>
+        requires { caller.IsTimely step }
+        ensures state { OnOk result (self.new.desk ≡ after self.old.desk step) }
+        ensures text { OnOk result (self.new.text.items ≡ self.old.text.items ++ text_of self.old.desk step) }
         ensures faults { IfErr result (λ e. e ≡ RunFault.NoMemory) }
     {
-        let reply = self.desk.apply(&mut self.pass, step)?;
+        if let Step::Count = step {
+            self.show()?;
+        }
+        self.apply(rt, step)
+    }
+
+    // Does a cycle, and adds the line that tells what it came to.
+    fn cycle<R: Wait + Threads + Sync, K: Rules + Send>(
+        &mut self,
+        rt: &R,
+        names: &[Name],
+        fleet: &mut Fleet<K>,
+    ) -> Result<(), RunFault>
+        ensures cycled { OnOk result ((came : Cycled) × IsCycleAlone (rules_of K.answers fleet.old.kits) self.old.desk came self.new.desk
+            × (self.new.text.items ≡ self.old.text.items ++ cycle_line names.now came)) }
+        ensures kits { fleet.new.kits ≡ fleet.old.kits }
+        ensures faults { IfErr result (λ e. e ≡ RunFault.NoMemory) }
+    {
+        let came = self.desk.cycle(rt, fleet)?;
+        push_cycled(&mut self.text, names, &came)?;
+        Ok(())
+    }
+
+    // Takes a step, and adds the lines that answer it to the text.
+    fn apply<R: Wait>(&mut self, rt: &R, step: Step) -> Result<(), RunFault>
+        requires { caller.IsTimely step }
+        ensures state { OnOk result (self.new.desk ≡ machine.after self.old.desk 0 step) }
+        ensures text { OnOk result (self.new.text.items ≡ self.old.text.items
+            ++ reply_lines (machine.reply self.old.desk 0 step)) }
+        ensures faults { IfErr result (λ e. e ≡ RunFault.NoMemory) }
+    {
+        let reply = self.desk.apply(rt, step)?;
         push_reply(&mut self.text, reply)?;
         Ok(())
     }
 
     // Adds the lines of the nodes to the text.
     fn show(&mut self) -> Result<(), RunFault>
-        ensures state { state_of self.new ≡ state_of self.old }
+        ensures state { self.new.desk ≡ self.old.desk }
         ensures text { OnOk result (self.new.text.items ≡ self.old.text.items
-            ++ snapshot_lines (machine.snapshot (state_of self.old).cluster)) }
+            ++ snapshot_lines (machine.snapshot self.old.desk.cluster)) }
         ensures faults { IfErr result (λ e. e ≡ RunFault.NoMemory) }
     {
-        let snapshot = self.desk.look(&mut self.pass)?;
+        let snapshot = self.desk.look()?;
         push_snapshot(&mut self.text, &snapshot)?;
         Ok(())
+    }
+
+    // Ends the desk.
+    pub(crate) fn end<R: Wait>(self, rt: &R) {
+        let Session { desk, text: _ } = self;
+        desk.end(rt);
     }
 }
 

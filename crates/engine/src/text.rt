@@ -1,10 +1,14 @@
 //! The lines of the output.
-ghost use Rattle.std.specs.Prelude.{◌≡◌, ◌++◌, OnOk, decimal};
-ghost use Rattle.engine.specs.Text.{refused_line, share_text, node_line, counts, places_line, queue_line, clock_line};
+ghost use Rattle.std.specs.Prelude.{◌≡◌, ◌++◌, [], OnOk, decimal, slice_index_or};
+ghost use Rattle.std.specs.Fmt.{signed_decimal};
+ghost use Rattle.engine.specs.Text.{refused_line, share_text, node_line, counts, places_line, queue_line, clock_line, assumed_line, reasons_text, unschedulable_line, cause_text, error_line, lost_line, cycle_line};
 
+use crate::one_cycle::Cycled;
+use choose::Counts;
 use desk::Refusal;
 use itoa::Buffer;
-use quant::{Node, Res};
+use plugin::Cause;
+use quant::{Name, Node, Res};
 use std::alloc::AllocError;
 
 // Adds a number in decimal.
@@ -107,4 +111,150 @@ pub(crate) fn push_clock(out: &mut Vec<u8>, clock: u64, version: u64) -> Result<
 {
     push_counts(out, b"clock ", clock, b" version ", version)?;
     out.extend_from_slice(b"\n")
+}
+
+// Adds a label and a number that may be negative.
+fn push_signed(out: &mut Vec<u8>, label: &[u8], n: i64) -> Result<(), AllocError>
+    ensures { OnOk result (out.new.items ≡ out.old.items ++ (label.now ++ signed_decimal n)) }
+{
+    out.extend_from_slice(label)?;
+    let mut buffer = Buffer::new();
+    out.extend_from_slice(buffer.format(n).as_bytes())
+}
+
+// Adds the line of a pod that has its place.
+#[tactic(auto, unfolding(crate::specs::Text::assumed_line))]
+fn push_assumed(
+    out: &mut Vec<u8>,
+    uid: &Name,
+    node: &Name,
+    total: u32,
+    ticket: u64,
+) -> Result<(), AllocError>
+    ensures { OnOk result (out.new.items ≡ out.old.items ++ assumed_line uid.now node.now total ticket) }
+{
+    out.extend_from_slice(uid.as_bytes())?;
+    out.extend_from_slice(b" on ")?;
+    out.extend_from_slice(node.as_bytes())?;
+    push_counts(out, b" total ", u64::from(total), b" ticket ", ticket)?;
+    out.extend_from_slice(b"\n")
+}
+
+// Adds a label and a text.
+fn push_text(out: &mut Vec<u8>, label: &[u8], text: &[u8]) -> Result<(), AllocError>
+    ensures { OnOk result (out.new.items ≡ out.old.items ++ (label.now ++ text.now)) }
+{
+    out.extend_from_slice(label)?;
+    out.extend_from_slice(text)
+}
+
+// Adds how many nodes are rejected for which reason.
+#[tactic(auto, unfolding(crate::specs::Text::reasons_text))]
+fn push_reasons(out: &mut Vec<u8>, n: Counts) -> Result<(), AllocError>
+    ensures { OnOk result (out.new.items ≡ out.old.items ++ reasons_text n) }
+{
+    push_counts(
+        out,
+        b" marked ",
+        n.marked as u64,
+        b" taint ",
+        n.taint as u64,
+    )?;
+    push_counts(out, b" cpu ", n.cpu as u64, b" memory ", n.memory as u64)?;
+    push_counts(out, b" pods ", n.pods as u64, b" plugin ", n.plugin as u64)?;
+    push_count(out, b" final ", n.plugin_final as u64)
+}
+
+// Adds the line of a pod for which every node is rejected.
+fn push_unschedulable(out: &mut Vec<u8>, uid: &Name, n: Counts) -> Result<(), AllocError>
+    ensures { OnOk result (out.new.items ≡ out.old.items ++ unschedulable_line uid.now n) }
+{
+    push_text(out, uid.as_bytes(), b" unschedulable")?;
+    push_reasons(out, n)?;
+    out.extend_from_slice(b"\n")
+}
+
+// Adds why a rule said nothing of a node.
+#[tactic(auto, unfolding(crate::specs::Text::cause_text))]
+fn push_cause(out: &mut Vec<u8>, why: Cause) -> Result<(), AllocError>
+    ensures { OnOk result (out.new.items ≡ out.old.items ++ cause_text why) }
+{
+    match why {
+        Cause::Code(code) => push_signed(out, b"code ", i64::from(code)),
+        Cause::Score(score) => push_signed(out, b"score ", score),
+        Cause::Trap(trap) => {
+            push_count(out, b"trap ", u64::from(trap.number()))?;
+            out.extend_from_slice(b" ")?;
+            out.extend_from_slice(trap.name().as_bytes())
+        }
+        Cause::Exhausted => out.extend_from_slice(b"exhausted"),
+    }
+}
+
+// Adds the line of a pod for which the rule of this name said nothing of a node.
+#[tactic(auto, unfolding(crate::specs::Text::error_line))]
+fn push_error(
+    out: &mut Vec<u8>,
+    uid: &Name,
+    rule: &[u8],
+    node: &Name,
+    why: Cause,
+) -> Result<(), AllocError>
+    ensures { OnOk result (out.new.items ≡ out.old.items ++ error_line uid.now rule.now node.now why) }
+{
+    push_text(out, uid.as_bytes(), b" error plugin ")?;
+    push_text(out, rule, b" node ")?;
+    push_text(out, node.as_bytes(), b" ")?;
+    push_cause(out, why)?;
+    out.extend_from_slice(b"\n")
+}
+
+// Adds the line of a pod whose place was refused.
+#[tactic(auto, unfolding(crate::specs::Text::lost_line))]
+fn push_lost(out: &mut Vec<u8>, uid: &Name, why: Refusal) -> Result<(), AllocError>
+    ensures { OnOk result (out.new.items ≡ out.old.items ++ lost_line uid.now why) }
+{
+    out.extend_from_slice(uid.as_bytes())?;
+    push_count(out, b" lost ", u64::from(why.number()))?;
+    out.extend_from_slice(b" ")?;
+    out.extend_from_slice(why.name().as_bytes())?;
+    out.extend_from_slice(b"\n")
+}
+
+// The name of the rule at a place.
+fn name_at(names: &[Name], place: usize) -> &[u8]
+    ensures { result.now ≡ slice_index_or names.now place [] }
+{
+    match names.get(place) {
+        Some(name) => name.as_bytes(),
+        None => &[],
+    }
+}
+
+// Adds the line that tells what a cycle came to, where the rules have these names in their order.
+#[tactic(auto, unfolding(crate::specs::Text::cycle_line))]
+pub(crate) fn push_cycled(
+    out: &mut Vec<u8>,
+    names: &[Name],
+    came: &Cycled,
+) -> Result<(), AllocError>
+    ensures { OnOk result (out.new.items ≡ out.old.items ++ cycle_line names.now came.now) }
+{
+    match came {
+        Cycled::Idle => out.extend_from_slice(b"idle\n"),
+        Cycled::Assumed {
+            uid,
+            node,
+            total,
+            ticket,
+        } => push_assumed(out, uid, node, *total, ticket.0),
+        Cycled::Unschedulable { uid, counts } => push_unschedulable(out, uid, *counts),
+        Cycled::Errs {
+            uid,
+            place,
+            node,
+            cause,
+        } => push_error(out, uid, name_at(names, *place), node, *cause),
+        Cycled::Lost { uid, why } => push_lost(out, uid, *why),
+    }
 }

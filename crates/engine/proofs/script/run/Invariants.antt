@@ -1,16 +1,5 @@
-use Rattle.std.proofs.Common.{◌≡◌, ◌+◌, ◌≤◌, length}
-use Rattle.std.specs.Io.KnownBytes.{prepend_known}
-use Rattle.engine.specs.Session.{state_of}
-use Rattle.engine.proofs.Progress.{IsRunning}
 use Rattle.engine.proofs.script.run.Given as goal
 
--- the run has come so far, no device has failed, and no more lines were counted than bytes were taken
-abbrev pub invariant-lines : goal.invariant-lines
-invariant-lines g l =
-    IsRunning (g.R.Source.remaining l.initial.source) (prepend_known l.reader (g.R.Source.remaining l.source)) (g.W.Sink.written l.initial.sink) (g.W.Sink.written l.sink) l.pending.items (state_of l.session) (l.number + 1)
-    × (g.R.Source.failure_count l.source ≡ g.R.Source.failure_count l.initial.source)
-    × (g.W.Sink.failure_count l.sink ≡ g.W.Sink.failure_count l.initial.sink)
-    × (l.number + (g.R.Source.bytes_left l.source + length l.reader) ≤ g.R.Source.bytes_left l.initial.source)
-
-abbrev pub decreases-lines : goal.decreases-lines
-decreases-lines g l = g.R.Source.bytes_left l.source + length l.reader
+-- the desk that was just opened, and its limits
+abbrev pub ghosts-run_desk : goal.ghosts-run_desk
+ghosts-run_desk g a = record { book = a.blank.seen.book; limits = a.greatest }

@@ -1,0 +1,18 @@
+use Rattle.std.proofs.Common.{subst}
+use Rattle.std.proofs.lemmas.Result.{IfOk-weaker}
+use Rattle.desk.specs.Alone.{state_seen}
+use Rattle.fleet.specs.Team.{rules_of}
+use Rattle.engine.specs.CycleAlone.{IsCycleAlone}
+use Rattle.engine.proofs.Cycles.{cycle_alone}
+use Rattle.engine.proofs.lone_desk.LoneDesk.cycle.Goals as goal
+
+-- the cycle is told by the state that the pass has seen
+pub returns-clause-cycled : goal.returns-clause-cycled
+returns-clause-cycled g c =
+    let d = c.self.inside in
+    let law = c.one_pass_is_alone.ensures in
+    IfOk-weaker c.cycle.result _ _
+    (λ came cycle.
+    subst (λ s. IsCycleAlone (rules_of g.K.Rules.answers c.args.fleet.now.kits) s came (state_seen d.desk c.cycle.new.pass)) c.self.view_is
+    (cycle_alone d.desk c.self.invariant.0 law.answers law.looks _ d.pass c.cycle.new.pass came c.self.invariant.1 cycle))
+    c.cycle.ensures.cycled

@@ -1,0 +1,109 @@
+//! The desk that many passes can share, with one pass.
+ghost use Rattle.std.specs.Prelude.{◌≡◌, ◌⊎◌, IfOk, IfErr, OnOk, OnErr};
+ghost use Rattle.desk.specs.Caller.{IsTimely};
+ghost use Rattle.desk.specs.Machine as machine;
+ghost use Rattle.fleet.specs.Team.{rules_of};
+ghost use Rattle.engine.specs.CycleAlone.{IsCycleAlone};
+
+use crate::fault::RunFault;
+use crate::one_cycle::{CutShort, Cycled, cycle};
+use desk::{
+    Blank, Limits, LockedDesk, LockedPass, Naming, NoMemory, Reply, Snapshot, Step,
+    one_pass_is_alone,
+};
+use fleet::Fleet;
+use plugin::Rules;
+use std::alloc::Global;
+use std::hash::RandomState;
+use std::marker::Model;
+use std::sync::Wait;
+use std::thread::Threads;
+
+// A shared desk with its only pass. Contracts see its state, which is the one that the pass has seen, since nobody else
+// makes a call.
+//
+// It isn't `Drop`: end it by `end`.
+pub(crate) struct LoneDesk<J: Naming> {
+    desk: LockedDesk<J>,
+    pass: LockedPass<J>,
+}
+
+impl<J: Naming> Model for LoneDesk<J> {
+    ghost use Rattle.std.specs.Prelude.{◌≡◌};
+    ghost use Rattle.desk.specs.Machine.{State};
+    ghost use Rattle.desk.specs.Codes.{state_code};
+    ghost use Rattle.desk.specs.Shared.{IsMember};
+    ghost use Rattle.desk.specs.Alone.{state_seen};
+
+    ghost Value = { State };
+
+    ghost coded = { state_code };
+
+    ghost view = { λ d. state_seen d.desk d.pass };
+
+    ghost invariant = { λ d. (d.desk.handed ≡ 1) × IsMember d.pass d.desk };
+}
+
+impl<J: Naming> LoneDesk<J> {
+    // A new desk.
+    pub(crate) fn new<R: Wait>(
+        rt: &R,
+        blank: Blank,
+        alloc: Global,
+        keys: RandomState,
+        limits: Limits,
+    ) -> Result<Self, RunFault>
+        requires named { blank.seen.book ≡ J.book }
+        requires limits { limits ≡ J.limits }
+        ensures opening { IfOk result (λ desk. desk ≡ machine.opening limits) }
+        ensures faults { IfErr result (λ e. (e ≡ RunFault.NoMemory) ⊎ (e ≡ RunFault.NoPlace)) }
+    {
+        let mut desk = LockedDesk::<J>::new(blank, alloc, keys, limits)?;
+        match desk.pass() {
+            Ok(pass) => Ok(LoneDesk { desk, pass }),
+            Err(_) => {
+                desk.discard(rt);
+                Err(RunFault::NoPlace)
+            }
+        }
+    }
+
+    // Does a step, or refuses it. It waits for the desk's lock.
+    pub(crate) fn apply<R: Wait>(&mut self, rt: &R, step: Step) -> Result<Reply, NoMemory>
+        requires { IsTimely step }
+        ensures reply { IfOk result (λ reply. reply ≡ machine.reply self.old 0 step) }
+        ensures after { OnOk result (self.new ≡ machine.after self.old 0 step) }
+        ensures err { OnErr result (self.new ≡ self.old) }
+    {
+        one_pass_is_alone();
+        self.desk.apply(rt, &mut self.pass, step)
+    }
+
+    // Shows the nodes and what is used of them.
+    pub(crate) fn look(&mut self) -> Result<Snapshot, NoMemory>
+        ensures shown { IfOk result (λ shown. shown ≡ machine.snapshot self.old.cluster) }
+        ensures same { self.new ≡ self.old }
+    {
+        one_pass_is_alone();
+        self.desk.look(&mut self.pass)
+    }
+
+    // One cycle by a fleet. It waits for the desk's lock.
+    pub(crate) fn cycle<R: Wait + Threads + Sync, K: Rules + Send>(
+        &mut self,
+        rt: &R,
+        fleet: &mut Fleet<K>,
+    ) -> Result<Cycled, CutShort>
+        ensures cycled { IfOk result (λ came. IsCycleAlone (rules_of K.answers fleet.old.kits) self.old came self.new) }
+        ensures kits { fleet.new.kits ≡ fleet.old.kits }
+    {
+        one_pass_is_alone();
+        cycle(&self.desk, rt, &mut self.pass, fleet)
+    }
+
+    // Ends the desk.
+    pub(crate) fn end<R: Wait>(self, rt: &R) {
+        let LoneDesk { desk, pass: _ } = self;
+        desk.discard(rt);
+    }
+}

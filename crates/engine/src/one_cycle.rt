@@ -1,0 +1,216 @@
+//! One cycle of the scheduler: a pod is popped, a node is chosen for it, and its place is assumed.
+ghost use Rattle.std.specs.Prelude.{◌≡◌, IfOk, IfErr, OnErr};
+ghost use Rattle.desk.specs.Shared.{IsMember};
+ghost use Rattle.fleet.specs.Team.{rules_of};
+ghost use Rattle.engine.specs.Cycle.{IsFailed, EndsWith, IsAssumed, IsChosen, IsDecided, MayLook, IsGivenUp, IsLeft, IsCycle, IsCutShort};
+
+use choose::{Counts, Decision};
+use desk::{LockedDesk, LockedPass, Naming, NoMemory, Refusal, Reply, Step};
+use fleet::{Fleet, NoGate};
+use plugin::{Cause, Rules};
+use quant::{Name, Pod, Ticket};
+use queue::Failure;
+use std::sync::Wait;
+use std::thread::Threads;
+
+/// What a cycle came to.
+#[derive(Debug, Drop)]
+pub enum Cycled {
+    /// No pod waits to be popped.
+    Idle,
+    /// The pod has a place on the node, chosen with this total; the ticket names the choice.
+    Assumed {
+        uid: Name,
+        node: Name,
+        total: u32,
+        ticket: Ticket,
+    },
+    /// Every node is rejected.
+    Unschedulable {
+        uid: Name,
+        counts: Counts,
+    },
+    /// The rule at this place says nothing of this node, for this cause. The pod is tried again.
+    Errs {
+        uid: Name,
+        place: usize,
+        node: Name,
+        cause: Cause,
+    },
+    /// The chosen node was refused. The pod is tried again.
+    Lost {
+        uid: Name,
+        why: Refusal,
+    },
+}
+
+/// A cycle was cut short for want of memory. Where a pod was popped and could not be failed either, it is told: it stays in
+/// flight for the pass, which may fail it later.
+#[derive(Debug, Drop, PartialEq, Eq)]
+pub struct CutShort {
+    /// The pod that is still in flight.
+    pub held: Option<Name>,
+}
+
+// Fails a pod that the pass popped. That may be refused, where the pod went meanwhile.
+fn fail<J: Naming, T: Wait>(
+    desk: &LockedDesk<J>,
+    rt: &T,
+    pass: &mut LockedPass<J>,
+    uid: &Name,
+    how: Failure,
+) -> Result<(), NoMemory>
+    requires { IsMember pass.old desk.now }
+    ensures failed { IfOk result (λ _. IsFailed desk.now pass.old uid.now how pass.new) }
+    ensures err { OnErr result (pass.new ≡ pass.old) }
+{
+    let uid = uid.copied();
+    desk.apply(rt, pass, Step::Fail { uid, how })?;
+    Ok(())
+}
+
+// Fails a pod for which memory was wanting, so that it is tried again.
+fn give_up<J: Naming, T: Wait>(
+    desk: &LockedDesk<J>,
+    rt: &T,
+    pass: &mut LockedPass<J>,
+    uid: &Name,
+) -> CutShort
+    requires { IsMember pass.old desk.now }
+    ensures { IsGivenUp desk.now pass.old uid.now result.held pass.new }
+{
+    match fail(desk, rt, pass, uid, Failure::Again) {
+        Ok(()) => CutShort { held: None },
+        Err(NoMemory) => CutShort {
+            held: Some(uid.copied()),
+        },
+    }
+}
+
+// Assumes a pod on the node that was chosen, or fails it where that is refused.
+fn assume<J: Naming, T: Wait>(
+    desk: &LockedDesk<J>,
+    rt: &T,
+    pass: &mut LockedPass<J>,
+    uid: &Name,
+    node: Name,
+    total: u32,
+) -> Result<Cycled, CutShort>
+    requires { IsMember pass.old desk.now }
+    ensures assumed { IfOk result (λ came. IsAssumed desk.now pass.old uid.now node total came pass.new) }
+    ensures left { IfErr result (λ short. IsLeft desk.now pass.old uid.now short.held pass.new) }
+{
+    let wanted = Step::Assume {
+        uid: uid.copied(),
+        node: node.copied(),
+    };
+    match desk.apply(rt, pass, wanted) {
+        Ok(Reply::Ticket(ticket)) => Ok(Cycled::Assumed {
+            uid: uid.copied(),
+            node,
+            total,
+            ticket,
+        }),
+        Ok(Reply::Refused(why)) => match fail(desk, rt, pass, uid, Failure::Again) {
+            Ok(()) => Ok(Cycled::Lost {
+                uid: uid.copied(),
+                why,
+            }),
+            Err(NoMemory) => Err(CutShort {
+                held: Some(uid.copied()),
+            }),
+        },
+        Ok(Reply::Done) => unreachable!(),
+        Ok(Reply::Idle) => unreachable!(),
+        Ok(Reply::Popped(_)) => unreachable!(),
+        Ok(Reply::Counts(_)) => unreachable!(),
+        Err(NoMemory) => Err(give_up(desk, rt, pass, uid)),
+    }
+}
+
+// Does what was decided of a pod.
+fn end_with<J: Naming, T: Wait>(
+    desk: &LockedDesk<J>,
+    rt: &T,
+    pass: &mut LockedPass<J>,
+    uid: &Name,
+    decision: Decision,
+) -> Result<Cycled, CutShort>
+    requires { IsMember pass.old desk.now }
+    ensures ends { IfOk result (λ came. EndsWith desk.now pass.old uid.now decision came pass.new) }
+    ensures left { IfErr result (λ short. IsLeft desk.now pass.old uid.now short.held pass.new) }
+{
+    match decision {
+        Decision::Node(node, total) => assume(desk, rt, pass, uid, node, total),
+        Decision::Unschedulable(counts) => {
+            match fail(desk, rt, pass, uid, Failure::Unschedulable) {
+                Ok(()) => Ok(Cycled::Unschedulable {
+                    uid: uid.copied(),
+                    counts,
+                }),
+                Err(NoMemory) => Err(give_up(desk, rt, pass, uid)),
+            }
+        }
+        Decision::PluginError(place, node, cause) => {
+            match fail(desk, rt, pass, uid, Failure::Again) {
+                Ok(()) => Ok(Cycled::Errs {
+                    uid: uid.copied(),
+                    place,
+                    node,
+                    cause,
+                }),
+                Err(NoMemory) => Err(CutShort {
+                    held: Some(uid.copied()),
+                }),
+            }
+        }
+    }
+}
+
+// Looks, and chooses a node for a pod.
+fn decide<J: Naming, T: Threads + Sync, K: Rules + Send>(
+    desk: &LockedDesk<J>,
+    rt: &T,
+    pass: &mut LockedPass<J>,
+    pod: &Pod,
+    fleet: &mut Fleet<K>,
+) -> Result<Decision, NoMemory>
+    requires { IsMember pass.old desk.now }
+    ensures chosen { IfOk result (λ decision. IsChosen (rules_of K.answers fleet.old.kits) desk.now pass.old pod.now decision pass.new) }
+    ensures looked { OnErr result (MayLook desk.now pass.old pass.new) }
+    ensures kits { fleet.new.kits ≡ fleet.old.kits }
+{
+    let snapshot = desk.look(pass)?;
+    fleet.decide(rt, &snapshot, pod, &NoGate)
+}
+
+/// One cycle of a pass: it pops a pod, looks at the nodes, chooses one by the built-in rules and the fleet's, and assumes the
+/// pod there. A pod for which no node is left fails as unschedulable; one for which a rule errs, or whose place is refused
+/// since it was chosen, fails to be tried again.
+///
+/// Errors: `CutShort`, for want of memory. A popped pod was then failed, to be tried again, or it is told that it could not.
+pub fn cycle<J: Naming, T: Wait + Threads + Sync, K: Rules + Send>(
+    desk: &LockedDesk<J>,
+    rt: &T,
+    pass: &mut LockedPass<J>,
+    fleet: &mut Fleet<K>,
+) -> Result<Cycled, CutShort>
+    requires { IsMember pass.old desk.now }
+    ensures cycled { IfOk result (λ came. IsCycle (rules_of K.answers fleet.old.kits) desk.now pass.old came pass.new) }
+    ensures cut_short { IfErr result (λ short. IsCutShort desk.now pass.old short.held pass.new) }
+    ensures kits { fleet.new.kits ≡ fleet.old.kits }
+{
+    let pod = match desk.apply(rt, pass, Step::Pop) {
+        Ok(Reply::Popped(pod)) => pod,
+        Ok(Reply::Idle) => return Ok(Cycled::Idle),
+        Ok(Reply::Done) => unreachable!(),
+        Ok(Reply::Ticket(_)) => unreachable!(),
+        Ok(Reply::Counts(_)) => unreachable!(),
+        Ok(Reply::Refused(_)) => unreachable!(),
+        Err(NoMemory) => return Err(CutShort { held: None }),
+    };
+    match decide(desk, rt, pass, &pod, fleet) {
+        Ok(decision) => end_with(desk, rt, pass, &pod.uid, decision),
+        Err(NoMemory) => Err(give_up(desk, rt, pass, &pod.uid)),
+    }
+}
