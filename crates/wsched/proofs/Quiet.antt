@@ -1,18 +1,50 @@
 -- What holds where a fault of the words ends the program.
-use Rattle.std.proofs.Common.{◌≡◌, List, [], ℕ, Option, Some, None, IfSome, refl}
-use Rattle.std.proofs.KnownBytes.{Appends-nil}
-use Rattle.engine.specs.Device.{AppendsFront}
+use Rattle.std.proofs.Common.{◌≡◌, List, [], ℕ, Option, Some, None, IfSome, sym, refl, arith}
+use Rattle.plugin.specs.RuleSet.{no_rules}
+use Rattle.engine.proofs.Progress.{nothing-written}
+use Rattle.std.proofs.lemmas.List.{append-nil}
+use Rattle.engine.specs.Lines.{lines_of}
+use Rattle.engine.specs.Output.{asked_in, first_fault, WritesOutput, WritesFront}
+use Rattle.engine.specs.declared.fault.RunFault.{RunFault}
 use Rattle.engine.specs.declared.fault.RunFault.TheVariants as run_fault
+use Rattle.manifest.specs.declared.fault.LineFault.{LineFault}
+use Rattle.wsched.specs.Fault.{status_of}
 use Rattle.wsched.specs.Message.{message_of, run_text}
 use Rattle.wsched.specs.declared.faults.Fault.TheVariants.{Words, Run}
 use Rattle.wsched.specs.declared.faults.WordFault.TheVariants as word_fault
 
 -- where nothing is written, that is a beginning of any output
-pub nothing_written : (script known : Option (List ℕ)) (output : List ℕ → List ℕ) → IfSome script (λ text. AppendsFront known known (output text))
-nothing_written None known output = tt
-nothing_written (Some text) known output = ([], output text, refl, Appends-nil known)
+pub nothing_written : (script known : Option (List ℕ)) → IfSome script (λ text. WritesFront no_rules [] text known known)
+nothing_written script known = nothing-written no_rules [] script known
+
+-- the whole output is a beginning of it
+pub output_front : (script old new left : Option (List ℕ)) → IfSome script (λ text. (first_fault text ≡ None) × WritesOutput no_rules [] text old new × (left ≡ Some [])) → IfSome script (λ text. WritesFront no_rules [] text old new)
+output_front None old new left done = tt
+output_front (Some script) old new left done =
+    let (text, output, writes) = done.1 in (
+      text,
+      record {
+        asked = asked_in (lines_of script);
+        later = [];
+        cut = sym (append-nil (asked_in (lines_of script)));
+        end = output.end;
+        text = text;
+        answered = output.answered;
+        rest = [];
+        begins = sym (append-nil text);
+      },
+      writes,
+    )
 
 -- want of memory is told in the same words, whatever it was wanted for
 pub no_memory_told : message_of (Words word_fault.NoMemory) ≡ message_of (Run run_fault.NoMemory)
 unfolding message_of run_text
 no_memory_told = refl
+
+-- a run ends with status 1 at a faulty line alone
+pub at_a_line : (fault : RunFault) → status_of (Run fault) ≡ 1 → (number : ℕ) × (told : LineFault) × (fault ≡ run_fault.Line number told)
+at_a_line (run_fault.Line number told) one = (number, told, refl)
+at_a_line run_fault.NoMemory one = absurd (omega (arith, one))
+at_a_line run_fault.Read one = absurd (omega (arith, one))
+at_a_line run_fault.Write one = absurd (omega (arith, one))
+at_a_line run_fault.NoPlace one = absurd (omega (arith, one))

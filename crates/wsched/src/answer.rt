@@ -1,9 +1,8 @@
 //! What the program does, from its words to its exit status.
 ghost use Rattle.std.specs.Prelude.{◌≡◌, ◌≢◌, ◌⊎◌, ◌^◌, ◌<◌, ◌≤◌, ℕ, List, [], Some, None, map, IfErr, IfSome};
-ghost use Rattle.std.specs.Io.KnownBytes.{Appends};
 ghost use Rattle.manifest.specs.declared.fault.LineFault.{LineFault};
-ghost use Rattle.engine.specs.Device.{AppendsFront};
-ghost use Rattle.engine.specs.Output.{first_fault, output};
+ghost use Rattle.engine.specs.Output.{first_fault, WritesOutput, WritesFront};
+ghost use Rattle.plugin.specs.RuleSet.{no_rules};
 ghost use Rattle.engine.specs.declared.fault.RunFault.TheVariants as run_fault;
 ghost use Rattle.wsched.specs.declared.faults.Fault.TheVariants as faults;
 ghost use Rattle.wsched.specs.Fault.{status_of};
@@ -22,13 +21,16 @@ use engine::{RunFault, Sink, Source};
 use std::alloc::Global;
 use std::convert::AsStr;
 use std::hash::RandomState;
+use std::sync::Wait;
+use std::thread::Threads;
 
 /// Does what the words that follow the program's name ask for, and gives the exit status. Words that
 /// could not be read, or that ask for nothing, are told on `err`, and nothing is read or written.
 /// For `run` it is what `serve` does under the keys; that there are none, since the system gave no
 /// random bytes, is told as a failed read. For `check` it is what `check_file` does.
 #[tactic(auto, using(crate::proofs::Quiet::nothing_written, crate::proofs::Quiet::no_memory_told))]
-pub fn answer<S: AsStr + Drop, F: Files, R: Source, W: Sink, E: Sink>(
+pub fn answer<T: Wait + Threads + Sync, S: AsStr + Drop, F: Files, R: Source, W: Sink, E: Sink>(
+    rt: &T,
     alloc: Global,
     args: Result<Vec<S>, WordFault>,
     keys: Option<RandomState>,
@@ -65,7 +67,7 @@ pub fn answer<S: AsStr + Drop, F: Files, R: Source, W: Sink, E: Sink>(
     // A run: no line is faulty, the output is written whole, and everything is read.
     ensures done { asked_by (λ given. map S.text given.items) args ≡ Some run → result ≡ 0
         → IfSome (R.remaining source.old) (λ script. (first_fault script ≡ None)
-        × Appends (W.written out.old) (W.written out.new) (output script)
+        × WritesOutput no_rules [] script (W.written out.old) (W.written out.new)
         × (R.remaining source.new ≡ Some [])) }
 
     // A run: a line is faulty. It is the first one and its fault is told, and the output of the lines
@@ -75,12 +77,12 @@ pub fn answer<S: AsStr + Drop, F: Files, R: Source, W: Sink, E: Sink>(
         × Tells (E.written err.old) (E.written err.new) (E.failure_count err.old) (E.failure_count err.new)
         (message_of (faults.Run (run_fault.Line number fault)))
         × IfSome (R.remaining source.old) (λ script. (first_fault script ≡ Some (number, fault))
-        × Appends (W.written out.old) (W.written out.new) (output script)) }
+        × WritesOutput no_rules [] script (W.written out.old) (W.written out.new)) }
 
     // A run: nothing but the output, or a beginning of it, is written.
     ensures front { asked_by (λ given. map S.text given.items) args ≡ Some run
         → IfSome (R.remaining source.old) (λ script.
-        AppendsFront (W.written out.old) (W.written out.new) (output script)) }
+        WritesFront no_rules [] script (W.written out.old) (W.written out.new)) }
 
     // A check: what the file has deserves this verdict, the status is the verdict's, its line is
     // written whole, and no fault is told.
@@ -123,7 +125,7 @@ pub fn answer<S: AsStr + Drop, F: Files, R: Source, W: Sink, E: Sink>(
     match args {
         Ok(args) => match words(alloc, args.as_slice()) {
             Ok(Words::Run) => match keys {
-                Some(keys) => serve(alloc, keys, source, out, err),
+                Some(keys) => serve(rt, alloc, keys, source, out, err),
                 None => report(Fault::Run(RunFault::Read), err),
             },
             Ok(Words::Check(file)) => check_file(alloc, file, files, out, err),

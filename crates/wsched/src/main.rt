@@ -36,6 +36,7 @@ fn main(rt: HostRuntime) -> ExitCode {
     let args = arguments(&rt);
     let keys = RandomState::new(&rt).ok();
     ExitCode::from(answer(
+        &rt,
         rt.alloc(),
         args,
         keys,

@@ -1,22 +1,26 @@
 //! A run of a script.
 ghost use Rattle.std.specs.Prelude.{◌≡◌, ◌≢◌, ◌⊎◌, ◌^◌, ◌<◌, ℕ, [], Some, None, IfSome};
-ghost use Rattle.std.specs.Io.KnownBytes.{Appends};
 ghost use Rattle.manifest.specs.declared.fault.LineFault.{LineFault};
-ghost use Rattle.engine.specs.Device.{AppendsFront};
-ghost use Rattle.engine.specs.Output.{first_fault, output};
+ghost use Rattle.engine.specs.Output.{first_fault, WritesOutput, WritesFront};
+ghost use Rattle.plugin.specs.RuleSet.{no_rules};
 ghost use Rattle.engine.specs.declared.fault.RunFault.TheVariants as run_fault;
 ghost use Rattle.wsched.specs.declared.faults.Fault.TheVariants.{Run};
 ghost use Rattle.wsched.specs.Message.{Tells, message_of};
 
 use crate::faults::Fault;
 use crate::message::report;
-use engine::{Sink, Source, run};
+use engine::{RunFault, Sink, Source, run};
+use fleet::Fleet;
+use plugin::NoRules;
 use std::alloc::Global;
 use std::hash::RandomState;
+use std::sync::Wait;
+use std::thread::Threads;
 
 /// Reads a script from `source`, writes the answers to `out`, and gives the exit status. A fault goes
 /// to `err` as one line, and a failed write of that line changes nothing. Names are looked up under the keys, which whoever writes the script can't know.
-pub fn serve<R: Source, W: Sink, E: Sink>(
+pub fn serve<T: Wait + Threads + Sync, R: Source, W: Sink, E: Sink>(
+    rt: &T,
     alloc: Global,
     keys: RandomState,
     source: &mut R,
@@ -33,7 +37,7 @@ pub fn serve<R: Source, W: Sink, E: Sink>(
 
     // No line is faulty, the output is written whole, everything is read, and no fault is told.
     ensures done { result ≡ 0 → IfSome (R.remaining source.old) (λ script. (first_fault script ≡ None)
-        × Appends (W.written out.old) (W.written out.new) (output script)
+        × WritesOutput no_rules [] script (W.written out.old) (W.written out.new)
         × (R.remaining source.new ≡ Some [])) }
     ensures quiet { result ≡ 0 → err.new ≡ err.old }
 
@@ -43,7 +47,7 @@ pub fn serve<R: Source, W: Sink, E: Sink>(
         × Tells (E.written err.old) (E.written err.new) (E.failure_count err.old) (E.failure_count err.new)
         (message_of (Run (run_fault.Line number fault)))
         × IfSome (R.remaining source.old) (λ script. (first_fault script ≡ Some (number, fault))
-        × Appends (W.written out.old) (W.written out.new) (output script)) }
+        × WritesOutput no_rules [] script (W.written out.old) (W.written out.new)) }
 
     // Memory, or the desk's place, was wanting, and that is told. Without a place nothing is read
     // or written.
@@ -67,9 +71,12 @@ pub fn serve<R: Source, W: Sink, E: Sink>(
 
     // Nothing but the output, or a beginning of it, is written.
     ensures front { IfSome (R.remaining source.old) (λ script.
-        AppendsFront (W.written out.old) (W.written out.new) (output script)) }
+        WritesFront no_rules [] script (W.written out.old) (W.written out.new)) }
 {
-    match run(alloc, keys, source, out) {
+    let Ok(mut fleet) = Fleet::of_one(alloc, NoRules) else {
+        return report(Fault::Run(RunFault::NoMemory), err);
+    };
+    match run(rt, alloc, keys, &[], &mut fleet, source, out) {
         Ok(()) => 0,
         Err(fault) => report(Fault::Run(fault), err),
     }

@@ -13,7 +13,9 @@ use std::hash::RandomState;
 use std::io::{Read, Write};
 use std::process::Abort;
 use std::rt::Env;
+use std::sync::Wait;
 use std::test::Fail;
+use std::thread::Threads;
 use std::{fs, io};
 use wtype::TypeFault;
 
@@ -62,6 +64,148 @@ const THIRD_FAULTY: &str =
 const FIFTH_FAULTY: &str =
     "\n{\"op\":\"node\",\"v\":1,\"name\":\"a\",\"cpu\":\"4\",\"mem\":\"8Gi\",\"pods\":110}\n\n
 {\"op\":\"bound\",\"v\":2,\"uid\":\"p0\",\"node\":\"a\",\"cpu\":\"1\",\"mem\":\"1.5Gi\"}";
+
+const TWO_NODES: &str =
+    "{\"op\":\"node\",\"v\":1,\"name\":\"a\",\"cpu\":\"4\",\"mem\":\"8Gi\",\"pods\":110}
+{\"op\":\"node\",\"v\":2,\"name\":\"a.b\",\"cpu\":\"4\",\"mem\":\"8Gi\",\"pods\":110}
+{\"op\":\"pod\",\"v\":3,\"uid\":\"p1\",\"containers\":[[\"100m\",\"64Mi\"]]}
+{\"op\":\"cycle\"}
+";
+
+const TWO_NODES_OUTPUT: &str = "ok
+ok
+ok
+p1 on a total 198 ticket 1
+";
+
+const OVERFULL: &str =
+    "{\"op\":\"node\",\"v\":1,\"name\":\"a\",\"cpu\":\"1\",\"mem\":\"8Gi\",\"pods\":110}
+{\"op\":\"bound\",\"v\":2,\"uid\":\"p0\",\"node\":\"a\",\"cpu\":\"1200m\",\"mem\":\"0\"}
+{\"op\":\"pod\",\"v\":3,\"uid\":\"z\",\"containers\":[[\"0\",\"0\"]]}
+{\"op\":\"cycle\"}
+";
+
+const OVERFULL_OUTPUT: &str = "ok
+ok
+ok
+z on a total 150 ticket 1
+";
+
+const OVERFULL_MORE: &str =
+    "{\"op\":\"node\",\"v\":1,\"name\":\"a\",\"cpu\":\"1\",\"mem\":\"8Gi\",\"pods\":110}
+{\"op\":\"bound\",\"v\":2,\"uid\":\"p0\",\"node\":\"a\",\"cpu\":\"1200m\",\"mem\":\"0\"}
+{\"op\":\"pod\",\"v\":3,\"uid\":\"z\",\"containers\":[[\"1m\",\"0\"]]}
+{\"op\":\"cycle\"}
+";
+
+const OVERFULL_MORE_OUTPUT: &str = "ok
+ok
+ok
+z unschedulable marked 0 taint 0 cpu 1 memory 0 pods 0 plugin 0 final 0
+";
+
+const TAINTED: &str =
+    "{\"op\":\"node\",\"v\":1,\"name\":\"a\",\"cpu\":\"4\",\"mem\":\"8Gi\",\"pods\":110,\"taints\":[[\"k\",\"v\",\"NoExecute\"],[\"s\",\"\",\"PreferNoSchedule\"]]}
+{\"op\":\"pod\",\"v\":2,\"uid\":\"p1\",\"containers\":[[\"100m\",\"64Mi\"]]}
+{\"op\":\"cycle\"}
+";
+
+const TAINTED_OUTPUT: &str = "ok
+ok
+p1 unschedulable marked 0 taint 1 cpu 0 memory 0 pods 0 plugin 0 final 0
+";
+
+const TOLERATED: &str =
+    "{\"op\":\"node\",\"v\":1,\"name\":\"a\",\"cpu\":\"4\",\"mem\":\"8Gi\",\"pods\":110,\"taints\":[[\"k\",\"v\",\"NoExecute\"],[\"s\",\"\",\"PreferNoSchedule\"]]}
+{\"op\":\"pod\",\"v\":2,\"uid\":\"p1\",\"containers\":[[\"100m\",\"64Mi\"]],\"tolerations\":[[\"\",\"Exists\",\"\",\"NoExecute\"]]}
+{\"op\":\"cycle\"}
+";
+
+const TOLERATED_OUTPUT: &str = "ok
+ok
+p1 on a total 98 ticket 1
+";
+
+const ALL_TOLERATED: &str =
+    "{\"op\":\"node\",\"v\":1,\"name\":\"a\",\"cpu\":\"4\",\"mem\":\"8Gi\",\"pods\":110,\"taints\":[[\"k\",\"v\",\"NoExecute\"],[\"s\",\"\",\"PreferNoSchedule\"]]}
+{\"op\":\"pod\",\"v\":2,\"uid\":\"p1\",\"containers\":[[\"100m\",\"64Mi\"]],\"tolerations\":[[\"\",\"Exists\",\"\",\"\"]]}
+{\"op\":\"cycle\"}
+";
+
+const ALL_TOLERATED_OUTPUT: &str = "ok
+ok
+p1 on a total 198 ticket 1
+";
+
+const CONFIRMED: &str =
+    "{\"op\":\"node\",\"v\":1,\"name\":\"a\",\"cpu\":\"4\",\"mem\":\"8Gi\",\"pods\":110}
+{\"op\":\"pod\",\"v\":2,\"uid\":\"p1\",\"containers\":[[\"100m\",\"64Mi\"]]}
+{\"op\":\"cycle\"}
+{\"op\":\"bound\",\"v\":3,\"uid\":\"p1\",\"node\":\"a\",\"cpu\":\"100m\",\"mem\":\"64Mi\"}
+{\"op\":\"done\",\"uid\":\"p1\",\"ticket\":1}
+{\"op\":\"forget\",\"uid\":\"p1\",\"ticket\":1}
+{\"op\":\"forget\",\"uid\":\"p1\",\"ticket\":1}
+{\"op\":\"bound\",\"v\":3,\"uid\":\"p1\",\"node\":\"a\",\"cpu\":\"100m\",\"mem\":\"64Mi\"}
+{\"op\":\"dump\"}
+";
+
+const CONFIRMED_OUTPUT: &str = "ok
+ok
+p1 on a total 198 ticket 1
+ok
+refused 11 Confirmed
+refused 11 Confirmed
+refused 11 Confirmed
+refused 1 Old
+node a cpu 100/4000 mem 67108864/8589934592 pods 1/110
+places bound 1 assumed 0
+queue active 0 backoff 0 unschedulable 0 inflight 0
+clock 0 version 3
+";
+
+const FORGOTTEN: &str =
+    "{\"op\":\"node\",\"v\":1,\"name\":\"a\",\"cpu\":\"4\",\"mem\":\"8Gi\",\"pods\":110}
+{\"op\":\"pod\",\"v\":2,\"uid\":\"p1\",\"containers\":[[\"100m\",\"64Mi\"]]}
+{\"op\":\"cycle\"}
+{\"op\":\"forget\",\"uid\":\"p1\",\"ticket\":1}
+{\"op\":\"tick\",\"at\":999}
+{\"op\":\"cycle\"}
+{\"op\":\"tick\",\"at\":1000}
+{\"op\":\"cycle\"}
+{\"op\":\"forget\",\"uid\":\"p1\",\"ticket\":1}
+{\"op\":\"tick\",\"at\":5}
+";
+
+const FORGOTTEN_OUTPUT: &str = "ok
+ok
+p1 on a total 198 ticket 1
+ok
+ok
+idle
+ok
+p1 on a total 198 ticket 2
+refused 7 StaleTicket
+refused 9 ClockBack
+";
+
+const WOKEN: &str =
+    "{\"op\":\"node\",\"v\":1,\"name\":\"a\",\"cpu\":\"1\",\"mem\":\"8Gi\",\"pods\":110}
+{\"op\":\"pod\",\"v\":2,\"uid\":\"p1\",\"containers\":[[\"2\",\"0\"]]}
+{\"op\":\"cycle\"}
+{\"op\":\"node\",\"v\":3,\"name\":\"b\",\"cpu\":\"4\",\"mem\":\"8Gi\",\"pods\":110}
+{\"op\":\"cycle\"}
+{\"op\":\"tick\",\"at\":1000}
+{\"op\":\"cycle\"}
+";
+
+const WOKEN_OUTPUT: &str = "ok
+ok
+p1 unschedulable marked 0 taint 0 cpu 1 memory 0 pods 0 plugin 0 final 0
+ok
+idle
+ok
+p1 on b total 175 ticket 1
+";
 
 // A device's next call: each is interrupted once before it is made, and one of them fails.
 #[derive(Drop)]
@@ -152,14 +296,14 @@ struct Ended {
     err: Vec<u8>,
 }
 
-fn run_program<R: fs::Files>(
-    files: &R,
+fn run_program<R: fs::Files + Wait + Threads + Sync>(
+    rt: &R,
     alloc: Global,
     keys: RandomState,
     given: Given,
 ) -> Result<Ended, AllocError> {
     let args = Vec::from_slice(alloc, given.args)?;
-    let mut folder = Folder::new(files);
+    let mut folder = Folder::new(rt);
     let mut source = Input::new(Pieces {
         rest: given.script,
         most: given.most,
@@ -176,6 +320,7 @@ fn run_program<R: fs::Files>(
         calls: Calls::failing(0),
     });
     let status = answer(
+        rt,
         alloc,
         Ok(args),
         Some(keys),
@@ -195,7 +340,7 @@ fn run_program<R: fs::Files>(
 // whole.
 #[track_caller]
 fn assert_ends(
-    rt: &(impl Abort + fs::Files),
+    rt: &(impl Abort + fs::Files + Wait + Threads + Sync),
     alloc: Global,
     keys: RandomState,
     given: Given,
@@ -239,6 +384,87 @@ fn words_and_scripts_have_their_statuses_and_texts(rt: HostRuntime) -> Result<()
             "",
         ),
         (
+            "ties go to the lesser name",
+            run,
+            TWO_NODES,
+            64,
+            0,
+            TWO_NODES_OUTPUT,
+            "",
+        ),
+        (
+            "a node with more used than it has",
+            run,
+            OVERFULL,
+            64,
+            0,
+            OVERFULL_OUTPUT,
+            "",
+        ),
+        (
+            "a pod that asks for more of it",
+            run,
+            OVERFULL_MORE,
+            64,
+            0,
+            OVERFULL_MORE_OUTPUT,
+            "",
+        ),
+        (
+            "taints that nothing tolerates",
+            run,
+            TAINTED,
+            64,
+            0,
+            TAINTED_OUTPUT,
+            "",
+        ),
+        (
+            "a taint that is tolerated",
+            run,
+            TOLERATED,
+            64,
+            0,
+            TOLERATED_OUTPUT,
+            "",
+        ),
+        (
+            "taints that are all tolerated",
+            run,
+            ALL_TOLERATED,
+            64,
+            0,
+            ALL_TOLERATED_OUTPUT,
+            "",
+        ),
+        (
+            "a place that is told twice",
+            run,
+            CONFIRMED,
+            64,
+            0,
+            CONFIRMED_OUTPUT,
+            "",
+        ),
+        (
+            "a place that is given up",
+            run,
+            FORGOTTEN,
+            64,
+            0,
+            FORGOTTEN_OUTPUT,
+            "",
+        ),
+        (
+            "a node that wakes a pod",
+            run,
+            WOKEN,
+            64,
+            0,
+            WOKEN_OUTPUT,
+            "",
+        ),
+        (
             "a line that ends early",
             run,
             "{\"op\":\"dump\"",
@@ -266,16 +492,7 @@ fn words_and_scripts_have_their_statuses_and_texts(rt: HostRuntime) -> Result<()
             "wsched: line 1: 2 BadField op\n",
         ),
         (
-            "an operation that isn't served yet",
-            run,
-            "{\"op\":\"tick\",\"at\":1}\n",
-            9,
-            1,
-            "",
-            "wsched: line 1: 2 BadField op\n",
-        ),
-        (
-            "a faulty field of an operation that isn't served yet",
+            "a faulty field of a tick",
             run,
             "{\"op\":\"tick\",\"at\":-1}\n",
             9,
