@@ -17,9 +17,15 @@ use Rattle.manifest.specs.declared.fault.LineFault.TheVariants as line_fault
 use Rattle.engine.specs.Fault as run
 use Rattle.engine.specs.declared.fault.RunFault.{RunFault}
 use Rattle.engine.specs.declared.fault.RunFault.TheVariants as run_fault
-use Rattle.wsched.specs.Fault.{name_of}
-use Rattle.wsched.specs.declared.faults.WordFault.{WordFault}
-use Rattle.wsched.specs.declared.faults.WordFault.TheVariants as word_fault
+use Rattle.wmach.specs.Trap as trap
+use Rattle.wmach.specs.declared.outcome.Trap.{Trap}
+use Rattle.wmach.specs.declared.outcome.Trap.TheVariants as traps
+use Rattle.whost.specs.Refused as instance
+use Rattle.whost.specs.declared.fault.InstanceFault.{InstanceFault}
+use Rattle.whost.specs.declared.fault.InstanceFault.TheVariants as instance_fault
+use Rattle.command.specs.Fault.{name_of}
+use Rattle.command.specs.declared.fault.WordFault.{WordFault}
+use Rattle.command.specs.declared.fault.WordFault.TheVariants as word_fault
 
 -- the name of a line's fault
 pub line_name_short : (fault : LineFault) → length (line.name_of fault) ≤ 10
@@ -90,3 +96,24 @@ type_name_short type_fault.BadImport = lit≤ tt
 type_name_short type_fault.BadExport = lit≤ tt
 type_name_short type_fault.OverLimit = lit≤ tt
 type_name_short type_fault.NoMemory = lit≤ tt
+
+-- the name of what keeps a module from being made an instance
+pub instance_name_short : (fault : InstanceFault) → length (instance.name_of fault) ≤ 20
+instance_name_short instance_fault.DataOutOfBounds = lit≤ tt
+instance_name_short instance_fault.ElementOutOfBounds = lit≤ tt
+instance_name_short (instance_fault.StartTrap why) = lit≤ tt
+instance_name_short instance_fault.StartExhausted = lit≤ tt
+instance_name_short instance_fault.NoMemory = lit≤ tt
+
+-- the name of a trap
+pub trap_name_short : (why : Trap) → length (trap.name_of why) ≤ 20
+trap_name_short traps.Unreachable = lit≤ tt
+trap_name_short traps.DivideByZero = lit≤ tt
+trap_name_short traps.IntegerOverflow = lit≤ tt
+trap_name_short traps.MemoryOutOfBounds = lit≤ tt
+trap_name_short traps.UndefinedElement = lit≤ tt
+trap_name_short traps.UninitializedElement = lit≤ tt
+trap_name_short traps.SignatureMismatch = lit≤ tt
+trap_name_short traps.CallDepth = lit≤ tt
+trap_name_short traps.HostOutOfBounds = lit≤ tt
+trap_name_short traps.NoRecord = lit≤ tt

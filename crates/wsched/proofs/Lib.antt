@@ -1,9 +1,4 @@
 pub mod Lengths
-pub mod CommandFile
-pub mod CommandKinds
-pub mod CommandWords
-pub mod CommandCheck
-pub mod CommandLine
 pub mod Fronts
 pub mod Quiet
 pub mod Verdicts

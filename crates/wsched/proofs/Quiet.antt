@@ -1,40 +1,34 @@
 -- What holds where a fault of the words ends the program.
 use Rattle.std.proofs.Common.{◌≡◌, List, [], ℕ, Option, Some, None, IfSome, sym, refl, arith}
-use Rattle.plugin.specs.RuleSet.{no_rules}
-use Rattle.engine.proofs.Progress.{nothing-written}
+use Rattle.plugin.specs.RuleSet.{RuleSet}
 use Rattle.std.proofs.lemmas.List.{append-nil}
 use Rattle.engine.specs.Lines.{lines_of}
 use Rattle.engine.specs.Output.{asked_in, first_fault, WritesOutput, WritesFront}
 use Rattle.engine.specs.declared.fault.RunFault.{RunFault}
 use Rattle.engine.specs.declared.fault.RunFault.TheVariants as run_fault
+use Rattle.quant.specs.declared.name.Name.{Name}
 use Rattle.manifest.specs.declared.fault.LineFault.{LineFault}
 use Rattle.wsched.specs.Fault.{status_of}
 use Rattle.wsched.specs.Message.{message_of, run_text}
 use Rattle.wsched.specs.declared.faults.Fault.TheVariants.{Words, Run}
-use Rattle.wsched.specs.declared.faults.WordFault.TheVariants as word_fault
-
--- where nothing is written, that is a beginning of any output
-pub nothing_written : (script known : Option (List ℕ)) → IfSome script (λ text. WritesFront no_rules [] text known known)
-nothing_written script known = nothing-written no_rules [] script known
+use Rattle.command.specs.declared.fault.WordFault.TheVariants as word_fault
 
 -- the whole output is a beginning of it
-pub output_front : (script old new left : Option (List ℕ)) → IfSome script (λ text. (first_fault text ≡ None) × WritesOutput no_rules [] text old new × (left ≡ Some [])) → IfSome script (λ text. WritesFront no_rules [] text old new)
-output_front None old new left done = tt
-output_front (Some script) old new left done =
-    let (text, output, writes) = done.1 in (
-      text,
-      record {
-        asked = asked_in (lines_of script);
-        later = [];
-        cut = sym (append-nil (asked_in (lines_of script)));
-        end = output.end;
-        text = text;
-        answered = output.answered;
-        rest = [];
-        begins = sym (append-nil text);
-      },
-      writes,
-    )
+pub output_front : (rules : RuleSet) (names : List Name) (script : List ℕ) (old new : Option (List ℕ)) → WritesOutput rules names script old new → WritesFront rules names script old new
+output_front rules names script old new (text, output, writes) = (
+  text,
+  record {
+    asked = asked_in (lines_of script);
+    later = [];
+    cut = sym (append-nil (asked_in (lines_of script)));
+    end = output.end;
+    text = text;
+    answered = output.answered;
+    rest = [];
+    begins = sym (append-nil text);
+  },
+  writes,
+)
 
 -- want of memory is told in the same words, whatever it was wanted for
 pub no_memory_told : message_of (Words word_fault.NoMemory) ≡ message_of (Run run_fault.NoMemory)

@@ -1,4 +1,6 @@
 pub mod Fault
 pub mod Message
+pub mod Refusal
+pub mod Site
+pub mod Text
 pub mod Verdict
-pub mod Words

@@ -9,13 +9,11 @@ use Rattle.engine.specs.Device.{AppendsFront}
 use Rattle.engine.specs.Fault as run
 use Rattle.engine.specs.declared.fault.RunFault.{RunFault}
 use Rattle.engine.specs.declared.fault.RunFault.TheVariants.{Line, NoMemory, Read, Write, NoPlace}
-use Rattle.wsched.specs.Fault.{number_of, name_of}
+use Rattle.command.specs.Fault.{number_of, name_of}
+use Rattle.wsched.specs.Text.{fault_text}
+use Rattle.wsched.specs.Refusal.{refusal_text}
 use Rattle.wsched.specs.declared.faults.Fault.{Fault}
-use Rattle.wsched.specs.declared.faults.Fault.TheVariants.{Words, Run}
-
--- a fault's number and name
-abbrev pub fault_text : ℕ → List ℕ → List ℕ
-fault_text number name = decimal number ++ codes " " ++ name
+use Rattle.wsched.specs.declared.faults.Fault.TheVariants.{Words, Plugin, Run}
 
 -- the field in which a fault stands, where there is one
 abbrev pub field_text : Option Field → List ℕ
@@ -37,6 +35,7 @@ run_text NoPlace = fault_text (run.number_of NoPlace) (run.name_of NoPlace)
 -- why the program ended early
 abbrev pub text_of : Fault → List ℕ
 text_of (Words fault) = fault_text (number_of fault) (name_of fault)
+text_of (Plugin name refusal) = codes "plugin " ++ name ++ codes ": " ++ refusal_text refusal
 text_of (Run fault) = run_text fault
 
 -- the line that tells it

@@ -1,18 +1,17 @@
 -- What `check` finds of a module's bytes, and the line that tells it.
-use Rattle.std.specs.Prelude.{◌≡◌, ◌≢◌, ℕ, List, ◌++◌, codes, decimal, take, Option, Some, None}
+use Rattle.std.specs.Prelude.{◌≡◌, ◌≢◌, ℕ, List, ◌++◌, codes, take, Option}
 use Rattle.std.specs.Io.KnownBytes.{Appends}
-use Rattle.wcode.specs.Fault as bin
 use Rattle.wcode.specs.declared.fault.BinFault.{BinFault}
 use Rattle.wcode.specs.declared.fault.BinFault.TheVariants as bin_fault
 use Rattle.wbin.specs.Syntax.{ModuleSyntax}
 use Rattle.wbin.specs.Grammar.{Spells}
-use Rattle.wbody.specs.Fault as type
 use Rattle.wbody.specs.declared.fault.TypeFault.{TypeFault}
 use Rattle.wbody.specs.declared.fault.TypeFault.TheVariants as type_fault
 use Rattle.wtype.specs.Accepted as accepted
 use Rattle.wtype.specs.Refused.{WhyRefused}
 use Rattle.engine.specs.Device.{AppendsFront}
-use Rattle.wsched.specs.Message.{fault_text}
+use Rattle.wsched.specs.Refusal.{refusal_text}
+use Rattle.wsched.specs.declared.refusal.Refusal.TheVariants as refusal
 use Rattle.wsched.specs.declared.verdict.Verdict.{Verdict}
 use Rattle.wsched.specs.declared.verdict.Verdict.TheVariants.{Accepted, Undecoded, Untyped}
 
@@ -38,33 +37,11 @@ status_for Accepted = 0
 status_for (Undecoded fault) = 1
 status_for (Untyped fault) = 1
 
--- why bytes spell no module: of what can't be read, what is wrong and where it begins
-unfoldable pub bin_text : BinFault → List ℕ
-bin_text (bin_fault.Malformed kind place) =
-    fault_text (bin.number_of (bin_fault.Malformed kind place)) (bin.name_of (bin_fault.Malformed kind place))
-    ++ codes " " ++ fault_text (bin.kind_number kind) (bin.kind_name kind) ++ codes " at " ++ decimal place
-bin_text bin_fault.Float = fault_text (bin.number_of bin_fault.Float) (bin.name_of bin_fault.Float)
-bin_text bin_fault.NoMemory = fault_text (bin.number_of bin_fault.NoMemory) (bin.name_of bin_fault.NoMemory)
-
--- where typing fails: a rule of the module, or the function with this index at this place
-abbrev pub where_text : Option ℕ → ℕ → List ℕ
-where_text None place = codes " module"
-where_text (Some function) place = codes " function " ++ decimal function ++ codes " at " ++ decimal place
-
--- why a module isn't accepted
-unfoldable pub type_text : TypeFault → List ℕ
-type_text (type_fault.Untyped function place) =
-    fault_text (type.number_of (type_fault.Untyped function place)) (type.name_of (type_fault.Untyped function place)) ++ where_text function place
-type_text type_fault.BadImport = fault_text (type.number_of type_fault.BadImport) (type.name_of type_fault.BadImport)
-type_text type_fault.BadExport = fault_text (type.number_of type_fault.BadExport) (type.name_of type_fault.BadExport)
-type_text type_fault.OverLimit = fault_text (type.number_of type_fault.OverLimit) (type.name_of type_fault.OverLimit)
-type_text type_fault.NoMemory = fault_text (type.number_of type_fault.NoMemory) (type.name_of type_fault.NoMemory)
-
 -- the line that tells it
 unfoldable pub verdict_line : Verdict → List ℕ
 verdict_line Accepted = codes "accepted" ++ codes "\n"
-verdict_line (Undecoded fault) = codes "refused decode " ++ bin_text fault ++ codes "\n"
-verdict_line (Untyped fault) = codes "refused type " ++ type_text fault ++ codes "\n"
+verdict_line (Undecoded fault) = refusal_text (refusal.Undecoded fault) ++ codes "\n"
+verdict_line (Untyped fault) = refusal_text (refusal.Untyped fault) ++ codes "\n"
 
 -- known bytes grow by the line that these bytes deserve, and the status is that verdict's
 abbrev pub TellsVerdict : Option (List ℕ) → Option (List ℕ) → ℕ → List ℕ → Type 0

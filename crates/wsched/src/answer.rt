@@ -1,23 +1,22 @@
 //! What the program does, from its words to its exit status.
-ghost use Rattle.std.specs.Prelude.{◌≡◌, ◌≢◌, ◌⊎◌, ◌^◌, ◌<◌, ◌≤◌, ℕ, List, [], Some, None, map, IfErr, IfSome};
-ghost use Rattle.manifest.specs.declared.fault.LineFault.{LineFault};
-ghost use Rattle.engine.specs.Output.{first_fault, WritesOutput, WritesFront};
-ghost use Rattle.plugin.specs.RuleSet.{no_rules};
+ghost use Rattle.std.specs.Prelude.{◌≡◌, ◌≢◌, ◌⊎◌, ◌^◌, ◌<◌, ◌≤◌, ℕ, List, Some, None, map, IfErr, IfSome};
+ghost use Rattle.command.specs.Words.{SpecSyntax, asked_by, run, check};
+ghost use Rattle.command.specs.declared.fault.WordFault.TheVariants as word_fault;
 ghost use Rattle.engine.specs.declared.fault.RunFault.TheVariants as run_fault;
+ghost use Rattle.wsched.specs.declared.faults.Fault.{Fault as AnyFault};
 ghost use Rattle.wsched.specs.declared.faults.Fault.TheVariants as faults;
 ghost use Rattle.wsched.specs.Fault.{status_of};
 ghost use Rattle.wsched.specs.Message.{Tells, message_of};
+ghost use Rattle.wsched.specs.Site.{SiteDone, SiteFaulty, SiteFront, SiteRefused};
 ghost use Rattle.wsched.specs.Verdict.{TellsFront, TellsVerdict};
-ghost use Rattle.wsched.specs.Words.{asked_by, run, check};
 
 use crate::check::check_file;
-use crate::command::Words;
-use crate::command_line::words;
-use crate::faults::{Fault, WordFault};
+use crate::faults::Fault;
 use crate::folder::Files;
 use crate::message::report;
-use crate::serve::serve;
-use engine::{RunFault, Sink, Source};
+use crate::serve::serve_plan;
+use command::{WordFault, Words, words};
+use engine::{Sink, Source};
 use std::alloc::Global;
 use std::convert::AsStr;
 use std::hash::RandomState;
@@ -26,9 +25,8 @@ use std::thread::Threads;
 
 /// Does what the words that follow the program's name ask for, and gives the exit status. Words that
 /// could not be read, or that ask for nothing, are told on `err`, and nothing is read or written.
-/// For `run` it is what `serve` does under the keys; that there are none, since the system gave no
-/// random bytes, is told as a failed read. For `check` it is what `check_file` does.
-#[tactic(auto, using(crate::proofs::Quiet::nothing_written, crate::proofs::Quiet::no_memory_told))]
+/// For `run` it is what `serve_plan` does under the keys, for `check` what `check_file` does.
+#[tactic(auto, using(crate::proofs::Quiet::no_memory_told))]
 pub fn answer<T: Wait + Threads + Sync, S: AsStr + Drop, F: Files, R: Source, W: Sink, E: Sink>(
     rt: &T,
     alloc: Global,
@@ -57,32 +55,27 @@ pub fn answer<T: Wait + Threads + Sync, S: AsStr + Drop, F: Files, R: Source, W:
         → ((result ≡ 2) ⊎ (result ≡ 3)) × (files.new ≡ files.old) × (source.new ≡ source.old) × (out.new ≡ out.old) }
     ensures words { result ≡ 2 → (asked_by (λ given. map S.text given.items) args ≡ None)
         × Tells (E.written err.old) (E.written err.new) (E.failure_count err.old) (E.failure_count err.new)
-        (message_of (faults.Words WordFault.BadWords)) }
+        (message_of (faults.Words word_fault.BadWords)) }
 
-    // A run opens no file, and a check leaves the source as it is.
-    ensures of_run { asked_by (λ given. map S.text given.items) args ≡ Some run → files.new ≡ files.old }
+    // A check leaves the source as it is.
     ensures of_check { (file : List ℕ) → asked_by (λ given. map S.text given.items) args ≡ Some (check file)
         → source.new ≡ source.old }
 
     // A run: no line is faulty, the output is written whole, and everything is read.
-    ensures done { asked_by (λ given. map S.text given.items) args ≡ Some run → result ≡ 0
-        → IfSome (R.remaining source.old) (λ script. (first_fault script ≡ None)
-        × WritesOutput no_rules [] script (W.written out.old) (W.written out.new)
-        × (R.remaining source.new ≡ Some [])) }
+    ensures done { (workers : ℕ) (specs : List SpecSyntax) → asked_by (λ given. map S.text given.items) args ≡ Some (run workers specs)
+        → result ≡ 0 → SiteDone (F.contents files.old) specs (R.remaining source.old) (R.remaining source.new) (W.written out.old) (W.written out.new) }
 
-    // A run: a line is faulty. It is the first one and its fault is told, and the output of the lines
-    // before it is written whole.
-    ensures line { asked_by (λ given. map S.text given.items) args ≡ Some run → result ≡ 1
-        → (number : ℕ) × (fault : LineFault)
-        × Tells (E.written err.old) (E.written err.new) (E.failure_count err.old) (E.failure_count err.new)
-        (message_of (faults.Run (run_fault.Line number fault)))
-        × IfSome (R.remaining source.old) (λ script. (first_fault script ≡ Some (number, fault))
-        × WritesOutput no_rules [] script (W.written out.old) (W.written out.new)) }
+    // A run: a plugin's module is refused, that is told, and nothing is read or written. Or a line is faulty: it is the first one and
+    // its fault is told, and the output of the lines before it is written whole.
+    ensures input { (workers : ℕ) (specs : List SpecSyntax) → asked_by (λ given. map S.text given.items) args ≡ Some (run workers specs)
+        → result ≡ 1 → (fault : AnyFault)
+        × Tells (E.written err.old) (E.written err.new) (E.failure_count err.old) (E.failure_count err.new) (message_of fault)
+        × ((SiteRefused (F.contents files.old) specs fault × (source.new ≡ source.old) × (out.new ≡ out.old))
+        ⊎ SiteFaulty (F.contents files.old) specs fault (R.remaining source.old) (W.written out.old) (W.written out.new)) }
 
     // A run: nothing but the output, or a beginning of it, is written.
-    ensures front { asked_by (λ given. map S.text given.items) args ≡ Some run
-        → IfSome (R.remaining source.old) (λ script.
-        WritesFront no_rules [] script (W.written out.old) (W.written out.new)) }
+    ensures front { (workers : ℕ) (specs : List SpecSyntax) → asked_by (λ given. map S.text given.items) args ≡ Some (run workers specs)
+        → (out.new ≡ out.old) ⊎ SiteFront (F.contents files.old) specs (R.remaining source.old) (W.written out.old) (W.written out.new) }
 
     // A check: what the file has deserves this verdict, the status is the verdict's, its line is
     // written whole, and no fault is told.
@@ -105,29 +98,23 @@ pub fn answer<T: Wait + Threads + Sync, S: AsStr + Drop, F: Files, R: Source, W:
         (E.failure_count err.new) (message_of (faults.Run run_fault.NoPlace))
         × (source.new ≡ source.old) × (out.new ≡ out.old)) }
 
-    // A run was given no keys, or the opening of a file, a read or a write failed meanwhile, and that
-    // is told.
+    // A run was given no keys, or a file, a read or a write failed meanwhile, and that is told.
     ensures failed { result ≡ 4 → Tells (E.written err.old) (E.written err.new) (E.failure_count err.old)
         (E.failure_count err.new) (message_of (faults.Run run_fault.Read))
-        × (((keys ≡ None) × (asked_by (λ given. map S.text given.items) args ≡ Some run))
-        ⊎ ((R.failure_count source.old < R.failure_count source.new)
+        × ((keys ≡ None) ⊎ ((R.failure_count source.old < R.failure_count source.new)
         ⊎ (F.failure_count files.old < F.failure_count files.new)))
         ⊎ (Tells (E.written err.old) (E.written err.new) (E.failure_count err.old)
         (E.failure_count err.new) (message_of (faults.Run run_fault.Write))
         × (W.failure_count out.old < W.failure_count out.new)) }
 
-    // And each failure is told: at any other status no file failed to open, no read, and no write to
-    // `out`, has failed.
+    // And each failure is told: at any other status no file failed, no read, and no write to `out`.
     ensures failures_told { result ≢ 4 → (F.failure_count files.new ≡ F.failure_count files.old)
         × (R.failure_count source.new ≡ R.failure_count source.old)
         × (W.failure_count out.new ≡ W.failure_count out.old) }
 {
     match args {
         Ok(args) => match words(alloc, args.as_slice()) {
-            Ok(Words::Run) => match keys {
-                Some(keys) => serve(rt, alloc, keys, source, out, err),
-                None => report(Fault::Run(RunFault::Read), err),
-            },
+            Ok(Words::Run(plan)) => serve_plan(rt, alloc, keys, &plan, files, source, out, err),
             Ok(Words::Check(file)) => check_file(alloc, file, files, out, err),
             Err(fault) => report(Fault::Words(fault), err),
         },

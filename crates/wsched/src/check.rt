@@ -1,7 +1,7 @@
 //! Whether a module is accepted.
-ghost use Rattle.std.specs.Prelude.{◌≡◌, ◌≢◌, ◌⊎◌, ◌^◌, ◌<◌, ◌≤◌, length, take, IfOk, IfErr, IfSome, OnOk};
+ghost use Rattle.std.specs.Prelude.{◌≡◌, ◌≢◌, ◌⊎◌, ◌^◌, ◌<◌, ◌≤◌, IfSome};
 ghost use Rattle.std.specs.Io.KnownBytes.{Appends};
-ghost use Rattle.engine.specs.Device.{AppendsFront, CountsFailure};
+ghost use Rattle.engine.specs.Device.{AppendsFront};
 ghost use Rattle.engine.specs.declared.fault.RunFault.TheVariants as run_fault;
 ghost use Rattle.wsched.specs.declared.faults.Fault.TheVariants.{Run};
 ghost use Rattle.wsched.specs.Message.{Tells, message_of};
@@ -11,7 +11,7 @@ use crate::faults::Fault;
 use crate::folder::Files;
 use crate::message::report;
 use crate::verdict::{Verdict, line_of, verdict_on};
-use engine::{DeviceFailed, RunFault, Sink, Source, write_all};
+use engine::{RunFault, Sink, write_all};
 use std::alloc::Global;
 use wbin::LONGEST;
 
@@ -116,48 +116,8 @@ pub fn check_file<F: Files, W: Sink, E: Sink>(
     ensures front { (out.new ≡ out.old) ⊎ IfSome (F.contents files.old name.now)
         (TellsFront (W.written out.old) (W.written out.new)) }
 {
-    match read_file(alloc, name, files, LONGEST + 1) {
+    match files.read_front(alloc, name, LONGEST + 1) {
         Ok(bytes) => check_module(alloc, bytes.as_slice(), out, err),
         Err(fault) => report(Fault::Run(fault), err),
     }
-}
-
-// The bytes of a file, or so many of them.
-fn read_file<F: Files>(
-    alloc: Global,
-    name: &str,
-    files: &mut F,
-    most: usize,
-) -> Result<Vec<u8>, RunFault>
-    requires { F.failure_count files.old < 10 ^ 18 }
-    ensures front { IfOk result (λ bytes. IfSome (F.contents files.old name.now) (λ whole. bytes.items ≡ take most whole)) }
-    ensures faults { IfErr result (λ e. (e ≡ RunFault.Read) ⊎ (e ≡ RunFault.NoMemory)) }
-    ensures failed { IfErr result (λ e. e ≡ RunFault.Read → F.failure_count files.old < F.failure_count files.new) }
-    ensures kept { IfErr result (λ e. e ≡ RunFault.NoMemory → F.failure_count files.new ≡ F.failure_count files.old) }
-    ensures read { OnOk result (F.failure_count files.new ≡ F.failure_count files.old) }
-{
-    files.open(name).map_err(|_| RunFault::Read)?;
-    let mut bytes = vec![in alloc; 0; most]?;
-    let len = read_front(files, bytes.as_mut_slice()).map_err(|_| RunFault::Read)?;
-    bytes.truncate(len);
-    Ok(bytes)
-}
-
-// Fills the buffer from a source, and says how much of it was there to be read.
-#[tactic(auto, using(crate::proofs::Fronts::ended, crate::proofs::Fronts::full))]
-fn read_front<R: Source>(source: &mut R, buffer: &mut [u8]) -> Result<usize, DeviceFailed>
-    requires { R.failure_count source.old < 10 ^ 18 }
-    ensures within { IfOk result (λ n. n ≤ length buffer.new) }
-    ensures front { IfOk result (λ n. IfSome (R.remaining source.old) (λ whole. take n buffer.new ≡ take (length buffer.new) whole)) }
-    ensures failed { CountsFailure (R.failure_count source.old) (R.failure_count source.new) result }
-{
-    let mut at = 0;
-    while at < buffer.len() {
-        let n = source.read(&mut buffer[at..])?;
-        if n == 0 {
-            break;
-        }
-        at += n;
-    }
-    Ok(at)
 }

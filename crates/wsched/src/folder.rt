@@ -1,79 +1,83 @@
 //! The files that are read, over std's files.
-ghost use Rattle.std.specs.Prelude.{◌≡◌, ◌^◌, ◌<◌, ℕ, List, Option, Some, None, OnOk, option_and_then};
+ghost use Rattle.std.specs.Prelude.{◌≡◌, ◌^◌, ◌<◌, ◌≤◌, ◌⊎◌, ℕ, List, Option, Some, None, IfErr, IfOk, IfSome, OnOk, length, take};
 ghost use Rattle.engine.specs.Device.{CountsFailure};
+ghost use Rattle.engine.specs.declared.fault.RunFault.TheVariants.{Read, NoMemory};
 
-use crate::device::{MAX_INPUT, read_bounded};
-use engine::{DeviceFailed, Source};
+use crate::device::Input;
+use engine::{DeviceFailed, RunFault, Source};
+use std::alloc::Global;
 use std::fs;
 
-/// Files that are found by their names, of which one is read at a time: as a source, the one that
-/// was opened last.
-pub trait Files: Source {
+/// Files that are found by their names.
+pub trait Files {
     // What the file of this name has, where that is known.
     ghost contents: { Self → List ℕ → Option (List ℕ) };
 
-    /// Opens the file of this name, which is read from its first byte on.
-    fn open(&mut self, name: &str) -> Result<(), DeviceFailed>
-        requires { Self.failure_count self.old < 10 ^ 18 }
-        ensures opened { OnOk result (Self.remaining self.new ≡ contents self.old name.now) }
-        ensures failed { CountsFailure (Self.failure_count self.old) (Self.failure_count self.new) result };
+    // How many files couldn't be opened or read.
+    ghost failure_count: { Self → ℕ };
+
+    /// Reads the file of this name: all of its bytes, or its first ones, so many at most.
+    ///
+    /// Errors: `Read` where the file can't be opened or read, and `NoMemory`.
+    fn read_front(&mut self, alloc: Global, name: &str, most: usize) -> Result<Vec<u8>, RunFault>
+        requires { failure_count self.old < 10 ^ 18 }
+        ensures front { IfOk result (λ bytes. IfSome (contents self.old name.now) (λ whole. bytes.items ≡ take most whole)) }
+        ensures faults { IfErr result (λ e. (e ≡ Read) ⊎ (e ≡ NoMemory)) }
+        ensures failed { IfErr result (λ e. e ≡ Read → failure_count self.old < failure_count self.new) }
+        ensures wanting { IfErr result (λ e. e ≡ NoMemory → failure_count self.new ≡ failure_count self.old) }
+        ensures read { OnOk result (failure_count self.new ≡ failure_count self.old) }
+        ensures same { contents self.new ≡ contents self.old };
 }
 
 /// The files of a runtime. What they have isn't known.
 #[derive(Drop)]
 pub struct Folder<'a, R: fs::Files> {
     files: &'a R,
-    opened: Option<R::File>,
-    left: u64,
     failures: u64,
 }
 
 impl<'a, R: fs::Files> Folder<'a, R> {
-    /// The files, of which none is opened yet.
+    /// The files, of which none is read yet.
     pub fn new(files: &'a R) -> Folder<'a, R>
         ensures { result.failures ≡ 0 }
     {
-        Folder {
-            files,
-            opened: None,
-            left: 0,
-            failures: 0,
-        }
-    }
-}
-
-impl<R: fs::Files> Source for Folder<'_, R> {
-    ghost remaining = { λ s. None };
-
-    ghost bytes_left = { λ s. s.left };
-
-    ghost failure_count = { λ s. s.failures };
-
-    fn failures(&self) -> u64 {
-        self.failures
-    }
-
-    fn read(&mut self, buffer: &mut [u8]) -> Result<usize, DeviceFailed> {
-        if let Some(file) = &mut self.opened
-            && let Ok(n) = read_bounded(file, &mut self.left, buffer)
-        {
-            return Ok(n);
-        }
-        self.failures += 1;
-        Err(DeviceFailed)
+        Folder { files, failures: 0 }
     }
 }
 
 impl<R: fs::Files> Files for Folder<'_, R> {
     ghost contents = { λ s name. None };
 
-    fn open(&mut self, name: &str) -> Result<(), DeviceFailed> {
-        if let Ok(file) = fs::open(self.files, name) {
-            self.opened = Some(file);
-            self.left = MAX_INPUT;
-            return Ok(());
+    ghost failure_count = { λ s. s.failures };
+
+    fn read_front(&mut self, alloc: Global, name: &str, most: usize) -> Result<Vec<u8>, RunFault> {
+        let mut bytes = vec![in alloc; 0; most]?;
+        if let Ok(file) = fs::open(self.files, name)
+            && let Ok(len) = fill(&mut Input::new(file), bytes.as_mut_slice())
+        {
+            bytes.truncate(len);
+            return Ok(bytes);
         }
         self.failures += 1;
-        Err(DeviceFailed)
+        Err(RunFault::Read)
     }
+}
+
+// Fills the buffer from a source, and says how much of it was there to be read.
+#[tactic(auto, using(crate::proofs::Fronts::ended, crate::proofs::Fronts::full))]
+fn fill<R: Source>(source: &mut R, buffer: &mut [u8]) -> Result<usize, DeviceFailed>
+    requires { R.failure_count source.old < 10 ^ 18 }
+    ensures within { IfOk result (λ n. n ≤ length buffer.new) }
+    ensures front { IfOk result (λ n. IfSome (R.remaining source.old) (λ whole. take n buffer.new ≡ take (length buffer.new) whole)) }
+    ensures failed { CountsFailure (R.failure_count source.old) (R.failure_count source.new) result }
+{
+    let mut at = 0;
+    while at < buffer.len() {
+        let n = source.read(&mut buffer[at..])?;
+        if n == 0 {
+            break;
+        }
+        at += n;
+    }
+    Ok(at)
 }

@@ -12,19 +12,19 @@
 
 mod answer;
 mod check;
-mod command;
-mod command_line;
 mod device;
 mod faults;
 mod folder;
 mod message;
+mod refusal;
 mod serve;
+mod site;
 mod verdict;
 
 use crate::answer::answer;
-use crate::command_line::arguments;
 use crate::device::{Input, Output};
 use crate::folder::Folder;
+use command::arguments;
 use std::hash::RandomState;
 use std::process::ExitCode;
 

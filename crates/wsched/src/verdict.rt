@@ -1,9 +1,10 @@
 //! What is found of a module, and the line that tells it.
-ghost use Rattle.std.specs.Prelude.{◌≡◌, ◌≢◌, ◌+◌, ◌≤◌, ◌++◌, length, IfOk};
+ghost use Rattle.std.specs.Prelude.{◌≡◌, ◌≢◌, IfOk};
 ghost use Rattle.wbin.specs.Syntax.{module_of};
-ghost use Rattle.wsched.specs.Verdict.{IsModuleVerdict, IsVerdictOn, status_for, bin_text, where_text, type_text, verdict_line};
+ghost use Rattle.wsched.specs.Verdict.{IsModuleVerdict, IsVerdictOn, status_for, verdict_line};
 
-use crate::message::{Message, push, push_fault, push_number};
+use crate::message::{Message, push};
+use crate::refusal::{Refusal, push_refusal};
 use std::alloc::{AllocError, Global};
 use wbin::{Module, decode};
 use wcode::BinFault;
@@ -81,51 +82,6 @@ fn untyped(fault: TypeFault) -> Result<Verdict, AllocError>
     }
 }
 
-// Adds why bytes spell no module.
-#[tactic(auto, using(crate::proofs::Lengths::bin_name_short, crate::proofs::Lengths::kind_name_short), unfolding(crate::specs::Verdict::bin_text))]
-fn push_bin_fault(message: &mut Message, fault: BinFault)
-    requires { length message.old.items + 100 ≤ 128 }
-    ensures text { message.new.items ≡ message.old.items ++ bin_text fault }
-    ensures len { length message.new.items ≤ length message.old.items + 100 }
-{
-    push_fault(message, fault.number(), fault.name());
-    if let BinFault::Malformed { kind, place } = fault {
-        push(message, b" ");
-        push_fault(message, kind.number(), kind.name());
-        push(message, b" at ");
-        push_number(message, place as u64);
-    }
-}
-
-// Adds where typing fails.
-fn push_where(message: &mut Message, function: Option<usize>, place: usize)
-    requires { length message.old.items + 54 ≤ 128 }
-    ensures text { message.new.items ≡ message.old.items ++ where_text function place }
-    ensures len { length message.new.items ≤ length message.old.items + 54 }
-{
-    if let Some(function) = function {
-        push(message, b" function ");
-        push_number(message, function as u64);
-        push(message, b" at ");
-        push_number(message, place as u64);
-    } else {
-        push(message, b" module");
-    }
-}
-
-// Adds why a module isn't accepted.
-#[tactic(auto, using(crate::proofs::Lengths::type_name_short), unfolding(crate::specs::Verdict::type_text))]
-fn push_type_fault(message: &mut Message, fault: TypeFault)
-    requires { length message.old.items + 90 ≤ 128 }
-    ensures text { message.new.items ≡ message.old.items ++ type_text fault }
-    ensures len { length message.new.items ≤ length message.old.items + 90 }
-{
-    push_fault(message, fault.number(), fault.name());
-    if let TypeFault::Untyped { function, place } = fault {
-        push_where(message, function, place);
-    }
-}
-
 /// The line that tells a verdict.
 #[tactic(auto, unfolding(crate::specs::Verdict::verdict_line))]
 pub fn line_of(verdict: Verdict) -> Message
@@ -134,14 +90,8 @@ pub fn line_of(verdict: Verdict) -> Message
     let mut message = Message::new();
     match verdict {
         Verdict::Accepted => push(&mut message, b"accepted"),
-        Verdict::Undecoded(fault) => {
-            push(&mut message, b"refused decode ");
-            push_bin_fault(&mut message, fault);
-        }
-        Verdict::Untyped(fault) => {
-            push(&mut message, b"refused type ");
-            push_type_fault(&mut message, fault);
-        }
+        Verdict::Undecoded(fault) => push_refusal(&mut message, Refusal::Undecoded(fault)),
+        Verdict::Untyped(fault) => push_refusal(&mut message, Refusal::Untyped(fault)),
     }
     push(&mut message, b"\n");
     message

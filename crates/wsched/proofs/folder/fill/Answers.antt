@@ -3,7 +3,7 @@ use Rattle.std.proofs.KnownBytes.{Consumes-trans}
 use Rattle.std.proofs.lemmas.Slice.{take-put_mid}
 use Rattle.std.specs.Io.KnownBytes.{Consumes}
 use Rattle.wsched.proofs.Fronts.{filled}
-use Rattle.wsched.proofs.check.read_front.Goals as goal
+use Rattle.wsched.proofs.folder.fill.Goals as goal
 
 pub loop-at-preserved : goal.loop-at-preserved
 loop-at-preserved g c =

@@ -1,6 +1,6 @@
 use Rattle.std.proofs.Common.{length, take, ◌-◌, ◌≡◌, ◌≤◌}
 use Rattle.std.specs.Io.KnownBytes.{Consumes}
-use Rattle.wsched.proofs.check.read_front.Given as goal
+use Rattle.wsched.proofs.folder.fill.Given as goal
 
 -- what was read so far is what the source lost, and no read has failed
 abbrev pub invariant-loop-at : goal.invariant-loop-at
