@@ -45,7 +45,7 @@ number_up_to most digits =
     then Some (digits_value 10 digits) else None
 
 -- what stands before a text's first colon (58) and what behind it, where it has one
-abbrev pub cut : List ℕ → Option (List ℕ × List ℕ)
+unfoldable pub cut : List ℕ → Option (List ℕ × List ℕ)
 cut text = option_map (λ place. (take place text, drop (place + 1) text)) (position (λ b. b == 58) text)
 
 -- the plugin of these parts
@@ -57,16 +57,16 @@ spec_from name weight fuel file =
     else None
 
 -- the plugin that a word spells, which is cut at its first three colons
-abbrev pub spec_of : List ℕ → Option SpecSyntax
+unfoldable pub spec_of : List ℕ → Option SpecSyntax
 spec_of word =
     option_and_then (λ a. option_and_then (λ b. option_and_then (λ c. spec_from a.0 b.0 c.0 c.1) (cut b.1)) (cut a.1)) (cut word)
 
 -- ---- what is found behind a command
 
--- the plugin of each word, where each spells one
-abbrev pub each_spec : List (List ℕ) → Option (List SpecSyntax)
-each_spec [] = Some []
-each_spec (word ∷ rest) = option_and_then (λ spec. option_map (λ specs. spec ∷ specs) (each_spec rest)) (spec_of word)
+-- what each of the words spells, where each spells something
+abbrev pub each : (List ℕ → Option SpecSyntax) → List (List ℕ) → Option (List SpecSyntax)
+each spelled [] = Some []
+each spelled (word ∷ rest) = option_and_then (λ spec. option_map (λ specs. spec ∷ specs) (each spelled rest)) (spelled word)
 
 -- one of the plugins has this name
 abbrev pub is_named : List SpecSyntax → (name : List ℕ) → Bool
@@ -81,7 +81,7 @@ have_distinct_names (spec ∷ rest) = not (is_named rest spec.name) && have_dist
 abbrev pub specs_of : List (List ℕ) → Option (List SpecSyntax)
 specs_of words =
     if nat_le (length words) 16
-    then option_and_then (λ specs. if have_distinct_names specs then Some specs else None) (each_spec words)
+    then option_and_then (λ specs. if have_distinct_names specs then Some specs else None) (each spec_of words)
     else None
 
 -- the number of workers: 1 to 64, with or without a plus before it, and 1 where none is told

@@ -41,10 +41,8 @@ fn plan_of<'a>(alloc: Global, matches: &ArgMatches<'a>) -> Result<Plan<'a>, Word
     let Some(workers) = workers_of(matches.get_str("workers")) else {
         return Err(WordFault::BadWords);
     };
-    let specs = match matches.get_raw("SPEC") {
-        Some(words) => specs_of(alloc, words)?,
-        None => Vec::new(alloc),
-    };
+    let words = matches.get_raw("SPEC").unwrap_or([].as_slice());
+    let specs = specs_of(alloc, words)?;
     Ok(Plan { workers, specs })
 }
 

@@ -1,8 +1,8 @@
 //! A plugin, as a word spells it, and the plugins and the number of workers of a run.
-ghost use Rattle.std.specs.Prelude.{◌≡◌, ◌≤◌, length, map, Some, None, Err, option_map, IfOk, IfSome};
-ghost use Rattle.std.specs.List.{All};
+ghost use Rattle.std.specs.Prelude.{◌≡◌, ◌≤◌, length, map, Some, None, Err, bytes_eq, option_map, IfOk, IfSome};
+ghost use Rattle.std.specs.List.{All, list_any};
 ghost use Rattle.std.specs.Str.Parse.{without_leading_plus};
-ghost use Rattle.command.specs.Words.{each_spec, have_distinct_names, is_named, number_up_to, spec_of, specs_of, syntax_of, workers_of};
+ghost use Rattle.command.specs.Words.{cut, each, have_distinct_names, number_up_to, spec_from, spec_of, specs_of, syntax_of, workers_of};
 ghost use Rattle.command.specs.Within.{IsWithinLimits, HaveDistinctNames};
 
 use crate::asked::Spec;
@@ -57,8 +57,8 @@ pub fn specs_of<'a>(alloc: Global, words: &[&'a str]) -> Result<Vec<Spec<'a>>, W
 
 // The plugin that each of these words spells.
 fn each_spec<'a>(alloc: Global, words: &[&'a str]) -> Result<Vec<Spec<'a>>, WordFault>
-    ensures ok { IfOk result (λ specs. each_spec (map (λ s. s.now) words.now) ≡ Some (map syntax_of specs.items)) }
-    ensures refused { result ≡ Err WordFault.BadWords → each_spec (map (λ s. s.now) words.now) ≡ None }
+    ensures ok { IfOk result (λ specs. each spec_of (map (λ s. s.now) words.now) ≡ Some (map syntax_of specs.items)) }
+    ensures refused { result ≡ Err WordFault.BadWords → each spec_of (map (λ s. s.now) words.now) ≡ None }
     ensures limits { IfOk result (λ specs. All IsWithinLimits specs.items) }
 {
     let mut specs = Vec::new(alloc);
@@ -87,9 +87,11 @@ fn have_distinct_names(specs: &[Spec]) -> bool
 
 // Whether one of the plugins has this name.
 fn is_named(specs: &[Spec], name: &Name) -> bool
-    ensures { result ≡ is_named (map syntax_of specs.now) name.now }
+    ensures { result ≡ list_any (λ spec. bytes_eq spec.name name.now) specs.now }
 {
-    specs.iter().any(|spec| spec.name == *name)
+    specs
+        .iter()
+        .any(|spec| spec.name.as_str() == name.as_str())
 }
 
 // The plugin that `NAME:WEIGHT:FUEL:FILE` spells, which is cut at its first three colons.
@@ -97,9 +99,24 @@ fn spec_of(word: &str) -> Option<Spec<'_>>
     ensures value { option_map syntax_of result ≡ spec_of word.now }
     ensures limits { IfSome result IsWithinLimits }
 {
-    let (name, behind_name) = word.split_once(':')?;
-    let (weight, behind_weight) = behind_name.split_once(':')?;
-    let (fuel, file) = behind_weight.split_once(':')?;
+    let (name, behind_name) = cut(word)?;
+    let (weight, behind_weight) = cut(behind_name)?;
+    let (fuel, file) = cut(behind_weight)?;
+    spec_from(name, weight, fuel, file)
+}
+
+// What stands before the first colon, and what behind it.
+fn cut(text: &str) -> Option<(&str, &str)>
+    ensures { option_map (λ parts. (parts.0.now, parts.1.now)) result ≡ cut text.now }
+{
+    text.split_once(':')
+}
+
+// The plugin of these parts.
+fn spec_from<'a>(name: &str, weight: &str, fuel: &str, file: &'a str) -> Option<Spec<'a>>
+    ensures value { option_map syntax_of result ≡ spec_from name.now weight.now fuel.now file.entry.now }
+    ensures limits { IfSome result IsWithinLimits }
+{
     let name = Name::new(name.as_bytes()).ok()?;
     let weight = digits_up_to(weight, MAX_WEIGHT)? as u8;
     let fuel = digits_up_to(fuel, MAX_FUEL)?;
