@@ -2,7 +2,7 @@
 use Rattle.std.specs.Prelude.{ℕ, ◌+◌, ◌==◌, ◌&&◌, nat_le, not, Bool, true, List, [], ◌∷◌, take, drop, length, map, codes, bytes_eq, Option, Some, None, option_map, option_and_then, unwrap_or, Result, Ok, Err, if◌then◌else◌}
 use Rattle.std.specs.List.{list_any, position}
 use Rattle.std.specs.Str.Parse.{digits_value, without_leading_plus}
-use Rattle.clap.specs.declared.builder.action.ArgAction.TheVariants.{Append}
+use Rattle.clap.specs.declared.builder.action.ArgAction.TheVariants.{Set, Append}
 use Rattle.clap.specs.Simple.{App, on_top}
 use Rattle.clap.specs.ValueTests.{is_numeral}
 use Rattle.clap.specs.Words.{Row, Rule, Text, all_of, fault_of, first_of, new_app, new_rule, subcommand_of, with_rule, with_subcommand}
@@ -103,9 +103,9 @@ found (Some command) =
 
 -- ---- the words
 
--- the arguments of `run`: an option, which takes one value, and any number of positionals
+-- the arguments of `run`: an option, told once at most and with one value, and any number of positionals
 abbrev pub workers_rule : Rule
-workers_rule = record (new_rule (codes "workers")) { long = Some (codes "workers") }
+workers_rule = record (new_rule (codes "workers")) { long = Some (codes "workers"); action = Some Set }
 
 abbrev pub specs_rule : Rule
 specs_rule = record (new_rule (codes "SPEC")) { action = Some Append }
@@ -114,18 +114,25 @@ specs_rule = record (new_rule (codes "SPEC")) { action = Some Append }
 abbrev pub file_rule : Rule
 file_rule = record (new_rule (codes "MODULE")) { required = true }
 
--- the command line as `clap` sees it: one of two commands, which is wanted, and no request for help
+-- the two commands
+abbrev pub run_command : App
+run_command = with_rule (with_rule (new_app (codes "run")) workers_rule) specs_rule
+
+abbrev pub check_command : App
+check_command = with_rule (new_app (codes "check")) file_rule
+
+-- the program, of which a command is wanted and which answers no request for help
+abbrev pub program : App
+program = on_top (λ s. record s {
+  no_binary_name = true;
+  disable_help_flag = true;
+  disable_help_subcommand = true;
+  subcommand_required = true;
+}) (new_app (codes "wsched"))
+
+-- the command line as `clap` sees it
 abbrev pub command_line : App
-command_line = with_subcommand
-    (with_subcommand
-    (on_top (λ s. record s {
-      no_binary_name = true;
-      disable_help_flag = true;
-      disable_help_subcommand = true;
-      subcommand_required = true;
-    }) (new_app (codes "wsched")))
-    (with_rule (with_rule (new_app (codes "run")) workers_rule) specs_rule).top)
-    (with_rule (new_app (codes "check")) file_rule).top
+command_line = with_subcommand (with_subcommand program run_command.top) check_command.top
 
 -- `clap` takes the words for the command line
 abbrev pub are_taken : List (List ℕ) → Bool

@@ -18,7 +18,9 @@ use std::{env, io};
 fn command_line<'a>(alloc: Global) -> Result<Command<'a>, AllocError>
     ensures { IfOk result (λ command. app_of command ≡ command_line) }
 {
-    let workers = Arg::new(alloc, "workers").long("workers");
+    let workers = Arg::new(alloc, "workers")
+        .long("workers")
+        .action(ArgAction::Set);
     let specs = Arg::new(alloc, "SPEC").action(ArgAction::Append);
     let run = Command::new(alloc, "run").arg(workers)?.arg(specs)?;
     let file = Arg::new(alloc, "MODULE").required(true);

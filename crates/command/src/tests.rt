@@ -1,6 +1,5 @@
-//! What words are read as, and the texts of faults.
-use crate::{Plan, Spec, WordFault, Words, arguments, words};
-use quant::Name;
+//! That words are read where memory is left, the words of a process, and the texts of faults.
+use crate::{Spec, WordFault, Words, arguments, words};
 use std::alloc::Global;
 use std::env::FillError;
 use std::rt::Env;
@@ -43,70 +42,88 @@ fn is_asked(alloc: Global, args: &[&str], want: Want) -> bool {
 fn words_ask_for_these(rt: HostRuntime) {
     let rows = [
         (["run"].as_slice(), Want::Run(1, &[])),
-        (["run", "--"].as_slice(), Want::Run(1, &[])),
         (["run", "--workers=64"].as_slice(), Want::Run(64, &[])),
-        (["run", "--workers", "4"].as_slice(), Want::Run(4, &[])),
-        (["run", "--workers", "+5"].as_slice(), Want::Run(5, &[])),
-        (["run", "--workers", "007"].as_slice(), Want::Run(7, &[])),
-        (["run", "--workers", "0"].as_slice(), Want::Nothing),
-        (["run", "--workers", "65"].as_slice(), Want::Nothing),
-        (["run", "--workers", "-1"].as_slice(), Want::Nothing),
-        (["run", "--workers=-1"].as_slice(), Want::Nothing),
-        (["run", "--workers="].as_slice(), Want::Nothing),
-        (["run", "--workers", ""].as_slice(), Want::Nothing),
-        (["run", "--workers"].as_slice(), Want::Nothing),
-        (["run", "--workers", "4x"].as_slice(), Want::Nothing),
-        (["run", "--workers", "18446744073709551617"].as_slice(), Want::Nothing),
-        (["run", "--workers", "1", "--workers", "1"].as_slice(), Want::Nothing),
-        (["run", "a:1:1:f"].as_slice(), Want::Run(1, &[("a", 1, 1, "f")])),
-        (["run", "a:1:1:"].as_slice(), Want::Run(1, &[("a", 1, 1, "")])),
-        (["run", "a:1:1:x:y"].as_slice(), Want::Run(1, &[("a", 1, 1, "x:y")])),
-        (["run", "--", "a:1:1:f"].as_slice(), Want::Run(1, &[("a", 1, 1, "f")])),
         (
-            ["run", "b:010:01000000000:f", "--workers", "2", "a-._/Z9:1:1:g"].as_slice(),
-            Want::Run(2, &[("b", 10, 1_000_000_000, "f"), ("a-._/Z9", 1, 1, "g")]),
+            [
+                "run",
+                "b:010:01000000000:x:y",
+                "--workers",
+                "+5",
+                "a-._/Z9:1:1:",
+            ]
+            .as_slice(),
+            Want::Run(
+                5,
+                &[("b", 10, 1_000_000_000, "x:y"), ("a-._/Z9", 1, 1, "")],
+            ),
         ),
-        (["run", "a:00000000000000000000000000000010:1:f"].as_slice(), Want::Run(1, &[("a", 10, 1, "f")])),
-        (["run", "a:0:1:f"].as_slice(), Want::Nothing),
-        (["run", "a:11:1:f"].as_slice(), Want::Nothing),
-        (["run", "a:1:0:f"].as_slice(), Want::Nothing),
-        (["run", "a:1:1000000001:f"].as_slice(), Want::Nothing),
-        (["run", "a:+1:1:f"].as_slice(), Want::Nothing),
-        (["run", "a:1:+1:f"].as_slice(), Want::Nothing),
-        (["run", "a:-1:1:f"].as_slice(), Want::Nothing),
-        (["run", "a::1:f"].as_slice(), Want::Nothing),
-        (["run", "a:1::f"].as_slice(), Want::Nothing),
-        (["run", ":1:1:f"].as_slice(), Want::Nothing),
-        (["run", "a b:1:1:f"].as_slice(), Want::Nothing),
-        (["run", "a:1:1"].as_slice(), Want::Nothing),
-        (["run", "a"].as_slice(), Want::Nothing),
-        (["run", ""].as_slice(), Want::Nothing),
-        (["run", "a:1:1:f", "a:2:2:g"].as_slice(), Want::Nothing),
-        (["run", "--", "--workers", "1"].as_slice(), Want::Nothing),
-        (["run", "check"].as_slice(), Want::Nothing),
-        (["run", "--help"].as_slice(), Want::Nothing),
-        (["run", "-h"].as_slice(), Want::Nothing),
-        (["run", "--storm"].as_slice(), Want::Nothing),
+        (
+            ["run", "a:00000000000000000000000000000010:1:f"].as_slice(),
+            Want::Run(1, &[("a", 10, 1, "f")]),
+        ),
         (["check", "f"].as_slice(), Want::Check("f")),
-        (["check", "--", "-f"].as_slice(), Want::Check("-f")),
-        (["check", "f", "--"].as_slice(), Want::Check("f")),
-        (["check", ""].as_slice(), Want::Check("")),
-        (["check", "run"].as_slice(), Want::Check("run")),
-        (["check"].as_slice(), Want::Nothing),
-        (["check", "-f"].as_slice(), Want::Nothing),
-        (["check", "f", "g"].as_slice(), Want::Nothing),
-        (["check", "--workers", "1", "f"].as_slice(), Want::Nothing),
         ([].as_slice(), Want::Nothing),
-        (["--"].as_slice(), Want::Nothing),
-        (["help"].as_slice(), Want::Nothing),
-        (["help", "run"].as_slice(), Want::Nothing),
         (["--help"].as_slice(), Want::Nothing),
-        (["-h"].as_slice(), Want::Nothing),
-        (["--version"].as_slice(), Want::Nothing),
-        (["storm"].as_slice(), Want::Nothing),
-        (["Run"].as_slice(), Want::Nothing),
+        (
+            ["run", "--workers", "18446744073709551617"].as_slice(),
+            Want::Nothing,
+        ),
+        (
+            ["run", "a:1:18446744073709551617:f"].as_slice(),
+            Want::Nothing,
+        ),
+        (["run", "a:1:1:f", "a:2:2:g"].as_slice(), Want::Nothing),
     ];
     for (args, want) in rows {
         assert!(rt; is_asked(rt.alloc(), args, want), "{args:?}");
     }
+}
+
+// The words of a process: the last one as bytes that need not be text.
+#[derive(Drop)]
+struct Process<'a> {
+    last: &'a [u8],
+}
+
+impl Env for Process<'_> {
+    fn arg(&self, i: usize, buf: &mut [u8]) -> Result<usize, FillError> {
+        let word = match i {
+            0 => b"wsched".as_slice(),
+            1 => b"run".as_slice(),
+            2 => self.last,
+            _ => return Err(FillError::NotPresent),
+        };
+        if word.len() > buf.len() {
+            return Err(FillError::TooLong);
+        }
+        buf[..word.len()].copy_from_slice(word);
+        Ok(word.len())
+    }
+
+    fn var(&self, _name: &str, _buf: &mut [u8]) -> Result<usize, FillError> {
+        Err(FillError::NotPresent)
+    }
+
+    fn var_at(&self, _i: usize, _buf: &mut [u8]) -> Result<usize, FillError> {
+        Err(FillError::NotPresent)
+    }
+}
+
+#[test]
+fn words_follow_the_name_and_are_text(rt: HostRuntime) -> Result<(), Fail> {
+    let text = Process { last: b"--" };
+    let args = arguments(&(&text, rt.alloc()))?;
+    assert_eq!(rt; args.len(), 2);
+    assert_eq!(rt; args[0].as_str(), "run");
+    assert_eq!(rt; args[1].as_str(), "--");
+    let bytes = Process { last: b"\xff" };
+    assert!(rt; matches!(arguments(&(&bytes, rt.alloc())), Err(WordFault::BadWords)));
+    Ok(())
+}
+
+#[test]
+fn a_fault_prints_its_number_and_its_name(rt: HostRuntime) -> Result<(), Fail> {
+    let text = format!(in rt.alloc(); "{}, {}", WordFault::BadWords, WordFault::NoMemory)?;
+    assert_eq!(rt; text.as_str(), "1 BadWords, 2 NoMemory");
+    Ok(())
 }
