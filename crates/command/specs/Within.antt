@@ -1,5 +1,5 @@
 -- The limits within which what the words ask for stays.
-use Rattle.std.specs.Prelude.{◌≡◌, ℕ, ◌≤◌, ⊤, List, length, Option, Some, slice_get}
+use Rattle.std.specs.Prelude.{◌≡◌, ℕ, ◌≤◌, ⊤, List, length, Some, slice_get}
 use Rattle.std.specs.List.{All}
 use Rattle.command.specs.declared.asked.Plan.{Plan}
 use Rattle.command.specs.declared.asked.Spec.{Spec}

@@ -89,9 +89,7 @@ fn have_distinct_names(specs: &[Spec]) -> bool
 fn is_named(specs: &[Spec], name: &Name) -> bool
     ensures { result ≡ list_any (λ spec. bytes_eq spec.name name.now) specs.now }
 {
-    specs
-        .iter()
-        .any(|spec| spec.name.as_str() == name.as_str())
+    specs.iter().any(|spec| spec.name.as_str() == name.as_str())
 }
 
 // The plugin that `NAME:WEIGHT:FUEL:FILE` spells, which is cut at its first three colons.

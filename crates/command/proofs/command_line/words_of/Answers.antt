@@ -1,4 +1,4 @@
-use Rattle.std.proofs.Common.{◌≡◌, ◌∙◌, codes, ap, sym, rules, option_map, false}
+use Rattle.std.proofs.Common.{◌∙◌, codes, ap, sym, rules, option_map}
 use Rattle.clap.proofs.WalkLemmas.{first_value-rows}
 use Rattle.clap.specs.Words.{found_of, subcommand_rows_of}
 use Rattle.command.specs.Words.{check}

@@ -1,4 +1,3 @@
-use Rattle.std.proofs.Common.{arith}
 use Rattle.command.proofs.SpecLemmas.{cut_is}
 use Rattle.command.proofs.plugin_words.cut.Goals as goal
 

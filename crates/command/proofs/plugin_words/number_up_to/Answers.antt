@@ -1,4 +1,4 @@
-use Rattle.std.proofs.Common.{◌∙◌, sym, ap, Some, arith, rules}
+use Rattle.std.proofs.Common.{◌∙◌, sym, ap, Some, arith}
 use Rattle.std.specs.Str.Parse.{without_leading_plus}
 use Rattle.command.proofs.NumberLemmas.{number_is, no_number}
 use Rattle.command.proofs.plugin_words.number_up_to.Goals as goal

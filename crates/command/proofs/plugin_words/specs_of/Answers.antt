@@ -1,4 +1,4 @@
-use Rattle.std.proofs.Common.{◌≡◌, ◌∙◌, ap, sym, true, length, map, rules, arith}
+use Rattle.std.proofs.Common.{◌≡◌, true, length, map, rules, arith}
 use Rattle.command.specs.Words.{have_distinct_names, syntax_of}
 use Rattle.command.proofs.SpecLemmas.{each_keeps_length, names_are_distinct}
 use Rattle.command.proofs.plugin_words.specs_of.Goals as goal
