@@ -1,5 +1,5 @@
 -- What words ask for at worked examples.
-use Rattle.std.specs.Prelude.{◌≡◌, ℕ, List, [], ◌∷◌, map, codes, Some, None}
+use Rattle.std.specs.Prelude.{◌≡◌, ℕ, ◌^◌, List, [], ◌∷◌, map, codes, Some, None}
 use Rattle.command.specs.Words.{SpecSyntax, check, meaning, run}
 
 -- a plugin
@@ -31,7 +31,7 @@ pub record WorkedExamples : Type 0 where
   pub file_with_a_colon : meaning (codes "run" ∷ codes "a:1:1:x:y" ∷ []) ≡ Some (run 1 (plugin (codes "a") 1 1 (codes "x:y") ∷ []))
   pub behind_the_options : meaning (codes "run" ∷ codes "--" ∷ codes "a:1:1:f" ∷ []) ≡ Some (run 1 (plugin (codes "a") 1 1 (codes "f") ∷ []))
   pub in_order : meaning (codes "run" ∷ codes "b:010:1000000000:f" ∷ codes "--workers" ∷ codes "2" ∷ codes "a:1:1:g" ∷ [])
-      ≡ Some (run 2 (plugin (codes "b") 10 1000000000 (codes "f") ∷ plugin (codes "a") 1 1 (codes "g") ∷ []))
+      ≡ Some (run 2 (plugin (codes "b") 10 (10 ^ 9) (codes "f") ∷ plugin (codes "a") 1 1 (codes "g") ∷ []))
   pub no_weight : meaning (codes "run" ∷ codes "a:0:1:f" ∷ []) ≡ None
   pub too_much_weight : meaning (codes "run" ∷ codes "a:11:1:f" ∷ []) ≡ None
   pub no_fuel : meaning (codes "run" ∷ codes "a:1:0:f" ∷ []) ≡ None

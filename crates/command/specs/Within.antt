@@ -1,5 +1,5 @@
 -- The limits within which what the words ask for stays.
-use Rattle.std.specs.Prelude.{◌≡◌, ℕ, ◌≤◌, ⊤, List, length, Some, slice_get}
+use Rattle.std.specs.Prelude.{◌≡◌, ℕ, ◌≤◌, ◌^◌, ⊤, List, length, Some, slice_get}
 use Rattle.std.specs.List.{All}
 use Rattle.command.specs.declared.asked.Plan.{Plan}
 use Rattle.command.specs.declared.asked.Spec.{Spec}
@@ -11,7 +11,7 @@ pub record IsWithinLimits (spec : Spec) : Type 0 where
   pub least_weight : 1 ≤ spec.weight
   pub most_weight : spec.weight ≤ 10
   pub least_fuel : 1 ≤ spec.fuel
-  pub most_fuel : spec.fuel ≤ 1000000000
+  pub most_fuel : spec.fuel ≤ 10 ^ 9
 
 -- no two plugins have one name
 abbrev pub HaveDistinctNames : List Spec → Type 0

@@ -1,5 +1,5 @@
 -- What the program's words ask for: `run [--workers N] [SPEC]...`, where a SPEC is `NAME:WEIGHT:FUEL:FILE`, or `check MODULE`.
-use Rattle.std.specs.Prelude.{ℕ, ◌+◌, ◌==◌, ◌&&◌, nat_le, not, Bool, true, List, [], ◌∷◌, take, drop, length, map, codes, bytes_eq, Option, Some, None, option_map, option_and_then, unwrap_or, Result, Ok, Err, if◌then◌else◌}
+use Rattle.std.specs.Prelude.{ℕ, ◌+◌, ◌^◌, ◌==◌, ◌&&◌, nat_le, not, Bool, true, List, [], ◌∷◌, take, drop, length, map, codes, bytes_eq, Option, Some, None, option_map, option_and_then, unwrap_or, Result, Ok, Err, if◌then◌else◌}
 use Rattle.std.specs.List.{list_any, position}
 use Rattle.std.specs.Str.Parse.{digits_value, without_leading_plus}
 use Rattle.clap.specs.declared.builder.action.ArgAction.TheVariants.{Set, Append}
@@ -12,8 +12,8 @@ use Rattle.command.specs.declared.asked.Spec.{Spec}
 use Rattle.command.specs.declared.asked.Words.{Words}
 use Rattle.command.specs.declared.asked.Words.TheVariants.{Run, Check}
 
--- a plugin, as words configure it: its name, how often its score counts, how much fuel each of its calls has, and the file that
--- its module is in
+-- a plugin, as words configure it: its name, how often its score counts, how much fuel its start function and each of its calls
+-- have, and the file that its module is in
 pub record SpecSyntax : Type 0 where
   pub name : List ℕ
   pub weight : ℕ
@@ -53,7 +53,7 @@ abbrev pub spec_from : (name weight fuel file : List ℕ) → Option SpecSyntax
 spec_from name weight fuel file =
     if is_name name
     then option_and_then (λ w. option_map (λ f. record { name = name; weight = w; fuel = f; file = file })
-    (number_up_to 1000000000 fuel)) (number_up_to 10 weight)
+    (number_up_to (10 ^ 9) fuel)) (number_up_to 10 weight)
     else None
 
 -- the plugin that a word spells, which is cut at its first three colons

@@ -9,7 +9,7 @@ pub struct Spec<'a> {
     pub name: Name,
     /// How often its score counts, 1 to 10.
     pub weight: u8,
-    /// How much fuel each of its calls has, 1 to 10^9.
+    /// How much fuel its start function and each of its calls have, 1 to 10^9.
     pub fuel: u64,
     /// The name of the file that its module is in. It may be empty, which names no file.
     pub file: &'a str,

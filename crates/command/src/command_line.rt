@@ -84,8 +84,12 @@ fn found_in<'a, S: AsStr>(alloc: Global, args: &'a [S]) -> Result<ArgMatches<'a>
     }
 }
 
-/// Reads the words that follow the program's name: `run`, the number of workers and plugins, or
-/// `check` and a file's name. A request for help or for the version is no such word.
+/// Reads the words that follow the program's name: `run [--workers N] [SPEC]...` or `check MODULE`.
+///
+/// N is a whole number from 1 to 64, and 1 where it isn't told. A SPEC is `NAME:WEIGHT:FUEL:FILE`,
+/// cut at its first three colons: a name of its own, a weight from 1 to 10 and fuel from 1 to 10^9 in
+/// digits alone, and a file. There are at most 16. A `--` ends the options. No command, and a request
+/// for help or for the version, are bad words.
 ///
 /// Errors: `BadWords`, and `NoMemory`, which says nothing of the words.
 pub fn words<'a, S: AsStr>(alloc: Global, args: &'a [S]) -> Result<Words<'a>, WordFault>

@@ -14,7 +14,7 @@ mod plugin_words;
 pub use asked::{Plan, Spec, Words};
 pub use command_line::{arguments, words};
 pub use fault::WordFault;
-pub use laws::worked_examples;
+pub use laws::{worked_examples, workers_are_read_as_by_clap};
 
 #[cfg(test)]
 mod tests;
