@@ -1,0 +1,52 @@
+use Rattle.std.proofs.Common.{refl}
+use Rattle.clap.proofs.OnLiterals.{clap_on_literals}
+use Rattle.quant.specs.Name.{is_name, is_text}
+use Rattle.command.specs.Words.{cut, meaning, spec_of}
+use Rattle.command.proofs.laws.worked_examples.Goals as goal
+
+pub returns : goal.returns
+unfolding clap_on_literals cut is_name is_text meaning spec_of
+returns c = record {
+  one_worker = refl;
+  most_workers = refl;
+  with_a_plus = refl;
+  with_zeros = refl;
+  no_workers = refl;
+  too_many_workers = refl;
+  workers_twice = refl;
+  no_number = refl;
+  empty_number = refl;
+  negative_number = refl;
+  one_plugin = refl;
+  no_file = refl;
+  file_with_a_colon = refl;
+  behind_the_options = refl;
+  in_order = refl;
+  no_weight = refl;
+  too_much_weight = refl;
+  no_fuel = refl;
+  too_much_fuel = refl;
+  weight_with_a_plus = refl;
+  empty_weight = refl;
+  empty_fuel = refl;
+  empty_name = refl;
+  no_name = refl;
+  two_colons = refl;
+  one_name_twice = refl;
+  most_plugins = refl;
+  too_many_plugins = refl;
+  a_module = refl;
+  behind_the_end = refl;
+  before_the_end = refl;
+  empty_module = refl;
+  an_option = refl;
+  no_module = refl;
+  two_modules = refl;
+  nothing = refl;
+  help = refl;
+  help_option = refl;
+  help_on_a_run = refl;
+  version = refl;
+  end_of_options = refl;
+  another_command = refl;
+}

@@ -1,0 +1,63 @@
+-- What words ask for at worked examples.
+use Rattle.std.specs.Prelude.{◌≡◌, ℕ, ◌^◌, List, [], ◌∷◌, map, codes, Some, None}
+use Rattle.command.specs.Words.{SpecSyntax, check, meaning, run}
+
+-- a plugin
+abbrev pub plugin : (name : List ℕ) → (weight fuel : ℕ) → (file : List ℕ) → SpecSyntax
+plugin name weight fuel file = record { name = name; weight = weight; fuel = fuel; file = file }
+
+-- the plugins whose names are these letters, and the words that spell them
+abbrev pub plugins_of : (letters : List ℕ) → List SpecSyntax
+plugins_of letters = map (λ letter. plugin (letter ∷ []) 1 1 (codes "f")) letters
+
+abbrev pub words_of : (letters : List ℕ) → List (List ℕ)
+words_of letters = map (λ letter. letter ∷ codes ":1:1:f") letters
+
+pub record WorkedExamples : Type 0 where
+  -- the number of workers
+  pub one_worker : meaning (codes "run" ∷ []) ≡ Some (run 1 [])
+  pub most_workers : meaning (codes "run" ∷ codes "--workers=64" ∷ []) ≡ Some (run 64 [])
+  pub with_a_plus : meaning (codes "run" ∷ codes "--workers" ∷ codes "+5" ∷ []) ≡ Some (run 5 [])
+  pub with_zeros : meaning (codes "run" ∷ codes "--workers" ∷ codes "007" ∷ []) ≡ Some (run 7 [])
+  pub no_workers : meaning (codes "run" ∷ codes "--workers" ∷ codes "0" ∷ []) ≡ None
+  pub too_many_workers : meaning (codes "run" ∷ codes "--workers" ∷ codes "65" ∷ []) ≡ None
+  pub workers_twice : meaning (codes "run" ∷ codes "--workers" ∷ codes "1" ∷ codes "--workers" ∷ codes "1" ∷ []) ≡ None
+  pub no_number : meaning (codes "run" ∷ codes "--workers" ∷ []) ≡ None
+  pub empty_number : meaning (codes "run" ∷ codes "--workers=" ∷ []) ≡ None
+  pub negative_number : meaning (codes "run" ∷ codes "--workers=-1" ∷ []) ≡ None
+  -- plugins
+  pub one_plugin : meaning (codes "run" ∷ codes "a:1:1:f" ∷ []) ≡ Some (run 1 (plugin (codes "a") 1 1 (codes "f") ∷ []))
+  pub no_file : meaning (codes "run" ∷ codes "a:1:1:" ∷ []) ≡ Some (run 1 (plugin (codes "a") 1 1 [] ∷ []))
+  pub file_with_a_colon : meaning (codes "run" ∷ codes "a:1:1:x:y" ∷ []) ≡ Some (run 1 (plugin (codes "a") 1 1 (codes "x:y") ∷ []))
+  pub behind_the_options : meaning (codes "run" ∷ codes "--" ∷ codes "a:1:1:f" ∷ []) ≡ Some (run 1 (plugin (codes "a") 1 1 (codes "f") ∷ []))
+  pub in_order : meaning (codes "run" ∷ codes "b:010:1000000000:f" ∷ codes "--workers" ∷ codes "2" ∷ codes "a:1:1:g" ∷ [])
+      ≡ Some (run 2 (plugin (codes "b") 10 (10 ^ 9) (codes "f") ∷ plugin (codes "a") 1 1 (codes "g") ∷ []))
+  pub no_weight : meaning (codes "run" ∷ codes "a:0:1:f" ∷ []) ≡ None
+  pub too_much_weight : meaning (codes "run" ∷ codes "a:11:1:f" ∷ []) ≡ None
+  pub no_fuel : meaning (codes "run" ∷ codes "a:1:0:f" ∷ []) ≡ None
+  pub too_much_fuel : meaning (codes "run" ∷ codes "a:1:1000000001:f" ∷ []) ≡ None
+  pub weight_with_a_plus : meaning (codes "run" ∷ codes "a:+1:1:f" ∷ []) ≡ None
+  pub empty_weight : meaning (codes "run" ∷ codes "a::1:f" ∷ []) ≡ None
+  pub empty_fuel : meaning (codes "run" ∷ codes "a:1::f" ∷ []) ≡ None
+  pub empty_name : meaning (codes "run" ∷ codes ":1:1:f" ∷ []) ≡ None
+  pub no_name : meaning (codes "run" ∷ codes "a b:1:1:f" ∷ []) ≡ None
+  pub two_colons : meaning (codes "run" ∷ codes "a:1:1" ∷ []) ≡ None
+  pub one_name_twice : meaning (codes "run" ∷ codes "a:1:1:f" ∷ codes "a:2:2:g" ∷ []) ≡ None
+  pub most_plugins : meaning (codes "run" ∷ words_of (codes "abcdefghijklmnop")) ≡ Some (run 1 (plugins_of (codes "abcdefghijklmnop")))
+  pub too_many_plugins : meaning (codes "run" ∷ words_of (codes "abcdefghijklmnopq")) ≡ None
+  -- a module
+  pub a_module : meaning (codes "check" ∷ codes "f" ∷ []) ≡ Some (check (codes "f"))
+  pub behind_the_end : meaning (codes "check" ∷ codes "--" ∷ codes "-f" ∷ []) ≡ Some (check (codes "-f"))
+  pub before_the_end : meaning (codes "check" ∷ codes "f" ∷ codes "--" ∷ []) ≡ Some (check (codes "f"))
+  pub empty_module : meaning (codes "check" ∷ [] ∷ []) ≡ Some (check [])
+  pub an_option : meaning (codes "check" ∷ codes "-f" ∷ []) ≡ None
+  pub no_module : meaning (codes "check" ∷ []) ≡ None
+  pub two_modules : meaning (codes "check" ∷ codes "f" ∷ codes "g" ∷ []) ≡ None
+  -- no command, and requests for help
+  pub nothing : meaning [] ≡ None
+  pub help : meaning (codes "help" ∷ []) ≡ None
+  pub help_option : meaning (codes "--help" ∷ []) ≡ None
+  pub help_on_a_run : meaning (codes "run" ∷ codes "--help" ∷ []) ≡ None
+  pub version : meaning (codes "--version" ∷ []) ≡ None
+  pub end_of_options : meaning (codes "--" ∷ codes "run" ∷ []) ≡ None
+  pub another_command : meaning (codes "storm" ∷ []) ≡ None

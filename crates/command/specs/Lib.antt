@@ -1,0 +1,4 @@
+pub mod Fault
+pub mod Words
+pub mod Within
+pub mod Examples

@@ -1,0 +1,32 @@
+-- The limits within which what the words ask for stays.
+use Rattle.std.specs.Prelude.{◌≡◌, ℕ, ◌≤◌, ◌^◌, ⊤, List, length, Some, slice_get}
+use Rattle.std.specs.List.{All}
+use Rattle.command.specs.declared.asked.Plan.{Plan}
+use Rattle.command.specs.declared.asked.Spec.{Spec}
+use Rattle.command.specs.declared.asked.Words.{Words}
+use Rattle.command.specs.declared.asked.Words.TheVariants.{Run, Check}
+
+-- a plugin's weight and fuel are within their limits
+pub record IsWithinLimits (spec : Spec) : Type 0 where
+  pub least_weight : 1 ≤ spec.weight
+  pub most_weight : spec.weight ≤ 10
+  pub least_fuel : 1 ≤ spec.fuel
+  pub most_fuel : spec.fuel ≤ 10 ^ 9
+
+-- no two plugins have one name
+abbrev pub HaveDistinctNames : List Spec → Type 0
+HaveDistinctNames specs =
+    (j k : ℕ) (spec other : Spec) → slice_get specs j ≡ Some spec → slice_get specs k ≡ Some other → spec.name ≡ other.name → j ≡ k
+
+-- a run is within its limits
+pub record IsPlan (plan : Plan) : Type 0 where
+  pub least_workers : 1 ≤ plan.workers
+  pub most_workers : plan.workers ≤ 64
+  pub most_specs : length plan.specs.items ≤ 16
+  pub limits : All IsWithinLimits plan.specs.items
+  pub names : HaveDistinctNames plan.specs.items
+
+-- a run that is asked for is within its limits
+abbrev pub IsWithin : Words → Type 0
+IsWithin (Run plan) = IsPlan plan
+IsWithin (Check file) = ⊤

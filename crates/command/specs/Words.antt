@@ -1,0 +1,148 @@
+-- What the program's words ask for: `run [--workers N] [SPEC]...`, where a SPEC is `NAME:WEIGHT:FUEL:FILE`, or `check MODULE`.
+use Rattle.std.specs.Prelude.{ℕ, ◌+◌, ◌^◌, ◌==◌, ◌&&◌, nat_le, not, Bool, true, List, [], ◌∷◌, take, drop, length, map, codes, bytes_eq, Option, Some, None, option_map, option_and_then, unwrap_or, Result, Ok, Err, if◌then◌else◌}
+use Rattle.std.specs.List.{list_any, position}
+use Rattle.std.specs.Str.Parse.{digits_value, without_leading_plus}
+use Rattle.clap.specs.declared.builder.action.ArgAction.TheVariants.{Set, Append}
+use Rattle.clap.specs.Simple.{App, on_top}
+use Rattle.clap.specs.ValueTests.{is_numeral}
+use Rattle.clap.specs.Words.{Row, Rule, Text, all_of, fault_of, first_of, new_app, new_rule, subcommand_of, with_rule, with_subcommand}
+use Rattle.quant.specs.Name.{is_name}
+use Rattle.command.specs.declared.asked.Plan.{Plan}
+use Rattle.command.specs.declared.asked.Spec.{Spec}
+use Rattle.command.specs.declared.asked.Words.{Words}
+use Rattle.command.specs.declared.asked.Words.TheVariants.{Run, Check}
+
+-- a plugin, as words configure it: its name, how often its score counts, how much fuel its start function and each of its calls
+-- have, and the file that its module is in
+pub record SpecSyntax : Type 0 where
+  pub name : List ℕ
+  pub weight : ℕ
+  pub fuel : ℕ
+  pub file : List ℕ
+
+-- what the program can be asked for: a run by so many workers with these plugins, or to check the module in the file of this name
+pub data Asked : Type 0 where
+  run : (workers : ℕ) → (specs : List SpecSyntax) → Asked
+  check : (file : List ℕ) → Asked
+
+-- the same, as the code has it
+abbrev pub syntax_of : Spec → SpecSyntax
+syntax_of spec = record { name = spec.name; weight = spec.weight; fuel = spec.fuel; file = spec.file.now }
+
+abbrev pub planned : Plan → Asked
+planned plan = run plan.workers (map syntax_of plan.specs.items)
+
+abbrev pub asked_of : Words → Asked
+asked_of (Run plan) = planned plan
+asked_of (Check file) = check file.now
+
+-- ---- a plugin, as a word spells it
+
+-- the number that decimal digits write, where it is from 1 to `most`
+abbrev pub number_up_to : (most : ℕ) → (digits : List ℕ) → Option ℕ
+number_up_to most digits =
+    if is_numeral digits && nat_le 1 (digits_value 10 digits) && nat_le (digits_value 10 digits) most
+    then Some (digits_value 10 digits) else None
+
+-- what stands before a text's first colon (58) and what behind it, where it has one
+unfoldable pub cut : List ℕ → Option (List ℕ × List ℕ)
+cut text = option_map (λ place. (take place text, drop (place + 1) text)) (position (λ b. b == 58) text)
+
+-- the plugin of these parts
+abbrev pub spec_from : (name weight fuel file : List ℕ) → Option SpecSyntax
+spec_from name weight fuel file =
+    if is_name name
+    then option_and_then (λ w. option_map (λ f. record { name = name; weight = w; fuel = f; file = file })
+    (number_up_to (10 ^ 9) fuel)) (number_up_to 10 weight)
+    else None
+
+-- the plugin that a word spells, which is cut at its first three colons
+unfoldable pub spec_of : List ℕ → Option SpecSyntax
+spec_of word =
+    option_and_then (λ a. option_and_then (λ b. option_and_then (λ c. spec_from a.0 b.0 c.0 c.1) (cut b.1)) (cut a.1)) (cut word)
+
+-- ---- what is found behind a command
+
+-- what each of the words spells, where each spells something
+abbrev pub each : (List ℕ → Option SpecSyntax) → List (List ℕ) → Option (List SpecSyntax)
+each spelled [] = Some []
+each spelled (word ∷ rest) = option_and_then (λ spec. option_map (λ specs. spec ∷ specs) (each spelled rest)) (spelled word)
+
+-- one of the plugins has this name
+abbrev pub is_named : List SpecSyntax → (name : List ℕ) → Bool
+is_named specs name = list_any (λ spec. bytes_eq spec.name name) specs
+
+-- no two plugins have one name
+abbrev pub have_distinct_names : List SpecSyntax → Bool
+have_distinct_names [] = true
+have_distinct_names (spec ∷ rest) = not (is_named rest spec.name) && have_distinct_names rest
+
+-- the plugins that the words spell: at most 16, of which no two have one name
+abbrev pub specs_of : List (List ℕ) → Option (List SpecSyntax)
+specs_of words =
+    if nat_le (length words) 16
+    then option_and_then (λ specs. if have_distinct_names specs then Some specs else None) (each spec_of words)
+    else None
+
+-- the number of workers: 1 to 64, with or without a plus before it, and 1 where none is told
+abbrev pub workers_of : Option (List ℕ) → Option ℕ
+workers_of None = Some 1
+workers_of (Some word) = number_up_to 64 (without_leading_plus word)
+
+-- the run that is asked for by what `clap` found behind `run`
+abbrev pub run_found : List Row → Option Asked
+run_found rows =
+    option_and_then (λ workers. option_map (run workers) (specs_of (unwrap_or (all_of (codes "SPEC") rows) [])))
+    (workers_of (first_of (codes "workers") rows))
+
+-- what is asked for by the command that `clap` found, and what it found behind it
+abbrev pub found : Option (Text × List Row) → Option Asked
+found None = None
+found (Some command) =
+    if bytes_eq command.0 (codes "run") then run_found command.1 else option_map check (first_of (codes "MODULE") command.1)
+
+-- ---- the words
+
+-- the arguments of `run`: an option, told once at most and with one value, and any number of positionals
+abbrev pub workers_rule : Rule
+workers_rule = record (new_rule (codes "workers")) { long = Some (codes "workers"); action = Some Set }
+
+abbrev pub specs_rule : Rule
+specs_rule = record (new_rule (codes "SPEC")) { action = Some Append }
+
+-- the one argument of `check`, which is wanted
+abbrev pub file_rule : Rule
+file_rule = record (new_rule (codes "MODULE")) { required = true }
+
+-- the two commands
+abbrev pub run_command : App
+run_command = with_rule (with_rule (new_app (codes "run")) workers_rule) specs_rule
+
+abbrev pub check_command : App
+check_command = with_rule (new_app (codes "check")) file_rule
+
+-- the program, of which a command is wanted and which answers no request for help
+abbrev pub program : App
+program = on_top (λ s. record s {
+  no_binary_name = true;
+  disable_help_flag = true;
+  disable_help_subcommand = true;
+  subcommand_required = true;
+}) (new_app (codes "wsched"))
+
+-- the command line as `clap` sees it
+abbrev pub command_line : App
+command_line = with_subcommand (with_subcommand program run_command.top) check_command.top
+
+-- `clap` takes the words for the command line
+abbrev pub are_taken : List (List ℕ) → Bool
+are_taken words = length (fault_of command_line words) == 0
+
+-- what the words behind the program's name ask for: what `clap` found, where it takes them
+unfoldable pub meaning : List (List ℕ) → Option Asked
+meaning words = if are_taken words then found (subcommand_of command_line words) else None
+
+-- what words ask for that could perhaps not be read, where this gives their texts
+abbrev pub asked_by : {V E : Type 0} → (V → List (List ℕ)) → Result V E → Option Asked
+asked_by texts (Ok words) = meaning (texts words)
+asked_by texts (Err fault) = None

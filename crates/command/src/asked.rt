@@ -1,0 +1,34 @@
+//! What the program can be asked for.
+
+use quant::Name;
+
+/// A plugin, as the words configure it.
+#[derive(Debug, PartialEq, Eq, Drop)]
+pub struct Spec<'a> {
+    /// Its name, which no other plugin of the words has.
+    pub name: Name,
+    /// How often its score counts, 1 to 10.
+    pub weight: u8,
+    /// How much fuel its start function and each of its calls have, 1 to 10^9.
+    pub fuel: u64,
+    /// The name of the file that its module is in. It may be empty, which names no file.
+    pub file: &'a str,
+}
+
+/// A run, as the words ask for it.
+#[derive(Debug, PartialEq, Eq, Drop)]
+pub struct Plan<'a> {
+    /// How many workers decide, 1 to 64.
+    pub workers: usize,
+    /// The plugins in the order of the words, at most 16.
+    pub specs: Vec<Spec<'a>>,
+}
+
+/// What the program is asked to do.
+#[derive(Debug, PartialEq, Eq, Drop)]
+pub enum Words<'a> {
+    /// To read a script from standard input, and to write the answers to standard output.
+    Run(Plan<'a>),
+    /// To say whether the module in the file of this name is accepted.
+    Check(&'a str),
+}

@@ -1,0 +1,38 @@
+//! Why the program's words are refused.
+ghost use Rattle.std.specs.Prelude.{◌≡◌};
+ghost use Rattle.command.specs.Fault.{number_of, name_of};
+
+use thiserror::Error;
+
+/// Why the program's words were refused.
+#[derive(Clone, Copy, Debug, PartialEq, Eq, Error)]
+pub enum WordFault {
+    /// The words ask for nothing that the program does.
+    #[error("{} {}", self.number(), self.name())]
+    BadWords,
+    /// No memory was left to read them.
+    #[error("{} {}", self.number(), self.name())]
+    NoMemory,
+}
+
+impl WordFault {
+    /// The fault's number, as messages tell it.
+    pub fn number(self) -> u8
+        ensures { result ≡ number_of self }
+    {
+        match self {
+            WordFault::BadWords => 1,
+            WordFault::NoMemory => 2,
+        }
+    }
+
+    /// The fault's name, as messages tell it.
+    pub fn name(self) -> &'static str
+        ensures { result.now ≡ name_of self }
+    {
+        match self {
+            WordFault::BadWords => "BadWords",
+            WordFault::NoMemory => "NoMemory",
+        }
+    }
+}

@@ -1,0 +1,151 @@
+//! A plugin, as a word spells it, and the plugins and the number of workers of a run.
+ghost use Rattle.std.specs.Prelude.{◌≡◌, ◌≤◌, length, map, Some, None, Err, bytes_eq, option_map, IfOk, IfSome};
+ghost use Rattle.std.specs.List.{All, list_any};
+ghost use Rattle.std.specs.Str.Parse.{without_leading_plus};
+ghost use Rattle.command.specs.Words.{cut, each, have_distinct_names, number_up_to, spec_from, spec_of, specs_of, syntax_of, workers_of};
+ghost use Rattle.command.specs.Within.{IsWithinLimits, HaveDistinctNames};
+
+use crate::asked::Spec;
+use crate::fault::WordFault;
+use quant::Name;
+use std::alloc::Global;
+
+/// The most workers of a run. The least is 1.
+const MAX_WORKERS: u64 = 64;
+
+/// The most plugins of a run.
+const MAX_SPECS: usize = 16;
+
+/// The most that a plugin's score counts. The least is 1.
+const MAX_WEIGHT: u64 = 10;
+
+/// The most fuel of a plugin's call. The least is 1.
+const MAX_FUEL: u64 = 1_000_000_000;
+
+/// The number of workers that the word behind `--workers` spells, and 1 where there is none.
+pub fn workers_of(word: Option<&str>) -> Option<usize>
+    ensures value { result ≡ workers_of (option_map (λ s. s.now) word.entry) }
+    ensures least { IfSome result (λ workers. 1 ≤ workers) }
+    ensures most { IfSome result (λ workers. workers ≤ 64) }
+{
+    match word {
+        Some(word) => Some(number_up_to(word, MAX_WORKERS)? as usize),
+        None => Some(1),
+    }
+}
+
+/// The plugins that these words spell, in their order.
+///
+/// Errors: `BadWords` where a word spells none, where there are more than 16 and where two have one
+/// name; `NoMemory`.
+pub fn specs_of<'a>(alloc: Global, words: &[&'a str]) -> Result<Vec<Spec<'a>>, WordFault>
+    ensures ok { IfOk result (λ specs. specs_of (map (λ s. s.now) words.now) ≡ Some (map syntax_of specs.items)) }
+    ensures refused { result ≡ Err WordFault.BadWords → specs_of (map (λ s. s.now) words.now) ≡ None }
+    ensures most { IfOk result (λ specs. length specs.items ≤ 16) }
+    ensures limits { IfOk result (λ specs. All IsWithinLimits specs.items) }
+    ensures names { IfOk result (λ specs. HaveDistinctNames specs.items) }
+{
+    if words.len() > MAX_SPECS {
+        return Err(WordFault::BadWords);
+    }
+    let specs = each_spec(alloc, words)?;
+    if !have_distinct_names(&specs) {
+        return Err(WordFault::BadWords);
+    }
+    Ok(specs)
+}
+
+// The plugin that each of these words spells.
+fn each_spec<'a>(alloc: Global, words: &[&'a str]) -> Result<Vec<Spec<'a>>, WordFault>
+    ensures ok { IfOk result (λ specs. each spec_of (map (λ s. s.now) words.now) ≡ Some (map syntax_of specs.items)) }
+    ensures refused { result ≡ Err WordFault.BadWords → each spec_of (map (λ s. s.now) words.now) ≡ None }
+    ensures limits { IfOk result (λ specs. All IsWithinLimits specs.items) }
+{
+    let mut specs = Vec::new(alloc);
+    for word in words {
+        let Some(spec) = spec_of(*word) else {
+            return Err(WordFault::BadWords);
+        };
+        if specs.push(spec).is_err() {
+            return Err(WordFault::NoMemory);
+        }
+    }
+    Ok(specs)
+}
+
+// Whether no two plugins have one name.
+fn have_distinct_names(specs: &[Spec]) -> bool
+    ensures { result ≡ have_distinct_names (map syntax_of specs.now) }
+{
+    for (i, spec) in specs.iter().enumerate() {
+        if is_named(&specs[i + 1..], &spec.name) {
+            return false;
+        }
+    }
+    true
+}
+
+// Whether one of the plugins has this name.
+fn is_named(specs: &[Spec], name: &Name) -> bool
+    ensures { result ≡ list_any (λ spec. bytes_eq spec.name name.now) specs.now }
+{
+    specs.iter().any(|spec| spec.name.as_str() == name.as_str())
+}
+
+// The plugin that `NAME:WEIGHT:FUEL:FILE` spells, which is cut at its first three colons.
+fn spec_of(word: &str) -> Option<Spec<'_>>
+    ensures value { option_map syntax_of result ≡ spec_of word.now }
+    ensures limits { IfSome result IsWithinLimits }
+{
+    let (name, behind_name) = cut(word)?;
+    let (weight, behind_weight) = cut(behind_name)?;
+    let (fuel, file) = cut(behind_weight)?;
+    spec_from(name, weight, fuel, file)
+}
+
+// What stands before the first colon, and what behind it.
+fn cut(text: &str) -> Option<(&str, &str)>
+    ensures { option_map (λ parts. (parts.0.now, parts.1.now)) result ≡ cut text.now }
+{
+    text.split_once(':')
+}
+
+// The plugin of these parts.
+fn spec_from<'a>(name: &str, weight: &str, fuel: &str, file: &'a str) -> Option<Spec<'a>>
+    ensures value { option_map syntax_of result ≡ spec_from name.now weight.now fuel.now file.entry.now }
+    ensures limits { IfSome result IsWithinLimits }
+{
+    let name = Name::new(name.as_bytes()).ok()?;
+    let weight = digits_up_to(weight, MAX_WEIGHT)? as u8;
+    let fuel = digits_up_to(fuel, MAX_FUEL)?;
+    Some(Spec {
+        name,
+        weight,
+        fuel,
+        file,
+    })
+}
+
+// The number from 1 to `most` that a text of digits alone spells.
+fn digits_up_to(text: &str, most: u64) -> Option<u64>
+    ensures value { result ≡ number_up_to most text.now }
+    ensures least { IfSome result (λ number. 1 ≤ number) }
+    ensures most { IfSome result (λ number. number ≤ most) }
+{
+    if text.starts_with('+') {
+        return None;
+    }
+    number_up_to(text, most)
+}
+
+// The number from 1 to `most` that a text spells: digits, before which a plus may stand.
+fn number_up_to(text: &str, most: u64) -> Option<u64>
+    ensures value { result ≡ number_up_to most (without_leading_plus text.now) }
+    ensures least { IfSome result (λ number. 1 ≤ number) }
+    ensures most { IfSome result (λ number. number ≤ most) }
+{
+    match text.parse::<u64>() {
+        Ok(number) if 1 <= number && number <= most => Some(number),
+        _ => None,
+    }
+}
