@@ -2,3 +2,4 @@ pub mod Lengths
 pub mod Fronts
 pub mod Quiet
 pub mod Verdicts
+pub mod Texts

@@ -8,6 +8,8 @@ ghost use Rattle.plugin.specs.Plugins.{IsTaken};
 ghost use Rattle.plugin.specs.Kit.{IsKitOf};
 ghost use Rattle.command.specs.Within.{HaveDistinctNames, IsPlan, IsWithinLimits};
 ghost use Rattle.command.specs.Words.{syntax_of};
+ghost use Rattle.engine.specs.declared.fault.RunFault.TheVariants as run_fault;
+ghost use Rattle.wsched.specs.declared.faults.Fault.TheVariants.{Run};
 ghost use Rattle.wsched.specs.Site.{tells_of, AreFromFiles, ArePlugins, AreSiteKits, IsPlugin, NoKit, ModuleRefused, WhyNoPlugin, WhyNoSite};
 
 use crate::faults::Fault;
@@ -125,7 +127,7 @@ fn validated(alloc: Global, name: &Name, decoded: Module) -> Result<Checked, Fau
 fn kits_of(alloc: Global, plugins: &Plugins, workers: usize) -> Result<Vec<Kit>, Fault>
     ensures count { IfOk result (λ kits. vec_len kits ≡ workers) }
     ensures all { IfOk result (λ kits. All (IsKitOf plugins.now) kits.items) }
-    ensures refused { IfErr result (λ fault. (fault ≡ NO_MEMORY) ⊎ NoKit plugins.now fault) }
+    ensures refused { IfErr result (λ fault. (fault ≡ Run run_fault.NoMemory) ⊎ NoKit plugins.now fault) }
 {
     let mut kits = Vec::new(alloc);
     for _ in 0..workers {
