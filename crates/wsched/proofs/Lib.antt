@@ -3,3 +3,4 @@ pub mod Fronts
 pub mod Quiet
 pub mod Verdicts
 pub mod Texts
+pub mod Sites

@@ -105,9 +105,11 @@ pub fn serve<T: Wait + Threads + Sync, R: Source, W: Sink, E: Sink>(
 fn names_in(alloc: Global, specs: &[Spec<'_>]) -> Result<Vec<Name>, AllocError>
     ensures { IfOk result (λ names. names.items ≡ names_of (map syntax_of specs.now)) }
 {
-    let mut names = Vec::with_capacity(alloc, specs.len())?;
-    for spec in specs {
-        names.push(spec.name.copied())?;
+    let mut names = Vec::new(alloc);
+    for place in 0..specs.len() {
+        if names.push(specs[place].name.copied()).is_err() {
+            return Err(AllocError);
+        }
     }
     Ok(names)
 }

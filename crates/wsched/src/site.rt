@@ -1,5 +1,5 @@
 //! A site's plugins: from what the words configure and what the files have to a fleet of kits.
-ghost use Rattle.std.specs.Prelude.{◌≡◌, ◌⊎◌, ◌<◌, ◌^◌, ◌≤◌, ◌∷◌, ◌++◌, [], length, vec_len, map, IfErr, IfOk, OnOk};
+ghost use Rattle.std.specs.Prelude.{◌≡◌, ◌≢◌, ◌⊎◌, ◌<◌, ◌^◌, ◌≤◌, ◌∷◌, ◌++◌, [], length, vec_len, map, IfErr, IfOk, OnOk};
 ghost use Rattle.std.specs.List.{All};
 ghost use Rattle.wbin.specs.Syntax.{module_of};
 ghost use Rattle.wbin.specs.Grammar.{Spells};
@@ -9,7 +9,8 @@ ghost use Rattle.plugin.specs.Kit.{IsKitOf};
 ghost use Rattle.command.specs.Within.{HaveDistinctNames, IsPlan, IsWithinLimits};
 ghost use Rattle.command.specs.Words.{syntax_of};
 ghost use Rattle.engine.specs.declared.fault.RunFault.TheVariants as run_fault;
-ghost use Rattle.wsched.specs.declared.faults.Fault.TheVariants.{Run};
+ghost use Rattle.wsched.specs.declared.faults.Fault.TheVariants.{Run, Plugin as PluginFault};
+ghost use Rattle.wsched.specs.declared.refusal.Refusal.TheVariants.{Undecoded, Untyped};
 ghost use Rattle.wsched.specs.Site.{tells_of, AreFromFiles, ArePlugins, AreSiteKits, IsPlugin, NoKit, ModuleRefused, WhyNoPlugin, WhyNoSite};
 
 use crate::faults::Fault;
@@ -105,8 +106,7 @@ fn checked_from(alloc: Global, name: &Name, bytes: &[u8]) -> Result<Checked, Fau
 {
     match decode(alloc, bytes) {
         Ok(decoded) => validated(alloc, name, decoded),
-        Err(BinFault::NoMemory) => Err(NO_MEMORY),
-        Err(fault) => Err(Fault::Plugin(name.copied(), Refusal::Undecoded(fault))),
+        Err(fault) => Err(undecoded(name, fault)),
     }
 }
 
@@ -118,8 +118,36 @@ fn validated(alloc: Global, name: &Name, decoded: Module) -> Result<Checked, Fau
 {
     match validate(alloc, decoded) {
         Ok(checked) => Ok(checked),
-        Err(TypeFault::NoMemory) => Err(NO_MEMORY),
-        Err(fault) => Err(Fault::Plugin(name.copied(), Refusal::Untyped(fault))),
+        Err(fault) => Err(untyped(name, fault)),
+    }
+}
+
+// What is told where the bytes of a plugin of this name spell no module; of want of memory, only that.
+#[tactic(auto, using(crate::proofs::Verdicts::malformed_says, crate::proofs::Verdicts::float_says))]
+fn undecoded(name: &Name, fault: BinFault) -> Fault
+    ensures { ((fault ≡ BinFault.NoMemory) × (result ≡ Run run_fault.NoMemory))
+        ⊎ ((fault ≢ BinFault.NoMemory) × (result ≡ PluginFault name.now (Undecoded fault))) }
+{
+    match fault {
+        BinFault::Malformed { .. } | BinFault::Float => {
+            Fault::Plugin(name.copied(), Refusal::Undecoded(fault))
+        }
+        BinFault::NoMemory => NO_MEMORY,
+    }
+}
+
+// What is told where the module of a plugin of this name is not accepted; of want of memory, only that.
+#[tactic(auto, using(crate::proofs::Verdicts::untyped_says, crate::proofs::Verdicts::import_says, crate::proofs::Verdicts::export_says, crate::proofs::Verdicts::limit_says))]
+fn untyped(name: &Name, fault: TypeFault) -> Fault
+    ensures { ((fault ≡ TypeFault.NoMemory) × (result ≡ Run run_fault.NoMemory))
+        ⊎ ((fault ≢ TypeFault.NoMemory) × (result ≡ PluginFault name.now (Untyped fault))) }
+{
+    match fault {
+        TypeFault::Untyped { .. }
+        | TypeFault::BadImport
+        | TypeFault::BadExport
+        | TypeFault::OverLimit => Fault::Plugin(name.copied(), Refusal::Untyped(fault)),
+        TypeFault::NoMemory => NO_MEMORY,
     }
 }
 
@@ -130,7 +158,7 @@ fn kits_of(alloc: Global, plugins: &Plugins, workers: usize) -> Result<Vec<Kit>,
     ensures refused { IfErr result (λ fault. (fault ≡ Run run_fault.NoMemory) ⊎ NoKit plugins.now fault) }
 {
     let mut kits = Vec::new(alloc);
-    for _ in 0..workers {
+    while kits.len() < workers {
         let kit = Kit::new(alloc, plugins).map_err(not_ready)?;
         if kits.push(kit).is_err() {
             return Err(NO_MEMORY);
@@ -166,8 +194,8 @@ pub fn modules_in<F: Files>(
     ensures read { OnOk result (F.failure_count files.new ≡ F.failure_count files.old) }
 {
     let mut modules = Vec::new(alloc);
-    for spec in specs {
-        let module = files.read_front(alloc, spec.file, LONGEST + 1)?;
+    for place in 0..specs.len() {
+        let module = files.read_front(alloc, specs[place].file, LONGEST + 1)?;
         if modules.push(module).is_err() {
             return Err(RunFault::NoMemory);
         }

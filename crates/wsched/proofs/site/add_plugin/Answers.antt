@@ -1,15 +1,15 @@
-use Rattle.std.proofs.Common.{rules, ◌≡◌, ◌⊎◌, ◌<◌, ◌^◌, ◌≤◌, ◌∷◌, ◌++◌, [], length, vec_len, map, IfErr, IfOk, OnOk, ℕ, ◌+◌, ◌-◌, ◌*◌, ◌/◌, ◌%◌, Bool, true, false, nat_eq, nat_lt, List, slice_index_or, slice_set, bit_and, bit_or, Fits, w8, w32, w64, Bor, MutBor}
-use Rattle.std.specs.List.{All}
-use Rattle.wbin.specs.Syntax.{module_of}
-use Rattle.wbin.specs.Grammar.{Spells}
-use Rattle.wtype.specs.Accepted.{Accepted}
-use Rattle.plugin.specs.Plugins.{IsTaken}
-use Rattle.plugin.specs.Kit.{IsKitOf}
-use Rattle.command.specs.Within.{HaveDistinctNames, IsPlan, IsWithinLimits}
-use Rattle.command.specs.Words.{syntax_of}
-use Rattle.wsched.specs.Site.{tells_of, AreFromFiles, ArePlugins, AreSiteKits, IsPlugin, NoKit, ModuleRefused, WhyNoPlugin, WhyNoSite}
+use Rattle.std.proofs.Common.{rules, refl}
 use Rattle.wsched.proofs.site.add_plugin.Goals as goal
 
--- src/site.rt:69:1
 pub returns-in-Ok-add-clause-added : goal.returns-in-Ok-add-clause-added
-returns-in-Ok-add-clause-added c = ?
+returns-in-Ok-add-clause-added c = (
+  record { name = c.copied.result; weight = c.args.spec.now.weight; fuel = c.args.spec.now.fuel; content = c.in_ok-checked.checked.content },
+  record {
+    name = c.copied.ensures;
+    weight = refl;
+    fuel = refl;
+    spells = c.in_ok-checked.ensures.spells;
+    accepted = c.in_ok-checked.ensures.accepted;
+  },
+  rw c.in-Ok.ensures.ok at c.in-Ok-add.ensures.added,
+)

@@ -1,14 +1,11 @@
-use Rattle.std.proofs.Common.{◌≡◌, ◌⊎◌, ◌<◌, ◌^◌, ◌≤◌, ◌∷◌, ◌++◌, [], length, vec_len, map, IfErr, IfOk, OnOk, ℕ, ◌+◌, ◌-◌, ◌*◌}
-use Rattle.std.specs.List.{All}
-use Rattle.wbin.specs.Syntax.{module_of}
-use Rattle.wbin.specs.Grammar.{Spells}
-use Rattle.wtype.specs.Accepted.{Accepted}
-use Rattle.plugin.specs.Plugins.{IsTaken}
-use Rattle.plugin.specs.Kit.{IsKitOf}
-use Rattle.command.specs.Within.{HaveDistinctNames, IsPlan, IsWithinLimits}
+use Rattle.std.proofs.Common.{◌≡◌, map, take}
 use Rattle.command.specs.Words.{syntax_of}
-use Rattle.wsched.specs.Site.{tells_of, AreFromFiles, ArePlugins, AreSiteKits, IsPlugin, NoKit, ModuleRefused, WhyNoPlugin, WhyNoSite}
+use Rattle.wsched.specs.Site.{AreFromFiles}
 use Rattle.wsched.proofs.site.modules_in.Given as goal
 
-abbrev pub invariant-loop-spec : goal.invariant-loop-spec
-invariant-loop-spec g l = ?
+-- the modules so far are those of the first plugins, and no file has failed
+abbrev pub invariant-loop-place : goal.invariant-loop-place
+invariant-loop-place g l =
+    AreFromFiles (g.F.Files.contents l.initial.files) (take l.place (map syntax_of l.specs)) (map (λ m. m.items) l.modules.items)
+    × (g.F.Files.contents l.files ≡ g.F.Files.contents l.initial.files)
+    × (g.F.Files.failure_count l.files ≡ g.F.Files.failure_count l.initial.files)

@@ -1,14 +1,8 @@
-use Rattle.std.proofs.Common.{◌≡◌, ◌⊎◌, ◌<◌, ◌^◌, ◌≤◌, ◌∷◌, ◌++◌, [], length, vec_len, map, IfErr, IfOk, OnOk, ℕ, ◌+◌, ◌-◌, ◌*◌}
-use Rattle.std.specs.List.{All}
-use Rattle.wbin.specs.Syntax.{module_of}
-use Rattle.wbin.specs.Grammar.{Spells}
-use Rattle.wtype.specs.Accepted.{Accepted}
-use Rattle.plugin.specs.Plugins.{IsTaken}
-use Rattle.plugin.specs.Kit.{IsKitOf}
-use Rattle.command.specs.Within.{HaveDistinctNames, IsPlan, IsWithinLimits}
+use Rattle.std.proofs.Common.{map, take}
 use Rattle.command.specs.Words.{syntax_of}
-use Rattle.wsched.specs.Site.{tells_of, AreFromFiles, ArePlugins, AreSiteKits, IsPlugin, NoKit, ModuleRefused, WhyNoPlugin, WhyNoSite}
+use Rattle.wsched.specs.Site.{ArePlugins}
 use Rattle.wsched.proofs.site.plugins_of.Given as goal
 
+-- the plugins so far are the first ones
 abbrev pub invariant-loop-place : goal.invariant-loop-place
-invariant-loop-place l = ?
+invariant-loop-place l = ArePlugins (take l.place (map syntax_of l.specs)) (take l.place (map (λ m. m.items) l.modules)) l.plugins
