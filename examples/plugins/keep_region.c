@@ -1,0 +1,13 @@
+// A filter: pods labelled data-class=personal run in the region eu-central-1 and nowhere else.
+//
+//   clang --target=wasm32 -mcpu=mvp -O2 -ffreestanding -nostdlib -Wl,--no-entry,--strip-all,--max-memory=65536,-z,stack-size=4096 -o keep_region.wasm keep_region.c
+#include "sched.h"
+
+FILTER
+{
+    if (!is(pod_label(read_pod(), "data-class"), "personal"))
+        return PASS;
+    const u8 *region = node_label(read_node(), "topology.kubernetes.io/region");
+    // Whatever pods come and go, the node stays where it is.
+    return is(region, "eu-central-1") ? PASS : UNSCHEDULABLE_AND_UNRESOLVABLE;
+}

@@ -1,0 +1,14 @@
+// A score: 50 in the zone that the pod wishes for by its label wished-zone, and up to 50 for room for further pods.
+//
+//   clang --target=wasm32 -mcpu=mvp -O2 -ffreestanding -nostdlib -Wl,--no-entry,--strip-all,--max-memory=65536,-z,stack-size=4096 -o prefer_zone.wasm prefer_zone.c
+#include "sched.h"
+
+SCORE
+{
+    const struct node *node = read_node();
+    const u8 *wish = pod_label(read_pod(), "wished-zone");
+    int there = same(wish, node_label(node, "topology.kubernetes.io/zone"));
+    // A score is asked of nodes that pass every filter, so there is room for this pod.
+    u32 pods = node_pods(node), left = pods - node_used_pods(node) - 1;
+    return (there ? 50 : 0) + 50 * left / pods;
+}

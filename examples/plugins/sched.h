@@ -1,0 +1,93 @@
+// What wsched tells a plugin of a pod and of a node, and what a plugin answers. docs/PLUGINS.md shows how to begin;
+// "Records" in docs/FORMATS.md has the layout that is read here.
+//
+//     #include "sched.h"
+//     FILTER { return node_used_pods(read_node()) < 50 ? PASS : UNSCHEDULABLE; }
+#pragma once
+
+typedef unsigned char u8;
+typedef unsigned int u32;
+typedef unsigned long long u64;
+
+// What a filter answers; any other number is an error. A score answers 0 to 100.
+enum { PASS = 0, UNSCHEDULABLE = 2, UNSCHEDULABLE_AND_UNRESOLVABLE = 3 };
+#define FILTER __attribute__((export_name("filter"))) int filter(void)
+#define SCORE __attribute__((export_name("score"))) long long score(void)
+
+// Each writes its record, where that has at most `limit` bytes, and answers how many it has.
+__attribute__((import_module("sched"), import_name("pod"))) u32 sched_pod(void *to, u32 limit);
+__attribute__((import_module("sched"), import_name("node"))) u32 sched_node(void *to, u32 limit);
+
+// No record is longer. A layout of another version would be misread, so it traps.
+struct pod { u8 bytes[8192]; };
+struct node { u8 bytes[8192]; };
+static inline const struct pod *read_pod(void)
+{
+    static struct pod record;
+    sched_pod(&record, sizeof record);
+    if (record.bytes[0] != 1) __builtin_trap();
+    return &record;
+}
+static inline const struct node *read_node(void)
+{
+    static struct node record;
+    sched_node(&record, sizeof record);
+    if (record.bytes[0] != 1) __builtin_trap();
+    return &record;
+}
+
+// Numbers stand at any address, their lowest byte first, as WebAssembly loads them.
+static inline u32 four(const u8 *at) { u32 n; __builtin_memcpy(&n, at, 4); return n; }
+static inline u64 eight(const u8 *at) { u64 n; __builtin_memcpy(&n, at, 8); return n; }
+
+// The fields behind the uid or the name, which is a text at offset 2.
+static inline const u8 *fields(const u8 *record) { return record + 3 + record[2]; }
+
+// CPU in thousandths of a core, memory in bytes. Used is what the pods there ask for, without the pod in question.
+static inline int pod_priority(const struct pod *p) { return (int)four(fields(p->bytes)); }
+static inline u64 pod_cpu(const struct pod *p) { return eight(fields(p->bytes) + 4); }
+static inline u64 pod_memory(const struct pod *p) { return eight(fields(p->bytes) + 12); }
+static inline int node_unschedulable(const struct node *n) { return fields(n->bytes)[0]; }
+static inline u64 node_cpu(const struct node *n) { return eight(fields(n->bytes) + 1); }
+static inline u64 node_memory(const struct node *n) { return eight(fields(n->bytes) + 9); }
+static inline u32 node_pods(const struct node *n) { return four(fields(n->bytes) + 17); }
+static inline u64 node_used_cpu(const struct node *n) { return eight(fields(n->bytes) + 21); }
+static inline u64 node_used_memory(const struct node *n) { return eight(fields(n->bytes) + 29); }
+static inline u32 node_used_pods(const struct node *n) { return four(fields(n->bytes) + 37); }
+
+// A text is its length in one byte and its bytes, none of them 0. Null is no text, and equals nothing.
+static inline int is(const u8 *text, const char *word)
+{
+    if (!text) return 0;
+    for (u32 i = 1; i <= *text; i++)
+        if (text[i] != (u8)*word++) return 0;
+    return !*word;
+}
+static inline int same(const u8 *a, const u8 *b)
+{
+    if (!a || !b || *a != *b) return 0;
+    for (u32 i = 1; i <= *a; i++)
+        if (a[i] != b[i]) return 0;
+    return 1;
+}
+
+// The value of the label with this key, a text, or null.
+static inline const u8 *label(const u8 *labels, const char *key)
+{
+    for (u32 left = *labels++; left; left--) {
+        const u8 *value = labels + 1 + *labels;
+        if (is(labels, key)) return value;
+        labels = value + 1 + *value;
+    }
+    return 0;
+}
+static inline const u8 *pod_label(const struct pod *p, const char *key)
+{
+    return label(fields(p->bytes) + 20, key);
+}
+static inline const u8 *node_label(const struct node *n, const char *key)
+{
+    return label(fields(n->bytes) + 41, key);
+}
+static inline const u8 *pod_uid(const struct pod *p) { return p->bytes + 2; }
+static inline const u8 *node_name(const struct node *n) { return n->bytes + 2; }
