@@ -61,7 +61,7 @@ site_line specs modules workers kits names some are named (Some script) old new 
 
 -- ---- what words ask for
 
-specs_in : Option Asked → List SpecSyntax
+abbrev specs_in : Option Asked → List SpecSyntax
 specs_in None = []
 specs_in (Some (run workers specs)) = specs
 specs_in (Some (check file)) = []
