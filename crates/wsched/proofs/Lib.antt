@@ -4,3 +4,4 @@ pub mod Quiet
 pub mod Verdicts
 pub mod Texts
 pub mod Sites
+pub mod SiteOutput

@@ -1,7 +1,7 @@
 -- How plugins are configured one after the other, and kits made of them.
 use Rattle.std.proofs.Common.{◌≡◌, ◌≢◌, ◌⊎◌, ℕ, zero, suc, ◌+◌, ◌<◌, ◌≤◌, List, [], ◌∷◌, ◌++◌, length, map, take, Option, Some, None, IfSome, Result, Ok, Err, slice_get, slice_index_or, All, refl, sym, ap, subst, ◌∙◌, inl, inr, arith, add-one}
 use Rattle.std.specs.List.{AllZip, Contains}
-use Rattle.std.proofs.lemmas.List.{map-append, take_all}
+use Rattle.std.proofs.lemmas.List.{length-map, map-append, take_all}
 use Rattle.std.proofs.lemmas.List.Elements.{All-contains, All-push}
 use Rattle.wmach.proofs.OverBr.{slice_get_some}
 use Rattle.wcode.specs.declared.fault.BinFault.{BinFault}
@@ -178,11 +178,16 @@ pub all_read : (contents : List ℕ → Option (List ℕ)) (specs : List SpecSyn
 all_read contents specs modules i long are = subst (λ ss. AreFromFiles contents ss modules) (take_all i specs long) are
 
 -- as many as there are plugins
-pub as_many_read : (contents : List ℕ → Option (List ℕ)) (specs : List SpecSyntax) (modules : List (List ℕ)) → AreFromFiles contents specs modules → length modules ≡ length specs
+as_many_read : (contents : List ℕ → Option (List ℕ)) (specs : List SpecSyntax) (modules : List (List ℕ)) → AreFromFiles contents specs modules → length modules ≡ length specs
 as_many_read contents [] [] are = refl
 as_many_read contents [] (b ∷ modules) are = absurd are
 as_many_read contents (s ∷ specs) [] are = absurd are
 as_many_read contents (s ∷ specs) (b ∷ modules) are = ap suc (as_many_read contents specs modules are.1)
+
+pub many_modules : {M : Type 0} (bytes_of : M → List ℕ) (contents : List ℕ → Option (List ℕ)) (specs : List Spec) (modules : List M)
+    → AreFromFiles contents (map syntax_of specs) (map bytes_of modules) → length modules ≡ length specs
+many_modules bytes_of contents specs modules are =
+    sym (length-map modules bytes_of) ∙ as_many_read contents (map syntax_of specs) (map bytes_of modules) are ∙ length-map specs syntax_of
 
 -- ---- kits
 

@@ -1,6 +1,6 @@
 -- How a message grows by why a module is refused.
 use Rattle.std.proofs.Common.{◌≡◌, ℕ, List, ◌++◌, codes, refl, sym, ap, ◌∙◌}
-use Rattle.std.proofs.lemmas.List.{append-assoc}
+use Rattle.std.proofs.lemmas.List.{append_assoc}
 use Rattle.wcode.specs.declared.fault.BinFault.{BinFault}
 use Rattle.wbody.specs.declared.fault.TypeFault.{TypeFault}
 use Rattle.wsched.specs.Refusal.{bin_text, type_text, refusal_text}
@@ -9,7 +9,7 @@ use Rattle.wsched.specs.declared.refusal.Refusal.TheVariants.{Undecoded, Untyped
 
 -- two pieces behind one another are one
 joined : (old mid new piece text whole : List ℕ) → mid ≡ old ++ piece → new ≡ mid ++ text → whole ≡ piece ++ text → new ≡ old ++ whole
-joined old mid new piece text whole a b e = b ∙ ap (λ m. m ++ text) a ∙ append-assoc old piece text ∙ ap (λ w. old ++ w) (sym e)
+joined old mid new piece text whole a b e = b ∙ ap (λ m. m ++ text) a ∙ append_assoc old piece text ∙ ap (λ w. old ++ w) (sym e)
 
 pub undecoded_added : (old mid new : List ℕ) (refusal : Refusal) (fault : BinFault) → refusal ≡ Undecoded fault
     → mid ≡ old ++ codes "refused decode " → new ≡ mid ++ bin_text fault → new ≡ old ++ refusal_text refusal

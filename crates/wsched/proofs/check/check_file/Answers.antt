@@ -67,5 +67,5 @@ returns-in-Err-clause-front g c = inl refl
 pub returns-in-Err-clause-failures_told : goal.returns-in-Err-clause-failures_told
 returns-in-Err-clause-failures_told g c other = elim c.in-Err.ensures.faults [
   | inl read ↦ absurd (other (c.report.ensures.status ∙ ap (λ f. status_of (Run f)) read))
-  | inr memory ↦ (c.in-Err.ensures.kept memory, refl)
+  | inr memory ↦ (c.in-Err.ensures.wanting memory, refl)
 ]
