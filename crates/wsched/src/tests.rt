@@ -185,6 +185,35 @@ fn assert_ends(
     Ok(())
 }
 
+// Runs a script without a faulty line by 1, 2 and 64 workers, in pieces of many sizes.
+#[track_caller]
+fn assert_answers<'a>(
+    rt: &(impl Abort + fs::Files + Wait + Threads + Sync),
+    alloc: Global,
+    keys: RandomState,
+    plugins: &'a [&'a str],
+    script: &'a str,
+    out: &str,
+    name: &str,
+) -> Result<(), AllocError> {
+    let rows = [
+        (["run"].as_slice(), 1),
+        (["run", "--workers", "2"].as_slice(), 64),
+        (["run", "--workers", "64"].as_slice(), 65_536),
+    ];
+    for (args, most) in rows {
+        let given = Given {
+            args,
+            plugins,
+            script: script.as_bytes(),
+            most,
+            ..RUN
+        };
+        assert_ends(rt, alloc, Some(keys), given, (0, out, ""), name)?;
+    }
+    Ok(())
+}
+
 fn write_files(rt: &impl fs::Files, files: &[(&str, &[u8])]) -> io::Result<()> {
     for (name, bytes) in files {
         fs::write(rt, *name, *bytes)?;

@@ -11,8 +11,9 @@ const MODULE: &str = "module_of_a_test.wasm";
 
 #[test]
 fn a_file_is_checked(rt: HostRuntime) -> Result<(), Fail> {
-    let check = ["check", MODULE].as_slice();
+    let keys = RandomState::new(&rt)?;
     let long = vec![in rt.alloc(); 0; LONGEST + 2]?;
+    let check = ["check", MODULE].as_slice();
     let rows = [
         (check, PASSES, 0, 0, "accepted\n", ""),
         (
@@ -79,7 +80,6 @@ fn a_file_is_checked(rt: HostRuntime) -> Result<(), Fail> {
         ),
         ([].as_slice(), PASSES, 0, 2, "", "wsched: 1 BadWords\n"),
     ];
-    let keys = RandomState::new(&rt)?;
     for (args, module, bad_write, status, out, err) in rows {
         fs::write(&rt, MODULE, module)?;
         let given = Given {

@@ -3,7 +3,7 @@ use super::modules::{
     BROKEN, COUNTS, DATA_OUTSIDE, ELEMENT_OUTSIDE, FIFTY, IMPORTING, LOOPS, MINUS_ONE, NEVER,
     PASSES, REJECTS, START_LOOPS, START_TRAPS, TOO_MUCH, TRAPS,
 };
-use super::{Given, RUN, assert_ends, remove_files, write_files};
+use super::{Given, RUN, assert_answers, assert_ends, remove_files, write_files};
 use std::hash::RandomState;
 use std::test::Fail;
 
@@ -35,9 +35,11 @@ const ASKED: [(&str, &[u8]); 9] = [
     ("too_much.wasm", TOO_MUCH),
 ];
 
-// What a cycle comes to by plugins, by 1, 2 and 64 workers.
+// What a cycle comes to by plugins.
 #[test]
 fn plugins_are_asked_in_their_order(rt: HostRuntime) -> Result<(), Fail> {
+    let keys = RandomState::new(&rt)?;
+    write_files(&rt, &ASKED)?;
     let rows = [
         (
             "a filter that passes",
@@ -112,18 +114,8 @@ fn plugins_are_asked_in_their_order(rt: HostRuntime) -> Result<(), Fail> {
             "ok\nok\np1 on a total 448 ticket 1\n",
         ),
     ];
-    let keys = RandomState::new(&rt)?;
-    write_files(&rt, &ASKED)?;
     for (name, plugins, script, out) in rows {
-        for workers in ["1", "2", "64"] {
-            let given = Given {
-                args: &["run", "--workers", workers],
-                plugins,
-                script: script.as_bytes(),
-                ..RUN
-            };
-            assert_ends(&rt, rt.alloc(), Some(keys), given, (0, out, ""), name)?;
-        }
+        assert_answers(&rt, rt.alloc(), keys, plugins, script, out, name)?;
     }
     remove_files(&rt, &ASKED)?;
     Ok(())
@@ -144,6 +136,8 @@ const REFUSED: [(&str, &[u8]); 7] = [
 // this order: the words, the files, each module, the kits.
 #[test]
 fn a_fault_of_plugins_is_told_before_the_script_is_read(rt: HostRuntime) -> Result<(), Fail> {
+    let keys = RandomState::new(&rt)?;
+    write_files(&rt, &REFUSED)?;
     let rows = [
         (
             ["r:1:1:broken.wasm"].as_slice(),
@@ -210,8 +204,6 @@ fn a_fault_of_plugins_is_told_before_the_script_is_read(rt: HostRuntime) -> Resu
             "wsched: plugin r: refused instance 3 StartTrap 1 Unreachable\n",
         ),
     ];
-    let keys = RandomState::new(&rt)?;
-    write_files(&rt, &REFUSED)?;
     for (plugins, status, err) in rows {
         let given = Given {
             plugins,

@@ -1,5 +1,5 @@
 //! Scripts without plugins: those of the worked examples, by any number of workers, faulty lines, and failing devices.
-use super::{Given, RUN, assert_ends};
+use super::{Given, RUN, assert_answers, assert_ends};
 use std::hash::RandomState;
 use std::test::Fail;
 
@@ -189,9 +189,9 @@ ok
 p1 on b total 175 ticket 1
 ";
 
-// What a script without a faulty line writes, by 1, 2 and 64 workers, in pieces of many sizes.
 #[test]
 fn scripts_are_answered_alike_by_any_number_of_workers(rt: HostRuntime) -> Result<(), Fail> {
+    let keys = RandomState::new(&rt)?;
     let rows = [
         ("the first run", FIRST_RUN, FIRST_OUTPUT),
         ("an empty script", "", ""),
@@ -224,23 +224,15 @@ fn scripts_are_answered_alike_by_any_number_of_workers(rt: HostRuntime) -> Resul
         ("a place that is given up", FORGOTTEN, FORGOTTEN_OUTPUT),
         ("a node that wakes a pod", WOKEN, WOKEN_OUTPUT),
     ];
-    let keys = RandomState::new(&rt)?;
     for (name, script, out) in rows {
-        for (workers, most) in [("1", 1), ("2", 64), ("64", 65_536)] {
-            let given = Given {
-                args: &["run", "--workers", workers],
-                script: script.as_bytes(),
-                most,
-                ..RUN
-            };
-            assert_ends(&rt, rt.alloc(), Some(keys), given, (0, out, ""), name)?;
-        }
+        assert_answers(&rt, rt.alloc(), keys, &[], script, out, name)?;
     }
     Ok(())
 }
 
 #[test]
 fn a_faulty_line_is_told_behind_the_answers(rt: HostRuntime) -> Result<(), Fail> {
+    let keys = RandomState::new(&rt)?;
     let rows = [
         ("{\"op\":\"dump\"", "", "wsched: line 1: 1 NotJson\n"),
         ("\r\n", "", "wsched: line 1: 1 NotJson\n"),
@@ -257,7 +249,6 @@ fn a_faulty_line_is_told_behind_the_answers(rt: HostRuntime) -> Result<(), Fail>
         ),
         (FIFTH_FAULTY, "ok\n", "wsched: line 5: 3 Quantity mem\n"),
     ];
-    let keys = RandomState::new(&rt)?;
     for (script, out, err) in rows {
         let given = Given {
             script: script.as_bytes(),
