@@ -1,10 +1,14 @@
-# The two commands of the README.
+# The commands of the README.
 
-.PHONY: first-run test
+.PHONY: first-run plugins test
 
 # Proves and builds the program, and runs it on the first script.
 first-run:
 	cd crates/wsched && rt run -- run < ../../examples/first-run.jsonl
+
+# Runs each plugin of examples/plugins over its script, by the program that first-run built.
+plugins:
+	examples/plugins/try
 
 # Proves every crate from nothing, tries every must-fail edit, and runs every test and program.
 test:

@@ -1,5 +1,5 @@
 -- What the steps of a cycle are answered, and what the only pass's cycle does to its desk.
-use Rattle.std.proofs.Common.{◌≡◌, ℕ, ◌<◌, List, [], ◌∷◌, ◌++◌, Option, Some, None, inl, inr, length, refl, sym, ap, subst, arith}
+use Rattle.std.proofs.Common.{◌≡◌, ℕ, ◌<◌, List, [], ◌∷◌, Option, Some, None, inl, inr, length, refl, sym, ap, subst, arith}
 use Rattle.quant.specs.declared.name.Name.{Name}
 use Rattle.quant.specs.declared.objects.Pod.{Pod}
 use Rattle.book.specs.declared.refusal.Refusal.{Refusal}

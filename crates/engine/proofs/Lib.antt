@@ -1,8 +1,12 @@
 pub mod Cycles
 pub mod Either
+pub mod Fronts
 pub mod Known
+pub mod OneOutput
+pub mod OwnNames
 pub mod Pieces
 pub mod Progress
 pub mod Rows
+pub mod SameOutput
 pub mod Steps
 pub mod Taking

@@ -3,6 +3,7 @@ pub mod Cycle
 pub mod CycleAlone
 pub mod Device
 pub mod Fault
+pub mod Laws
 pub mod Lines
 pub mod Output
 pub mod Text

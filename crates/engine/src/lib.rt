@@ -8,6 +8,7 @@
 //! - The desk is one that many passes can share, with one pass; its state is what that pass has seen.
 //! - A session has that desk, and makes the text that answers a command.
 //! - Each way to end early is a `RunFault`, which has a number and a name.
+//! - That a script has one output, whoever runs it and with however many workers, are the laws `one_output` and `same_output`.
 //!
 //! Output is written before more input is read, and before 64 KiB of it wait.
 #![tactic(auto)]
@@ -15,6 +16,7 @@
 mod asked;
 mod device;
 mod fault;
+mod laws;
 mod lines;
 mod lone_desk;
 mod one_cycle;
@@ -24,6 +26,7 @@ mod text;
 
 pub use device::{DeviceFailed, Sink, Source, write_all};
 pub use fault::RunFault;
+pub use laws::{one_output, same_output};
 pub use one_cycle::{CutShort, Cycled, cycle};
 pub use script::run;
 

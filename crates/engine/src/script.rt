@@ -216,9 +216,9 @@ fn run_desk<J: Naming, T: Wait + Threads + Sync, K: Rules + Send, R: Source, W: 
 }
 
 /// Reads a script to its end or its first faulty line, does what its lines ask of a new desk with
-/// one pass, and writes the answers. A cycle goes by the fleet, and has a worker for each of its kits; the names of its rules are handed in beside it, in their order. Names
-/// are looked up under the keys. A line ends at a newline, which the last one may lack; an
-/// empty line is passed over and counted.
+/// one pass, and writes the answers. A cycle goes by the fleet, and has a worker for each of its kits;
+/// the names of its rules are handed in beside it, in their order. Names are looked up under the keys.
+/// A line ends at a newline, which the last one may lack; an empty line is passed over and counted.
 ///
 /// Before more is read, all answers so far are written, so that a peer that waits for them goes on.
 /// While whole lines are there, fewer than 64 KiB of output wait, and the answer to one line.

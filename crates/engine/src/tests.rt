@@ -99,8 +99,8 @@ struct Same {
 }
 
 impl Rules for Same {
-    ghost use Rattle.std.specs.Prelude.{◌≡◌, [], ◌∷◌, None, Some, if◌then◌else◌, sym};
-    ghost use Rattle.std.proofs.Common.{◌∙◌};
+    ghost use Rattle.std.specs.Prelude.{◌≡◌, [], ◌∷◌, None, Some, if◌then◌else◌};
+    ghost use Rattle.std.proofs.Common.{◌∙◌, sym};
     ghost use Rattle.plugin.specs.declared.verdict.ScoreVerdict.TheVariants.{Good, Errs};
 
     ghost answers = { λ r. record {

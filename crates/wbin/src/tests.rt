@@ -361,7 +361,7 @@ fn whole_module(rt: HostRuntime) -> Result<(), Fail> {
     Ok(())
 }
 
-// examples/plugins/spare_memory.wasm
+// A filter as a compiler and a linker leave it: one import, and its memory and `filter` as exports.
 #[test]
 fn plugin(rt: HostRuntime) -> Result<(), Fail> {
     let decoded = decode(rt.alloc(), &PLUGIN)?;

@@ -85,15 +85,15 @@ pub record ModuleRefused (specs : List SpecSyntax) (modules : List (List ℕ)) (
   pub why : WhyNoPlugin spec.name bytes fault
 
 -- What is told where a kit can't be made: the plugin and why, but that memory was wanting is told as such.
-abbrev pub tells_of : KitFault → Fault → Type 0
-tells_of kit fault = ((kit.fault ≡ instance_fault.NoMemory) × (fault ≡ Run run_fault.NoMemory))
+abbrev pub IsToldAs : KitFault → Fault → Type 0
+IsToldAs kit fault = ((kit.fault ≡ instance_fault.NoMemory) × (fault ≡ Run run_fault.NoMemory))
     ⊎ ((kit.fault ≢ instance_fault.NoMemory) × (fault ≡ Plugin kit.plugin (NotReady kit.fault)))
 
 -- there is no kit of these plugins
 pub record NoKit (plugins : List Configured) (fault : Fault) : Type 0 where
   pub kit : KitFault
   pub why : WhyNoKit plugins kit
-  pub told : tells_of kit fault
+  pub told : IsToldAs kit fault
 
 -- All modules are accepted, and there is no kit of them.
 pub record KitRefused (specs : List SpecSyntax) (modules : List (List ℕ)) (fault : Fault) : Type 0 where

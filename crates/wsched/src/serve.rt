@@ -154,11 +154,13 @@ pub fn serve_plan<T: Wait + Threads + Sync, F: Files, R: Source, W: Sink, E: Sin
         (E.failure_count err.new) (message_of (Run run_fault.NoPlace))
         × (source.new ≡ source.old) × (out.new ≡ out.old)) }
 
-    // There were no keys, or a file, a read or a write failed meanwhile, and that is told.
+    // There were no keys, or a file failed: that is told, and nothing is read of the script or written. Or a read or a write failed
+    // meanwhile, and that is told.
     ensures failed { result ≡ 4 → Tells (E.written err.old) (E.written err.new) (E.failure_count err.old)
         (E.failure_count err.new) (message_of (Run run_fault.Read))
-        × ((keys ≡ None) ⊎ ((R.failure_count source.old < R.failure_count source.new)
-        ⊎ (F.failure_count files.old < F.failure_count files.new)))
+        × ((((keys ≡ None) ⊎ (F.failure_count files.old < F.failure_count files.new))
+        × (source.new ≡ source.old) × (out.new ≡ out.old))
+        ⊎ (R.failure_count source.old < R.failure_count source.new))
         ⊎ (Tells (E.written err.old) (E.written err.new) (E.failure_count err.old)
         (E.failure_count err.new) (message_of (Run run_fault.Write))
         × (W.failure_count out.old < W.failure_count out.new)) }

@@ -11,7 +11,7 @@ ghost use Rattle.command.specs.Words.{syntax_of};
 ghost use Rattle.engine.specs.declared.fault.RunFault.TheVariants as run_fault;
 ghost use Rattle.wsched.specs.declared.faults.Fault.TheVariants.{Run, Plugin as PluginFault};
 ghost use Rattle.wsched.specs.declared.refusal.Refusal.TheVariants.{Undecoded, Untyped};
-ghost use Rattle.wsched.specs.Site.{tells_of, AreFromFiles, ArePlugins, AreSiteKits, IsPlugin, NoKit, ModuleRefused, WhyNoPlugin, WhyNoSite};
+ghost use Rattle.wsched.specs.Site.{IsToldAs, AreFromFiles, ArePlugins, AreSiteKits, IsPlugin, NoKit, ModuleRefused, WhyNoPlugin, WhyNoSite};
 
 use crate::faults::Fault;
 use crate::folder::Files;
@@ -169,7 +169,7 @@ fn kits_of(alloc: Global, plugins: &Plugins, workers: usize) -> Result<Vec<Kit>,
 
 // What is told where there is no kit.
 fn not_ready(fault: KitFault) -> Fault
-    ensures { tells_of fault result }
+    ensures { IsToldAs fault result }
 {
     match fault.fault {
         InstanceFault::NoMemory => NO_MEMORY,

@@ -1,0 +1,128 @@
+-- A script has one output.
+use Rattle.std.proofs.Common.{◌≡◌, ℕ, List, [], ◌∷◌, ◌++◌, sym, ap, subst, ◌∙◌}
+use Rattle.quant.specs.declared.name.Name.{Name}
+use Rattle.quant.specs.declared.objects.Pod.{Pod}
+use Rattle.queue.specs.declared.state.Failure.TheVariants.{Unschedulable, Again}
+use Rattle.desk.specs.declared.step.Step.{Step}
+use Rattle.desk.specs.declared.step.Step.TheVariants.{Pop, Assume, Fail}
+use Rattle.desk.specs.declared.step.Reply.{Reply}
+use Rattle.desk.specs.declared.step.Reply.TheVariants as replies
+use Rattle.desk.specs.Machine as machine
+use Rattle.desk.specs.Machine.{State, reply, snapshot}
+use Rattle.plugin.specs.RuleSet.{RuleSet, SayOneThing}
+use Rattle.choose.specs.declared.decision.Decision.{Decision}
+use Rattle.choose.specs.declared.decision.Decision.TheVariants as decisions
+use Rattle.choose.specs.Laws.{HaveOwnNames}
+use Rattle.choose.proofs.OneDecision.{one_decision}
+use Rattle.engine.specs.declared.asked.Asked.{Asked}
+use Rattle.engine.specs.declared.asked.Asked.TheVariants as asked
+use Rattle.engine.specs.declared.one_cycle.Cycled.{Cycled}
+use Rattle.engine.specs.CycleAlone.{AfterAssumeAlone, EndsAlone, IsDecidedAlone, AfterPopAlone}
+use Rattle.engine.specs.Answers.{after, opening, limits, Answered, AllAnswered}
+use Rattle.engine.specs.Text.{cycle_line}
+use Rattle.engine.specs.Lines.{lines_of}
+use Rattle.engine.specs.Output.{asked_in}
+use Rattle.engine.specs.Laws.{OneOutput}
+use Rattle.engine.proofs.OwnNames.{StandByName, kept, at_opening, shown_apart}
+
+-- what two answers agree in: the state after them, and what is told
+abbrev pub Agree : {T : Type 0} → (one other : State) → (told told_too : T) → Type 0
+Agree one other told told_too = (one ≡ other) × (told ≡ told_too)
+
+-- ---- a cycle
+
+-- what follows the answer to `Assume`
+after_assume : (s : State) (uid node : Name) (total : ℕ) (r : Reply) (came came' : Cycled) (one other : State) → AfterAssumeAlone s uid node total r came one → AfterAssumeAlone s uid node total r came' other → Agree one other came came'
+after_assume s uid node total (replies.Ticket ticket) came came' one other a b = (a.1 ∙ sym b.1, a.0 ∙ sym b.0)
+after_assume s uid node total (replies.Refused why) came came' one other a b = (a.1 ∙ sym b.1, a.0 ∙ sym b.0)
+after_assume s uid node total replies.Done came came' one other a b = absurd a
+after_assume s uid node total replies.Idle came came' one other a b = absurd a
+after_assume s uid node total (replies.Popped pod) came came' one other a b = absurd a
+after_assume s uid node total (replies.Counts n) came came' one other a b = absurd a
+
+-- what is done of a decision
+ends : (s : State) (uid : Name) (d : Decision) (came came' : Cycled) (one other : State) → EndsAlone s uid d came one → EndsAlone s uid d came' other → Agree one other came came'
+ends s uid (decisions.Node node total) came came' one other a b =
+    after_assume (machine.after s 0 (Assume uid node)) uid node total (reply s 0 (Assume uid node)) came came' one other a b
+ends s uid (decisions.Unschedulable counts) came came' one other a b = (a.1 ∙ sym b.1, a.0 ∙ sym b.0)
+ends s uid (decisions.PluginError place node cause) came came' one other a b = (a.1 ∙ sym b.1, a.0 ∙ sym b.0)
+
+-- what comes of a popped pod: there is one decision, since the nodes have names of their own
+decided : (rules : RuleSet) (s : State) (pod : Pod) (came came' : Cycled) (one other : State) → SayOneThing rules → HaveOwnNames (snapshot s.cluster) → IsDecidedAlone rules s pod came one → IsDecidedAlone rules s pod came' other → Agree one other came came'
+decided rules s pod came came' one other once own a b =
+    let same : a.decision ≡ b.decision = one_decision rules (snapshot s.cluster) pod a.decision b.decision once own a.choice b.choice in
+    ends s pod.uid b.decision came came' one other (subst (λ d. EndsAlone s pod.uid d came one) same a.ends) b.ends
+
+-- what follows the answer to `Pop`
+after_pop : (rules : RuleSet) (s : State) (r : Reply) (came came' : Cycled) (one other : State) → SayOneThing rules → HaveOwnNames (snapshot s.cluster) → AfterPopAlone rules s r came one → AfterPopAlone rules s r came' other → Agree one other came came'
+after_pop rules s (replies.Popped pod) came came' one other once own a b = decided rules s pod came came' one other once own a b
+after_pop rules s replies.Idle came came' one other once own a b = (a.1 ∙ sym b.1, a.0 ∙ sym b.0)
+after_pop rules s replies.Done came came' one other once own a b = absurd a
+after_pop rules s (replies.Ticket ticket) came came' one other once own a b = absurd a
+after_pop rules s (replies.Counts n) came came' one other once own a b = absurd a
+after_pop rules s (replies.Refused why) came came' one other once own a b = absurd a
+
+-- ---- names stay nodes' own
+
+-- each node of a state stands under its own name
+abbrev pub Own : State → Type 0
+Own s = StandByName s.cluster.nodes
+
+-- a step keeps that
+kept_to : (s s' : State) (e : Step) → s' ≡ machine.after s 0 e → Own s → Own s'
+kept_to s s' e is own = subst Own (sym is) (kept s 0 e own)
+
+-- and so does each part of a cycle
+after_assume_own : (s : State) (uid node : Name) (total : ℕ) (r : Reply) (came : Cycled) (s' : State) → Own s → AfterAssumeAlone s uid node total r came s' → Own s'
+after_assume_own s uid node total (replies.Ticket ticket) came s' own a = subst Own (sym a.1) own
+after_assume_own s uid node total (replies.Refused why) came s' own a = kept_to s s' (Fail uid Again) a.1 own
+after_assume_own s uid node total replies.Done came s' own a = absurd a
+after_assume_own s uid node total replies.Idle came s' own a = absurd a
+after_assume_own s uid node total (replies.Popped pod) came s' own a = absurd a
+after_assume_own s uid node total (replies.Counts n) came s' own a = absurd a
+
+ends_own : (s : State) (uid : Name) (d : Decision) (came : Cycled) (s' : State) → Own s → EndsAlone s uid d came s' → Own s'
+ends_own s uid (decisions.Node node total) came s' own a =
+    after_assume_own (machine.after s 0 (Assume uid node)) uid node total (reply s 0 (Assume uid node)) came s' (kept s 0 (Assume uid node) own) a
+ends_own s uid (decisions.Unschedulable counts) came s' own a = kept_to s s' (Fail uid Unschedulable) a.1 own
+ends_own s uid (decisions.PluginError place node cause) came s' own a = kept_to s s' (Fail uid Again) a.1 own
+
+after_pop_own : (rules : RuleSet) (s : State) (r : Reply) (came : Cycled) (s' : State) → Own s → AfterPopAlone rules s r came s' → Own s'
+after_pop_own rules s (replies.Popped pod) came s' own a = ends_own s pod.uid a.decision came s' own a.ends
+after_pop_own rules s replies.Idle came s' own a = subst Own (sym a.1) own
+after_pop_own rules s replies.Done came s' own a = absurd a
+after_pop_own rules s (replies.Ticket ticket) came s' own a = absurd a
+after_pop_own rules s (replies.Counts n) came s' own a = absurd a
+after_pop_own rules s (replies.Refused why) came s' own a = absurd a
+
+-- ---- what is asked
+
+-- all that can be asked keeps it
+answered_own : (rules : RuleSet) (names : List Name) (s : State) (a : Asked) (s' : State) (text : List ℕ) → Own s → Answered rules names s a s' text → Own s'
+unfolding after
+answered_own rules names s (asked.Step step) s' text own told = kept_to s s' step told.0 own
+answered_own rules names s asked.Cycle s' text own told = after_pop_own rules (machine.after s 0 Pop) (reply s 0 Pop) told.0 s' (kept s 0 Pop own) told.1.is
+
+-- what is asked has one answer
+one_answer : (rules : RuleSet) (names : List Name) (s : State) (a : Asked) (one other : State) (text text' : List ℕ) → SayOneThing rules → Own s
+    → Answered rules names s a one text → Answered rules names s a other text' → Agree one other text text'
+one_answer rules names s (asked.Step step) one other text text' once own a b = (a.0 ∙ sym b.0, a.1 ∙ sym b.1)
+one_answer rules names s asked.Cycle one other text text' once own a b =
+    let popped : State = machine.after s 0 Pop in
+    let same : Agree one other a.0 b.0 = after_pop rules popped (reply s 0 Pop) a.0 b.0 one other once (shown_apart popped.cluster (kept s 0 Pop own)) a.1.is b.1.is in
+    (same.0, a.2 ∙ (ap (cycle_line names) same.1 ∙ sym b.2))
+
+-- and all that is asked has one
+pub all_one : (rules : RuleSet) (names : List Name) (s : State) (l : List Asked) (one other : State) (text text' : List ℕ) → SayOneThing rules → Own s
+    → AllAnswered rules names s l one text → AllAnswered rules names s l other text' → Agree one other text text'
+all_one rules names s [] one other text text' once own a b = (a.0 ∙ sym b.0, a.1 ∙ sym b.1)
+all_one rules names s (first ∷ later) one other text text' once own (between, answer, rest, now, then, is) (between', answer', rest', now', then', is') =
+    let here : Agree between between' answer answer' = one_answer rules names s first between between' answer answer' once own now now' in
+    let there : Agree one other rest rest' = all_one rules names between' later one other rest rest' once (answered_own rules names s first between' answer' own now')
+    (subst (λ t. AllAnswered rules names t later one rest) here.0 then) then' in
+    (there.0, is ∙ ((λ i. here.1 i ++ there.1 i) ∙ sym is'))
+
+-- a script has one output
+pub one_output : (rules : RuleSet) → SayOneThing rules → OneOutput rules
+one_output rules once names script one other a b =
+    (all_one rules names opening (asked_in (lines_of script)) a.end b.end one other once (at_opening limits) a.answered b.answered).1

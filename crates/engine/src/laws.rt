@@ -1,0 +1,18 @@
+//! What holds of every script. The functions do nothing: their contracts are the laws.
+ghost use Rattle.engine.specs.Laws.{OneOutput, FrontsBeginOutput, FrontsAgree, SameOutput};
+
+use plugin::Rules;
+
+/// A script has one output: it depends on the script, the rules and their names alone, and on no order in which threads took
+/// their turns. What a run writes that is cut short begins it.
+pub fn one_output<K: Rules>(_kit: &K)
+    ensures whole { OneOutput (K.answers _kit.now) }
+    ensures front { FrontsBeginOutput (K.answers _kit.now) }
+    ensures fronts { FrontsAgree (K.answers _kit.now) }
+{}
+
+/// By kits that judge alike a script has the same output. A run goes by its fleet's first kit, which stands for all of them: so
+/// the same script gives the same bytes with any number of workers.
+pub fn same_output<K: Rules>(_one: &K, _other: &K)
+    ensures { SameOutput K.answers _one.now _other.now }
+{}
