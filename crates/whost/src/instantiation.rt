@@ -6,7 +6,8 @@ ghost use Rattle.whost.specs.Image.{InBounds, with_segments, with_all_elements, 
 ghost use Rattle.whost.specs.Refused.{BoundsRefused, StartRefused};
 
 use crate::fault::InstanceFault;
-use wmach::{Export, Host, Machine, Outcome};
+use crate::records::Records;
+use wmach::{Export, Machine, Outcome};
 
 // Whether each element segment lies within the table.
 fn elements_fit(machine: &Machine) -> bool
@@ -74,19 +75,6 @@ fn write_data(machine: &mut Machine)
     }
 }
 
-// What a start function is handed: nothing.
-struct NoRecords;
-
-impl Host for NoRecords {
-    ghost use Rattle.std.specs.Prelude.{None};
-
-    ghost records = { λ _ import. None };
-
-    fn record(&self, _import: usize) -> Option<&[u8]> {
-        None
-    }
-}
-
 /// Calls the start function, if there is one, with so much fuel.
 pub fn start(machine: &mut Machine, fuel: u64) -> Result<(), InstanceFault>
     ensures stays { machine.new ≡ record machine.old { store = machine.new.store } }
@@ -95,7 +83,9 @@ pub fn start(machine: &mut Machine, fuel: u64) -> Result<(), InstanceFault>
     if !machine.has(Export::Start) {
         return Ok(());
     }
-    match machine.invoke(Export::Start, &NoRecords, fuel) {
+    // The machine hands a start function no record, whatever its host has. That the host is of one type in all calls lets the
+    // compiler make one machine: with two, each verdict took nine times as long.
+    match machine.invoke(Export::Start, &Records::new(), fuel) {
         Outcome::Value(_, _) => Ok(()),
         Outcome::Trap(trap, _) => Err(InstanceFault::StartTrap(trap)),
         Outcome::Exhausted(_) => Err(InstanceFault::StartExhausted),
