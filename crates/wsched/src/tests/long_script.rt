@@ -6,57 +6,58 @@ use std::alloc::{AllocError, Global};
 use std::hash::RandomState;
 use std::test::Fail;
 
-// Lines of a round, in which numbers go in place of some characters (`number_for`). At first there are
-// 24 nodes, one a round.
+// Lines of a round, in which numbers go in place of some characters (`number_for`). At first there are 8
+// nodes, one a round.
 const NODE: &str =
-    "{\"op\":\"node\",\"v\":$,\"name\":\"n#\",\"cpu\":\"4\",\"mem\":\"8Gi\",\"pods\":20}
+    "{\"op\":\"node\",\"v\":$,\"name\":\"n#\",\"cpu\":\"8\",\"mem\":\"8Gi\",\"pods\":20}
 ";
 
-// In each round two pods wait for a place, and one that ran goes.
+// In each round one pod waits for a place, one has its place told, and two that had theirs go.
 const ROUND: &str =
-    "{\"op\":\"pod\",\"v\":$1,\"uid\":\"p1$\",\"priority\":%,\"containers\":[[\"%00m\",\"%00Mi\"]]}
-{\"op\":\"cycle\"}
-{\"op\":\"pod\",\"v\":$2,\"uid\":\"p2$\",\"containers\":[[\"500m\",\"64Mi\"]]}
+    "{\"op\":\"pod\",\"v\":$1,\"uid\":\"p1$\",\"priority\":$,\"containers\":[[\"%00m\",\"%00Mi\"]]}
 {\"op\":\"cycle\"}
 {\"op\":\"tick\",\"at\":$00}
-{\"op\":\"cycle\"}
-{\"op\":\"bound\",\"v\":$3,\"uid\":\"p1$\",\"node\":\"n#\",\"cpu\":\"200m\",\"mem\":\"64Mi\"}
-{\"op\":\"deleted\",\"v\":$4,\"uid\":\"p2~\"}
+{\"op\":\"bound\",\"v\":$2,\"uid\":\"p2$\",\"node\":\"n#\",\"cpu\":\"200m\",\"mem\":\"64Mi\"}
+{\"op\":\"deleted\",\"v\":$3,\"uid\":\"p2~\"}
+{\"op\":\"deleted\",\"v\":$4,\"uid\":\"p1~\"}
 ";
 
-// In some a node changes, a pod that could not be bound goes, and one comes that fits nowhere.
+// In some a pod could not be bound and goes, one comes that fits nowhere, and a node changes.
 const FORGET: &str =
-    "{\"op\":\"node\",\"v\":$5,\"name\":\"n#\",\"cpu\":\"%\",\"mem\":\"8Gi\",\"pods\":20,\"taints\":[[\"s\",\"\",\"PreferNoSchedule\"]]}
-{\"op\":\"forget\",\"uid\":\"p2$\",\"ticket\":&}
-{\"op\":\"deleted\",\"v\":$6,\"uid\":\"p2$\"}
-{\"op\":\"pod\",\"v\":$7,\"uid\":\"p3$\",\"priority\":-1,\"containers\":[[\"5\",\"1Gi\"]]}
+    "{\"op\":\"node\",\"v\":$5,\"name\":\"n#\",\"cpu\":\"1%\",\"mem\":\"8Gi\",\"pods\":20,\"taints\":[[\"s\",\"\",\"PreferNoSchedule\"]]}
+{\"op\":\"forget\",\"uid\":\"p1$\",\"ticket\":&}
+{\"op\":\"deleted\",\"v\":$6,\"uid\":\"p1$\"}
+{\"op\":\"pod\",\"v\":$7,\"uid\":\"p3$\",\"priority\":-1,\"containers\":[[\"20\",\"1Gi\"]]}
+{\"op\":\"cycle\"}
+{\"op\":\"cycle\"}
 ";
 
-// In some a pod was bound, and a node goes and comes back with less room.
-const DONE: &str = "{\"op\":\"done\",\"uid\":\"p2$\",\"ticket\":&}
-{\"op\":\"forget\",\"uid\":\"p2$\",\"ticket\":&}
+// In some a pod was bound, and a node goes and comes back.
+const DONE: &str = "{\"op\":\"done\",\"uid\":\"p1$\",\"ticket\":&}
+{\"op\":\"forget\",\"uid\":\"p1$\",\"ticket\":&}
 {\"op\":\"gone\",\"v\":$5,\"name\":\"n#\"}
 {\"op\":\"dump\"}
-{\"op\":\"node\",\"v\":$6,\"name\":\"n#\",\"cpu\":\"4\",\"mem\":\"8Gi\",\"pods\":15}
+{\"op\":\"node\",\"v\":$6,\"name\":\"n#\",\"cpu\":\"8\",\"mem\":\"8Gi\",\"pods\":18}
+{\"op\":\"cycle\"}
 ";
 
-// The state in the end, by a model of the rules that is not in Rattle.
-const LAST: &str = "node n33 cpu 1800/5000 mem 603979776/8589934592 pods 9/20
-places bound 230 assumed 49
-queue active 0 backoff 28 unschedulable 0 inflight 0
-clock 32900 version 3294
+// The state in the end, as a model of the rules in another language has it.
+const LAST: &str = "node n17 cpu 1900/14000 mem 994050048/8589934592 pods 8/20
+places bound 60 assumed 48
+queue active 25 backoff 9 unschedulable 0 inflight 0
+clock 37900 version 3794
 ";
 
-// What goes in place of a character: the number of the round, which counts from 100, of a node, or of
-// the round 60 before, one digit, or the ticket of the round's second pod, from round 128 on.
+// What goes in place of a character: the number of the round, from 100 on, of a node, or of the round 60
+// before, one digit, or the ticket of the round's pod. All pods have one but those whose number ends in a 7.
 fn number_for(byte: u8, round: u16) -> Option<u32> {
     let at = u32::from(round);
     match byte {
         b'$' => Some(100 + at),
-        b'#' => Some(10 + (100 + at) % 24),
+        b'#' => Some(10 + (100 + at) % 8),
         b'~' => Some(40 + at),
         b'%' => Some((100 + at) % 7),
-        b'&' => Some(3 + 2 * (at - (at + 2) / 10)),
+        b'&' => Some(1 + at - (at + 2) / 10),
         _ => None,
     }
 }
@@ -73,10 +74,10 @@ fn push_lines(script: &mut Vec<u8>, lines: &str, round: u16) -> Result<(), Alloc
 
 fn long_script(alloc: Global) -> Result<Vec<u8>, AllocError> {
     let mut script = Vec::new(alloc);
-    for round in 0..24 {
+    for round in 0..8 {
         push_lines(&mut script, NODE, round)?;
     }
-    for round in 0..230 {
+    for round in 0..280 {
         push_lines(&mut script, ROUND, round)?;
         let more = match round % 10 {
             5 => FORGET,
