@@ -10,8 +10,6 @@ mod place;
 mod places;
 mod refusal;
 mod step;
-#[cfg(test)]
-mod tests;
 
 pub use book::Book;
 pub use limits::Limits;

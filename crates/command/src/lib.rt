@@ -15,6 +15,3 @@ pub use asked::{Plan, Spec, Words};
 pub use command_line::{arguments, words};
 pub use fault::WordFault;
 pub use laws::{worked_examples, workers_are_read_as_by_clap};
-
-#[cfg(test)]
-mod tests;

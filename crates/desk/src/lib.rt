@@ -14,8 +14,6 @@ mod rule;
 mod said;
 mod snapshot;
 mod step;
-#[cfg(test)]
-mod tests;
 mod under_lock;
 
 pub use book::{Limits, NoMemory, Refusal};

@@ -29,6 +29,3 @@ pub use fault::RunFault;
 pub use laws::{one_output, same_output};
 pub use one_cycle::{CutShort, Cycled, cycle};
 pub use script::run;
-
-#[cfg(test)]
-mod tests;

@@ -207,6 +207,3 @@ fn last(byte: u8, left: u32, signed: bool) -> Result<(bool, u64), LebFault>
         }
     }
 }
-
-#[cfg(test)]
-mod tests;

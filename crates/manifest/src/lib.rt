@@ -25,6 +25,3 @@ pub use fault::LineFault;
 pub use field::Field;
 pub use laws::longest_line_is_this;
 pub use line::{MAX_LINE, read_line};
-
-#[cfg(test)]
-mod tests;

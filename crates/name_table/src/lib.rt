@@ -9,8 +9,6 @@ mod chains;
 mod entries;
 mod entry;
 mod table;
-#[cfg(test)]
-mod tests;
 
 pub use entry::Entry;
 pub use table::NameTable;

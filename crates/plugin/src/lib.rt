@@ -20,6 +20,3 @@ pub use laws::kits_are_alike;
 pub use plugins::{MAX_FUEL, MAX_PLUGINS, MAX_WEIGHT, Plugin, Plugins};
 pub use rules::Rules;
 pub use verdict::{Cause, FilterVerdict, Rejection, ScoreVerdict, filter_verdict, score_verdict};
-
-#[cfg(test)]
-mod tests;

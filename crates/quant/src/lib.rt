@@ -28,6 +28,3 @@ pub use pod_request::request;
 pub use spelling::{read_bytes, read_cpu};
 pub use taint::{Effect, Operator, Taint, Toleration};
 pub use version::{Ticket, Version};
-
-#[cfg(test)]
-mod tests;

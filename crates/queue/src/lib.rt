@@ -25,8 +25,6 @@ mod row;
 mod slot;
 mod slots;
 mod state;
-#[cfg(test)]
-mod tests;
 
 pub use counts::Counts;
 pub use laws::{loses_none, pops_once, pops_the_first, ticks_once};

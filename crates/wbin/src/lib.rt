@@ -19,6 +19,3 @@ pub use module::{
     DataSegment, ElementSegment, Export, ExportKind, FunctionCode, FunctionType, GlobalType,
     GlobalVariable, Import, ImportKind, Limits, LocalRun, Module, Place, Tables,
 };
-
-#[cfg(test)]
-mod tests;

@@ -16,6 +16,3 @@ pub use body::{imports_functions, type_body};
 pub use fault::TypeFault;
 pub use notes::{BranchNote, BranchNotes, Notes};
 pub use trail::{Branch, Label};
-
-#[cfg(test)]
-mod tests;

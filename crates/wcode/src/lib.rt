@@ -29,6 +29,3 @@ pub use operator::{BinOp, CvtOp, LoadOp, RelOp, Sign, StoreOp, TestOp, UnOp};
 pub use reading::{read_label, read_op};
 pub use skipping::{read_constant, skip_expr};
 pub use value::{BlockType, Value, ValueType};
-
-#[cfg(test)]
-mod tests;

@@ -21,6 +21,3 @@ pub use laws::{calls_agree, fields_stand, labels_are_in_order, numbers_are_read_
 pub use record::{RECORD_SIZE, Record};
 pub use records::Records;
 pub use rows::{node_record, pod_record};
-
-#[cfg(test)]
-mod tests;

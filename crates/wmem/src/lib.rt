@@ -16,6 +16,3 @@ pub use access::{Load, Width};
 pub use laws::{stores_are_loaded, writes_stay_in_place};
 pub use memory::{MAX_PAGES, Memory, PAGE_SIZE};
 pub use trap::Trap;
-
-#[cfg(test)]
-mod tests;

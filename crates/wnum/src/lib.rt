@@ -13,6 +13,3 @@ pub mod laws;
 mod trap;
 
 pub use trap::Trap;
-
-#[cfg(test)]
-mod tests;

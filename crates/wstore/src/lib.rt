@@ -12,6 +12,3 @@ mod store;
 
 pub use store::Store;
 pub use wmem::{Load, Trap, Width};
-
-#[cfg(test)]
-mod tests;

@@ -17,6 +17,3 @@ pub use checked::{Checked, validate};
 pub use function_types::{listed, type_of_function};
 pub use sizes::count_locals;
 pub use wbody::TypeFault;
-
-#[cfg(test)]
-mod tests;

@@ -1,5 +1,0 @@
-use Rattle.desk.proofs.tests.at_once.four_threads_place_pods.Given as goal
-
--- the desk that was just opened, and its limits
-abbrev pub ghosts-at_once : goal.ghosts-at_once
-ghosts-at_once g a = record { book = a.blank.seen.book; limits = a.limits }

@@ -1,0 +1,278 @@
+// Modules at the borders of what is accepted, each section in its bytes (WebAssembly Core 1.0, 5.5).
+
+use std::alloc::{AllocError, Global};
+use std::test::Fail;
+use wbin::decode;
+use wtype::{TypeFault, validate};
+
+const HEADER: &[u8] = b"\0asm\x01\0\0\0";
+
+// One type: from nothing to an i32, from nothing to nothing, from an i32 to an i32.
+const GIVES_I32: &[u8] = b"\x01\x05\x01\x60\x00\x01\x7F";
+
+const GIVES_NOTHING: &[u8] = b"\x01\x04\x01\x60\x00\x00";
+
+const TAKES_I32: &[u8] = b"\x01\x06\x01\x60\x01\x7F\x01\x7F";
+
+// Imports: the function `a.b` of the first type, and the memory `a.b`.
+const IMPORTS_FUNCTION: &[u8] = b"\x02\x07\x01\x01a\x01b\x00\x00";
+
+const IMPORTS_MEMORY: &[u8] = b"\x02\x08\x01\x01a\x01b\x02\x00\x01";
+
+// One function of the first type.
+const FUNCTION: &[u8] = b"\x03\x02\x01\x00";
+
+const MEMORY: &[u8] = b"\x05\x03\x01\x00\x01";
+
+// The function 0 is exported as `filter`, as `score`, as `x`, and as `filter` twice; and the function 1 is, as `filter`.
+const FILTER: &[u8] = b"\x07\x0A\x01\x06filter\x00\x00";
+
+const SCORE: &[u8] = b"\x07\x09\x01\x05score\x00\x00";
+
+const OTHER: &[u8] = b"\x07\x05\x01\x01x\x00\x00";
+
+const FILTER_TWICE: &[u8] = b"\x07\x13\x02\x06filter\x00\x00\x06filter\x00\x00";
+
+const FILTER_PAST_THE_END: &[u8] = b"\x07\x0A\x01\x06filter\x00\x01";
+
+// The function 0 is called at the start.
+const START: &[u8] = b"\x08\x01\x00";
+
+// Bodies: one that gives the i32 0, alone and behind 1,023, 1,024 and twice 2^32 - 1 locals; and an empty one.
+const ZERO: &[u8] = b"\x0A\x06\x01\x04\x00\x41\x00\x0B";
+
+const ZERO_BEHIND_1023: &[u8] = b"\x0A\x09\x01\x07\x01\xFF\x07\x7F\x41\x00\x0B";
+
+const ZERO_BEHIND_1024: &[u8] = b"\x0A\x09\x01\x07\x01\x80\x08\x7F\x41\x00\x0B";
+
+const ZERO_BEHIND_MANY: &[u8] =
+    b"\x0A\x12\x01\x10\x02\xFF\xFF\xFF\xFF\x0F\x7F\xFF\xFF\xFF\xFF\x0F\x7E\x41\x00\x0B";
+
+const EMPTY: &[u8] = b"\x0A\x04\x01\x02\x00\x0B";
+
+// A second function, of the second type, that takes an i64: behind 1,023 and 1,024 locals it has an empty body.
+const TWO_TYPES: &[u8] = b"\x01\x09\x02\x60\x00\x01\x7F\x60\x01\x7E\x00";
+
+const TWO_FUNCTIONS: &[u8] = b"\x03\x03\x02\x00\x01";
+
+const EMPTY_BEHIND_1023: &[u8] = b"\x0A\x0C\x02\x04\x00\x41\x00\x0B\x05\x01\xFF\x07\x7E\x0B";
+
+const EMPTY_BEHIND_1024: &[u8] = b"\x0A\x0C\x02\x04\x00\x41\x00\x0B\x05\x01\x80\x08\x7E\x0B";
+
+// Imports of the function `sched.pod` of the first type, and of the second.
+const IMPORTS_POD: &[u8] = b"\x02\x0D\x01\x05sched\x03pod\x00\x00";
+
+const IMPORTS_POD_OF_SECOND: &[u8] = b"\x02\x0D\x01\x05sched\x03pod\x00\x01";
+
+// Types: from two i32 to an i32, and from nothing to an i32; a function of the second, exported with index 1 as `filter`.
+const HOST_AND_FILTER: &[u8] = b"\x01\x0B\x02\x60\x02\x7F\x7F\x01\x7F\x60\x00\x01\x7F";
+
+const FUNCTION_OF_SECOND: &[u8] = b"\x03\x02\x01\x01";
+
+// A table, a memory, a global with its first value, one segment of each, and the sizes just past what may be.
+const TABLE: &[u8] = b"\x04\x04\x01\x70\x00\x01";
+
+const LARGE_TABLE: &[u8] = b"\x04\x05\x01\x70\x00\x81\x08";
+
+const LARGE_MEMORY: &[u8] = b"\x05\x03\x01\x00\x21";
+
+const LEAST_ABOVE_MOST: &[u8] = b"\x05\x04\x01\x01\x02\x01";
+
+const GLOBAL: &[u8] = b"\x06\x06\x01\x7E\x01\x42\x05\x0B";
+
+const GLOBAL_OF_ANOTHER: &[u8] = b"\x06\x06\x01\x7E\x01\x41\x05\x0B";
+
+const ELEMENT: &[u8] = b"\x09\x07\x01\x00\x41\x00\x0B\x01\x00";
+
+const DATA: &[u8] = b"\x0B\x08\x01\x00\x41\x00\x0B\x02hi";
+
+const UNTYPED: TypeFault = TypeFault::Untyped {
+    function: None,
+    place: 0,
+};
+
+const UNTYPED_SECOND: TypeFault = TypeFault::Untyped {
+    function: Some(1),
+    place: 57,
+};
+
+// Bodies without a typing: one whose `if` lacks an `else`, the same behind a branch, and a sum of nothing.
+const LACKS_ELSE: &[u8] = b"\x0A\x0B\x01\x09\x00\x41\x01\x04\x7F\x41\x00\x0B\x0B";
+
+const LACKS_ELSE_BEHIND_A_BRANCH: &[u8] =
+    b"\x0A\x0D\x01\x0B\x00\x41\x00\x0C\x00\x04\x7F\x41\x00\x0B\x0B";
+
+const SUM_OF_NOTHING: &[u8] = b"\x0A\x05\x01\x03\x00\x6A\x0B";
+
+const UNTYPED_AT_42: TypeFault = TypeFault::Untyped {
+    function: Some(0),
+    place: 42,
+};
+
+const UNTYPED_AT_44: TypeFault = TypeFault::Untyped {
+    function: Some(0),
+    place: 44,
+};
+
+const UNTYPED_AT_36: TypeFault = TypeFault::Untyped {
+    function: Some(0),
+    place: 36,
+};
+
+// A module's sections, and its fault, if it has one.
+struct Row {
+    sections: &'static [&'static [u8]],
+    fault: Option<TypeFault>,
+}
+
+const ROWS: [Row; 27] = [
+    Row {
+        sections: &[GIVES_I32, FUNCTION, FILTER, ZERO],
+        fault: None,
+    },
+    Row {
+        sections: &[GIVES_I32, FUNCTION, FILTER, ZERO_BEHIND_1023],
+        fault: None,
+    },
+    Row {
+        sections: &[TWO_TYPES, TWO_FUNCTIONS, FILTER, EMPTY_BEHIND_1023],
+        fault: None,
+    },
+    Row {
+        sections: &[
+            HOST_AND_FILTER,
+            IMPORTS_POD,
+            FUNCTION_OF_SECOND,
+            FILTER_PAST_THE_END,
+            ZERO,
+        ],
+        fault: None,
+    },
+    Row {
+        sections: &[
+            GIVES_I32, FUNCTION, TABLE, MEMORY, GLOBAL, FILTER, ELEMENT, ZERO, DATA,
+        ],
+        fault: None,
+    },
+    Row {
+        sections: &[GIVES_I32, FUNCTION, FILTER, ZERO_BEHIND_1024],
+        fault: Some(TypeFault::OverLimit),
+    },
+    Row {
+        sections: &[GIVES_I32, FUNCTION, FILTER, ZERO_BEHIND_MANY],
+        fault: Some(TypeFault::OverLimit),
+    },
+    Row {
+        sections: &[TWO_TYPES, TWO_FUNCTIONS, FILTER, EMPTY_BEHIND_1024],
+        fault: Some(TypeFault::OverLimit),
+    },
+    Row {
+        sections: &[GIVES_I32, FUNCTION, LARGE_TABLE, FILTER, ZERO],
+        fault: Some(TypeFault::OverLimit),
+    },
+    Row {
+        sections: &[GIVES_I32, FUNCTION, LARGE_MEMORY, FILTER, ZERO],
+        fault: Some(TypeFault::OverLimit),
+    },
+    Row {
+        sections: &[],
+        fault: Some(TypeFault::BadExport),
+    },
+    Row {
+        sections: &[GIVES_I32, FUNCTION, LARGE_MEMORY, OTHER, ZERO],
+        fault: Some(TypeFault::BadExport),
+    },
+    Row {
+        sections: &[GIVES_I32, FUNCTION, SCORE, ZERO],
+        fault: Some(TypeFault::BadExport),
+    },
+    Row {
+        sections: &[GIVES_NOTHING, FUNCTION, FILTER, EMPTY],
+        fault: Some(TypeFault::BadExport),
+    },
+    Row {
+        sections: &[GIVES_I32, IMPORTS_FUNCTION, FUNCTION, FILTER, START, EMPTY],
+        fault: Some(TypeFault::BadImport),
+    },
+    Row {
+        sections: &[GIVES_I32, IMPORTS_MEMORY, FUNCTION, FILTER, ZERO],
+        fault: Some(TypeFault::BadImport),
+    },
+    Row {
+        sections: &[
+            HOST_AND_FILTER,
+            IMPORTS_POD_OF_SECOND,
+            FUNCTION_OF_SECOND,
+            FILTER_PAST_THE_END,
+            ZERO,
+        ],
+        fault: Some(TypeFault::BadImport),
+    },
+    Row {
+        sections: &[GIVES_I32, FUNCTION, FILTER_TWICE, ZERO],
+        fault: Some(UNTYPED),
+    },
+    Row {
+        sections: &[GIVES_I32, FUNCTION, FILTER_PAST_THE_END, EMPTY],
+        fault: Some(UNTYPED),
+    },
+    Row {
+        sections: &[GIVES_I32, FUNCTION, LEAST_ABOVE_MOST, FILTER, ZERO],
+        fault: Some(UNTYPED),
+    },
+    Row {
+        sections: &[GIVES_I32, FUNCTION, GLOBAL_OF_ANOTHER, FILTER, ZERO],
+        fault: Some(UNTYPED),
+    },
+    Row {
+        sections: &[GIVES_I32, FUNCTION, FILTER, ELEMENT, ZERO],
+        fault: Some(UNTYPED),
+    },
+    Row {
+        sections: &[TAKES_I32, FUNCTION, FILTER, START, EMPTY],
+        fault: Some(UNTYPED),
+    },
+    Row {
+        sections: &[
+            HOST_AND_FILTER,
+            IMPORTS_POD,
+            FUNCTION_OF_SECOND,
+            FILTER_PAST_THE_END,
+            EMPTY,
+        ],
+        fault: Some(UNTYPED_SECOND),
+    },
+    Row {
+        sections: &[GIVES_I32, FUNCTION, FILTER, LACKS_ELSE],
+        fault: Some(UNTYPED_AT_42),
+    },
+    Row {
+        sections: &[GIVES_I32, FUNCTION, FILTER, LACKS_ELSE_BEHIND_A_BRANCH],
+        fault: Some(UNTYPED_AT_44),
+    },
+    Row {
+        sections: &[GIVES_I32, FUNCTION, FILTER, SUM_OF_NOTHING],
+        fault: Some(UNTYPED_AT_36),
+    },
+];
+
+fn module(alloc: Global, sections: &[&[u8]]) -> Result<Vec<u8>, AllocError> {
+    let mut bytes = Vec::from_slice(alloc, HEADER)?;
+    for section in sections {
+        bytes.extend_from_slice(section)?;
+    }
+    Ok(bytes)
+}
+
+#[test]
+fn faults_in_their_order(rt: HostRuntime) -> Result<(), Fail> {
+    for row in &ROWS {
+        let bytes = module(rt.alloc(), row.sections)?;
+        let found = match validate(rt.alloc(), decode(rt.alloc(), bytes.as_slice())?) {
+            Ok(_) => None,
+            Err(fault) => Some(fault),
+        };
+        assert_eq!(rt; found, row.fault);
+    }
+    Ok(())
+}

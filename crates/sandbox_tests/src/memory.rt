@@ -1,0 +1,89 @@
+//! What another engine loads after each store, which pages a write notes, and where accesses end.
+use accesses::{LOADS, ROWS};
+use std::test::Fail;
+use wmem::{Load, MAX_PAGES, Memory, Trap, Width};
+
+mod accesses;
+
+// The first row at which a load gives another answer than the engine that made the rows.
+fn first_difference(memory: &mut Memory) -> Option<usize> {
+    for (row, (width, value, before, loaded)) in ROWS.into_iter().enumerate() {
+        let cleared = memory.copy_in(0, &[0x55; 24]);
+        let stored = memory.store(5, 3, width, value);
+        let below = memory.load(7, 0, Load::I32Unsigned8);
+        if cleared.is_err() || stored.is_err() || below != Ok(u64::from(before)) {
+            return Some(row);
+        }
+        for (load, want) in LOADS.into_iter().zip(loaded) {
+            if memory.load(3, 5, load) != Ok(want) {
+                return Some(row);
+            }
+        }
+    }
+    None
+}
+
+#[test]
+fn loads_give_what_another_engine_loads(rt: HostRuntime) -> Result<(), Fail> {
+    let mut memory = Memory::new(rt.alloc(), 1, 1)?;
+    assert_eq!(rt; first_difference(&mut memory), None);
+    Ok(())
+}
+
+// What is done to a memory of one page of zeros.
+#[derive(Clone, Copy)]
+enum Access {
+    Store(u32, Width, u64),
+    Load(u32),
+    Grow,
+    Copy(u32),
+}
+
+// How many pages of 4,096 bytes are noted after it, and after a reset.
+fn pages_noted(memory: &mut Memory, access: Access) -> (usize, usize) {
+    match access {
+        Access::Store(at, width, value) => {
+            let _ = memory.store(at, 0, width, value);
+        }
+        Access::Load(at) => {
+            let _ = memory.load(at, 0, Load::I32);
+        }
+        Access::Grow => {
+            let _ = memory.grow(1);
+        }
+        Access::Copy(at) => {
+            let _ = memory.copy_in(at, &[7; 4_097]);
+        }
+    }
+    let noted = memory.touched();
+    memory.reset();
+    (noted, memory.touched())
+}
+
+#[test]
+fn writes_note_their_pages(rt: HostRuntime) -> Result<(), Fail> {
+    let mut memory = Memory::new(rt.alloc(), 1, MAX_PAGES)?;
+    for (access, noted) in [
+        (Access::Store(4_092, Width::Eight, 1), 2),
+        (Access::Store(0, Width::Four, 0), 1),
+        (Access::Store(65_533, Width::Four, 1), 0),
+        (Access::Load(0), 0),
+        (Access::Grow, 0),
+        (Access::Copy(4_095), 2),
+        (Access::Copy(61_440), 0),
+    ] {
+        assert_eq!(rt; pages_noted(&mut memory, access), (noted, 0));
+        assert_eq!(rt; memory.size(), 1);
+    }
+    Ok(())
+}
+
+#[test]
+fn traps_print_their_names(rt: HostRuntime) -> Result<(), Fail> {
+    let trap = Trap::MemoryOutOfBounds;
+    assert_eq!(rt;
+        format!(in rt.alloc(); "{trap}")?.as_str(),
+        "MemoryOutOfBounds"
+    );
+    Ok(())
+}

@@ -1,0 +1,390 @@
+// Whole modules. The kinds and places of faults are those of docs/WEBASSEMBLY.md; what is spelled was compared with
+// wabt's `wasm-objdump -x`.
+
+use std::alloc::{AllocError, Global};
+use std::process::Abort;
+use std::test::Fail;
+use wbin::{DataSegment, ExportKind, GlobalType, ImportKind, Limits, LocalRun, Place, decode};
+use wcode::{BinFault, Kind, ValueType};
+
+// One type [] to [i32], and the function `filter` of it, which gives 0.
+const ZERO: [u8; 39] = [
+    0x00, 0x61, 0x73, 0x6D, 0x01, 0x00, 0x00, 0x00, 0x01, 0x05, 0x01, 0x60, 0x00, 0x01, 0x7F, 0x03,
+    0x02, 0x01, 0x00, 0x07, 0x0A, 0x01, 0x06, 0x66, 0x69, 0x6C, 0x74, 0x65, 0x72, 0x00, 0x00, 0x0A,
+    0x06, 0x01, 0x04, 0x00, 0x41, 0x00, 0x0B,
+];
+
+// The first eight bytes of a module, and these.
+fn module(alloc: Global, rest: &[u8]) -> Result<Vec<u8>, AllocError> {
+    let mut bytes = Vec::from_slice(alloc, &ZERO[..8])?;
+    bytes.extend_from_slice(rest)?;
+    Ok(bytes)
+}
+
+fn refused(rt: &impl Abort, alloc: Global, bytes: &[u8], want: BinFault) {
+    match decode(alloc, bytes) {
+        Ok(_) => panic!(rt; "decoded"),
+        Err(fault) => assert_eq!(rt; fault, want),
+    }
+}
+
+fn malformed(kind: Kind, place: usize) -> BinFault {
+    BinFault::Malformed { kind, place }
+}
+
+#[test]
+fn cut_modules(rt: HostRuntime) -> Result<(), Fail> {
+    for k in 0..39 {
+        let bytes = &ZERO[..k];
+        match k {
+            8 | 15 => {
+                decode(rt.alloc(), bytes)?;
+            }
+            19 | 31 => refused(&rt, rt.alloc(), bytes, malformed(Kind::CountMismatch, k)),
+            _ => refused(&rt, rt.alloc(), bytes, malformed(Kind::Truncated, k)),
+        }
+    }
+    let whole = decode(rt.alloc(), &ZERO)?;
+    let tables = whole.tables();
+    assert_eq!(&rt; whole.bytes(), ZERO.as_slice());
+    assert_eq!(&rt; tables.signatures.as_slice(), &[0][..]);
+    assert_eq!(&rt; tables.codes.len(), 1);
+    assert_eq!(&rt; tables.codes[0].body, Place { begin: 36, end: 39 });
+    assert_eq!(&rt; tables.codes[0].blocks.len(), 0);
+    assert_eq!(&rt; tables.exports.len(), 1);
+    assert_eq!(&rt; tables.exports[0].name.as_slice(), b"filter".as_slice());
+    Ok(())
+}
+
+#[test]
+fn header(rt: HostRuntime) -> Result<(), Fail> {
+    refused(
+        &rt,
+        rt.alloc(),
+        &[0x00, 0x62],
+        malformed(Kind::Truncated, 2),
+    );
+    refused(&rt, rt.alloc(), b"\0asn", malformed(Kind::BadMagic, 0));
+    refused(
+        &rt,
+        rt.alloc(),
+        b"\0asm\x02\0\0",
+        malformed(Kind::Truncated, 7),
+    );
+    refused(
+        &rt,
+        rt.alloc(),
+        b"\0asm\x02\0\0\0",
+        malformed(Kind::BadVersion, 4),
+    );
+    Ok(())
+}
+
+// A custom section of so many bytes in all makes the module as long as wanted.
+#[test]
+fn length(rt: HostRuntime) -> Result<(), Fail> {
+    let mut bytes = module(rt.alloc(), &[0x00, 0xF4, 0xFF, 0x3F, 0x00])?;
+    for _ in 13..1_048_576 {
+        bytes.push(0)?;
+    }
+    decode(rt.alloc(), bytes.as_slice())?;
+    bytes.push(0)?;
+    refused(
+        &rt,
+        rt.alloc(),
+        bytes.as_slice(),
+        malformed(Kind::TooLong, 0),
+    );
+    bytes[0] = 1;
+    refused(
+        &rt,
+        rt.alloc(),
+        bytes.as_slice(),
+        malformed(Kind::TooLong, 0),
+    );
+    Ok(())
+}
+
+#[test]
+fn faults(rt: HostRuntime) -> Result<(), Fail> {
+    let rows: [(&[u8], BinFault); 31] = [
+        // A name that isn't UTF-8, a float, and a byte too many.
+        (&[0x00, 0x02, 0x01, 0xFF], malformed(Kind::BadName, 10)),
+        (&[0x01, 0x05, 0x01, 0x60, 0x01, 0x7D, 0x00], BinFault::Float),
+        (&[0x01, 0x05, 0x01, 0x60, 0x00, 0x01, 0x7C], BinFault::Float),
+        (
+            &[0x01, 0x05, 0x01, 0x60, 0x00, 0x00, 0x00],
+            malformed(Kind::BadSection, 8),
+        ),
+        // Unknown and falling numbers, a section twice, a size past the end.
+        (&[0x0C], malformed(Kind::BadSection, 8)),
+        (
+            &[0x02, 0x01, 0x00, 0x01, 0x01, 0x00],
+            malformed(Kind::BadSection, 11),
+        ),
+        (
+            &[0x01, 0x01, 0x00, 0x01, 0x01, 0x00],
+            malformed(Kind::BadSection, 11),
+        ),
+        (
+            &[0x08, 0x01, 0x00, 0x08, 0x01, 0x00],
+            malformed(Kind::BadSection, 11),
+        ),
+        (&[0x01], malformed(Kind::Truncated, 9)),
+        (&[0x01, 0x07, 0x01, 0x61], malformed(Kind::Truncated, 12)),
+        (
+            &[0x01, 0x80, 0x80, 0x80, 0x80, 0x80, 0x00],
+            malformed(Kind::BadNumber, 9),
+        ),
+        // Contents that want more than the size, with more behind them and without.
+        (&[0x01, 0x00], malformed(Kind::BadSection, 8)),
+        (
+            &[0x01, 0x01, 0x01, 0x03, 0x01, 0x00],
+            malformed(Kind::BadSection, 8),
+        ),
+        (&[0x00, 0x02, 0x05, 0x61], malformed(Kind::BadSection, 8)),
+        // Four thousand million types in ten bytes.
+        (
+            &[0x01, 0x06, 0xFF, 0xFF, 0xFF, 0xFF, 0x0F, 0x60],
+            malformed(Kind::BadSection, 8),
+        ),
+        // The fault of an earlier section first, counts last.
+        (
+            &[0x01, 0x02, 0x01, 0x61, 0x0C],
+            malformed(Kind::BadType, 11),
+        ),
+        (
+            &[0x03, 0x02, 0x01, 0x00, 0x0B, 0x01, 0x01],
+            malformed(Kind::BadSection, 12),
+        ),
+        (
+            &[0x0A, 0x04, 0x01, 0x02, 0x00, 0x0B],
+            malformed(Kind::CountMismatch, 14),
+        ),
+        // Types.
+        (&[0x01, 0x02, 0x01, 0x40], malformed(Kind::BadType, 11)),
+        (
+            &[0x01, 0x06, 0x01, 0x60, 0x00, 0x02, 0x7F, 0x7F],
+            malformed(Kind::BadType, 13),
+        ),
+        (
+            &[0x04, 0x04, 0x01, 0x7D, 0x00, 0x00],
+            malformed(Kind::BadType, 11),
+        ),
+        (
+            &[0x05, 0x03, 0x01, 0x02, 0x00],
+            malformed(Kind::BadType, 11),
+        ),
+        (
+            &[0x06, 0x06, 0x01, 0x7F, 0x02, 0x41, 0x00, 0x0B],
+            malformed(Kind::BadType, 12),
+        ),
+        (
+            &[0x02, 0x05, 0x01, 0x00, 0x00, 0x04, 0x00],
+            malformed(Kind::BadType, 13),
+        ),
+        (
+            &[0x07, 0x04, 0x01, 0x00, 0x04, 0x00],
+            malformed(Kind::BadType, 12),
+        ),
+        // A body without its end, with a byte too many, and past its section and the module's end.
+        (
+            &[0x0A, 0x04, 0x01, 0x02, 0x00, 0x01],
+            malformed(Kind::BadSection, 11),
+        ),
+        (
+            &[0x0A, 0x05, 0x01, 0x03, 0x00, 0x0B, 0x0B],
+            malformed(Kind::BadSection, 11),
+        ),
+        (
+            &[0x0A, 0x04, 0x01, 0x03, 0x00, 0x0B, 0x0B, 0x01, 0x00],
+            malformed(Kind::BadSection, 8),
+        ),
+        (
+            &[0x0A, 0x04, 0x01, 0x03, 0x00, 0x0B],
+            malformed(Kind::Truncated, 14),
+        ),
+        // Instructions.
+        (
+            &[0x0A, 0x06, 0x01, 0x04, 0x00, 0x01, 0x06, 0x0B],
+            malformed(Kind::BadOpcode, 14),
+        ),
+        (
+            &[0x0A, 0x06, 0x01, 0x04, 0x00, 0x01, 0x92, 0x0B],
+            BinFault::Float,
+        ),
+    ];
+    for (rest, want) in rows {
+        let bytes = module(rt.alloc(), rest)?;
+        refused(&rt, rt.alloc(), bytes.as_slice(), want);
+    }
+    Ok(())
+}
+
+// A constant of five bytes, padded, and one of six.
+#[test]
+fn padded_constants(rt: HostRuntime) -> Result<(), Fail> {
+    let mut bytes = Vec::from_slice(rt.alloc(), &ZERO[..31])?;
+    bytes.extend_from_slice(&[
+        0x0A, 0x0A, 0x01, 0x08, 0x00, 0x41, 0x80, 0x80, 0x80, 0x80, 0x00, 0x0B,
+    ])?;
+    decode(rt.alloc(), bytes.as_slice())?;
+    bytes.truncate(31);
+    bytes.extend_from_slice(&[
+        0x0A, 0x0B, 0x01, 0x09, 0x00, 0x41, 0x80, 0x80, 0x80, 0x80, 0x80, 0x00, 0x0B,
+    ])?;
+    refused(
+        &rt,
+        rt.alloc(),
+        bytes.as_slice(),
+        malformed(Kind::BadNumber, 37),
+    );
+    Ok(())
+}
+
+// Each section empty, and a custom section before it and behind it.
+#[test]
+fn empty_sections(rt: HostRuntime) -> Result<(), Fail> {
+    for id in 1..12u8 {
+        let bytes = module(
+            rt.alloc(),
+            &[0x00, 0x01, 0x00, id, 0x01, 0x00, 0x00, 0x01, 0x00],
+        )?;
+        let found = decode(rt.alloc(), bytes.as_slice())?;
+        assert_eq!(&rt; found.tables().start.is_some(), id == 8);
+    }
+    Ok(())
+}
+
+// Each section twice.
+#[test]
+fn doubled_sections(rt: HostRuntime) -> Result<(), Fail> {
+    for id in 1..12u8 {
+        // A start section has the index of a function, and each other one a vector, here an empty one.
+        let bytes = module(rt.alloc(), &[id, 0x01, 0x00, id, 0x01, 0x00])?;
+        refused(&rt, rt.alloc(), &bytes, malformed(Kind::BadSection, 11));
+    }
+    Ok(())
+}
+
+#[test]
+fn a_custom_section_leaves_no_trace(rt: HostRuntime) -> Result<(), Fail> {
+    let mut bytes = module(rt.alloc(), &[0x00, 0x05, 0x04, 0x6E, 0x61, 0x6D, 0x65])?;
+    bytes.extend_from_slice(&ZERO[8..])?;
+    assert_eq!(&rt; bytes.len(), 46);
+    let with = decode(rt.alloc(), &bytes)?;
+    let without = decode(rt.alloc(), &ZERO)?;
+    let (with, without) = (with.tables(), without.tables());
+    assert_eq!(&rt; with.types.len(), without.types.len());
+    assert_eq!(&rt; with.codes.len(), without.codes.len());
+    assert_eq!(&rt; with.exports.len(), 1);
+    assert_eq!(&rt; with.exports[0].name.as_slice(), b"filter".as_slice());
+    Ok(())
+}
+
+// An entry of each section, and custom sections, which leave no trace.
+#[test]
+fn whole_module(rt: HostRuntime) -> Result<(), Fail> {
+    let bytes = module(
+        rt.alloc(),
+        &[
+            0x00, 0x05, 0x04, 0x6E, 0x61, 0x6D, 0x65, // custom `name`
+            0x01, 0x0A, 0x02, 0x60, 0x00, 0x00, 0x60, 0x02, 0x7F, 0x7E, 0x01, 0x7F, // types
+            0x02, 0x07, 0x01, 0x01, 0x61, 0x01, 0x62, 0x00, 0x01, // import a.b
+            0x03, 0x02, 0x01, 0x00, // function
+            0x04, 0x04, 0x01, 0x70, 0x00, 0x05, // table
+            0x05, 0x04, 0x01, 0x01, 0x02, 0x03, // memory
+            0x06, 0x06, 0x01, 0x7F, 0x01, 0x41, 0x07, 0x0B, // global
+            0x07, 0x05, 0x01, 0x01, 0x6D, 0x02, 0x00, // export m
+            0x08, 0x01, 0x01, // start
+            0x09, 0x08, 0x01, 0x00, 0x41, 0x01, 0x0B, 0x02, 0x01, 0x00, // elements
+            0x0A, 0x06, 0x01, 0x04, 0x01, 0x02, 0x7E, 0x0B, // code
+            0x0B, 0x08, 0x01, 0x00, 0x41, 0x02, 0x0B, 0x02, 0x68, 0x69, // data
+        ],
+    )?;
+    let decoded = decode(rt.alloc(), bytes.as_slice())?;
+    let found = decoded.tables();
+    assert_eq!(&rt; found.types.len(), 2);
+    assert_eq!(&rt;
+        found.types[1].parameters.as_slice(),
+        &[ValueType::I32, ValueType::I64][..]
+    );
+    assert_eq!(&rt; found.types[1].result, Some(ValueType::I32));
+    assert_eq!(&rt; found.types[0].result, None);
+    assert_eq!(&rt; found.imports.len(), 1);
+    assert_eq!(&rt; found.imports[0].module.as_slice(), b"a".as_slice());
+    assert_eq!(&rt; found.imports[0].name.as_slice(), b"b".as_slice());
+    assert_eq!(&rt; found.imports[0].kind, ImportKind::Function(1));
+    let table = Limits {
+        least: 5,
+        most: None,
+    };
+    let memory = Limits {
+        least: 2,
+        most: Some(3),
+    };
+    assert_eq!(&rt; found.tables.len(), 1);
+    assert_eq!(&rt; found.tables[0], table);
+    assert_eq!(&rt; found.memories.len(), 1);
+    assert_eq!(&rt; found.memories[0], memory);
+    let kind = GlobalType {
+        value: ValueType::I32,
+        mutable: true,
+    };
+    assert_eq!(&rt; found.globals.len(), 1);
+    assert_eq!(&rt; found.globals[0].kind, kind);
+    assert_eq!(&rt; found.globals[0].first, Place { begin: 57, end: 60 });
+    assert_eq!(&rt; found.exports.len(), 1);
+    assert_eq!(&rt; found.exports[0].name.as_slice(), b"m".as_slice());
+    assert_eq!(&rt; found.exports[0].kind, ExportKind::Memory);
+    assert_eq!(&rt; found.start, Some(1));
+    assert_eq!(&rt; found.element_segments.len(), 1);
+    assert_eq!(&rt; found.element_segments[0].functions.as_slice(), &[1, 0][..]);
+    let run = LocalRun {
+        count: 2,
+        value: ValueType::I64,
+    };
+    assert_eq!(&rt; found.signatures.as_slice(), &[0][..]);
+    assert_eq!(&rt; found.codes.len(), 1);
+    assert_eq!(&rt; found.codes[0].locals.len(), 1);
+    assert_eq!(&rt; found.codes[0].locals[0], run);
+    assert_eq!(&rt; found.codes[0].body, Place { begin: 87, end: 88 });
+    let segment = DataSegment {
+        memory: 0,
+        offset: Place { begin: 92, end: 95 },
+        contents: Place { begin: 96, end: 98 },
+    };
+    assert_eq!(&rt; found.data_segments.len(), 1);
+    assert_eq!(&rt; found.data_segments[0], segment);
+    assert_eq!(&rt; bytes.len(), 98);
+    assert_eq!(&rt; &bytes[96..98], b"hi".as_slice());
+    Ok(())
+}
+
+// A filter as a compiler and a linker leave it: one import, and its memory and `filter` as exports.
+#[test]
+fn plugin(rt: HostRuntime) -> Result<(), Fail> {
+    let decoded = decode(rt.alloc(), &PLUGIN)?;
+    let found = decoded.tables();
+    assert_eq!(&rt; found.imports.len(), 1);
+    assert_eq!(&rt; found.exports.len(), 2);
+    assert_eq!(&rt; found.imports[0].module.as_slice(), b"sched".as_slice());
+    assert_eq!(&rt; found.imports[0].name.as_slice(), b"node".as_slice());
+    assert_eq!(&rt; found.codes.len(), 1);
+    assert_eq!(&rt; found.exports[1].name.as_slice(), b"filter".as_slice());
+    Ok(())
+}
+
+const PLUGIN: [u8; 167] = [
+    0x00, 0x61, 0x73, 0x6D, 0x01, 0x00, 0x00, 0x00, 0x01, 0x0B, 0x02, 0x60, 0x02, 0x7F, 0x7F, 0x01,
+    0x7F, 0x60, 0x00, 0x01, 0x7F, 0x02, 0x0E, 0x01, 0x05, 0x73, 0x63, 0x68, 0x65, 0x64, 0x04, 0x6E,
+    0x6F, 0x64, 0x65, 0x00, 0x00, 0x03, 0x02, 0x01, 0x01, 0x04, 0x05, 0x01, 0x70, 0x01, 0x01, 0x01,
+    0x05, 0x03, 0x01, 0x00, 0x01, 0x06, 0x08, 0x01, 0x7F, 0x01, 0x41, 0x80, 0xC8, 0x01, 0x0B, 0x07,
+    0x13, 0x02, 0x06, 0x6D, 0x65, 0x6D, 0x6F, 0x72, 0x79, 0x02, 0x00, 0x06, 0x66, 0x69, 0x6C, 0x74,
+    0x65, 0x72, 0x00, 0x01, 0x0A, 0x51, 0x01, 0x4F, 0x02, 0x01, 0x7F, 0x02, 0x7E, 0x41, 0x80, 0x88,
+    0x80, 0x80, 0x00, 0x41, 0x80, 0xC0, 0x00, 0x10, 0x80, 0x80, 0x80, 0x80, 0x00, 0x1A, 0x41, 0x00,
+    0x2D, 0x00, 0x82, 0x88, 0x80, 0x80, 0x00, 0x22, 0x00, 0x41, 0x8C, 0x88, 0x80, 0x80, 0x00, 0x6A,
+    0x29, 0x00, 0x00, 0x22, 0x01, 0x20, 0x00, 0x41, 0xA0, 0x88, 0x80, 0x80, 0x00, 0x6A, 0x29, 0x00,
+    0x00, 0x22, 0x02, 0x7D, 0x42, 0x80, 0x80, 0x80, 0x80, 0x04, 0x54, 0x41, 0x01, 0x74, 0x41, 0x02,
+    0x20, 0x01, 0x20, 0x02, 0x5A, 0x1B, 0x0B,
+];
