@@ -2,6 +2,7 @@
 use Rattle.std.specs.Prelude.{◌≡◌, ℕ, List, [], ◌∷◌, ◌++◌, ⊤}
 use Rattle.std.specs.List.{flat_map}
 use Rattle.std.proofs.Common.{lit≤}
+use Rattle.quant.specs.declared.limits.TheConstants.{MAX_NODES, MAX_PLACED, MAX_QUEUED}
 use Rattle.quant.specs.declared.name.Name.{Name}
 use Rattle.book.specs.declared.limits.Limits.{Limits}
 use Rattle.desk.specs.declared.step.Step.{Step}
@@ -26,7 +27,7 @@ State = machine.State
 
 -- the program's limits, the greatest that there are
 abbrev pub limits : Limits
-limits = record { nodes = 1000; placed = 150000; queued = 10000; few_nodes = lit≤ tt; few_placed = lit≤ tt; few_queued = lit≤ tt }
+limits = record { nodes = MAX_NODES; placed = MAX_PLACED; queued = MAX_QUEUED; few_nodes = lit≤ tt; few_placed = lit≤ tt; few_queued = lit≤ tt }
 
 -- the state before the first line
 abbrev pub opening : State

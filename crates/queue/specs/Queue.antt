@@ -4,6 +4,7 @@ use Rattle.std.specs.FinMap as table
 use Rattle.std.specs.Ordering.{nat_cmp}
 use Rattle.std.specs.Cmp.Lexicographic.{slice_cmp}
 use Rattle.quant.specs.declared.amount.Moment.{Moment}
+use Rattle.quant.specs.declared.limits.TheConstants.{MAX_QUEUED}
 use Rattle.quant.specs.declared.name.Name.{Name}
 use Rattle.quant.specs.declared.objects.Pod.{Pod}
 use Rattle.queue.specs.declared.state.PassNumber.{PassNumber}
@@ -39,7 +40,7 @@ has_entry q uid = is_some (entry_of q uid)
 pub record IsQueue (q : QueueState) : Type 0 where
   pub own_uid : (uid : Name) (entry : Entry) → entry_of q uid ≡ Some entry → entry.pod.uid ≡ uid
   pub within : table.len q.entries ≤ q.limit
-  pub limited : q.limit ≤ 10000
+  pub limited : q.limit ≤ MAX_QUEUED
 
 -- whether there is no room for one more
 abbrev pub is_full_queue : QueueState → Bool

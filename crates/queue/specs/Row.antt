@@ -1,6 +1,7 @@
 -- For the representation alone: slots in a row, each at most once, that know their places.
 use Rattle.std.specs.Prelude.{◌≡◌, ◌≢◌, ℕ, ◌+◌, ◌<◌, ◌≤◌, List, length, slice_index_or, Vec, vec_len}
 use Rattle.std.specs.Global.{Global}
+use Rattle.quant.specs.declared.limits.TheConstants.{MAX_QUEUED}
 
 -- how many slots there are, and those in the row
 pub record SlotRow : Type 0 where
@@ -60,4 +61,4 @@ pub record IsInverse (slots places : List ℕ) : Type 0 where
 pub record IsRow (slots places : Vec ℕ Global) (len : ℕ) : Type 0 where
   pub inverse : IsInverse slots.items places.items
   pub within : len ≤ vec_len slots
-  pub few : vec_len slots ≤ 10000
+  pub few : vec_len slots ≤ MAX_QUEUED

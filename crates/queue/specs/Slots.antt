@@ -2,6 +2,7 @@
 use Rattle.std.specs.Prelude.{◌≡◌, ℕ, ◌+◌, ◌≤◌, length, Some, Bool, if◌then◌else◌, sum_by}
 use Rattle.name_table.specs.declared.entry.Entry.{Entry as Named}
 use Rattle.name_table.specs.Slots.{entry_in, map_of, NamesOnce, number_in}
+use Rattle.quant.specs.declared.limits.TheConstants.{MAX_QUEUED}
 use Rattle.queue.specs.declared.counts.Counts.{Counts}
 use Rattle.queue.specs.declared.index.Index.{Index}
 use Rattle.queue.specs.declared.state.State.{State}
@@ -24,7 +25,7 @@ pub record IsKept (pods : Pods) (ways : Index) (compared : ℕ) : Type 0 where
   pub index : IsIndex pods ways
   pub once : NamesOnce pods
   pub own_uid : OwnUids pods
-  pub limited : length pods ≤ 10000
+  pub limited : length pods ≤ MAX_QUEUED
   pub few : compared ≤ 28
 
 -- with one more entry, in this state

@@ -1,5 +1,6 @@
 //! Heaps of slots: no parent comes after its child, in the order in which their entries go.
 ghost use Rattle.std.specs.Prelude.{◌≡◌, ◌≢◌, ℕ, ◌+◌, ◌-◌, ◌*◌, ◌^◌, ◌<◌, ◌≤◌, IsSome, length};
+ghost use Rattle.quant.specs.declared.limits.TheConstants.{MAX_QUEUED};
 ghost use Rattle.name_table.specs.Slots.{entry_in};
 ghost use Rattle.queue.specs.Row.{at, IsIn, HasSame, IsWithout, IsWith};
 ghost use Rattle.queue.specs.Heap.{wait_cmp, goes_before, AllThere, IsHeap, GoesFirst, IsHeapBut};
@@ -68,7 +69,7 @@ fn first_child(row: &Row, pods: &NameTable<Slot>, place: usize, count: &mut u32)
 /// The slot at a place goes up until its parent goes before it.
 pub(crate) fn rise(row: &mut Row, pods: &NameTable<Slot>, from: usize, count: &mut u32)
     requires inside { from < length row.old.slots }
-    requires short { length row.old.slots ≤ 10000 }
+    requires short { length row.old.slots ≤ MAX_QUEUED }
     requires there { AllThere pods.now row.old.slots }
     requires hole { IsHeapBut pods.now row.old.slots from }
     requires first { GoesFirst pods.now row.old.slots from from }
@@ -93,7 +94,7 @@ pub(crate) fn rise(row: &mut Row, pods: &NameTable<Slot>, from: usize, count: &m
 /// The place of a slot goes down to where it has no children. At each step the child that goes first takes its place.
 fn fall(row: &mut Row, pods: &NameTable<Slot>, from: usize, count: &mut u32) -> usize
     requires inside { from < length row.old.slots }
-    requires short { length row.old.slots ≤ 10000 }
+    requires short { length row.old.slots ≤ MAX_QUEUED }
     requires there { AllThere pods.now row.old.slots }
     requires hole { IsHeapBut pods.now row.old.slots from }
     requires few { count.old ≤ 30 }

@@ -1,5 +1,6 @@
 //! Which slots stand where.
 ghost use Rattle.std.specs.Prelude.{◌≡◌, ℕ, ◌+◌, ◌<◌, ◌≤◌, ◌⊎◌, true, false, None, Some, IfOk, IfSome, IfNone, IsSome, IsTrue, length, replicate};
+ghost use Rattle.quant.specs.declared.limits.TheConstants.{MAX_QUEUED};
 ghost use Rattle.name_table.specs.Slots.{entry_in};
 ghost use Rattle.queue.specs.Entry.{Entry, is_in_flight};
 ghost use Rattle.queue.specs.Row.{at, IsIn};
@@ -30,7 +31,7 @@ pub(crate) struct Index {
 impl Index {
     /// An index of slots that have no pod.
     pub(crate) fn new(alloc: Global, room: usize) -> Result<Index, AllocError>
-        requires { room ≤ 10000 }
+        requires { room ≤ MAX_QUEUED }
         ensures { IfOk result (λ index. IsIndex (replicate room None) index) }
     {
         let active = Row::new(alloc, room)?;

@@ -1,5 +1,6 @@
 //! Slots in a row, each at most once, that know their places.
 ghost use Rattle.std.specs.Prelude.{◌≡◌, ℕ, ◌+◌, ◌<◌, ◌≤◌, [], IfOk, length, slice_index_or};
+ghost use Rattle.quant.specs.declared.limits.TheConstants.{MAX_QUEUED};
 ghost use Rattle.queue.specs.Row.{at, IsIn, IsSwapped, IsPushed, IsInverse, IsWithout};
 
 use std::alloc::{AllocError, Global};
@@ -29,7 +30,7 @@ impl Model for Row {
 
 /// The numbers below n, in order.
 fn in_order(alloc: Global, n: usize) -> Result<Vec<u32>, AllocError>
-    requires { n ≤ 10000 }
+    requires { n ≤ MAX_QUEUED }
     ensures len { IfOk result (λ v. length v.items ≡ n) }
     ensures each { IfOk result (λ v. (k : ℕ) → k < n → at v.items k ≡ k) }
 {
@@ -43,7 +44,7 @@ fn in_order(alloc: Global, n: usize) -> Result<Vec<u32>, AllocError>
 /// The slots at two places change places.
 fn exchange(slots: &mut [u32], places: &mut [u32], i: usize, j: usize)
     requires inverse { IsInverse slots.old places.old }
-    requires few { length slots.old ≤ 10000 }
+    requires few { length slots.old ≤ MAX_QUEUED }
     requires first { i < length slots.old }
     requires second { j < length slots.old }
     ensures inverse { IsInverse slots.new places.new }
@@ -60,7 +61,7 @@ fn exchange(slots: &mut [u32], places: &mut [u32], i: usize, j: usize)
 impl Row {
     /// A row of none of the slots that there is room for.
     pub(crate) fn new(alloc: Global, room: usize) -> Result<Row, AllocError>
-        requires { room ≤ 10000 }
+        requires { room ≤ MAX_QUEUED }
         ensures { IfOk result (λ row. row ≡ record { room = room; slots = [] }) }
     {
         let slots = in_order(alloc, room)?;
@@ -75,7 +76,7 @@ impl Row {
     /// How many slots are in the row.
     pub(crate) fn len(&self) -> usize
         ensures len { result ≡ length self.now.slots }
-        ensures few { result ≤ 10000 }
+        ensures few { result ≤ MAX_QUEUED }
     {
         self.len
     }

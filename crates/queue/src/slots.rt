@@ -1,5 +1,6 @@
 //! The pods in their slots: changes of one and of all, and how many stand where.
 ghost use Rattle.std.specs.Prelude.{◌≡◌, ◌≤◌, true, length, IsSome};
+ghost use Rattle.quant.specs.declared.limits.TheConstants.{MAX_QUEUED};
 ghost use Rattle.name_table.specs.Slots.{entry_in, map_of, NamesOnce};
 ghost use Rattle.queue.specs.Entry.{is_in_flight, ticked, moved_on};
 ghost use Rattle.queue.specs.Queue.{each_changed};
@@ -39,7 +40,7 @@ pub(crate) fn change(
 
 /// How many pods stand where.
 pub(crate) fn count_each(slots: &[Option<Entry<Slot>>]) -> Counts
-    requires { length slots.now ≤ 10000 }
+    requires { length slots.now ≤ MAX_QUEUED }
     ensures { result ≡ counts_so_far slots.now }
 {
     let mut counts = Counts::default();
