@@ -337,38 +337,38 @@ fn every_other_byte(rt: HostRuntime) -> Result<(), Fail> {
 }
 
 #[test]
-fn faults_of_immediates(rt: HostRuntime) -> Result<(), Fail> {
-    assert_eq!(rt; read_op(&[0x02, 0x7D], 0), Err(OpFault::Float));
-    assert_eq!(rt; read_op(&[0x02, 0x7C], 0), Err(OpFault::Float));
+fn faults_of_immediates(rt: HostRuntime) {
+    let rows: [(&[u8], OpFault); 10] = [
+        (&[0x02, 0x7D], OpFault::Float),
+        (&[0x02, 0x7C], OpFault::Float),
+        (&[0x11, 0x00, 0x01], malformed(Kind::BadOpcode, 0)),
+        (&[0x11, 0x00, 0x80, 0x00], malformed(Kind::BadOpcode, 0)),
+        (&[0x3F, 0x80, 0x00], malformed(Kind::BadOpcode, 0)),
+        (&[0x40, 0x01], malformed(Kind::BadOpcode, 0)),
+        (
+            &[0x0C, 0x80, 0x80, 0x80, 0x80, 0x80, 0x00],
+            malformed(Kind::BadNumber, 1),
+        ),
+        (
+            &[0x28, 0x02, 0xFF, 0xFF, 0xFF, 0xFF, 0x1F],
+            malformed(Kind::BadNumber, 2),
+        ),
+        (
+            &[0x0E, 0xFF, 0xFF, 0xFF, 0xFF, 0x0F, 0x00],
+            malformed(Kind::Truncated, 7),
+        ),
+        (
+            &[0x0E, 0x01, 0x80, 0x80, 0x80, 0x80, 0x80, 0x00],
+            malformed(Kind::BadNumber, 2),
+        ),
+    ];
+    for (bytes, want) in rows {
+        assert_eq!(rt; read_op(bytes, 0), Err(want), "{bytes:?}");
+    }
     assert_eq!(rt;
         read_op(&[0x01, 0x03, 0x7B], 1),
         Err(malformed(Kind::BadType, 2))
     );
-    assert_eq!(rt;
-        read_op(&[0x11, 0x00, 0x01], 0),
-        Err(malformed(Kind::BadOpcode, 0))
-    );
-    assert_eq!(rt;
-        read_op(&[0x11, 0x00, 0x80, 0x00], 0),
-        Err(malformed(Kind::BadOpcode, 0))
-    );
-    assert_eq!(rt;
-        read_op(&[0x3F, 0x80, 0x00], 0),
-        Err(malformed(Kind::BadOpcode, 0))
-    );
-    assert_eq!(rt;
-        read_op(&[0x40, 0x01], 0),
-        Err(malformed(Kind::BadOpcode, 0))
-    );
-    let long = [0x0C, 0x80, 0x80, 0x80, 0x80, 0x80, 0x00];
-    assert_eq!(rt; read_op(&long, 0), Err(malformed(Kind::BadNumber, 1)));
-    let large = [0x28, 0x02, 0xFF, 0xFF, 0xFF, 0xFF, 0x1F];
-    assert_eq!(rt; read_op(&large, 0), Err(malformed(Kind::BadNumber, 2)));
-    let many = [0x0E, 0xFF, 0xFF, 0xFF, 0xFF, 0x0F, 0x00];
-    assert_eq!(rt; read_op(&many, 0), Err(malformed(Kind::Truncated, 7)));
-    let label = [0x0E, 0x01, 0x80, 0x80, 0x80, 0x80, 0x80, 0x00];
-    assert_eq!(rt; read_op(&label, 0), Err(malformed(Kind::BadNumber, 2)));
-    Ok(())
 }
 
 #[test]
@@ -394,23 +394,26 @@ fn refused(
     }
 }
 
+fn assert_block(rt: &impl Abort, body: &[Instr]) {
+    match body {
+        [Instr::Block(BlockType::Result(I32), inner)] => assert_eq!(rt; inner.len(), 3),
+        _ => panic!(rt; "not a block"),
+    }
+}
+
 #[test]
-fn trees(rt: HostRuntime) -> Result<(), Fail> {
+fn a_block_within_a_block(rt: HostRuntime) -> Result<(), Fail> {
     let sum = [
         0x01, 0x02, 0x7F, 0x41, 0x07, 0x41, 0x08, 0x6A, 0x0B, 0x0B, 0x0B,
     ];
     let (body, next) = read_expr(rt.alloc(), &sum, 1)?;
     assert_eq!(rt; next, 10);
-    match body.as_slice() {
-        [Instr::Block(BlockType::Result(I32), inner)] => assert_eq!(rt; inner.len(), 3),
-        _ => panic!(rt; "not a block"),
-    }
-    let choice = [
-        0x04, 0x40, 0x01, 0x05, 0x01, 0x01, 0x0B, 0x03, 0x40, 0x0C, 0x00, 0x0B, 0x0B,
-    ];
-    let (body, next) = read_expr(rt.alloc(), &choice, 0)?;
-    assert_eq!(rt; next, 13);
-    match body.as_slice() {
+    assert_block(&rt, &body);
+    Ok(())
+}
+
+fn assert_if_and_loop(rt: &impl Abort, body: &[Instr]) {
+    match body {
         [
             Instr::If(BlockType::Empty, yes_arm, no_arm),
             Instr::Loop(BlockType::Empty, inner),
@@ -421,24 +424,49 @@ fn trees(rt: HostRuntime) -> Result<(), Fail> {
         }
         _ => panic!(rt; "not an if and a loop"),
     }
-    let (body, next) = read_expr(rt.alloc(), &[0x04, 0x7E, 0x42, 0x32, 0x0B, 0x0B], 0)?;
-    assert_eq!(rt; next, 6);
-    match body.as_slice() {
+}
+
+#[test]
+fn an_if_with_two_arms_and_a_loop(rt: HostRuntime) -> Result<(), Fail> {
+    let choice = [
+        0x04, 0x40, 0x01, 0x05, 0x01, 0x01, 0x0B, 0x03, 0x40, 0x0C, 0x00, 0x0B, 0x0B,
+    ];
+    let (body, next) = read_expr(rt.alloc(), &choice, 0)?;
+    assert_eq!(rt; next, 13);
+    assert_if_and_loop(&rt, &body);
+    Ok(())
+}
+
+fn assert_if(rt: &impl Abort, body: &[Instr]) {
+    match body {
         [Instr::If(BlockType::Result(I64), yes_arm, no_arm)] => {
             assert_eq!(rt; yes_arm.len(), 1);
             assert_eq!(rt; no_arm.len(), 0);
         }
         _ => panic!(rt; "not an if"),
     }
-    let (body, _) = read_expr(
-        rt.alloc(),
-        &[0x0E, 0x03, 0x05, 0x86, 0x00, 0x07, 0x08, 0x0B],
-        0,
-    )?;
-    match body.as_slice() {
+}
+
+#[test]
+fn an_if_with_one_arm(rt: HostRuntime) -> Result<(), Fail> {
+    let (body, next) = read_expr(rt.alloc(), &[0x04, 0x7E, 0x42, 0x32, 0x0B, 0x0B], 0)?;
+    assert_eq!(rt; next, 6);
+    assert_if(&rt, &body);
+    Ok(())
+}
+
+fn assert_table(rt: &impl Abort, body: &[Instr]) {
+    match body {
         [Instr::BrTable(labels, 8)] => assert_eq!(rt; labels.as_slice(), [5, 6, 7].as_slice()),
         _ => panic!(rt; "not a table"),
     }
+}
+
+#[test]
+fn a_table_of_labels(rt: HostRuntime) -> Result<(), Fail> {
+    let table = [0x0E, 0x03, 0x05, 0x86, 0x00, 0x07, 0x08, 0x0B];
+    let (body, _) = read_expr(rt.alloc(), &table, 0)?;
+    assert_table(&rt, &body);
     Ok(())
 }
 

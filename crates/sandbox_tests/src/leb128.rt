@@ -4,66 +4,50 @@ use leb::{LebFault, read_i32, read_i64, read_u32};
 use std::test::Fail;
 
 #[test]
-fn unsigned_numbers(rt: HostRuntime) -> Result<(), Fail> {
-    assert_eq!(rt; read_u32(&[2], 0), Ok((2, 1)));
-    assert_eq!(rt; read_u32(&[127], 0), Ok((127, 1)));
-    assert_eq!(rt; read_u32(&[0x80, 1], 0), Ok((128, 2)));
+fn unsigned_numbers(rt: HostRuntime) {
+    let rows: [(&[u8], Result<(u32, usize), LebFault>); 12] = [
+        (&[2], Ok((2, 1))),
+        (&[127], Ok((127, 1))),
+        (&[0x80, 1], Ok((128, 2))),
+        (&[0xFF, 0xFF, 0xFF, 0xFF, 0x0F], Ok((4_294_967_295, 5))),
+        (&[0x83, 0x00], Ok((3, 2))),
+        (&[0x83, 0x80, 0x80, 0x80, 0x00], Ok((3, 5))),
+        (&[0x83, 0x10], Ok((2051, 2))),
+        (&[0x83, 0x80, 0x80, 0x80, 0x10], Err(LebFault::BadLastByte)),
+        (
+            &[0x80, 0x80, 0x80, 0x80, 0x80, 0x00],
+            Err(LebFault::TooLong),
+        ),
+        (&[0x80, 0x80, 0x80, 0x80, 0xFF], Err(LebFault::TooLong)),
+        (&[0x80, 0x80, 0x80, 0x80], Err(LebFault::Truncated)),
+        (&[], Err(LebFault::Truncated)),
+    ];
+    for (bytes, want) in rows {
+        assert_eq!(rt; read_u32(bytes, 0), want, "{bytes:?}");
+    }
     assert_eq!(rt; read_u32(&[9, 0xB9, 0x64, 7], 1), Ok((12857, 3)));
-    assert_eq!(rt;
-        read_u32(&[0xFF, 0xFF, 0xFF, 0xFF, 0x0F], 0),
-        Ok((4_294_967_295, 5))
-    );
-    assert_eq!(rt; read_u32(&[0x83, 0x00], 0), Ok((3, 2)));
-    assert_eq!(rt; read_u32(&[0x83, 0x80, 0x80, 0x80, 0x00], 0), Ok((3, 5)));
-    assert_eq!(rt; read_u32(&[0x83, 0x10], 0), Ok((2051, 2)));
-    assert_eq!(rt;
-        read_u32(&[0x83, 0x80, 0x80, 0x80, 0x10], 0),
-        Err(LebFault::BadLastByte)
-    );
-    assert_eq!(rt;
-        read_u32(&[0x80, 0x80, 0x80, 0x80, 0x80, 0x00], 0),
-        Err(LebFault::TooLong)
-    );
-    assert_eq!(rt;
-        read_u32(&[0x80, 0x80, 0x80, 0x80, 0xFF], 0),
-        Err(LebFault::TooLong)
-    );
-    assert_eq!(rt;
-        read_u32(&[0x80, 0x80, 0x80, 0x80], 0),
-        Err(LebFault::Truncated)
-    );
-    assert_eq!(rt; read_u32(&[], 0), Err(LebFault::Truncated));
-    Ok(())
 }
 
 #[test]
-fn signed_numbers(rt: HostRuntime) -> Result<(), Fail> {
-    assert_eq!(rt; read_i32(&[0x7E], 0), Ok((-2, 1)));
-    assert_eq!(rt; read_i32(&[0xFE, 0x7F], 0), Ok((-2, 2)));
-    assert_eq!(rt; read_i32(&[0xFF, 0x00], 0), Ok((127, 2)));
-    assert_eq!(rt; read_i32(&[0x81, 0x7F], 0), Ok((-127, 2)));
-    assert_eq!(rt; read_i32(&[0xFF, 0x7E], 0), Ok((-129, 2)));
-    assert_eq!(rt; read_i32(&[0xFF, 0xFF, 0xFF, 0xFF, 0x7F], 0), Ok((-1, 5)));
-    assert_eq!(rt;
-        read_i32(&[0xFF, 0xFF, 0xFF, 0xFF, 0x4F], 0),
-        Err(LebFault::BadLastByte)
-    );
-    assert_eq!(rt;
-        read_i32(&[0x80, 0x80, 0x80, 0x80, 0x78], 0),
-        Ok((-2_147_483_648, 5))
-    );
-    assert_eq!(rt;
-        read_i32(&[0x80, 0x80, 0x80, 0x80, 0x08], 0),
-        Err(LebFault::BadLastByte)
-    );
-    assert_eq!(rt;
-        read_i32(&[0xFF, 0xFF, 0xFF, 0xFF, 0x07], 0),
-        Ok((2_147_483_647, 5))
-    );
-    assert_eq!(rt; read_i32(&[0x80, 0x80], 0), Err(LebFault::Truncated));
-    assert_eq!(rt; read_i32(&[0x83, 0x3E], 0), Ok((7939, 2)));
-    assert_eq!(rt; read_i32(&[0xFF, 0x7B], 0), Ok((-513, 2)));
-    Ok(())
+fn signed_numbers(rt: HostRuntime) {
+    let rows: [(&[u8], Result<(i32, usize), LebFault>); 13] = [
+        (&[0x7E], Ok((-2, 1))),
+        (&[0xFE, 0x7F], Ok((-2, 2))),
+        (&[0xFF, 0x00], Ok((127, 2))),
+        (&[0x81, 0x7F], Ok((-127, 2))),
+        (&[0xFF, 0x7E], Ok((-129, 2))),
+        (&[0xFF, 0xFF, 0xFF, 0xFF, 0x7F], Ok((-1, 5))),
+        (&[0xFF, 0xFF, 0xFF, 0xFF, 0x4F], Err(LebFault::BadLastByte)),
+        (&[0x80, 0x80, 0x80, 0x80, 0x78], Ok((-2_147_483_648, 5))),
+        (&[0x80, 0x80, 0x80, 0x80, 0x08], Err(LebFault::BadLastByte)),
+        (&[0xFF, 0xFF, 0xFF, 0xFF, 0x07], Ok((2_147_483_647, 5))),
+        (&[0x80, 0x80], Err(LebFault::Truncated)),
+        (&[0x83, 0x3E], Ok((7939, 2))),
+        (&[0xFF, 0x7B], Ok((-513, 2))),
+    ];
+    for (bytes, want) in rows {
+        assert_eq!(rt; read_i32(bytes, 0), want, "{bytes:?}");
+    }
 }
 
 #[test]

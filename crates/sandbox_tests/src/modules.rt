@@ -4,7 +4,9 @@
 use std::alloc::{AllocError, Global};
 use std::process::Abort;
 use std::test::Fail;
-use wbin::{DataSegment, ExportKind, GlobalType, ImportKind, Limits, LocalRun, Place, decode};
+use wbin::{
+    DataSegment, ExportKind, GlobalType, ImportKind, Limits, LocalRun, Place, Tables, decode,
+};
 use wcode::{BinFault, Kind, ValueType};
 
 // One type [] to [i32], and the function `filter` of it, which gives 0.
@@ -32,6 +34,16 @@ fn malformed(kind: Kind, place: usize) -> BinFault {
     BinFault::Malformed { kind, place }
 }
 
+// What is in the module that isn't cut.
+fn assert_zero(rt: &impl Abort, tables: &Tables) {
+    assert_eq!(rt; tables.signatures.as_slice(), &[0][..]);
+    assert_eq!(rt; tables.codes.len(), 1);
+    assert_eq!(rt; tables.codes[0].body, Place { begin: 36, end: 39 });
+    assert_eq!(rt; tables.codes[0].blocks.len(), 0);
+    assert_eq!(rt; tables.exports.len(), 1);
+    assert_eq!(rt; tables.exports[0].name.as_slice(), b"filter".as_slice());
+}
+
 #[test]
 fn cut_modules(rt: HostRuntime) -> Result<(), Fail> {
     for k in 0..39 {
@@ -45,14 +57,8 @@ fn cut_modules(rt: HostRuntime) -> Result<(), Fail> {
         }
     }
     let whole = decode(rt.alloc(), &ZERO)?;
-    let tables = whole.tables();
     assert_eq!(&rt; whole.bytes(), ZERO.as_slice());
-    assert_eq!(&rt; tables.signatures.as_slice(), &[0][..]);
-    assert_eq!(&rt; tables.codes.len(), 1);
-    assert_eq!(&rt; tables.codes[0].body, Place { begin: 36, end: 39 });
-    assert_eq!(&rt; tables.codes[0].blocks.len(), 0);
-    assert_eq!(&rt; tables.exports.len(), 1);
-    assert_eq!(&rt; tables.exports[0].name.as_slice(), b"filter".as_slice());
+    assert_zero(&rt, whole.tables());
     Ok(())
 }
 
@@ -282,6 +288,78 @@ fn a_custom_section_leaves_no_trace(rt: HostRuntime) -> Result<(), Fail> {
     Ok(())
 }
 
+// The types and the import of the whole module.
+fn assert_types(rt: &impl Abort, found: &Tables) {
+    assert_eq!(rt; found.types.len(), 2);
+    assert_eq!(rt;
+        found.types[1].parameters.as_slice(),
+        &[ValueType::I32, ValueType::I64][..]
+    );
+    assert_eq!(rt; found.types[1].result, Some(ValueType::I32));
+    assert_eq!(rt; found.types[0].result, None);
+    assert_eq!(rt; found.imports.len(), 1);
+    assert_eq!(rt; found.imports[0].module.as_slice(), b"a".as_slice());
+    assert_eq!(rt; found.imports[0].name.as_slice(), b"b".as_slice());
+    assert_eq!(rt; found.imports[0].kind, ImportKind::Function(1));
+}
+
+// Its table, its memory and its global.
+fn assert_store(rt: &impl Abort, found: &Tables) {
+    let table = Limits {
+        least: 5,
+        most: None,
+    };
+    let memory = Limits {
+        least: 2,
+        most: Some(3),
+    };
+    assert_eq!(rt; found.tables.len(), 1);
+    assert_eq!(rt; found.tables[0], table);
+    assert_eq!(rt; found.memories.len(), 1);
+    assert_eq!(rt; found.memories[0], memory);
+    let kind = GlobalType {
+        value: ValueType::I32,
+        mutable: true,
+    };
+    assert_eq!(rt; found.globals.len(), 1);
+    assert_eq!(rt; found.globals[0].kind, kind);
+    assert_eq!(rt; found.globals[0].first, Place { begin: 57, end: 60 });
+}
+
+// What it exports, calls at the start and puts into its table.
+fn assert_exports(rt: &impl Abort, found: &Tables) {
+    assert_eq!(rt; found.exports.len(), 1);
+    assert_eq!(rt; found.exports[0].name.as_slice(), b"m".as_slice());
+    assert_eq!(rt; found.exports[0].kind, ExportKind::Memory);
+    assert_eq!(rt; found.start, Some(1));
+    assert_eq!(rt; found.element_segments.len(), 1);
+    assert_eq!(rt; found.element_segments[0].functions.as_slice(), &[1, 0][..]);
+}
+
+// Its function.
+fn assert_function(rt: &impl Abort, found: &Tables) {
+    let run = LocalRun {
+        count: 2,
+        value: ValueType::I64,
+    };
+    assert_eq!(rt; found.signatures.as_slice(), &[0][..]);
+    assert_eq!(rt; found.codes.len(), 1);
+    assert_eq!(rt; found.codes[0].locals.len(), 1);
+    assert_eq!(rt; found.codes[0].locals[0], run);
+    assert_eq!(rt; found.codes[0].body, Place { begin: 87, end: 88 });
+}
+
+// Its segment of data.
+fn assert_data(rt: &impl Abort, found: &Tables) {
+    let segment = DataSegment {
+        memory: 0,
+        offset: Place { begin: 92, end: 95 },
+        contents: Place { begin: 96, end: 98 },
+    };
+    assert_eq!(rt; found.data_segments.len(), 1);
+    assert_eq!(rt; found.data_segments[0], segment);
+}
+
 // An entry of each section, and custom sections, which leave no trace.
 #[test]
 fn whole_module(rt: HostRuntime) -> Result<(), Fail> {
@@ -303,75 +381,31 @@ fn whole_module(rt: HostRuntime) -> Result<(), Fail> {
         ],
     )?;
     let decoded = decode(rt.alloc(), bytes.as_slice())?;
-    let found = decoded.tables();
-    assert_eq!(&rt; found.types.len(), 2);
-    assert_eq!(&rt;
-        found.types[1].parameters.as_slice(),
-        &[ValueType::I32, ValueType::I64][..]
-    );
-    assert_eq!(&rt; found.types[1].result, Some(ValueType::I32));
-    assert_eq!(&rt; found.types[0].result, None);
-    assert_eq!(&rt; found.imports.len(), 1);
-    assert_eq!(&rt; found.imports[0].module.as_slice(), b"a".as_slice());
-    assert_eq!(&rt; found.imports[0].name.as_slice(), b"b".as_slice());
-    assert_eq!(&rt; found.imports[0].kind, ImportKind::Function(1));
-    let table = Limits {
-        least: 5,
-        most: None,
-    };
-    let memory = Limits {
-        least: 2,
-        most: Some(3),
-    };
-    assert_eq!(&rt; found.tables.len(), 1);
-    assert_eq!(&rt; found.tables[0], table);
-    assert_eq!(&rt; found.memories.len(), 1);
-    assert_eq!(&rt; found.memories[0], memory);
-    let kind = GlobalType {
-        value: ValueType::I32,
-        mutable: true,
-    };
-    assert_eq!(&rt; found.globals.len(), 1);
-    assert_eq!(&rt; found.globals[0].kind, kind);
-    assert_eq!(&rt; found.globals[0].first, Place { begin: 57, end: 60 });
-    assert_eq!(&rt; found.exports.len(), 1);
-    assert_eq!(&rt; found.exports[0].name.as_slice(), b"m".as_slice());
-    assert_eq!(&rt; found.exports[0].kind, ExportKind::Memory);
-    assert_eq!(&rt; found.start, Some(1));
-    assert_eq!(&rt; found.element_segments.len(), 1);
-    assert_eq!(&rt; found.element_segments[0].functions.as_slice(), &[1, 0][..]);
-    let run = LocalRun {
-        count: 2,
-        value: ValueType::I64,
-    };
-    assert_eq!(&rt; found.signatures.as_slice(), &[0][..]);
-    assert_eq!(&rt; found.codes.len(), 1);
-    assert_eq!(&rt; found.codes[0].locals.len(), 1);
-    assert_eq!(&rt; found.codes[0].locals[0], run);
-    assert_eq!(&rt; found.codes[0].body, Place { begin: 87, end: 88 });
-    let segment = DataSegment {
-        memory: 0,
-        offset: Place { begin: 92, end: 95 },
-        contents: Place { begin: 96, end: 98 },
-    };
-    assert_eq!(&rt; found.data_segments.len(), 1);
-    assert_eq!(&rt; found.data_segments[0], segment);
+    assert_types(&rt, decoded.tables());
+    assert_store(&rt, decoded.tables());
+    assert_exports(&rt, decoded.tables());
+    assert_function(&rt, decoded.tables());
+    assert_data(&rt, decoded.tables());
     assert_eq!(&rt; bytes.len(), 98);
     assert_eq!(&rt; &bytes[96..98], b"hi".as_slice());
     Ok(())
+}
+
+// What is in the plugin below.
+fn assert_plugin(rt: &impl Abort, found: &Tables) {
+    assert_eq!(rt; found.imports.len(), 1);
+    assert_eq!(rt; found.exports.len(), 2);
+    assert_eq!(rt; found.imports[0].module.as_slice(), b"sched".as_slice());
+    assert_eq!(rt; found.imports[0].name.as_slice(), b"node".as_slice());
+    assert_eq!(rt; found.codes.len(), 1);
+    assert_eq!(rt; found.exports[1].name.as_slice(), b"filter".as_slice());
 }
 
 // A filter as a compiler and a linker leave it: one import, and its memory and `filter` as exports.
 #[test]
 fn plugin(rt: HostRuntime) -> Result<(), Fail> {
     let decoded = decode(rt.alloc(), &PLUGIN)?;
-    let found = decoded.tables();
-    assert_eq!(&rt; found.imports.len(), 1);
-    assert_eq!(&rt; found.exports.len(), 2);
-    assert_eq!(&rt; found.imports[0].module.as_slice(), b"sched".as_slice());
-    assert_eq!(&rt; found.imports[0].name.as_slice(), b"node".as_slice());
-    assert_eq!(&rt; found.codes.len(), 1);
-    assert_eq!(&rt; found.exports[1].name.as_slice(), b"filter".as_slice());
+    assert_plugin(&rt, decoded.tables());
     Ok(())
 }
 
