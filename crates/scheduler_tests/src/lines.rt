@@ -1,6 +1,7 @@
 use manifest::{Command, read_line};
-use quant::{Effect, Event, Operator};
+use quant::{Effect, Event, Node, Operator, Pod};
 use std::alloc::Global;
+use std::process::Abort;
 use std::test::Fail;
 
 // The number of a line's fault and the key of the field in which it stands, or 0 for a command.
@@ -155,17 +156,8 @@ fn first_faults(rt: HostRuntime) -> Result<(), Fail> {
     Ok(())
 }
 
-#[test]
-fn rows_of_a_node(rt: HostRuntime) -> Result<(), Fail> {
-    let line =
-        r#"{"op":"node","v":7,"name":"a","cpu":"4","mem":"8Gi","pods":110,"labels":[["zone","z1"],["os",""]],"taints":[["k","v","NoExecute"],["k","","PreferNoSchedule"]],"unschedulable":true}"#;
-    let Ok(Command::Event(Event::NodeSet { version, node })) = read_line(
-        rt.alloc(),
-        line.as_bytes(),
-    ) else {
-        return Err("a node")?;
-    };
-    assert_eq!(rt; version.0, 7);
+// The row of the line below.
+fn assert_node(rt: &impl Abort, node: &Node) {
     assert_eq!(rt; node.name.as_str(), "a");
     assert_eq!(rt; node.allocatable.cpu.0, 4_000);
     assert_eq!(rt; node.allocatable.mem.0, 8_589_934_592);
@@ -179,7 +171,37 @@ fn rows_of_a_node(rt: HostRuntime) -> Result<(), Fail> {
     assert_eq!(rt; node.taints[0].effect, Effect::NoExecute);
     assert_eq!(rt; node.taints[1].effect, Effect::PreferNoSchedule);
     assert!(rt; node.unschedulable);
+}
+
+#[test]
+fn rows_of_a_node(rt: HostRuntime) -> Result<(), Fail> {
+    let line =
+        r#"{"op":"node","v":7,"name":"a","cpu":"4","mem":"8Gi","pods":110,"labels":[["zone","z1"],["os",""]],"taints":[["k","v","NoExecute"],["k","","PreferNoSchedule"]],"unschedulable":true}"#;
+    let Ok(Command::Event(Event::NodeSet { version, node })) = read_line(
+        rt.alloc(),
+        line.as_bytes(),
+    ) else {
+        return Err("a node")?;
+    };
+    assert_eq!(rt; version.0, 7);
+    assert_node(&rt, &node);
     Ok(())
+}
+
+// The row of the line below.
+fn assert_pod(rt: &impl Abort, pod: &Pod) {
+    assert_eq!(rt; pod.uid.as_str(), "p1");
+    assert_eq!(rt; pod.priority, -5);
+    assert_eq!(rt; pod.request.cpu.0, 500);
+    assert_eq!(rt; pod.request.mem.0, 134_217_728);
+    assert_eq!(rt; pod.labels.len(), 1);
+    assert_eq!(rt; pod.labels[0].key.as_str(), "app");
+    assert_eq!(rt; pod.tolerations.len(), 2);
+    assert_eq!(rt; pod.tolerations[0].operator, Operator::Equal);
+    assert_eq!(rt; pod.tolerations[0].effect, Some(Effect::NoSchedule));
+    assert_eq!(rt; pod.tolerations[1].key.as_str(), "");
+    assert_eq!(rt; pod.tolerations[1].operator, Operator::Exists);
+    assert_eq!(rt; pod.tolerations[1].effect, None);
 }
 
 #[test]
@@ -193,18 +215,7 @@ fn rows_of_a_pod(rt: HostRuntime) -> Result<(), Fail> {
         return Err("a pod")?;
     };
     assert_eq!(rt; version.0, 8);
-    assert_eq!(rt; pod.uid.as_str(), "p1");
-    assert_eq!(rt; pod.priority, -5);
-    assert_eq!(rt; pod.request.cpu.0, 500);
-    assert_eq!(rt; pod.request.mem.0, 134_217_728);
-    assert_eq!(rt; pod.labels.len(), 1);
-    assert_eq!(rt; pod.labels[0].key.as_str(), "app");
-    assert_eq!(rt; pod.tolerations.len(), 2);
-    assert_eq!(rt; pod.tolerations[0].operator, Operator::Equal);
-    assert_eq!(rt; pod.tolerations[0].effect, Some(Effect::NoSchedule));
-    assert_eq!(rt; pod.tolerations[1].key.as_str(), "");
-    assert_eq!(rt; pod.tolerations[1].operator, Operator::Exists);
-    assert_eq!(rt; pod.tolerations[1].effect, None);
+    assert_pod(&rt, &pod);
     Ok(())
 }
 
@@ -227,6 +238,15 @@ fn put_items(
     }
     line.extend_from_slice(b"]")?;
     Ok(())
+}
+
+// The longest row.
+fn assert_longest(rt: &impl Abort, pod: &Pod) {
+    assert_eq!(rt; pod.labels.len(), 32);
+    assert_eq!(rt; pod.labels[31].key.as_str(), "bf");
+    assert_eq!(rt; pod.tolerations.len(), 16);
+    assert_eq!(rt; pod.request.cpu.0, 20_000);
+    assert_eq!(rt; pod.request.mem.0, 17_179_869_184);
 }
 
 // Every array as long as it may be.
@@ -262,11 +282,7 @@ fn longest_rows(rt: HostRuntime) -> Result<(), Fail> {
     else {
         return Err("a pod")?;
     };
-    assert_eq!(rt; pod.labels.len(), 32);
-    assert_eq!(rt; pod.labels[31].key.as_str(), "bf");
-    assert_eq!(rt; pod.tolerations.len(), 16);
-    assert_eq!(rt; pod.request.cpu.0, 20_000);
-    assert_eq!(rt; pod.request.mem.0, 17_179_869_184);
+    assert_longest(&rt, &pod);
     Ok(())
 }
 
