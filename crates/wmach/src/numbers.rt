@@ -151,10 +151,7 @@ pub(crate) fn binary_word(t: ValueType, op: BinOp, a: u64, b: u64) -> Result<u64
     ensures fits { IfOk result (λ n. n < 2 ^ width_of t) }
 {
     match t {
-        ValueType::I32 => match binary32(op, a as u32, b as u32) {
-            Ok(n) => Ok(u64::from(n)),
-            Err(undefined) => Err(undefined),
-        },
+        ValueType::I32 => Ok(u64::from(binary32(op, a as u32, b as u32)?)),
         ValueType::I64 => binary64(op, a, b),
     }
 }
