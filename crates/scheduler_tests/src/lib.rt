@@ -7,8 +7,6 @@ mod amounts;
 #[cfg(test)]
 mod at_once;
 #[cfg(test)]
-mod cluster;
-#[cfg(test)]
 mod lines;
 #[cfg(test)]
 mod names;
