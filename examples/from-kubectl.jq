@@ -5,8 +5,12 @@
 # Nodes come first, then the pods that have a node, then those that wait for one, with versions from 1 in this order. A pod
 # is called NAMESPACE/NAME, or by its uid where that is too long. Pods that have ended are skipped. Cycles are yours to add.
 #
+# Waiting pods are taken that name the scheduler `default-scheduler`, as those do that name none; with `--arg scheduler NAME`
+# before -f, those that name NAME. The others are left out.
+#
 # What a script can't say is left out, and named on standard error: a part alone, or the whole pod or node where wsched
-# would then put a pod where it mustn't be. Amounts are converted exactly or not at all.
+# would then put a pod where it mustn't be. More nodes or pods than wsched has room for are counted there too. Amounts are
+# converted exactly or not at all.
 #
 # Tried with jq 1.6: of kubectl-sample.json it makes kubectl-sample.jsonl, and kubectl-sample.left-out.jsonl is what it names.
 
@@ -55,16 +59,29 @@ def amount($scale; $most):
     | select(. == floor and . <= $most)
   ] | first;
 
+# Each distinct spelling with its amount: a cluster has thousands of amounts and few spellings, and reading one is dear.
+def amounts($scale; $most): map(select(. != null) | tostring) | unique | map({key: ., value: amount($scale; $most)}) | from_entries;
+
+# The same of names: each distinct key of a label is tried once.
+def tried(is_good): unique | map({key: ., value: is_good}) | from_entries;
+
+def resources: (.items[] | .status.allocatable?), (.items[].spec | .overhead?, (.initContainers?, .containers? | arrays[] | .resources | .requests?, .limits?));
+($ARGS.named.scheduler // "default-scheduler") as $scheduler
+| ([resources | .cpu?, "0"] | amounts(3; power(2; 30))) as $cpu_of
+| ([resources | .memory?, "0"] | amounts(0; power(2; 44))) as $memory_of
+| ([.items[].metadata.labels // {} | keys_unsorted[]] | tried(is_name)) as $is_key
+| ([.items[].metadata.labels // {} | .[]] | tried(is_text)) as $is_value
+
 # Thousandths of a core, bytes, and pods.
-def cpu: amount(3; power(2; 30));
-def memory: amount(0; power(2; 44));
+| def cpu: $cpu_of[tostring];
+def memory: $memory_of[tostring];
 def pods: amount(0; 150000);
 
 def spell_cpu: if . % 1000 == 0 then "\(. / 1000)" else "\(.)m" end;
 def spell_memory:
   if . == 0 then "0"
-  elif . % power(2; 30) == 0 then "\(. / power(2; 30))Gi"
-  elif . % power(2; 20) == 0 then "\(. / power(2; 20))Mi"
+  elif . % 1073741824 == 0 then "\(. / 1073741824)Gi"
+  elif . % 1048576 == 0 then "\(. / 1048576)Mi"
   elif . % 1024 == 0 then "\(. / 1024)Ki"
   else "\(.)" end;
 
@@ -73,7 +90,7 @@ def spell_memory:
 # The labels that a row can have.
 def labels($who):
   [ .metadata.labels // {} | to_entries | sort_by(.key)[] | [.key, .value]
-    | if (.[0] | is_name) and (.[1] | is_text) then . else left_out(" of \($who): label \(.[0])") end ]
+    | if $is_key[.[0]] and $is_value[.[1]] then . else left_out(" of \($who): label \(.[0])") end ]
   | .[:32], (.[32:][] | left_out(" of \($who): label \(.[0])"));
 
 def node:
@@ -126,28 +143,36 @@ def wants:
   | if $overhead == [0, 0] then . else .containers += [$overhead] end;
 
 def request: [reduce .containers[] as $one ([0, 0]; plus($one)), (.init | greatest)] | greatest;
-def too_large: request | select(.[0] > power(2; 30) or .[1] > power(2; 44)) | "what it asks for in all";
+# 2^30 thousandths of a core and 2^44 bytes.
+def too_large: request | select(.[0] > 1073741824 or .[1] > 17592186044416) | "what it asks for in all";
 
 # Pods.
 
 def full_name: "\(.metadata.namespace // "default")/\(.metadata.name)";
 def uid: full_name as $name | if $name | is_name then $name else .metadata.uid end;
-def say_uid: (select(full_name | is_name | not) | "pod \(full_name) is called \(.metadata.uid)" | say), .;
+def say($uid): (full_name as $name | select($name != $uid) | "pod \($name) is called \($uid)" | say), .;
 
 def bound:
   "pod \(full_name)" as $who
   | [(.spec.nodeName | select(is_name | not) | "its node \(.)"), unreadable] as $why
-  | (if $why != [] then $why else [wants | too_large] end) as $why
+  | (if $why == [] then wants else null end) as $wants
+  | (if $why != [] then $why else [$wants | too_large] end) as $why
   | if $why != [] then left_out(": \($who): \($why | join(", "))") else . end
   | if (.spec.affinity.podAntiAffinity.requiredDuringSchedulingIgnoredDuringExecution // []) != []
     then left_out(" of \($who): required pod anti-affinity"), .
     else . end
-  | say_uid
-  | (wants | request) as [$cpu, $memory]
-  | {op: "bound", uid: uid, node: .spec.nodeName, cpu: ($cpu | spell_cpu), mem: ($memory | spell_memory)};
+  | uid as $uid
+  | say($uid)
+  | ($wants | request) as [$cpu, $memory]
+  | {op: "bound", uid: $uid, node: .spec.nodeName, cpu: ($cpu | spell_cpu), mem: ($memory | spell_memory)};
+
+# Kinds of volumes that tie a pod to no node; any other may, as a claim or a disk does.
+def tied_to_nodes:
+  keys - ["name", "configMap", "secret", "emptyDir", "hostPath", "projected", "downwardAPI", "csi", "nfs", "image"] != [];
 
 # What wsched doesn't know, and without which it could put the pod where it mustn't be.
 def demands:
+  (.spec.schedulerName // "default-scheduler" | select(. != $scheduler) | "it is for the scheduler \(.)"),
   (.spec.nodeSelector // {} | select(. != {}) | "node selector"),
   ( .spec.affinity // {}
     | (.nodeAffinity | select(.requiredDuringSchedulingIgnoredDuringExecution) | "required node affinity"),
@@ -156,7 +181,7 @@ def demands:
   (.spec.topologySpreadConstraints // [] | select(any(.whenUnsatisfiable != "ScheduleAnyway")) | "required topology spread"),
   (.spec.schedulingGates // [] | select(. != []) | "scheduling gates"),
   (.spec.resourceClaims // [] | select(. != []) | "resource claims"),
-  (.spec.volumes // [] | .[] | select(.persistentVolumeClaim or .ephemeral) | "volume \(.name)"),
+  (.spec.volumes // [] | .[] | select(tied_to_nodes) | "volume \(.name)"),
   ( [.spec.containers[], (.spec.initContainers // [] | .[])]
     | ([.[] | .ports // [] | .[] | .hostPort | select(. != null and . != 0)] | unique[] | "host port \(.)"),
       ([.[] | .resources.requests // {} | keys[] | select(IN("cpu", "memory") | not)] | unique[]) ),
@@ -179,25 +204,30 @@ def tolerations($who):
 def pending:
   "pod \(full_name)" as $who
   | [demands, unreadable] as $why
+  | (if $why == [] then wants else null end) as $wants
   | ( if $why != [] then $why
-      else [wants | too_large, (.containers, .init | select(length > 16) | "\(length) containers")] end ) as $why
+      else [$wants | too_large, (.containers, .init | select(length > 16) | "\(length) containers")] end ) as $why
   | if $why != [] then left_out(": \($who): \($why | join(", "))") else . end
   | (wishes | left_out(" of \($who): \(.)")), .
-  | say_uid
+  | uid as $uid
+  | say($uid)
   | labels($who) as $labels
   | tolerations($who) as $tolerations
-  | wants as $wants
-  | {op: "pod", uid: uid}
+  | {op: "pod", uid: $uid}
     + (.spec.priority | unless_empty("priority"))
     + {containers: [$wants.containers[] | [(.[0] | spell_cpu), (.[1] | spell_memory)]]}
     + ([$wants.init[] | [(.[0] | spell_cpu), (.[1] | spell_memory)]] | unless_empty("init"))
     + ($labels | unless_empty("labels"))
     + ($tolerations | unless_empty("tolerations"));
 
+# What doesn't fit is refused line by line in a run, `refused 2 Full`; here it is said beforehand.
+def count($most; $what): length as $n | (select($n > $most) | "\($n) \($what), and wsched has room for \($most)" | say), .;
+
 [.items[] | select(.kind == "Node")] as $nodes
 | [.items[] | select(.kind == "Pod" and (.status.phase | IN("Succeeded", "Failed") | not))] as $pods
-| [ ($nodes[] | node),
-    ($pods[] | select(.spec.nodeName // "" | . != "") | bound),
-    ($pods[] | select(.spec.nodeName // "" | . == "") | pending) ]
+| ([$nodes[] | node] | count(1000; "nodes")) as $nodes
+| ([$pods[] | select(.spec.nodeName // "" | . != "") | bound] | count(150000; "placed pods")) as $placed
+| ([$pods[] | select(.spec.nodeName // "" | . == "") | pending] | count(10000; "waiting pods")) as $waiting
+| $nodes + $placed + $waiting
 | to_entries[]
 | {op: .value.op, v: (.key + 1)} + .value
