@@ -11,12 +11,20 @@ typedef unsigned long long u64;
 
 // What a filter answers; any other number is an error. A score answers 0 to 100.
 enum { PASS = 0, UNSCHEDULABLE = 2, UNSCHEDULABLE_AND_UNRESOLVABLE = 3 };
-#define FILTER __attribute__((export_name("filter"))) int filter(void)
-#define SCORE __attribute__((export_name("score"))) long long score(void)
+#ifdef __wasm__
+#define EXPORTED(name) __attribute__((export_name(name)))
+#define IMPORTED(name) __attribute__((import_module("sched"), import_name(name)))
+#else
+// On a machine of its own a rule is an ordinary program, and its test gives the two records: see keep_region_test.c.
+#define EXPORTED(name)
+#define IMPORTED(name)
+#endif
+#define FILTER EXPORTED("filter") int filter(void)
+#define SCORE EXPORTED("score") long long score(void)
 
 // Each writes its record, where that has at most `limit` bytes, and answers how many it has.
-__attribute__((import_module("sched"), import_name("pod"))) u32 sched_pod(void *to, u32 limit);
-__attribute__((import_module("sched"), import_name("node"))) u32 sched_node(void *to, u32 limit);
+IMPORTED("pod") u32 sched_pod(void *to, u32 limit);
+IMPORTED("node") u32 sched_node(void *to, u32 limit);
 
 // No record is longer. A layout of another version would be misread, so it traps.
 struct pod { u8 bytes[8192]; };
