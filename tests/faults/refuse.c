@@ -10,6 +10,7 @@
 #include <stdio.h>
 #include <stdlib.h>
 #include <string.h>
+#include <sys/syscall.h>
 #include <unistd.h>
 
 static atomic_ulong asked[2];
@@ -25,11 +26,17 @@ __attribute__((constructor)) static void begin(void) {
     atomic_store(&asked[1], 0);
 }
 
-__attribute__((destructor)) static void end(void) {
+static void end(void) {
     const char *to = getenv("COUNT_TO");
     char line[64];
-    int long_ = snprintf(line, sizeof line, "%lu %lu\n", atomic_load(&asked[0]), atomic_load(&asked[1]));
-    if (to && write(atoi(to), line, long_) < 0) _exit(125);
+    int size = snprintf(line, sizeof line, "%lu %lu\n", atomic_load(&asked[0]), atomic_load(&asked[1]));
+    if (to && write(atoi(to), line, size) < 0) abort();
+}
+
+/* The program ends by _exit, behind which no destructor runs. */
+void _exit(int status) {
+    end();
+    for (;;) syscall(SYS_exit_group, status);
 }
 
 static int is_refused(int kind) { return atomic_fetch_add(&asked[kind], 1) + 1 == refused[kind]; }
