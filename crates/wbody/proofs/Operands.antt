@@ -92,6 +92,11 @@ pub any_fit : (types : Operands) → fit_operands [] false types ≡ true
 any_fit [] = refl
 any_fit (t ∷ ts) = refl
 
+-- and any can be taken
+pub any_taken : (types : Operands) → taken types unreached ≡ Some unreached
+any_taken [] = refl
+any_taken (t ∷ ts) = any_taken ts
+
 -- where all is reached and nothing is there, none can be
 pub none_fit : (types : Operands) → fit_operands [] true types ≡ true → types ≡ []
 none_fit [] e = refl

@@ -112,6 +112,13 @@ impl OperandStack {
         }
     }
 
+    // There can be any operands, and there are none that are known.
+    fn has_any(&self) -> bool
+        ensures { result ≡ true → stack_of self.now ≡ unreached }
+    {
+        !self.reached && self.items.len() == self.floor
+    }
+
     // Takes off operands of these types, the last one topmost.
     pub fn take_all(&mut self, types: &[ValueType]) -> Result<(), Missing>
         ensures ok { OnOk result (taken (reverse types.now) (stack_of self.old) ≡ Some (stack_of self.new)) }
@@ -121,6 +128,10 @@ impl OperandStack {
     {
         let mut left = types.len();
         'types: while left > 0 {
+            // Each step takes an operand off, so that all of them in a body are no more than its operands.
+            if self.has_any() {
+                return Ok(());
+            }
             left -= 1;
             self.take(types[left])?;
         }
