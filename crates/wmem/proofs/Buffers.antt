@@ -1,6 +1,7 @@
 -- Facts about buffers of bytes that are zero from a place on, and about writes within them.
-use Rattle.std.proofs.Common.{◌≡◌, ℕ, zero, suc, ◌+◌, ◌-◌, ◌*◌, ◌/◌, ◌%◌, ◌^◌, ◌≤◌, ◌<◌, List, [], ◌∷◌, ◌++◌, length, take, drop, slice_range, refl, ap, sym, ◌∙◌, arith, append_assoc, add-one, set}
-use Rattle.std.proofs.lemmas.List.{length-replicate, drop-replicate, take-replicate, drop-drop, drop-take, length-take-le, drop-append-le, take-append-le, take-append-drop, take_at, drop_at, take-take, set_split}
+use Rattle.std.proofs.Common.{◌≡◌, ℕ, zero, suc, ◌+◌, ◌-◌, ◌*◌, ◌/◌, ◌%◌, ◌^◌, ◌≤◌, ◌<◌, List, [], ◌∷◌, ◌++◌, length, take, drop, slice_range, refl, ap, sym, ◌∙◌, arith, append_assoc, add-one, set, get_or, replicate, length-append, inl, inr}
+use Rattle.std.proofs.lemmas.List.{length-replicate, drop-replicate, take-replicate, drop-drop, drop-take, length-take-le, drop-append-le, take-append-le, take-append-drop, take_at, drop_at, take-take, set_split, get_or_append_left, get_or-append_right, get_or_past, get_or-replicate, append-nil, replicate-append-replicate}
+use Rattle.std.proofs.lemmas.Bool.{cases_lt}
 use Rattle.std.proofs.lemmas.Slice.{drop-append-drop}
 use Rattle.std.proofs.Math.Seq.{take-add}
 use Rattle.std.proofs.Math.Nat.{mod-one}
@@ -10,6 +11,7 @@ use Rattle.wmem.specs.Access.{Reading, extend, value_read, with_bytes}
 use Rattle.wmem.specs.Bytes.{bytes_of, number_in}
 use Rattle.wmem.specs.Memory.{zeros}
 use Rattle.wmem.specs.Inside.{IsClear}
+use Rattle.wmem.specs.Tracked.{extended, stretch}
 
 -- zeros are as many as they are asked for
 pub length-zeros : (count : ℕ) → length (zeros count) ≡ count
@@ -25,6 +27,54 @@ drop-zeros place count = drop-replicate place count 0
 pub take-zeros : (place count : ℕ) → place ≤ count → take place (zeros count) ≡ zeros place
 unfolding zeros
 take-zeros place count h = take-replicate place count 0 h
+
+-- a list that is longer by what is read past its end anyway reads as before
+pub get_or-lengthened : {A : Type 0} (xs : List A) (more k : ℕ) (d : A) → get_or (xs ++ replicate more d) k d ≡ get_or xs k d
+get_or-lengthened {A} xs more k d = elim (cases_lt k (length xs)) [
+  | inl within ↦ get_or_append_left xs (replicate more d) d k within
+  | inr past ↦ (
+      get_or-append_right xs (replicate more d) (length xs) k d refl past
+      ∙ elim (cases_lt (k - length xs) more) as (λ _. get_or (replicate more d) (k - length xs) d ≡ d) [
+        | inl new ↦ get_or-replicate more (k - length xs) d d new
+        | inr behind ↦ get_or_past (replicate more d) (k - length xs) d (rw (length-replicate {A = A}) behind)
+      ]
+      ∙ sym (get_or_past xs k d past))
+]
+
+-- zeros behind a buffer are as if they weren't there, and no zeros are nothing
+pub byte_of_longer : (buffer : List ℕ) (more k : ℕ) → get_or (buffer ++ zeros more) k 0 ≡ get_or buffer k 0
+unfolding zeros
+byte_of_longer buffer more k = get_or-lengthened buffer more k 0
+
+pub no_zeros : (buffer : List ℕ) (count : ℕ) → count ≡ 0 → buffer ≡ buffer ++ zeros count
+unfolding zeros
+no_zeros buffer count none = rw none (sym (append-nil buffer))
+
+pub length-longer : (buffer : List ℕ) (more : ℕ) → length (buffer ++ zeros more) ≡ length buffer + more
+length-longer buffer more = length-append buffer (zeros more) ∙ ap (λ (n : ℕ). length buffer + n) (length-zeros more)
+
+-- zeros behind zeros are as many as both
+pub zeros-append : (one other : ℕ) → zeros one ++ zeros other ≡ zeros (one + other)
+unfolding zeros
+zeros-append one other = replicate-append-replicate one other 0
+
+-- a buffer that is zero from a place on is so with more zeros behind it
+pub clear_longer : (buffer : List ℕ) (from more : ℕ) → IsClear buffer from → from ≤ length buffer → IsClear (buffer ++ zeros more) from
+clear_longer buffer from more clear within = record {
+  rest_is =
+      let count : (length buffer - from) + more ≡ length (buffer ++ zeros more) - from = omega (arith, length-longer buffer more) in
+      drop-append-le from buffer (zeros more) within
+      ∙ ap (λ (rest : List ℕ). rest ++ zeros more) clear.rest_is
+      ∙ zeros-append (length buffer - from) more
+      ∙ ap zeros count;
+}
+
+the_same : (pages : ℕ) → stretch * pages - length {A = ℕ} [] ≡ stretch * pages
+the_same pages = omega arith
+
+-- a buffer that had nothing is zeros
+pub extended_from_none : (buffer : List ℕ) (pages : ℕ) → buffer ≡ [] → extended buffer pages ≡ zeros (stretch * pages)
+extended_from_none buffer pages none = ap (λ (xs : List ℕ). extended xs pages) none ∙ ap zeros (the_same pages)
 
 -- a number has as many bytes as it is asked for
 pub length-bytes_of : (count number : ℕ) → length (bytes_of count number) ≡ count

@@ -1,8 +1,10 @@
 -- Facts about flags and the list of the places where they are set.
-use Rattle.std.proofs.Common.{◌≡◌, ◌≢◌, ℕ, zero, suc, ◌+◌, ◌≤◌, ◌<◌, Bool, true, false, cond, List, [], ◌∷◌, ◌++◌, length, get_or, set, sym, subst, ap, ◌∙◌, inl, inr, arith, length-set, length-append, get_or-set_other}
-use Rattle.std.specs.List.{count_by, Contains, All}
+use Rattle.std.proofs.Common.{◌≡◌, ℕ, ◌+◌, ◌<◌, Bool, true, false, cond, List, [], ◌∷◌, ◌++◌, length, get_or, set, replicate, sym, subst, ap, ◌∙◌, inl, inr, arith, length-set, length-append, get_or-set_other}
+use Rattle.std.specs.List.{count_by, Contains}
 use Rattle.std.proofs.lemmas.List.Elements.{All-append, Contains-push, Contains-append_left}
-use Rattle.std.proofs.lemmas.List.Sums.{count_by-le-length, sum_by-set}
+use Rattle.std.proofs.lemmas.List.Sums.{count_by-le-length, sum_by-set, sum_by-append}
+use Rattle.std.proofs.lemmas.List.{length-replicate}
+use Rattle.wmem.proofs.Buffers.{get_or-lengthened}
 use Rattle.std.proofs.lemmas.Grind.{get_or_head}
 use Rattle.std.proofs.lemmas.Bool.{cases_eq}
 use Rattle.wmem.specs.Noted.{is_set, IsListed}
@@ -16,10 +18,10 @@ count-set_true flags page within fresh =
     omega (arith, sum_by-set one flags page true true within, was)
 
 -- a page that is noted first keeps the list right
-pub note_listed : (flags : List Bool) (order : List ℕ) (page : ℕ) → IsListed (record { flags = flags; order = order })
+pub note_listed : (flags : List Bool) (order : List ℕ) (room later page : ℕ) → IsListed (record { flags = flags; order = order; room = room })
     → page < length flags → get_or flags page true ≡ false
-    → IsListed (record { flags = set flags page true; order = order ++ page ∷ [] })
-note_listed flags order page listed within fresh =
+    → IsListed (record { flags = set flags page true; order = order ++ page ∷ []; room = later })
+note_listed flags order room later page listed within fresh =
     let same : length (set flags page true) ≡ length flags = length-set flags page true in
     let more = count-set_true flags page within fresh in
     record {
@@ -32,7 +34,20 @@ note_listed flags order page listed within fresh =
     }
 
 -- there is room for one more while one isn't noted
-pub listed_room : (flags : List Bool) (order : List ℕ) (page : ℕ) → IsListed (record { flags = flags; order = order })
+pub listed_room : (flags : List Bool) (order : List ℕ) (room page : ℕ) → IsListed (record { flags = flags; order = order; room = room })
     → page < length flags → get_or flags page true ≡ false → length order < length flags
-listed_room flags order page listed within fresh =
+listed_room flags order room page listed within fresh =
     omega (arith, count-set_true flags page within fresh, listed.few, count_by-le-length is_set (set flags page true), length-set flags page true)
+
+-- pages that are new and not noted keep the list right
+pub extend_listed : (flags : List Bool) (order : List ℕ) (room more : ℕ) → IsListed (record { flags = flags; order = order; room = room })
+    → IsListed (record { flags = flags ++ replicate more false; order = order; room = room })
+extend_listed flags order room more listed =
+    let one : Bool → ℕ = λ flag. cond (is_set flag) 1 0 in
+    let longer : length (flags ++ replicate more false) ≡ length flags + more =
+    length-append flags (replicate more false) ∙ ap (λ (n : ℕ). length flags + n) (length-replicate more false) in
+    record {
+      covers = λ page is. listed.covers page (sym (get_or-lengthened flags more page false) ∙ is);
+      within = λ k d h. omega (arith, listed.within k d h, longer);
+      few = omega (arith, listed.few, sum_by-append one flags (replicate more false));
+    }

@@ -2,6 +2,7 @@
 use Rattle.std.specs.Prelude.{◌≡◌, ℕ, ◌-◌, ◌*◌, ◌%◌, ◌≤◌, List, length, take, drop}
 use Rattle.wmem.specs.declared.memory.Memory.TheInside.{Inside}
 use Rattle.wmem.specs.Memory.{MemoryInstance, page_size, most_pages, zeros}
+use Rattle.wmem.specs.Tracked.{stretch}
 
 -- the bytes and the image are the parts of the buffers that are in use
 abbrev pub instance_of : Inside → MemoryInstance
@@ -15,11 +16,13 @@ instance_of memory = record {
 pub record IsClear (buffer : List ℕ) (from : ℕ) : Type 0 where
   pub rest_is : drop from buffer ≡ zeros (length buffer - from)
 
--- both buffers have the whole cap, and are zero past what is in use, which is whole pages
+-- There is room for the whole cap. Both buffers have as much of it as was ever in use, and are zero past what is, which is
+-- whole pages.
 pub record IsSound (memory : Inside) : Type 0 where
   pub limited : memory.cap ≤ most_pages
-  pub room : length memory.tracked.bytes ≡ page_size * memory.cap
-  pub image_room : length memory.tracked.image ≡ page_size * memory.cap
+  pub room : stretch * memory.tracked.noted.room ≡ page_size * memory.cap
+  pub same : length memory.tracked.image ≡ length memory.tracked.bytes
+  pub opened : memory.len ≤ length memory.tracked.bytes
   pub whole_pages : memory.len % page_size ≡ 0
   pub whole_image : memory.image_len % page_size ≡ 0
   pub within : memory.len ≤ page_size * memory.cap

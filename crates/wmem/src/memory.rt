@@ -17,8 +17,9 @@ pub const MAX_PAGES: u32 = 32;
 
 /// A linear memory, with an image that it can be brought back to.
 ///
-/// The bytes and the image have room for the whole cap from the start, and are zero past what is in use. Pages of
-/// 4,096 bytes that were written since the image was kept are noted: to bring the image back copies those alone.
+/// The bytes and the image have room for the whole cap from the start. They are written as pages come into use, so that the
+/// system gives memory for those alone, and are zero past what is in use. Pages of 4,096 bytes that were written since the
+/// image was kept are noted: to bring the image back copies those alone.
 #[derive(Drop)]
 pub struct Memory {
     tracked: Tracked,
@@ -62,7 +63,8 @@ impl Memory {
         ensures { IfOk result (λ memory. memory ≡ new_memory min cap) }
     {
         let len = min as usize * PAGE_SIZE;
-        let tracked = Tracked::new(alloc, cap as usize * (PAGE_SIZE / STRETCH))?;
+        let mut tracked = Tracked::new(alloc, cap as usize * (PAGE_SIZE / STRETCH))?;
+        tracked.extend(len / STRETCH);
         Ok(Memory {
             tracked,
             len,
@@ -138,7 +140,9 @@ impl Memory {
         if delta > self.cap - pages {
             return None;
         }
-        self.len += delta as usize * PAGE_SIZE;
+        let len = self.len + delta as usize * PAGE_SIZE;
+        self.tracked.extend(len / STRETCH);
+        self.len = len;
         Some(pages)
     }
 

@@ -1,13 +1,14 @@
 //! Which stretches of a memory were written since its image was kept.
 ghost use Rattle.std.specs.Prelude.{◌≡◌, ◌<◌, ◌++◌, ◌∷◌, [], length, true, false, IfNone, IfSome, IfOk, ℕ, ◌≤◌, slice_set, slice_index_or, count_by};
-ghost use Rattle.wmem.specs.Noted.{is_set, unnoted};
+ghost use Rattle.wmem.specs.Noted.{is_set, no_pages, with_pages};
 
 use std::alloc::{AllocError, Global};
 use std::marker::Model;
 
 /// The pages that are noted. These are small pages, for noting alone: 4,096 bytes each.
 ///
-/// A flag a page answers whether it is noted, and a list of them lets a reset go to those alone.
+/// A flag a page answers whether it is noted, and a list of them lets a reset go to those alone. Room for more pages is taken
+/// when it is made.
 #[derive(Drop)]
 pub(crate) struct NotedPages {
     is_noted: Vec<bool>,
@@ -22,20 +23,30 @@ impl Model for NotedPages {
 
     ghost coded = { noted_code };
 
-    ghost view = { λ n. record { flags = n.is_noted.items; order = n.order.items } };
+    ghost view = { λ n. record { flags = n.is_noted.items; order = n.order.items; room = vec_capacity n.order } };
 
-    ghost invariant = { λ n. IsListed (record { flags = n.is_noted.items; order = n.order.items }) × (length n.is_noted.items ≤ vec_capacity n.order) };
+    ghost invariant = { λ n. IsListed (record { flags = n.is_noted.items; order = n.order.items; room = vec_capacity n.order }) × (length n.is_noted.items ≤ vec_capacity n.order) × (vec_capacity n.order ≤ vec_capacity n.is_noted) };
 }
 
 impl NotedPages {
-    /// None of so many pages, with room to note each.
-    pub(crate) fn new(alloc: Global, pages: usize) -> Result<NotedPages, AllocError>
-        ensures { IfOk result (λ noted. noted ≡ unnoted pages) }
+    /// No pages, with room to note each of so many.
+    pub(crate) fn new(alloc: Global, room: usize) -> Result<NotedPages, AllocError>
+        ensures { IfOk result (λ noted. noted ≡ no_pages room) }
     {
         Ok(NotedPages {
-            is_noted: vec![in alloc; false; pages]?,
-            order: Vec::with_capacity(alloc, pages)?,
+            is_noted: Vec::with_capacity(alloc, room)?,
+            order: Vec::with_capacity(alloc, room)?,
         })
+    }
+
+    /// There are so many pages from now on, or as many as there were. New ones aren't noted.
+    pub(crate) fn extend(&mut self, pages: usize)
+        requires { pages ≤ self.old.room }
+        ensures { self.new ≡ with_pages self.old pages }
+    {
+        if pages > self.is_noted.len() {
+            self.is_noted.resize(pages, false).unwrap();
+        }
     }
 
     /// How many are noted.
@@ -49,7 +60,8 @@ impl NotedPages {
     #[inline(always)]
     pub(crate) fn note(&mut self, page: usize)
         requires { page < length self.old.flags }
-        ensures { self.new.flags ≡ slice_set self.old.flags page true }
+        ensures flags { self.new.flags ≡ slice_set self.old.flags page true }
+        ensures room { self.new.room ≡ self.old.room }
     {
         if !self.is_noted[page] {
             self.note_first(page);
@@ -62,6 +74,7 @@ impl NotedPages {
         ensures pages { length self.new.flags ≡ length self.old.flags }
         ensures noted { (page : ℕ) → from ≤ page → page < to → slice_index_or self.new.flags page false ≡ true }
         ensures stays { (page : ℕ) → slice_index_or self.new.flags page false ≡ false → slice_index_or self.old.flags page false ≡ false }
+        ensures room { self.new.room ≡ self.old.room }
     {
         for page in from..to {
             self.note(page);
@@ -73,7 +86,8 @@ impl NotedPages {
     fn note_first(&mut self, page: usize)
         requires within { page < length self.old.flags }
         requires fresh { slice_index_or self.old.flags page true ≡ false }
-        ensures { self.new.flags ≡ slice_set self.old.flags page true }
+        ensures flags { self.new.flags ≡ slice_set self.old.flags page true }
+        ensures room { self.new.room ≡ self.old.room }
     {
         self.is_noted[page] = true;
         self.order.push_reserved(page);
@@ -86,6 +100,7 @@ impl NotedPages {
         ensures listed { IfSome result (λ page. self.old.order ≡ self.new.order ++ page ∷ []) }
         ensures within { IfSome result (λ page. page < length self.old.flags) }
         ensures taken { IfSome result (λ page. self.new.flags ≡ slice_set self.old.flags page false) }
+        ensures room { self.new.room ≡ self.old.room }
     {
         let page = self.order.pop()?;
         self.is_noted[page] = false;

@@ -2,9 +2,8 @@
 ghost use Rattle.std.specs.Prelude.{◌≡◌, ◌+◌, ◌*◌, ◌<◌, ◌≤◌, length, replicate, slice_set, slice_index_or, true, false, count_by, IfOk, ℕ, ◌/◌, [], take, drop, ◌++◌};
 ghost use Rattle.wmem.specs.Access.{byte_count, with_bytes};
 ghost use Rattle.wmem.specs.Bytes.{bytes_of};
-ghost use Rattle.wmem.specs.Memory.{zeros};
 ghost use Rattle.wmem.specs.Noted.{is_set};
-ghost use Rattle.wmem.specs.Tracked.{TrackedBytes, AgreesElsewhere, stretch, IsTracked};
+ghost use Rattle.wmem.specs.Tracked.{TrackedBytes, AgreesElsewhere, stretch, IsTracked, extended};
 
 use crate::access::Width;
 use crate::buffer;
@@ -18,6 +17,9 @@ pub(crate) const STRETCH: usize = 4_096;
 /// Two buffers of one length: the bytes, which are written, and the image, which they can be brought
 /// back to. Each page of 4,096 bytes that a write touches is noted, and one that isn't noted is alike
 /// in both; so both ways of making them alike copy the noted pages alone.
+///
+/// Room for all pages is taken when it is made, but the system gives memory as it is written for the first time: so zeros are
+/// written where a page comes into use, and none before.
 #[derive(Drop)]
 pub(crate) struct Tracked {
     bytes: Vec<u8>,
@@ -26,7 +28,8 @@ pub(crate) struct Tracked {
 }
 
 impl Model for Tracked {
-    ghost use Rattle.wmem.specs.Tracked.{TrackedBytes, tracked_code, IsTracked};
+    ghost use Rattle.std.specs.Prelude.{◌*◌, ◌≤◌, vec_capacity};
+    ghost use Rattle.wmem.specs.Tracked.{TrackedBytes, tracked_code, IsTracked, stretch};
 
     ghost Value = { TrackedBytes };
 
@@ -34,21 +37,37 @@ impl Model for Tracked {
 
     ghost view = { λ t. record { bytes = t.bytes.items; image = t.image.items; noted = t.noted } };
 
-    ghost invariant = { λ t. IsTracked (record { bytes = t.bytes.items; image = t.image.items; noted = t.noted }) };
+    ghost invariant = { λ t. IsTracked (record { bytes = t.bytes.items; image = t.image.items; noted = t.noted }) × (stretch * t.noted.room ≤ vec_capacity t.bytes) × (stretch * t.noted.room ≤ vec_capacity t.image) };
 }
 
 impl Tracked {
-    /// So many pages of zeros, and an image of as many.
-    pub(crate) fn new(alloc: Global, pages: usize) -> Result<Tracked, AllocError>
-        requires { pages ≤ 512 }
-        ensures bytes { IfOk result (λ tracked. tracked.bytes ≡ zeros (stretch * pages)) }
-        ensures image { IfOk result (λ tracked. tracked.image ≡ zeros (stretch * pages)) }
+    /// No pages, with room for so many.
+    pub(crate) fn new(alloc: Global, room: usize) -> Result<Tracked, AllocError>
+        requires { room ≤ 512 }
+        ensures bytes { IfOk result (λ tracked. tracked.bytes ≡ []) }
+        ensures image { IfOk result (λ tracked. tracked.image ≡ []) }
+        ensures room { IfOk result (λ tracked. tracked.noted.room ≡ room) }
     {
         Ok(Tracked {
-            bytes: vec![in alloc; 0u8; STRETCH * pages]?,
-            image: vec![in alloc; 0u8; STRETCH * pages]?,
-            noted: NotedPages::new(alloc, pages)?,
+            bytes: Vec::with_capacity(alloc, STRETCH * room)?,
+            image: Vec::with_capacity(alloc, STRETCH * room)?,
+            noted: NotedPages::new(alloc, room)?,
         })
+    }
+
+    /// There are so many pages from now on, or as many as there were. New ones are zeros, in the image too.
+    #[tactic(auto, unfolding(crate::specs::Memory::zeros))]
+    pub(crate) fn extend(&mut self, pages: usize)
+        requires { pages ≤ self.old.noted.room }
+        ensures bytes { self.new.bytes ≡ extended self.old.bytes pages }
+        ensures image { self.new.image ≡ extended self.old.image pages }
+        ensures room { self.new.noted.room ≡ self.old.noted.room }
+    {
+        if self.bytes.len() < STRETCH * pages {
+            self.bytes.resize(STRETCH * pages, 0).unwrap();
+            self.image.resize(STRETCH * pages, 0).unwrap();
+            self.noted.extend(pages);
+        }
     }
 
     /// The bytes.
@@ -81,6 +100,7 @@ impl Tracked {
         requires { at + byte_count width ≤ length self.old.bytes }
         ensures bytes { self.new.bytes ≡ with_bytes self.old.bytes at (bytes_of (byte_count width) value) }
         ensures image { self.new.image ≡ self.old.image }
+        ensures room { self.new.noted.room ≡ self.old.noted.room }
     {
         self.noted.note(at / STRETCH);
         let last = (at + width.bytes() - 1) / STRETCH;
@@ -93,6 +113,7 @@ impl Tracked {
         requires { at + length new.now ≤ length self.old.bytes }
         ensures bytes { self.new.bytes ≡ with_bytes self.old.bytes at new.now }
         ensures image { self.new.image ≡ self.old.image }
+        ensures room { self.new.noted.room ≡ self.old.noted.room }
     {
         self.noted
             .note_each(at / STRETCH, (at + new.len()).div_ceil(STRETCH));
@@ -103,6 +124,7 @@ impl Tracked {
     pub(crate) fn keep(&mut self)
         ensures bytes { self.new.bytes ≡ self.old.bytes }
         ensures image { self.new.image ≡ self.old.bytes }
+        ensures room { self.new.noted.room ≡ self.old.noted.room }
     {
         make_alike(&mut self.image, &self.bytes, &mut self.noted);
     }
@@ -111,6 +133,7 @@ impl Tracked {
     pub(crate) fn reset(&mut self)
         ensures bytes { self.new.bytes ≡ self.old.image }
         ensures image { self.new.image ≡ self.old.image }
+        ensures room { self.new.noted.room ≡ self.old.noted.room }
     {
         make_alike(&mut self.bytes, &self.image, &mut self.noted);
     }
@@ -123,6 +146,7 @@ fn make_alike(to: &mut [u8], from: &[u8], noted: &mut NotedPages)
     requires agrees { AgreesElsewhere to.old from.now noted.old }
     ensures alike { to.new ≡ from.now }
     ensures pages { length noted.new.flags ≡ length noted.old.flags }
+    ensures room { noted.new.room ≡ noted.old.room }
 {
     while let Some(page) = noted.pop() {
         copy_page(to, from, page * STRETCH);

@@ -1,4 +1,4 @@
-use Rattle.std.proofs.Common.{◌≡◌, ℕ, ◌*◌, ◌+◌, List, length, take, drop, ap, sym, ◌∙◌, arith, length-set, length-drop}
+use Rattle.std.proofs.Common.{◌≡◌, ℕ, ◌*◌, List, length, take, drop, ap, sym, ◌∙◌, arith, length-set, length-drop}
 use Rattle.std.proofs.lemmas.List.{length-take-le}
 use Rattle.wmem.specs.Tracked.{stretch}
 use Rattle.wmem.proofs.Buffers.{length-with_bytes}
@@ -22,8 +22,9 @@ loop-page-preserved c =
     record {
       whole = kept ∙ held.whole ∙ ap (λ (n : ℕ). stretch * n) (sym pages);
       pages = pages ∙ held.pages;
+      room = c.in-Some.ensures.room ∙ held.room;
       agrees = λ k unset. rw c.copy_page.ensures
-          (copy_agrees to from c.loop-page.noted.flags c.loop-page.noted.order c.loop-page.noted.order page held.agrees same within held.whole k (rw taken at unset));
+          (copy_agrees to from c.loop-page.noted.flags c.loop-page.noted.order c.loop-page.noted.order c.loop-page.noted.room page held.agrees same within held.whole k (rw taken at unset));
     }
 
 pub returns-clause-alike : goal.returns-clause-alike

@@ -1,4 +1,4 @@
-use Rattle.std.proofs.Common.{◌≡◌, ℕ, ◌*◌, length}
+use Rattle.std.proofs.Common.{◌≡◌, ◌*◌, length}
 use Rattle.wmem.specs.Tracked.{AgreesElsewhere, stretch}
 use Rattle.wmem.proofs.tracked.make_alike.Given as goal
 
@@ -6,6 +6,7 @@ abbrev pub invariant-loop-page : goal.invariant-loop-page
 invariant-loop-page l = record {
   whole : length l.to ≡ stretch * length l.noted.flags;
   pages : length l.noted.flags ≡ length l.initial.noted.flags;
+  room : l.noted.room ≡ l.initial.noted.room;
   agrees : AgreesElsewhere l.to l.from l.noted;
 }
 

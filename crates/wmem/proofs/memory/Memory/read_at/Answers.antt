@@ -9,7 +9,7 @@ read-requires c =
     let memory = c.self.inside in
     let within : c.args.address + (reading_of c.args.load).bytes ≤ memory.len =
     rw (← c.self.view_is, length-bytes memory c.self.invariant) at c.requires in
-    rw c.bytes.ensures (omega (arith, c.self.invariant.room, c.self.invariant.within))
+    rw c.bytes.ensures (omega (arith, c.self.invariant.opened))
 
 pub returns-clause-value : goal.returns-clause-value
 returns-clause-value c =

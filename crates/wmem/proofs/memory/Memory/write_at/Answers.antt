@@ -10,7 +10,7 @@ write-requires c =
     let memory = c.self.inside in
     let within : c.args.address + byte_count c.args.width ≤ memory.len =
     rw (← c.self.view_is, length-bytes memory c.self.invariant) at c.requires in
-    omega (arith, c.self.invariant.room, c.self.invariant.within)
+    omega (arith, c.self.invariant.opened)
 
 pub invariant_of-self : goal.invariant_of-self
 invariant_of-self c =
@@ -19,7 +19,7 @@ invariant_of-self c =
     let count = length-bytes_of (byte_count c.args.width) c.args.value in
     let within : c.args.address + byte_count c.args.width ≤ memory.len =
     rw (← c.self.view_is, length-bytes memory c.self.invariant) at c.requires in
-    write_sound memory c.write.new.self c.args.address new c.self.invariant (omega arith) c.write.ensures.bytes c.write.ensures.image
+    write_sound memory c.write.new.self c.args.address new c.self.invariant (omega arith) c.write.ensures.bytes c.write.ensures.image c.write.ensures.room
 
 pub returns : goal.returns
 returns c =
