@@ -59,10 +59,12 @@ const EMPTY_BEHIND_1023: &[u8] = b"\x0A\x0C\x02\x04\x00\x41\x00\x0B\x05\x01\xFF\
 
 const EMPTY_BEHIND_1024: &[u8] = b"\x0A\x0C\x02\x04\x00\x41\x00\x0B\x05\x01\x80\x08\x7E\x0B";
 
-// Imports of the function `sched.pod` of the first type, and of the second.
+// Imports of the function `sched.pod` of the first type, and of the second, and of the function `sched.pods`.
 const IMPORTS_POD: &[u8] = b"\x02\x0D\x01\x05sched\x03pod\x00\x00";
 
 const IMPORTS_POD_OF_SECOND: &[u8] = b"\x02\x0D\x01\x05sched\x03pod\x00\x01";
+
+const IMPORTS_PODS: &[u8] = b"\x02\x0E\x01\x05sched\x04pods\x00\x00";
 
 // Types: from two i32 to an i32, and from nothing to an i32; a function of the second, exported with index 1 as `filter`.
 const HOST_AND_FILTER: &[u8] = b"\x01\x0B\x02\x60\x02\x7F\x7F\x01\x7F\x60\x00\x01\x7F";
@@ -104,6 +106,22 @@ const LACKS_ELSE_BEHIND_A_BRANCH: &[u8] =
 
 const SUM_OF_NOTHING: &[u8] = b"\x0A\x05\x01\x03\x00\x6A\x0B";
 
+// The first function has no typing from this byte on.
+const UNTYPED_AT_24: TypeFault = TypeFault::Untyped {
+    function: Some(0),
+    place: 24,
+};
+
+const UNTYPED_AT_36: TypeFault = TypeFault::Untyped {
+    function: Some(0),
+    place: 36,
+};
+
+const UNTYPED_AT_39: TypeFault = TypeFault::Untyped {
+    function: Some(0),
+    place: 39,
+};
+
 const UNTYPED_AT_42: TypeFault = TypeFault::Untyped {
     function: Some(0),
     place: 42,
@@ -114,9 +132,9 @@ const UNTYPED_AT_44: TypeFault = TypeFault::Untyped {
     place: 44,
 };
 
-const UNTYPED_AT_36: TypeFault = TypeFault::Untyped {
+const UNTYPED_AT_45: TypeFault = TypeFault::Untyped {
     function: Some(0),
-    place: 36,
+    place: 45,
 };
 
 // A module's sections, and its fault, if it has one.
@@ -125,7 +143,7 @@ struct Row {
     fault: Option<TypeFault>,
 }
 
-const ROWS: [Row; 27] = [
+const ROWS: [Row; 30] = [
     Row {
         sections: &[GIVES_I32, FUNCTION, FILTER, ZERO],
         fault: None,
@@ -177,6 +195,19 @@ const ROWS: [Row; 27] = [
     Row {
         sections: &[],
         fault: Some(TypeFault::BadExport),
+    },
+    Row {
+        sections: &[GIVES_I32],
+        fault: Some(TypeFault::BadExport),
+    },
+    // What is told of two faults: an import before a body, a body before the exports.
+    Row {
+        sections: &[HOST_AND_FILTER, IMPORTS_PODS, FUNCTION_OF_SECOND, EMPTY],
+        fault: Some(TypeFault::BadImport),
+    },
+    Row {
+        sections: &[GIVES_I32, FUNCTION, EMPTY],
+        fault: Some(UNTYPED_AT_24),
     },
     Row {
         sections: &[GIVES_I32, FUNCTION, LARGE_MEMORY, OTHER, ZERO],
@@ -256,6 +287,26 @@ const ROWS: [Row; 27] = [
     },
 ];
 
+// Bodies of `filter`, which begin at the byte 36, and the fault of the module, if it has one: a padded number; branches to a
+// loop and behind operands that they drop; and what is free where the place isn't reached, which are operands that nothing in
+// the body left there, and they alone.
+const BODIES: [(&[u8], Option<TypeFault>); 11] = [
+    (b"\x41\x80\x80\x80\x80\x00\x0B", None),
+    (b"\x03\x40\x0C\x00\x0B\x41\x00\x0B", None),
+    (b"\x41\x07\x41\x08\x41\x00\x0C\x00\x0B", None),
+    (b"\x41\x00\x0C\x00\x6A\x0B", None),
+    (b"\x00\x0B", None),
+    (b"\x00\x1B\x0B", None),
+    (b"\x00\x1A\x1B\x0B", None),
+    (b"\x00\x42\x00\x1B\x0B", Some(UNTYPED_AT_39)),
+    (b"\x00\x42\x00\x41\x00\x1B\x0B", Some(UNTYPED_AT_42)),
+    (b"\x41\x01\x04\x7F\x41\x00\x05\x41\x02\x0B\x0B", None),
+    (
+        b"\x41\x01\x04\x7F\x41\x00\x05\x42\x02\x0B\x0B",
+        Some(UNTYPED_AT_45),
+    ),
+];
+
 fn module(alloc: Global, sections: &[&[u8]]) -> Result<Vec<u8>, AllocError> {
     let mut bytes = Vec::from_slice(alloc, HEADER)?;
     for section in sections {
@@ -264,15 +315,108 @@ fn module(alloc: Global, sections: &[&[u8]]) -> Result<Vec<u8>, AllocError> {
     Ok(bytes)
 }
 
+// The fault of a module of these bytes, if it has one.
+fn fault_of(alloc: Global, bytes: &[u8]) -> Result<Option<TypeFault>, Fail> {
+    match validate(alloc, decode(alloc, bytes)?) {
+        Ok(_) => Ok(None),
+        Err(fault) => Ok(Some(fault)),
+    }
+}
+
 #[test]
 fn faults_in_their_order(rt: HostRuntime) -> Result<(), Fail> {
     for row in &ROWS {
         let bytes = module(rt.alloc(), row.sections)?;
-        let found = match validate(rt.alloc(), decode(rt.alloc(), bytes.as_slice())?) {
-            Ok(_) => None,
-            Err(fault) => Some(fault),
-        };
-        assert_eq!(rt; found, row.fault);
+        assert_eq!(rt; fault_of(rt.alloc(), bytes.as_slice())?, row.fault);
     }
+    Ok(())
+}
+
+// A module whose one function is `filter`, with this body without locals, of at most 120 bytes.
+fn with_body(alloc: Global, body: &[u8]) -> Result<Vec<u8>, AllocError> {
+    let length = body.len().min(120) as u8;
+    let mut bytes = module(alloc, &[GIVES_I32, FUNCTION, FILTER])?;
+    bytes.extend_from_slice(&[0x0A, length + 3, 0x01, length + 1, 0x00])?;
+    bytes.extend_from_slice(body)?;
+    Ok(bytes)
+}
+
+#[test]
+fn bodies_of_filter(rt: HostRuntime) -> Result<(), Fail> {
+    for (index, (body, fault)) in BODIES.iter().enumerate() {
+        let bytes = with_body(rt.alloc(), body)?;
+        assert_eq!(rt;
+            fault_of(rt.alloc(), bytes.as_slice())?,
+            *fault,
+            "row {index}"
+        );
+    }
+    Ok(())
+}
+
+// Globals, as many as this number of two bytes in LEB128 says, in a section whose size is told so too.
+fn with_globals(
+    alloc: Global,
+    count: u16,
+    size: [u8; 2],
+    spelled: [u8; 2],
+    behind: &[&[u8]],
+) -> Result<Vec<u8>, AllocError> {
+    let mut bytes = module(alloc, &[GIVES_I32, FUNCTION])?;
+    bytes.push(0x06)?;
+    bytes.extend_from_slice(&size)?;
+    bytes.extend_from_slice(&spelled)?;
+    for _ in 0..count {
+        bytes.extend_from_slice(b"\x7F\x00\x41\x00\x0B")?;
+    }
+    for section in behind {
+        bytes.extend_from_slice(section)?;
+    }
+    Ok(bytes)
+}
+
+// 1,024 globals are the most, and that there are more is told behind the exports.
+#[test]
+fn many_globals(rt: HostRuntime) -> Result<(), Fail> {
+    let most = with_globals(
+        rt.alloc(),
+        1024,
+        [0x82, 0x28],
+        [0x80, 0x08],
+        &[FILTER, ZERO],
+    )?;
+    assert_eq!(rt; fault_of(rt.alloc(), most.as_slice())?, None);
+    let more = with_globals(
+        rt.alloc(),
+        1025,
+        [0x87, 0x28],
+        [0x81, 0x08],
+        &[FILTER, ZERO],
+    )?;
+    assert_eq!(rt;
+        fault_of(rt.alloc(), more.as_slice())?,
+        Some(TypeFault::OverLimit)
+    );
+    let neither = with_globals(rt.alloc(), 1025, [0x87, 0x28], [0x81, 0x08], &[ZERO])?;
+    assert_eq!(rt;
+        fault_of(rt.alloc(), neither.as_slice())?,
+        Some(TypeFault::BadExport)
+    );
+    Ok(())
+}
+
+// Blocks nest 256 deep at most.
+#[test]
+fn deepest_blocks(rt: HostRuntime) -> Result<(), Fail> {
+    let mut bytes = module(rt.alloc(), &[GIVES_I32, FUNCTION, FILTER])?;
+    bytes.extend_from_slice(&[0x0A, 0x87, 0x06, 0x01, 0x84, 0x06, 0x00])?;
+    for _ in 0..256 {
+        bytes.extend_from_slice(&[0x02, 0x40])?;
+    }
+    for _ in 0..256 {
+        bytes.push(0x0B)?;
+    }
+    bytes.extend_from_slice(&[0x41, 0x00, 0x0B])?;
+    assert_eq!(rt; fault_of(rt.alloc(), bytes.as_slice())?, None);
     Ok(())
 }
