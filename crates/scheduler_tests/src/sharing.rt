@@ -13,6 +13,7 @@ use std::sync::Wait;
 use std::test::Fail;
 
 /// What is tried on a new desk.
+#[derive(Clone, Copy)]
 enum Trial {
     OnePass,
     OnePlace,
