@@ -1,0 +1,13 @@
+//! What is to be bound.
+use quant::{Name, Ticket};
+
+/// A pod whose place is assumed, which the cluster is to be told.
+#[derive(Debug, Drop)]
+pub struct Job {
+    /// The pod.
+    pub uid: Name,
+    /// The node's name.
+    pub node: Name,
+    /// What names the choice of the place.
+    pub ticket: Ticket,
+}
