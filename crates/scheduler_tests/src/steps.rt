@@ -87,6 +87,28 @@ pub fn gone(version: u64, uid: u8) -> Result<Step, Fail>
     }))
 }
 
+/// A node of this name is gone.
+pub fn node_gone(version: u64, letter: u8) -> Result<Step, Fail>
+    ensures { IfOk result IsTimely }
+{
+    Ok(Step::Event(Event::NodeGone {
+        version: Version(version),
+        name: name(letter)?,
+    }))
+}
+
+/// A pod of this name is bound to a node, and asks for 600 thousandths of a core.
+pub fn bound(version: u64, uid: u8, node: u8) -> Result<Step, Fail>
+    ensures { IfOk result IsTimely }
+{
+    Ok(Step::Event(Event::PodBound {
+        version: Version(version),
+        uid: name(uid)?,
+        node: name(node)?,
+        request: Request::new(Cpu(600), Bytes(0))?,
+    }))
+}
+
 pub fn assume(uid: u8, node: u8) -> Result<Step, Fail>
     ensures { IfOk result IsTimely }
 {
