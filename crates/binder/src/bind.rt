@@ -1,13 +1,13 @@
 //! One bind, and the step that reports it.
 ghost use Rattle.std.specs.Prelude.{◌≡◌, nat_lt, IfOk, IfErr, OnErr};
 ghost use Rattle.desk.specs.Caller.{IsTimely};
-ghost use Rattle.desk.specs.Shared.{IsMember, IsApplied};
+ghost use Rattle.desk.specs.Shared.{IsPassOf, IsApplied};
 ghost use Rattle.binder.specs.Binds.{IsAskedOnce, report_of};
 
 use crate::answer::BindAnswer;
 use crate::binder::Binder;
 use crate::job::Job;
-use desk::{LockedDesk, LockedPass, Naming, Reply, Step};
+use desk::{Desk, Naming, Pass, Reply, Step};
 use std::sync::Wait;
 
 /// The most binds that one binder is asked for.
@@ -52,12 +52,12 @@ fn report(job: &Job, done: bool) -> Step
 /// Errors: `Unreported` at the desk's want of memory. The binder was asked all the same.
 pub fn bind_job<J: Naming, R: Wait>(
     rt: &R,
-    desk: &LockedDesk<J>,
-    pass: &mut LockedPass<J>,
+    desk: &Desk<J>,
+    pass: &mut Pass<J>,
     binder: &mut Box<dyn Binder + Send>,
     job: &Job,
 ) -> Result<Reply, Unreported>
-    requires { IsMember pass.old desk.now }
+    requires { IsPassOf pass.old desk.now }
     ensures asked { IsAskedOnce (asks binder.old) (asks binder.new) }
     ensures applied { IfOk result (λ answer. IsApplied desk.now pass.old (report_of job.now (nat_lt (dones binder.old) (dones binder.new))) answer pass.new) }
     ensures unapplied { OnErr result (pass.new ≡ pass.old) }

@@ -1,9 +1,9 @@
 -- The only pass of a desk has made all calls of its history.
 use Rattle.std.proofs.Common.{◌≡◌, ℕ, true, false, eqb, List, [], ◌∷◌, ◌++◌, refl, sym, ap, subst, ◌∙◌, arith}
 use Rattle.desk.specs.Machine.{State, opening, reply, after, snapshot}
-use Rattle.desk.specs.Caller.{Opened}
+use Rattle.desk.specs.Caller.{Core}
 use Rattle.desk.specs.History.{Call, AreAnswered, AreHanded, AreOthers, Legal, Leaves, state_after, call}
-use Rattle.desk.specs.Shared.{Member, Locked, IsMember, IsAhead}
+use Rattle.desk.specs.Shared.{Pass, Desk, IsPassOf, IsAhead}
 use Rattle.desk.specs.Alone.{state_seen, AnswersAlone, LooksAlone}
 use Rattle.desk.proofs.Histories.{append_nil, limits_of, limits_after, state_more}
 use Rattle.desk.proofs.Readings.{snapshot_told}
@@ -22,7 +22,7 @@ no_others (c ∷ b) all others =
     absurd (cc)
 
 -- so a pass goes on to what it has seen
-stays : (desk : Locked) (p : Member) (l : List Call) → desk.handed ≡ 1 → IsMember p desk → IsAhead desk p l → l ≡ p.seen
+stays : (desk : Desk) (p : Pass) (l : List Call) → desk.handed ≡ 1 → IsPassOf p desk → IsAhead desk p l → l ≡ p.seen
 stays desk p l one member ahead =
     let number : p.caller.number ≡ 0 = omega (arith, one, member) in
     let between = ahead.goes_on.0 in
@@ -57,7 +57,7 @@ pub looks_alone : LooksAlone
 looks_alone desk p p' rows one member looked =
     let stay : p'.seen ≡ p.seen = stays desk p p'.seen one member looked.ahead in
     let s = opening desk.limits in
-    let d : Opened = record { state = state_after s p'.seen; handed = desk.handed } in
+    let d : Core = record { state = state_after s p'.seen; handed = desk.handed } in
     let kept : d.state.cluster.limits ≡ desk.limits = limits_kept s p'.seen in
     let leaves : Leaves p'.seen d = record {
       legal = subst (λ limits. Legal limits desk.handed p'.seen) (sym kept) looked.ahead.legal;

@@ -14,7 +14,7 @@ use Rattle.desk.specs.declared.step.Step.{Step}
 use Rattle.desk.specs.declared.step.Step.TheVariants.{Event, Pop, Assume, BindDone, Forget, Fail, Tick, Count}
 use Rattle.desk.specs.declared.step.Reply.TheVariants as replies
 use Rattle.desk.specs.Machine.{State, Outcome, opening, both, unless, step, after, told, of_node, of_pod, moved, moved_if_placed, entry_at, pass_number, refusal_to_fail, refusal_to_tick}
-use Rattle.desk.specs.Caller.{Opened}
+use Rattle.desk.specs.Caller.{Core}
 use Rattle.desk.specs.History.{Call, AreHanded, AreOthers, Leaves, calls_of, state_after}
 
 -- ---- no step changes the counts before its call is counted
@@ -85,7 +85,7 @@ zeros (suc n) zero = refl
 zeros (suc n) (suc k) = zeros n k
 
 -- what a state says of each pass's calls is how many the history has
-pub leaves_counts : (l : List Call) (d : Opened) → Leaves l d → d.handed ≡ 64 → (k : ℕ) → slice_index d.state.calls k ≡ calls_of k l
+pub leaves_counts : (l : List Call) (d : Core) → Leaves l d → d.handed ≡ 64 → (k : ℕ) → slice_index d.state.calls k ≡ calls_of k l
 leaves_counts l d left all k =
     let first = opening d.state.cluster.limits in
     let handed : AreHanded 64 l = subst (λ n. AreHanded n l) all left.legal.handed in

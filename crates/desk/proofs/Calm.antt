@@ -42,7 +42,7 @@ use Rattle.desk.specs.declared.step.Step.{Step}
 use Rattle.desk.specs.declared.step.Step.TheVariants.{Event, Pop, Assume, BindDone, Forget, Fail, Tick, Count}
 use Rattle.desk.specs.Machine.{State, Outcome, opening, unless, step, reply, snapshot, of_node, of_pod, moved, moved_if_placed, entry_at, pass_number, refusal_to_fail, refusal_to_tick}
 use Rattle.desk.specs.History.{Call, AreAnswered, state_after, Leaves, is_accepted, last_said, accepted, row_in, row_of, place_of}
-use Rattle.desk.specs.Caller.{Opened}
+use Rattle.desk.specs.Caller.{Core}
 use Rattle.desk.specs.Calm.{IsCalm, IsCalmStep, HasRoom}
 use Rattle.desk.proofs.Histories.{state_more, append_nil}
 use Rattle.desk.proofs.Deciding.{first_five, not_false}
@@ -312,7 +312,7 @@ each_found {X = X} P f (e ∷ es) sorted h =
     by x is false same below = ap (λ b. cond b (Some e.1) (fin.find name_cmp x.0 es)) (same_test x.0 e.0 ∙ same) ∙ is
 
 -- after a calm history no node that is shown has more used than it has
-pub calm_has_room : (d : Opened) (l : List Call) → Leaves l d → IsCalm l → All HasRoom (snapshot d.state.cluster)
+pub calm_has_room : (d : Core) (l : List Call) → Leaves l d → IsCalm l → All HasRoom (snapshot d.state.cluster)
 calm_has_room d l left calm =
     let s = state_after (opening d.state.cluster.limits) l in
     subst (λ (t : State). All HasRoom (snapshot t.cluster)) (sym left.state)

@@ -32,7 +32,7 @@ use Rattle.desk.specs.declared.step.Step.{Step}
 use Rattle.desk.specs.declared.step.Step.TheVariants.{Event, Pop, Assume, BindDone, Forget, Fail, Tick, Count}
 use Rattle.desk.specs.declared.step.Reply.{Reply}
 use Rattle.desk.specs.declared.step.Reply.TheVariants.{Ticket as Given}
-use Rattle.desk.specs.Caller.{Opened}
+use Rattle.desk.specs.Caller.{Core}
 use Rattle.desk.specs.Shown.{Shown}
 use Rattle.desk.specs.Machine.{State, Outcome, opening, unless, entry_for, entry_at, pass_number, reply, after}
 use Rattle.desk.specs.History.{Call, AreAnswered, state_after, Leaves, is_accepted, last_said, accepted, if_named, row_in, row_of, pending_in, pending_of, popped_in, popped_of, FitsThere, IsFairTicket}
@@ -199,7 +199,7 @@ pub fits_on : (c : Cluster) (node : Name) (request : Request) (o : Option Node) 
 fits_on c node request None h = absurd (cc)
 fits_on c node request (Some row) h = (row, refl, ok_of (fit_of row.allocatable (used c.places node) request) h)
 
-module _ (d : Opened) (l : List Call) (left : Leaves l d) (p : ℕ) (uid node : Name) (ticket : Ticket) (told : Given ticket ≡ reply d.state p (Assume uid node)) where
+module _ (d : Core) (l : List Call) (left : Leaves l d) (p : ℕ) (uid node : Name) (ticket : Ticket) (told : Given ticket ≡ reply d.state p (Assume uid node)) where
   fits_there : FitsThere l p uid node
   fits_there =
       let s = d.state in
@@ -227,6 +227,6 @@ module _ (d : Opened) (l : List Call) (left : Leaves l d) (p : ℕ) (uid node : 
       }
 
 -- a ticket is given fairly
-pub fair : (d : Opened) (l : List Call) → Leaves l d → (p : ℕ) (e : Step) (answer : Reply) → answer ≡ reply d.state p e → IsFairTicket l p e answer
+pub fair : (d : Core) (l : List Call) → Leaves l d → (p : ℕ) (e : Step) (answer : Reply) → answer ≡ reply d.state p e → IsFairTicket l p e answer
 fair d l left p (Assume uid node) (Given ticket) told = fits_there d l left p uid node ticket told
 fair d l left p e answer told = tt

@@ -1,8 +1,7 @@
--- What one more call, or one more pass, does to a history.
-use Rattle.std.proofs.Common.{◌≡◌, ℕ, suc, ◌+◌, ◌<◌, ◌≤◌, Bool, true, false, cond, eqb, List, [], ◌∷◌, ◌++◌, map, filter, length, refl, sym, ap, subst, ◌∙◌, arith, length-append, add-zero, Option, None, Some}
+-- What one more call does to a history.
+use Rattle.std.proofs.Common.{◌≡◌, ℕ, ◌+◌, ◌<◌, Bool, true, false, cond, eqb, List, [], ◌∷◌, ◌++◌, map, filter, length, refl, sym, ap, subst, ◌∙◌, arith, length-append, add-zero, Option, None, Some}
 use Rattle.std.specs.List.{AllByRecursion, range_with_len}
 use Rattle.std.proofs.lemmas.Bool.{eqb-true, eq-eqb}
-use Rattle.std.proofs.lemmas.Bool.Decides.{nat_tests}
 use Rattle.std.proofs.lemmas.List.{map-append, map-id}
 use Rattle.std.proofs.lemmas.List.FromFn.{map-range_with_len_more}
 use Rattle.quant.specs.declared.event.Event.TheVariants.{NodeSet, NodeGone, PodPending, PodBound, PodGone}
@@ -19,14 +18,10 @@ use Rattle.queue.specs.Queue.{QueueState, has_entry, after_add, after_remove, af
 use Rattle.desk.specs.declared.step.Step.{Step}
 use Rattle.desk.specs.declared.step.Step.TheVariants.{Event, Pop, Assume, BindDone, Forget, Fail, Tick, Count}
 use Rattle.desk.specs.declared.step.Reply.{Reply}
-use Rattle.desk.specs.Caller.{Caller, Opened, with_state, with_pass}
+use Rattle.desk.specs.Caller.{Caller, Core, with_state}
 use Rattle.desk.specs.declared.step.Reply.TheVariants as replies
 use Rattle.desk.specs.Machine.{State, Outcome, opening, both, unless, reply, after, told, of_node, of_pod, moved, moved_if_placed, entry_at, pass_number, refusal_to_fail, refusal_to_tick}
-use Rattle.desk.specs.History.{Call, AreAnswered, state_after, numbers_of, one_to, calls_of, AreHanded, AreOthers, Legal, Leaves, HasCallsOf, GoesOn, HasSeen, call}
-
--- a lesser number is another number
-lt-eqb : (m n : ℕ) → m < n → eqb m n ≡ false
-lt-eqb m n lt = grind (arith, nat_tests)
+use Rattle.desk.specs.History.{Call, AreAnswered, state_after, numbers_of, one_to, calls_of, Legal, Leaves, HasCallsOf, call}
 
 -- an empty list at the end changes nothing
 pub append_nil : {A : Type 0} (xs : List A) → xs ++ [] ≡ xs
@@ -132,35 +127,9 @@ limits_after s pass (Fail uid how) = unless_limits (refusal_to_fail s pass uid) 
 limits_after s pass (Tick now) = unless_limits (refusal_to_tick s now) s (record { state = record s { clock = now; queue = after_tick s.queue now }; reply = replies.Done }) refl
 limits_after s pass Count = refl
 
--- ---- what a pass has seen
-
--- the calls of a pass in two parts
-pub calls_append : (pass : ℕ) (a b : List Call) → AreOthers pass b → calls_of pass (a ++ b) ≡ calls_of pass a
-calls_append pass [] b others = none b others
-  where
-    none : (b : List Call) → AreOthers pass b → calls_of pass b ≡ 0
-    none [] others = refl
-    none (d ∷ b) others = rw others.0 (none b others.1)
-calls_append pass (d ∷ a) b others = elim (eqb d.pass pass) as (λ t. length (cond t (d ∷ filter (λ c. eqb c.pass pass) (a ++ b)) (filter (λ c. eqb c.pass pass) (a ++ b))) ≡ length (cond t (d ∷ filter (λ c. eqb c.pass pass) a) (filter (λ c. eqb c.pass pass) a))) [
-  | true ↦ ap suc (calls_append pass a b others)
-  | false ↦ calls_append pass a b others
-]
-
--- what a pass has seen has all its calls of the whole
-pub seen_calls : (p : Caller) (seen l : List Call) → HasSeen p seen l → HasCallsOf p l
-seen_calls p seen l s = ap (calls_of p.number) s.goes_on.1 ∙ calls_append p.number seen s.goes_on.0 s.goes_on.2 ∙ s.calls
-
--- a history goes on with nothing
-pub goes_nowhere : (pass : ℕ) (l : List Call) → GoesOn pass l l
-goes_nowhere pass l = ([], sym (append_nil l), tt)
-
--- a pass has seen a whole history with its calls
-pub seen_whole : (p : Caller) (l : List Call) → HasCallsOf p l → HasSeen p l l
-seen_whole p l calls = record { calls = calls; goes_on = goes_nowhere p.number l }
-
 -- ---- the whole of one more call
 
-module _ (l : List Call) (d : Opened) (p : Caller) (e : Step) (answer : Reply) where
+module _ (l : List Call) (d : Core) (p : Caller) (e : Step) (answer : Reply) where
   -- the history with the call
   abbrev more : List Call
   more = l ++ call p e answer ∷ []
@@ -187,31 +156,3 @@ module _ (l : List Call) (d : Opened) (p : Caller) (e : Step) (answer : Reply) w
   -- and the pass has made one call more
   pub calls_made : HasCallsOf p l → HasCallsOf (record p { calls = p.calls + 1 }) (l ++ call p e answer ∷ [])
   calls_made calls = calls_more l (call p e answer) p.number ∙ ap (λ b. calls_of p.number l + cond b 1 0) (eq-eqb p.number p.number refl) ∙ ap (λ n. n + 1) calls
-
--- ---- one more pass
-
--- a pass that has made no call
-abbrev pub new_caller : ℕ → Caller
-new_caller number = record { number = number; calls = 0 }
-
--- passes that were handed out are among more of them
-handed_wider : (m n : ℕ) (l : List Call) → m ≤ n → AreHanded m l → AreHanded n l
-handed_wider m n [] le all = tt
-handed_wider m n (c ∷ l) le all = (omega (arith, all.0), handed_wider m n l le all.1)
-
--- a pass that wasn't handed out made no call
-others_all : (n : ℕ) (l : List Call) → AreHanded n l → AreOthers n l
-others_all n [] all = tt
-others_all n (c ∷ l) all = (lt-eqb c.pass n all.0, others_all n l all.1)
-
-module _ (l : List Call) (d : Opened) where
-  -- a pass that is handed out leaves the history as it is
-  pub leaves_pass : Leaves l d → Leaves l (with_pass d)
-  leaves_pass left = record {
-    legal = record { history = left.legal.history; handed = handed_wider d.handed (d.handed + 1) l (omega arith) left.legal.handed };
-    state = left.state;
-  }
-
-  -- and has made no call in it
-  pub seen_at_first : Leaves l d → HasSeen (new_caller d.handed) [] l
-  seen_at_first left = record { calls = refl; goes_on = (l, refl, others_all d.handed l left.legal.handed) }

@@ -23,7 +23,7 @@ use Rattle.desk.specs.declared.step.Step.TheVariants.{Event, Pop, Assume, BindDo
 use Rattle.desk.specs.declared.step.Reply.{Reply}
 use Rattle.desk.specs.declared.step.Reply.TheVariants.{Done, Ticket as Given}
 use Rattle.desk.specs.Machine.{State, opening, step, reply, after, snapshot}
-use Rattle.desk.specs.Caller.{Opened}
+use Rattle.desk.specs.Caller.{Core}
 use Rattle.desk.specs.History.{Call, AreAnswered, state_after, Legal, Leaves, is_accepted, last_said, accepted, if_named, row_in, row_of, pending_in, pending_of, put_in, put_of, Put, finish_in, is_finished_in, place_by, place_of, node_in, pod_in, found_at, rows_of, places_of, snap}
 use Rattle.desk.specs.History.Put.{Chosen, Told, Nowhere}
 use Rattle.desk.proofs.Pods.{pod_of, pod_at}
@@ -261,7 +261,7 @@ module _ (limits : Limits) (passes : ℕ) (l : List Call) (legal : Legal limits 
       ap (λ o. place_by o (pending_of l q) (is_finished_in l q)) (nothing_said (λ c. put_in q c.step c.reply) pod_in q (λ c. put_silent q c.step c.reply) l h))))
 
 -- the snapshot of the state that a history leaves is that of the history
-pub snapshot_told : (d : Opened) (l : List Call) → Leaves l d → snapshot d.state.cluster ≡ snap l
+pub snapshot_told : (d : Core) (l : List Call) → Leaves l d → snapshot d.state.cluster ≡ snap l
 snapshot_told d l left =
     ap (λ (t : State). snapshot t.cluster) left.state
     ∙ (λ i. shows (nodes_told d.state.cluster.limits d.handed l left.legal i) (places_told d.state.cluster.limits d.handed l left.legal i))

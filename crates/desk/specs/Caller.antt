@@ -1,8 +1,9 @@
--- What contracts see of a pass, and of a desk.
-use Rattle.std.specs.Prelude.{◌≡◌, ℕ, ◌+◌, ◌≤◌, List, slice_index, Bool, false, is_some, ⊤}
+-- What contracts see of a pass as its calls tell it, and of a desk with one owner.
+use Rattle.std.specs.Prelude.{◌≡◌, ℕ, ◌≤◌, List, slice_index, Bool, false, is_some, ⊤}
 use Rattle.quant.specs.declared.limits.TheConstants.{LATEST_MOMENT}
 use Rattle.queue.specs.Queue.{next_of}
 use Rattle.book.specs.declared.limits.Limits.{Limits}
+use Rattle.desk.specs.declared.limits.TheConstants.{MAX_PASSES}
 use Rattle.desk.specs.declared.step.Step.{Step}
 use Rattle.desk.specs.declared.step.Step.TheVariants.{Tick, Pop}
 use Rattle.desk.specs.Machine.{State, opening}
@@ -12,22 +13,18 @@ pub record Caller : Type 0 where
   pub number : ℕ
   pub calls : ℕ
 
--- a desk: its state, and how many passes it has handed out
-pub record Opened : Type 0 where
+-- a desk with one owner: its state, and how many passes it takes calls of
+pub record Core : Type 0 where
   pub state : State
   pub handed : ℕ
 
--- a desk that has handed out no pass and answered no call
-abbrev pub new_desk : Limits → Opened
-new_desk limits = record { state = opening limits; handed = 0 }
+-- one that takes calls of all passes, and has answered none
+abbrev pub new_core : Limits → Core
+new_core limits = record { state = opening limits; handed = MAX_PASSES }
 
--- a desk with another state
-abbrev pub with_state : Opened → State → Opened
+-- one with another state
+abbrev pub with_state : Core → State → Core
 with_state desk s = record desk { state = s }
-
--- a desk that has handed out one pass more
-abbrev pub with_pass : Opened → Opened
-with_pass desk = record desk { handed = desk.handed + 1 }
 
 -- no call was answered of passes that weren't handed out
 abbrev pub HasNoCalls : ℕ → List ℕ → Type 0

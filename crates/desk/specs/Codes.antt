@@ -14,7 +14,7 @@ use Rattle.book.specs.Cluster.{Cluster}
 use Rattle.book.specs.Codes.{cluster_code}
 use Rattle.desk.specs.Shown.{Shown}
 use Rattle.desk.specs.Machine.{State}
-use Rattle.desk.specs.Caller.{Opened}
+use Rattle.desk.specs.Caller.{Core}
 
 -- a shown node is stored as the pair of its fields
 abbrev pub shown_code : Coded Shown
@@ -33,5 +33,5 @@ state_code =
     (λ _. refl)
 
 -- and a desk as its state and its passes
-abbrev pub opened_code : Coded Opened
-opened_code = code_by (State × ℕ) (coded× state_code coded_ℕ) (λ d. (d.state, d.handed)) (λ p. record { state = p.0; handed = p.1 }) (λ _. refl)
+abbrev pub core_code : Coded Core
+core_code = code_by (State × ℕ) (coded× state_code coded_ℕ) (λ d. (d.state, d.handed)) (λ p. record { state = p.0; handed = p.1 }) (λ _. refl)

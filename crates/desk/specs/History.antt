@@ -1,4 +1,4 @@
--- Histories of a desk: which are legal, what is read from them, and what a pass learns by its calls.
+-- Histories of a desk: which are legal, and what is read from them.
 use Rattle.std.specs.Prelude.{◌≡◌, ℕ, ◌+◌, ◌<◌, Bool, true, false, List, [], ◌∷◌, ◌++◌, map, filter, length, Contains, Option, None, Some, Ok, if◌then◌else◌, unwrap_or, ◌==◌, ⊤, slice_index}
 use Rattle.std.specs.List.{filter_map, range_with_len, AllByRecursion}
 use Rattle.std.specs.Option.{option_or, option_map}
@@ -21,7 +21,7 @@ use Rattle.desk.specs.declared.step.Step.TheVariants.{Event, Pop, Assume, BindDo
 use Rattle.desk.specs.declared.step.Reply.{Reply}
 use Rattle.desk.specs.declared.step.Reply.TheVariants.{Done, Idle, Popped, Ticket as Given, Counts, Refused}
 use Rattle.desk.specs.Machine.{State, opening, reply, after}
-use Rattle.desk.specs.Caller.{Caller, Opened}
+use Rattle.desk.specs.Caller.{Caller, Core}
 use Rattle.desk.specs.Shown.{Shown}
 
 -- an answered call
@@ -69,15 +69,10 @@ pub record Legal (limits : Limits) (passes : ℕ) (l : List Call) : Type 0 where
   pub history : IsHistory limits l
   pub handed : AreHanded passes l
 
--- a legal history leaves a desk so
-pub record Leaves (l : List Call) (desk : Opened) : Type 0 where
+-- a legal history leaves a desk with one owner so
+pub record Leaves (l : List Call) (desk : Core) : Type 0 where
   pub legal : Legal desk.state.cluster.limits desk.handed l
   pub state : desk.state ≡ state_after (opening desk.state.cluster.limits) l
-
--- a pass of this desk: it was handed out, and both count its calls alike
-pub record IsOf (p : Caller) (desk : Opened) : Type 0 where
-  pub handed : p.number < desk.handed
-  pub calls : slice_index desk.state.calls p.number ≡ p.calls
 
 -- a history has just the calls that a pass made
 abbrev pub HasCallsOf : Caller → List Call → Type 0
@@ -87,7 +82,7 @@ HasCallsOf p l = calls_of p.number l ≡ p.calls
 abbrev pub call : Caller → Step → Reply → Call
 call p e answer = record { pass = p.number; number = p.calls + 1; step = e; reply = answer }
 
--- ---- what a pass learns
+-- ---- how histories go on
 
 -- calls of other passes alone
 abbrev pub AreOthers : ℕ → List Call → Type 0
@@ -96,19 +91,6 @@ AreOthers pass l = AllByRecursion (λ c. (c.pass == pass) ≡ false) l
 -- a history begins with another, and has no further call of the pass
 abbrev pub GoesOn : ℕ → List Call → List Call → Type 0
 GoesOn pass before l = (between : List Call) × (l ≡ before ++ between) × AreOthers pass between
-
--- what a pass may have seen of a history: a beginning of it, with all calls that the pass made
-pub record HasSeen (p : Caller) (seen l : List Call) : Type 0 where
-  pub calls : HasCallsOf p seen
-  pub goes_on : GoesOn p.number seen l
-
--- a step of a pass was answered so: the pass had seen `before` and now has seen `l`, which is legal, begins with
--- `before`, goes on with calls of other passes, and ends with this call
-pub record Applied (limits : Limits) (passes : ℕ) (p : Caller) (before : List Call) (e : Step) (answer : Reply) (l : List Call) : Type 0 where
-  pub until : List Call  -- the history up to the call
-  pub ends : l ≡ until ++ call p e answer ∷ []
-  pub goes_on : GoesOn p.number before until
-  pub legal : Legal limits passes l
 
 -- ---- what is read from a history
 
@@ -265,13 +247,6 @@ places_of l = found_at (place_of l) (filter_map (λ c. pod_in c.step) l)
 -- the snapshot of a history: its nodes in the order of their names' bytes, each with the sum over the pods that it places there
 abbrev pub snap : List Call → List Shown
 snap l = map (λ e. record { node = e.1; used = used (places_of l) e.0 }) (entries (rows_of l))
-
--- a look showed these rows: the pass had seen `before` and now has seen `l`, which is legal, begins with `before`
--- and goes on with calls of other passes; the rows are its snapshot
-pub record Looked (limits : Limits) (passes : ℕ) (p : Caller) (before l : List Call) (rows : List Shown) : Type 0 where
-  pub goes_on : GoesOn p.number before l
-  pub legal : Legal limits passes l
-  pub shows : rows ≡ snap l
 
 -- ---- what a ticket is given for
 

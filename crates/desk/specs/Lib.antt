@@ -7,6 +7,6 @@ pub mod Laws
 pub mod Shared
 pub mod Codes
 pub mod SharedCodes
-pub mod Said
+pub mod BareReply
 pub mod Done
 pub mod Alone

@@ -40,7 +40,7 @@ use Rattle.book.specs.declared.step.Entry.{Entry}
 use Rattle.book.specs.declared.step.Entry.TheVariants.{Missing, Elsewhere, Held}
 use Rattle.book.specs.declared.step.ClusterStep.{ClusterStep}
 use Rattle.book.specs.declared.step.ClusterStep.TheVariants as cluster
-use Rattle.desk.specs.declared.pass.TheConstants.{MAX_PASSES}
+use Rattle.desk.specs.declared.limits.TheConstants.{MAX_PASSES}
 use Rattle.desk.specs.declared.step.Step.{Step}
 use Rattle.desk.specs.declared.step.Step.TheVariants.{Event, Pop, Assume, BindDone, Forget, Fail, Tick, Count}
 use Rattle.desk.specs.declared.step.Counts.{Counts}

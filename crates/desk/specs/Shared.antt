@@ -3,16 +3,16 @@ use Rattle.std.specs.Prelude.{◌≡◌, ℕ, ◌+◌, ◌<◌, ◌==◌, Bool, 
 use Rattle.logbook.specs.Pages.{Cell, Step as WordStep, View, Book, Named}
 use Rattle.book.specs.declared.limits.Limits.{Limits}
 use Rattle.book.specs.Cluster.{Cluster}
-use Rattle.desk.specs.declared.pass.TheConstants.{MAX_PASSES, MAX_CALLS}
-use Rattle.desk.specs.declared.said.Said.{Said}
-use Rattle.desk.specs.declared.said.Said.TheVariants as said
+use Rattle.desk.specs.declared.limits.TheConstants.{MAX_PASSES, MAX_CALLS}
+use Rattle.desk.specs.declared.bare_reply.BareReply.{BareReply}
+use Rattle.desk.specs.declared.bare_reply.BareReply.TheVariants as said
 use Rattle.desk.specs.declared.step.Step.{Step}
 use Rattle.desk.specs.declared.step.Step.TheVariants.{Count}
 use Rattle.desk.specs.declared.step.Reply.{Reply}
 use Rattle.desk.specs.declared.step.Reply.TheVariants as replies
 use Rattle.desk.specs.Machine.{State, opening, reply, after}
-use Rattle.desk.specs.Caller.{Caller, Opened, with_state}
-use Rattle.desk.specs.Said.{said_of}
+use Rattle.desk.specs.Caller.{Caller, Core, new_core, with_state}
+use Rattle.desk.specs.BareReply.{bare_reply}
 use Rattle.desk.specs.Shown.{Shown}
 use Rattle.desk.specs.Calm.{IsCalm, HasRoom}
 use Rattle.std.specs.List.{All}
@@ -42,76 +42,76 @@ next_call s pass number e = record { pass = pass; number = number; step = e; rep
 -- ---- what is published
 
 -- a beginning of the history that this book keeps
-pub record Known : Type 0 where
+pub record Prefix : Type 0 where
   pub book : Book
   pub list : List Call
 
 -- the published desk, what there is to say of its last call, and the history that left it so
 pub record Published : Type 0 where
-  pub desk : Opened
-  pub said : Said
-  pub known : Known
+  pub desk : Core
+  pub said : BareReply
+  pub prefix : Prefix
 
 -- with one call more
-abbrev pub with_call : Known → Call → Known
-with_call known c = record known { list = known.list ++ c ∷ [] }
+abbrev pub with_call : Prefix → Call → Prefix
+with_call prefix c = record prefix { list = prefix.list ++ c ∷ [] }
 
 -- a call that is to be published: its pass, its step, and the history with it
-pub record Ordered : Type 0 where
+pub record Order : Type 0 where
   pub pass : ℕ
   pub step : Step
-  pub known : Known
+  pub prefix : Prefix
 
 -- whether a desk has a call left for this pass
-abbrev pub may_call : Opened → ℕ → Bool
+abbrev pub may_call : Core → ℕ → Bool
 may_call d pass = nat_lt pass d.handed && nat_lt (slice_index d.state.calls pass) MAX_CALLS
 
 -- what is published after a call: the state that it leaves, its answer, and the history with it
-abbrev pub published_after : Published → Ordered → Published
+abbrev pub published_after : Published → Order → Published
 published_after x o =
     if may_call x.desk o.pass
-    then record { desk = with_state x.desk (after x.desk.state o.pass o.step); said = said_of (reply x.desk.state o.pass o.step); known = o.known }
-    else record x { known = o.known }
+    then record { desk = with_state x.desk (after x.desk.state o.pass o.step); said = bare_reply (reply x.desk.state o.pass o.step); prefix = o.prefix }
+    else record x { prefix = o.prefix }
 
 -- the rule of what is published: its history is legal, but for which passes were handed out, and leaves the desk so, the
 -- counts of calls among the rest; and the desk has these limits, and its history is in this book
 pub record Stands (book : Book) (limits : Limits) (x : Published) : Type 0 where
-  pub leaves : Leaves x.known.list x.desk
-  pub book_is : x.known.book ≡ book
+  pub leaves : Leaves x.prefix.list x.desk
+  pub book_is : x.prefix.book ≡ book
   pub limits_are : x.desk.state.cluster.limits ≡ limits
   pub handed_are : x.desk.handed ≡ MAX_PASSES
 
 -- what is published of a desk on which nothing was done
 abbrev pub first_published : Book → Limits → Published
-first_published book limits = record { desk = record { state = opening limits; handed = MAX_PASSES }; said = said.Done; known = record { book = book; list = [] } }
+first_published book limits = record { desk = new_core limits; said = said.Done; prefix = record { book = book; list = [] } }
 
 -- a call of no pass, which changes nothing but the history that stands there
-abbrev pub no_order : Known → Ordered
-no_order known = record { pass = MAX_PASSES; step = Count; known = known }
+abbrev pub no_order : Prefix → Order
+no_order prefix = record { pass = MAX_PASSES; step = Count; prefix = prefix }
 
 -- the call of a pass as it is to be published
-abbrev pub order_of : Published → Caller → Step → Ordered
-order_of x p e = record { pass = p.number; step = e; known = with_call x.known (next_call x.desk.state p.number (p.calls + 1) e) }
+abbrev pub order_of : Published → Caller → Step → Order
+order_of x p e = record { pass = p.number; step = e; prefix = with_call x.prefix (next_call x.desk.state p.number (p.calls + 1) e) }
 
 -- ---- what a pass has seen
 
--- a pass of a locked desk: its number and how many of its calls were answered, and the history that it has seen
-pub record Member : Type 0 where
+-- a pass: its number and how many of its calls were answered, and the history that it has seen
+pub record Pass : Type 0 where
   pub caller : Caller
   pub seen : List Call
 
--- a locked desk: its limits, and how many passes it has handed out
-pub record Locked : Type 0 where
+-- a desk: its limits, and how many passes it has handed out
+pub record Desk : Type 0 where
   pub limits : Limits
   pub handed : ℕ
 
 -- a pass of this desk: it was handed out
-abbrev pub IsMember : Member → Locked → Type 0
-IsMember p desk = p.caller.number < desk.handed
+abbrev pub IsPassOf : Pass → Desk → Type 0
+IsPassOf p desk = p.caller.number < desk.handed
 
 -- a history that a pass may go on to: it is legal, begins with what the pass has seen, and has of the pass's calls just
 -- those that it made
-pub record IsAhead (desk : Locked) (p : Member) (l : List Call) : Type 0 where
+pub record IsAhead (desk : Desk) (p : Pass) (l : List Call) : Type 0 where
   pub legal : Legal desk.limits desk.handed l
   pub goes_on : GoesOn p.caller.number p.seen l
   pub own : HasCallsOf p.caller l
@@ -119,7 +119,7 @@ pub record IsAhead (desk : Locked) (p : Member) (l : List Call) : Type 0 where
 -- a step of a pass was answered so: the pass now has seen a legal history, which begins with what it had seen, goes on with
 -- calls of other passes, and ends with this call; it has just the calls of the pass that it made. A ticket is fair by the
 -- history before the call
-pub record IsApplied (desk : Locked) (p : Member) (e : Step) (answer : Reply) (p' : Member) : Type 0 where
+pub record IsApplied (desk : Desk) (p : Pass) (e : Step) (answer : Reply) (p' : Pass) : Type 0 where
   pub until : List Call
   pub ahead : IsAhead desk p until
   pub ends : p'.seen ≡ until ++ call p.caller e answer ∷ []
@@ -130,14 +130,14 @@ pub record IsApplied (desk : Locked) (p : Member) (e : Step) (answer : Reply) (p
 
 -- a look showed these rows: they are the snapshot of the history that the pass now has seen, which it could go on to; where
 -- that history is calm, no node has more used than it can allot
-pub record IsLooked (desk : Locked) (p : Member) (rows : List Shown) (p' : Member) : Type 0 where
+pub record IsLooked (desk : Desk) (p : Pass) (rows : List Shown) (p' : Pass) : Type 0 where
   pub ahead : IsAhead desk p p'.seen
   pub same : p'.caller ≡ p.caller
   pub shows : rows ≡ snap p'.seen
   pub room : IsCalm p'.seen → All HasRoom rows
 
 -- two passes met: both have now seen one history, which each could go on to
-pub record Met (desk : Locked) (p q p' q' : Member) : Type 0 where
+pub record Met (desk : Desk) (p q p' q' : Pass) : Type 0 where
   pub list : List Call
   pub first : IsAhead desk p list
   pub second : IsAhead desk q list
@@ -145,7 +145,7 @@ pub record Met (desk : Locked) (p q p' q' : Member) : Type 0 where
   pub second_new : q' ≡ record q { seen = list }
 
 -- a desk was closed by a pass: the book is as a history left it that the pass could go on to, and now has seen
-pub record Closed (desk : Locked) (p p' : Member) (book : Cluster) : Type 0 where
+pub record Closed (desk : Desk) (p p' : Pass) (book : Cluster) : Type 0 where
   pub list : List Call
   pub ahead : IsAhead desk p list
   pub new : p' ≡ record p { seen = list }

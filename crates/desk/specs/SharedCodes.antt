@@ -4,16 +4,16 @@ use Rattle.std.specs.Coded.{Coded, code_by, coded×, coded_ℕ, coded_list}
 use Rattle.logbook.specs.Pages.{Book, book_coded}
 use Rattle.desk.specs.contracts.step.Step as step
 use Rattle.desk.specs.contracts.step.Reply as reply
-use Rattle.desk.specs.contracts.said.Said as said
+use Rattle.desk.specs.contracts.bare_reply.BareReply as said
 use Rattle.desk.specs.declared.step.Step.{Step}
 use Rattle.desk.specs.declared.step.Reply.{Reply}
-use Rattle.desk.specs.declared.said.Said.{Said}
+use Rattle.desk.specs.declared.bare_reply.BareReply.{BareReply}
 use Rattle.desk.specs.History.{Call}
-use Rattle.desk.specs.Shared.{Known, Published, Ordered, Member, Locked}
+use Rattle.desk.specs.Shared.{Prefix, Published, Order, Pass, Desk}
 use Rattle.book.specs.contracts.limits.Limits as limits
 use Rattle.book.specs.declared.limits.Limits.{Limits}
-use Rattle.desk.specs.Caller.{Opened}
-use Rattle.desk.specs.Codes.{opened_code}
+use Rattle.desk.specs.Caller.{Core}
+use Rattle.desk.specs.Codes.{core_code}
 
 -- a call as the tuple of its fields
 abbrev pub call_code : Coded Call
@@ -23,28 +23,28 @@ call_code =
     (λ _. refl)
 
 -- a beginning of a history
-abbrev pub known_code : Coded Known
-known_code = code_by (Book × List Call) (coded× book_coded (coded_list call_code)) (λ k. (k.book, k.list)) (λ p. record { book = p.0; list = p.1 }) (λ _. refl)
+abbrev pub prefix_code : Coded Prefix
+prefix_code = code_by (Book × List Call) (coded× book_coded (coded_list call_code)) (λ k. (k.book, k.list)) (λ p. record { book = p.0; list = p.1 }) (λ _. refl)
 
 -- what is published, and what is to be
 abbrev pub published_code : Coded Published
 published_code =
-    code_by (Opened × (Said × Known)) (coded× opened_code (coded× said.the_row.coded known_code)) (λ x. (x.desk, (x.said, x.known)))
-    (λ p. record { desk = p.0; said = p.1.0; known = p.1.1 })
+    code_by (Core × (BareReply × Prefix)) (coded× core_code (coded× said.the_row.coded prefix_code)) (λ x. (x.desk, (x.said, x.prefix)))
+    (λ p. record { desk = p.0; said = p.1.0; prefix = p.1.1 })
     (λ _. refl)
 
-abbrev pub ordered_code : Coded Ordered
-ordered_code =
-    code_by (ℕ × (Step × Known)) (coded× coded_ℕ (coded× step.the_row.coded known_code)) (λ o. (o.pass, (o.step, o.known)))
-    (λ p. record { pass = p.0; step = p.1.0; known = p.1.1 })
+abbrev pub order_code : Coded Order
+order_code =
+    code_by (ℕ × (Step × Prefix)) (coded× coded_ℕ (coded× step.the_row.coded prefix_code)) (λ o. (o.pass, (o.step, o.prefix)))
+    (λ p. record { pass = p.0; step = p.1.0; prefix = p.1.1 })
     (λ _. refl)
 
--- a pass of a locked desk, and the desk
-abbrev pub member_code : Coded Member
-member_code =
+-- a pass, and its desk
+abbrev pub pass_code : Coded Pass
+pass_code =
     code_by (ℕ × (ℕ × List Call)) (coded× coded_ℕ (coded× coded_ℕ (coded_list call_code))) (λ m. (m.caller.number, (m.caller.calls, m.seen)))
     (λ p. record { caller = record { number = p.0; calls = p.1.0 }; seen = p.1.1 })
     (λ _. refl)
 
-abbrev pub locked_code : Coded Locked
-locked_code = code_by (Limits × ℕ) (coded× limits.the_row.coded coded_ℕ) (λ d. (d.limits, d.handed)) (λ p. record { limits = p.0; handed = p.1 }) (λ _. refl)
+abbrev pub desk_code : Coded Desk
+desk_code = code_by (Limits × ℕ) (coded× limits.the_row.coded coded_ℕ) (λ d. (d.limits, d.handed)) (λ p. record { limits = p.0; handed = p.1 }) (λ _. refl)

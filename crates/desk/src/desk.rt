@@ -1,529 +1,189 @@
-//! The desk.
-ghost use Rattle.std.specs.Prelude.{◌≡◌, ◌≤◌, ◌<◌, ◌↔◌, ◌⊎◌, ◌+◌, ◌++◌, ◌∷◌, [], ℕ, List, IfOk, OnErr, OnOk, IsErr, MatchResult, slice_index};
-ghost use Rattle.std.specs.Bool.{IsTrue};
-ghost use Rattle.desk.specs.Caller.{HasNoCalls};
-ghost use Rattle.desk.specs.Said.{said_of};
+//! The desk that many passes share, from any thread.
+ghost use Rattle.std.specs.Prelude.{◌≡◌, ◌≤◌, ◌+◌, [], IfOk, OnOk, OnErr, IsErr};
+ghost use Rattle.desk.specs.Caller.{IsTimely};
+ghost use Rattle.desk.specs.Shared.{IsPassOf, IsApplied, IsLooked, Met, Closed};
+ghost use Rattle.desk.specs.declared.limits.TheConstants.{MAX_PASSES, MAX_CALLS};
 
-use crate::pass::{MAX_CALLS, MAX_PASSES, NoPlace, Pass};
-use crate::said::Said;
-use crate::snapshot::{Row, Snapshot};
-use crate::step::{Counts, Reply, Step};
-use book::{Book, ClusterStep, Entry, Limits, NoMemory, Refusal};
-use quant::{Event, LATEST_MOMENT, Moment, Name, Request, SharedPod, Ticket, Version};
-use queue::{Failure, PassNumber, Queue};
-use std::alloc::{AllocError, Global};
+use crate::history::{Blank, Head, Naming, Prefix};
+use crate::limits::{MAX_PASSES, NoPlace};
+use crate::pass::Pass;
+use crate::snapshot::Snapshot;
+use crate::step::{Reply, Step};
+use crate::under_lock::UnderLock;
+use book::{Book, Limits, NoMemory};
+use std::alloc::Global;
 use std::hash::RandomState;
 use std::marker::Model;
+use std::sync::{Mutex, MutexGuard, Wait};
 
-/// The one place through which all steps go.
-#[derive(Drop)]
-pub struct Desk {
-    alloc: Global,
-    book: Book,
-    queue: Queue,
-    clock: Moment,
-    calls: [u64; MAX_PASSES],
+/// A desk that many passes share, each from one thread at a time. A step is decided, written and published under the one
+/// lock; a look reads what is published, without the lock, and waits for nobody.
+///
+/// It isn't `Drop`: end it by `close` or `discard`.
+pub struct Desk<J: Naming> {
+    head: Head<J>,
+    nothing: Prefix,
+    // It is there, but while a call under the lock has it.
+    lock: Mutex<Option<UnderLock<J>>>,
     handed: usize,
 }
 
-impl Model for Desk {
-    ghost use Rattle.desk.specs.Caller.{Opened};
+impl<J: Naming> Model for Desk<J> {
+    ghost use Rattle.std.specs.Prelude.{◌≡◌, ◌≤◌, []};
+    ghost use Rattle.desk.specs.Shared.{Desk as Lent};
+    ghost use Rattle.desk.specs.SharedCodes.{desk_code};
+    ghost use Rattle.desk.specs.declared.limits.TheConstants.{MAX_PASSES};
 
-    ghost Value = { Opened };
+    ghost Value = { Lent };
 
-    ghost use Rattle.desk.specs.Codes.{opened_code};
+    ghost coded = { desk_code };
 
-    ghost coded = { opened_code };
+    ghost view = { λ d. record { limits = J.limits; handed = d.handed } };
 
-    ghost use Rattle.std.specs.Prelude.{◌≡◌, ◌≤◌, length};
-    ghost use Rattle.quant.specs.declared.limits.TheConstants.{LATEST_MOMENT};
-    ghost use Rattle.desk.specs.declared.pass.TheConstants.{MAX_PASSES};
-
-    ghost view = { λ d. record { state = record { cluster = d.book; queue = d.queue; clock = d.clock; calls = d.calls }; handed = d.handed } };
-
-    ghost use Rattle.desk.specs.Caller.{HasNoCalls};
-
-    ghost invariant = { λ d. (length d.calls ≡ MAX_PASSES) × (d.handed ≤ MAX_PASSES) × HasNoCalls d.handed d.calls × (d.clock.0 ≤ LATEST_MOMENT) };
+    ghost invariant = { λ d. (d.handed ≤ MAX_PASSES) × (d.nothing ≡ record { book = J.book; list = [] }) };
 }
 
-impl Desk {
-    ghost use Rattle.desk.specs.Caller.{new_desk, with_state, with_pass, IsTimely, hands_out};
-    ghost use Rattle.desk.specs.Shared.{may_call};
-    ghost use Rattle.desk.specs.Machine.{both, of_node, moved, step, entry_for, counts, reply, after, snapshot};
-    ghost use Rattle.desk.specs.Machine as machine;
-    ghost use Rattle.desk.specs.Done.{IsTold, IsTaken, IsDone, IsSaid};
-    ghost use Rattle.desk.specs.Said.{said_of, handed_by};
-    ghost use Rattle.std.specs.List.{All};
-    ghost use Rattle.std.specs.FinMap.{len};
-    ghost use Rattle.desk.specs.Calm.{IsCalm, HasRoom};
-    ghost use Rattle.desk.specs.History.{Call, Leaves, IsOf, HasSeen, Applied, Looked, IsFairTicket, call, snap};
-    ghost use Rattle.queue.specs.Queue as queue;
-
-    /// A desk with no nodes and no pods, that has handed out no pass. Names are looked up under the keys, so that nobody
-    /// can choose names that are slow to look up.
+impl<J: Naming> Desk<J> {
+    /// A desk with no nodes and no pods, that has handed out no pass, over a history that is empty yet. Names are looked up
+    /// under the keys, so that nobody can choose names that are slow to look up.
     ///
     /// Errors: `NoMemory`.
-    pub fn new(alloc: Global, keys: RandomState, limits: Limits) -> Result<Self, NoMemory>
-        ensures opening { IfOk result (λ desk. desk ≡ new_desk limits) }
-        ensures history { IfOk result (Leaves []) }
-    {
-        let book = Book::new(alloc, keys, limits)?;
-        let queue = Queue::new(alloc, keys, limits.queued)?;
-        Ok(Desk {
-            alloc,
-            book,
-            queue,
-            clock: Moment(0),
-            calls: [0; MAX_PASSES],
-            handed: 0,
-        })
-    }
-
-    // The book takes its part of a step, or refuses it.
-    fn tell_book(&mut self, part: ClusterStep) -> Result<book::Reply, Refusal>
-        ensures { IsTold self.old part result self.new }
-    {
-        match self.book.step(part) {
-            book::Reply::Refused(why) => Err(why),
-            said => Ok(said),
-        }
-    }
-
-    // The watch tells of a node: the book takes it or not, and where it does there may be a move.
-    fn take_node(&mut self, event: Event) -> Result<(), Refusal>
-        ensures { IsTaken self.old (of_node self.old.state event) result self.new }
-    {
-        let queue_full = self.queue.is_full();
-        let queued = false;
-        self.tell_book(ClusterStep::Event {
-            event,
-            queued,
-            queue_full,
-        })?;
-        Ok(())
-    }
-
-    // A node's row is set, and there is a move.
-    fn set_node(&mut self, event: Event) -> Result<Reply, Refusal>
-        ensures { IsDone self.old (both self.old.state (of_node self.old.state event) (moved self.old.state self.old.state.queue)) result self.new }
-    {
-        self.take_node(event)?;
-        self.queue.move_all(self.clock);
-        Ok(Reply::Done)
-    }
-
-    // A node is gone, and there is no move.
-    fn drop_node(&mut self, event: Event) -> Result<Reply, Refusal>
-        ensures { IsDone self.old (both self.old.state (of_node self.old.state event) self.old.state.queue) result self.new }
-    {
-        self.take_node(event)?;
-        Ok(Reply::Done)
-    }
-
-    // A pod waits for a place: it has an entry from now on.
-    fn add_pod(&mut self, version: Version, pod: SharedPod) -> Result<Reply, Refusal>
-        ensures { IsDone self.old (step self.old.state 0 (Step.Event (Event.PodPending version pod))) result self.new }
-    {
-        let part = ClusterStep::Event {
-            queued: self.queue.has(&pod.uid),
-            queue_full: self.queue.is_full(),
-            event: Event::PodPending { version, pod },
-        };
-        if let book::Reply::Queue(pod) = self.tell_book(part)? {
-            let _ = self.queue.add(pod, self.clock);
-        }
-        Ok(Reply::Done)
-    }
-
-    // A pod is bound: it is there, in place of where it was, and its entry goes.
-    fn bind_pod(
-        &mut self,
-        version: Version,
-        uid: Name,
-        node: Name,
-        request: Request,
-    ) -> Result<Reply, Refusal>
-        ensures { IsDone self.old (step self.old.state 0 (Step.Event (Event.PodBound version uid node request))) result self.new }
-    {
-        let bound = uid.copied();
-        let part = ClusterStep::Event {
-            queued: self.queue.has(&uid),
-            queue_full: self.queue.is_full(),
-            event: Event::PodBound {
-                version,
-                uid,
-                node,
-                request,
-            },
-        };
-        self.tell_book(part)?;
-        self.queue.remove(&bound);
-        Ok(Reply::Done)
-    }
-
-    // A pod is gone: its place and its entry go, with a move if it had a place.
-    fn drop_pod(&mut self, version: Version, uid: Name) -> Result<Reply, Refusal>
-        ensures { IsDone self.old (step self.old.state 0 (Step.Event (Event.PodGone version uid))) result self.new }
-    {
-        let gone = uid.copied();
-        let was_placed = self.book.is_placed(&uid);
-        let part = ClusterStep::Event {
-            queued: self.queue.has(&uid),
-            queue_full: self.queue.is_full(),
-            event: Event::PodGone { version, uid },
-        };
-        self.tell_book(part)?;
-        self.queue.remove(&gone);
-        if was_placed {
-            self.queue.move_all(self.clock);
-        }
-        Ok(Reply::Done)
-    }
-
-    // What the queue has of a pod that a pass wants to place.
-    fn entry_of(&self, pass: PassNumber, uid: &Name) -> Entry
-        ensures { result ≡ entry_for pass (queue.entry_of self.now.state.queue uid.now) }
-    {
-        match self.queue.pod_of(uid) {
-            None => Entry::Missing,
-            Some(pod) if self.queue.is_in_flight(uid, pass) => Entry::Held(pod.request),
-            Some(_) => Entry::Elsewhere,
-        }
-    }
-
-    // A pod that the pass popped is assumed on a node, and its entry stays in flight.
-    fn assume(&mut self, pass: usize, uid: Name, node: Name) -> Result<Reply, Refusal>
-        ensures { IsDone self.old (step self.old.state pass (Step.Assume uid node)) result self.new }
-    {
-        let entry = self.entry_of(PassNumber(pass as u64), &uid);
-        match self.tell_book(ClusterStep::Assume { uid, node, entry })? {
-            book::Reply::Ticket(ticket) => Ok(Reply::Ticket(ticket)),
-            _ => Ok(Reply::Done),
-        }
-    }
-
-    // An assumed place is marked as finished.
-    fn finish_bind(&mut self, uid: Name, ticket: Ticket) -> Result<Reply, Refusal>
-        ensures { IsDone self.old (step self.old.state 0 (Step.BindDone uid ticket)) result self.new }
-    {
-        let queued = self.queue.has(&uid);
-        self.tell_book(ClusterStep::BindDone {
-            uid,
-            ticket,
-            queued,
-        })?;
-        Ok(Reply::Done)
-    }
-
-    // An assumed place is given up: its entry backs off, and there is a move.
-    fn forget(&mut self, uid: Name, ticket: Ticket) -> Result<Reply, Refusal>
-        ensures { IsDone self.old (step self.old.state 0 (Step.Forget uid ticket)) result self.new }
-    {
-        let forgotten = uid.copied();
-        let queued = self.queue.has(&uid);
-        self.tell_book(ClusterStep::Forget {
-            uid,
-            ticket,
-            queued,
-        })?;
-        let _ = self.queue.forget_back(&forgotten, self.clock);
-        self.queue.move_all(self.clock);
-        Ok(Reply::Done)
-    }
-
-    // A pass gives a pod back that it popped and found no place for.
-    #[tactic(auto, unfolding(queue::specs::Queue::refusal_to_fail, queue::specs::Queue::after_fail))]
-    fn fail(&mut self, pass: usize, uid: Name, how: Failure) -> Result<Reply, Refusal>
-        ensures { IsDone self.old (step self.old.state pass (Step.Fail uid how)) result self.new }
-    {
-        if self.book.is_placed(&uid) {
-            return Err(Refusal::Placed);
-        }
-        if !self.queue.has(&uid) {
-            return Err(Refusal::Gone);
-        }
-        match self
-            .queue
-            .fail(&uid, PassNumber(pass as u64), how, self.clock)
-        {
-            Ok(()) => Ok(Reply::Done),
-            Err(_) => Err(Refusal::NotInFlight),
-        }
-    }
-
-    // Time goes on to this moment.
-    fn tick(&mut self, now: Moment) -> Result<Reply, Refusal>
-        requires { now.0 ≤ LATEST_MOMENT }
-        ensures { IsDone self.old (step self.old.state 0 (Step.Tick now)) result self.new }
-    {
-        if now < self.clock {
-            return Err(Refusal::ClockBack);
-        }
-        self.clock = now;
-        self.queue.tick(now);
-        Ok(Reply::Done)
-    }
-
-    // One more owner of the pod that a step hands out, if it hands one out.
-    pub(crate) fn pod_for(&self, step: &Step) -> Result<Option<SharedPod>, NoMemory>
-        ensures pod { IfOk result (λ pod. pod ≡ handed_by self.now.state step.now) }
-        ensures no_memory { IsErr result → IsTrue (hands_out self.now.state step.now) }
-    {
-        if !matches!(step, Step::Pop) {
-            return Ok(None);
-        }
-        match self.queue.peek() {
-            None => Ok(None),
-            Some(first) => Ok(Some(first.share()?)),
-        }
-    }
-
-    // The pod that goes first is the pass's now.
-    #[tactic(auto, unfolding(queue::specs::Queue::after_pop))]
-    fn pop(&mut self, pass: usize) -> Said
-        ensures { IsSaid self.old pass Step.Pop result self.new }
-    {
-        match self.queue.pop(PassNumber(pass as u64)) {
-            Some(_) => Said::Popped,
-            None => Said::Idle,
-        }
-    }
-
-    // The watch tells of something.
-    fn take_event(&mut self, event: Event) -> Result<Reply, Refusal>
-        ensures { (pass : ℕ) → IsDone self.old (step self.old.state pass (Step.Event event)) result self.new }
-    {
-        match event {
-            Event::NodeSet { .. } => self.set_node(event),
-            Event::NodeGone { .. } => self.drop_node(event),
-            Event::PodPending { version, pod } => self.add_pod(version, pod),
-            Event::PodBound {
-                version,
-                uid,
-                node,
-                request,
-            } => self.bind_pod(version, uid, node, request),
-            Event::PodGone { version, uid } => self.drop_pod(version, uid),
-        }
-    }
-
-    // Does a step for a pass, or refuses it, and says so. It takes no memory and hands nothing out. No call is counted.
-    fn do_step(&mut self, pass: usize, step: Step) -> Said
-        requires { IsTimely step }
-        ensures { IsSaid self.old pass step result self.new }
-    {
-        match step {
-            Step::Pop => self.pop(pass),
-            Step::Event(event) => said(self.take_event(event)),
-            Step::Assume { uid, node } => said(self.assume(pass, uid, node)),
-            Step::BindDone { uid, ticket } => said(self.finish_bind(uid, ticket)),
-            Step::Forget { uid, ticket } => said(self.forget(uid, ticket)),
-            Step::Fail { uid, how } => said(self.fail(pass, uid, how)),
-            Step::Tick(now) => said(self.tick(now)),
-            Step::Count => Said::Counts(self.counts()),
-        }
-    }
-
-    fn counts(&self) -> Counts
-        ensures { result ≡ counts self.now.state }
-    {
-        let queued = self.queue.counts();
-        let assumed = self.book.assumed();
-        Counts {
-            bound: self.book.bound(),
-            assumed,
-            active: queued.active,
-            backoff: queued.backoff,
-            unschedulable: queued.unschedulable,
-            in_flight: queued.in_flight.saturating_sub(assumed),
-            clock: self.clock,
-            version: self.book.version(),
-        }
-    }
-
-    /// Hands out a pass.
-    ///
-    /// Errors: `NoPlace` where all were handed out; nothing changes.
-    pub fn pass(&mut self) -> Result<Pass, NoPlace>
-        ensures pass { IfOk result (λ pass. pass ≡ record { number = self.old.handed; calls = 0 }) }
-        ensures handed { OnOk result (self.new ≡ with_pass self.old) }
-        ensures all_handed { IsErr result ↔ (self.old.handed ≡ MAX_PASSES) }
-        ensures err { OnErr result (self.new ≡ self.old) }
-        ensures of { IfOk result (λ pass. IsOf pass self.new) }
-
-        // The history stays. The new pass made no call in it, and has seen all of it or nothing.
-        ensures history { (l : List Call) → Leaves l self.old → IfOk result (λ pass. Leaves l self.new × HasSeen pass l l × HasSeen pass [] l) }
-    {
-        if self.handed == MAX_PASSES {
-            return Err(NoPlace);
-        }
-        let pass = Pass::new(self.handed);
-        self.handed += 1;
-        Ok(pass)
-    }
-
-    /// Does a step, or refuses it and changes nothing but the pass's count of calls.
-    ///
-    /// Errors: `NoMemory` where `MAX_CALLS` calls of the pass were answered, and where a popped pod can have no further
-    /// owner; nothing changes.
-    pub fn apply(&mut self, pass: &mut Pass, step: Step) -> Result<Reply, NoMemory>
-        requires of { IsOf pass.old self.old }
-        requires timely { IsTimely step }
-        ensures reply { IfOk result (λ answer. answer ≡ reply self.old.state pass.old.number step) }
-        ensures after { OnOk result (self.new ≡ with_state self.old (after self.old.state pass.old.number step)) }
-        ensures counted { OnOk result (pass.new ≡ record pass.old { calls = pass.old.calls + 1 }) }
-        ensures used_up { MAX_CALLS ≤ pass.old.calls → IsErr result }
-        ensures no_memory { IsErr result → MAX_CALLS ≤ pass.old.calls ⊎ IsTrue (hands_out self.old.state step) }
-        ensures err { OnErr result (self.new ≡ self.old) }
-        ensures pass_err { OnErr result (pass.new ≡ pass.old) }
-        ensures of { IsOf pass.new self.new }
-
-        // Whatever legal history left the desk so, and whatever the pass had seen of it: the desk now stands where that
-        // history and this call leave it, and the pass has seen both.
-        ensures history { (l seen : List Call) → Leaves l self.old → HasSeen pass.old seen l
-            → IfOk result (λ answer. Leaves (l ++ call pass.old step answer ∷ []) self.new
-            × Applied self.old.state.cluster.limits self.old.handed pass.old seen step answer (l ++ call pass.old step answer ∷ [])
-            × HasSeen pass.new (l ++ call pass.old step answer ∷ []) (l ++ call pass.old step answer ∷ [])) }
-
-        // A ticket is given where the pod that this pass popped fits on the node, by that history.
-        ensures fair { (l : List Call) → Leaves l self.old → IfOk result (IsFairTicket l pass.old.number step) }
-    {
-        if pass.calls() >= MAX_CALLS {
-            return Err(NoMemory);
-        }
-        let answer = self.answer_call(pass.number(), step)?;
-        pass.count();
-        Ok(answer)
-    }
-
-    /// Whether a pass of this number was handed out, and has a call left.
-    pub(crate) fn has_call_for(&self, pass: usize) -> bool
-        ensures { result ≡ may_call self.now pass }
-    {
-        pass < self.handed && self.calls[pass] < MAX_CALLS
-    }
-
-    /// A desk with no nodes and no pods, whose passes count as handed out.
-    pub(crate) fn for_all_passes(
+    pub fn new(
+        blank: Blank,
         alloc: Global,
         keys: RandomState,
         limits: Limits,
     ) -> Result<Self, NoMemory>
-        ensures opening { IfOk result (λ desk. desk ≡ record (new_desk limits) { handed = MAX_PASSES }) }
+        requires named { blank.seen.book ≡ J.book }
+        requires limits { limits ≡ J.limits }
+        ensures { IfOk result (λ desk. desk ≡ record { limits = limits; handed = 0 }) }
     {
-        let desk = Desk::new(alloc, keys, limits)?;
+        let (head, nothing) = blank.named::<J>();
+        let held = UnderLock::new(alloc, keys, limits, &nothing)?;
         Ok(Desk {
-            handed: MAX_PASSES,
-            ..desk
+            head,
+            nothing,
+            lock: Mutex::new(Some(held)),
+            handed: 0,
         })
     }
 
-    /// Whether so many calls of this pass were answered, and none of the passes from this number on.
-    pub(crate) fn counts_alike(&self, pass: usize, calls: u64, handed: usize) -> bool
-        requires { pass < MAX_PASSES }
-        ensures calls { IsTrue result → slice_index self.now.state.calls pass ≡ calls }
-        ensures handed { IsTrue result → HasNoCalls handed self.now.state.calls }
-    {
-        self.calls[pass] == calls && has_none_from(&self.calls, handed)
-    }
-
-    /// The book as it is.
-    pub(crate) fn into_book(self) -> Book
-        ensures { result ≡ self.state.cluster }
-    {
-        let Desk { book, .. } = self;
-        book
-    }
-
-    // Does a step for a pass, or refuses it, and counts the call.
-    fn answer_call(&mut self, pass: usize, step: Step) -> Result<Reply, NoMemory>
-        requires handed { pass < self.old.handed }
-        requires fits { slice_index self.old.state.calls pass < MAX_CALLS }
-        requires timely { IsTimely step }
-        ensures reply { IfOk result (λ answer. answer ≡ reply self.old.state pass step) }
-        ensures after { OnOk result (self.new ≡ with_state self.old (after self.old.state pass step)) }
-        ensures no_memory { IsErr result → IsTrue (hands_out self.old.state step) }
-        ensures counted { OnOk result (slice_index self.new.state.calls pass ≡ slice_index self.old.state.calls pass + 1) }
+    /// Hands out a pass, which has made no call and seen nothing. All passes are handed out before the desk is shared.
+    ///
+    /// Errors: `NoPlace` where all were handed out, and where no reader's place was got; nothing changes.
+    pub fn pass(&mut self) -> Result<Pass<J>, NoPlace>
+        ensures pass { IfOk result (λ pass. pass ≡ record { caller = record { number = self.old.handed; calls = 0 }; seen = [] }) }
+        ensures handed { OnOk result (self.new ≡ record self.old { handed = self.old.handed + 1 }) }
+        ensures of { IfOk result (λ pass. IsPassOf pass self.new) }
+        ensures all_handed { self.old.handed ≡ MAX_PASSES → IsErr result }
         ensures err { OnErr result (self.new ≡ self.old) }
     {
-        let pod = self.pod_for(&step)?;
-        let said = self.take_call(pass, step);
-        Ok(said.with(pod))
+        if self.handed == MAX_PASSES {
+            return Err(NoPlace);
+        }
+        let Some(held) = self.lock.get_mut() else {
+            return Err(NoPlace);
+        };
+        let Ok(reader) = held.reader() else {
+            return Err(NoPlace);
+        };
+        let pass = Pass::new(self.handed, self.nothing.again(), reader);
+        self.handed += 1;
+        Ok(pass)
     }
 
-    // Does a step for a pass, or refuses it, says so, and counts the call. It takes no memory and hands nothing out.
-    pub(crate) fn take_call(&mut self, pass: usize, step: Step) -> Said
-        requires handed { pass < self.old.handed }
-        requires fits { slice_index self.old.state.calls pass < MAX_CALLS }
-        requires timely { IsTimely step }
-        ensures said { result ≡ said_of (reply self.old.state pass step) }
-        ensures after { self.new ≡ with_state self.old (after self.old.state pass step) }
-        ensures counted { slice_index self.new.state.calls pass ≡ slice_index self.old.state.calls pass + 1 }
-    {
-        // A pass's number is within its desk's counts.
-        let _ = &self.calls;
-        let said = self.do_step(pass, step);
-        self.calls[pass] += 1;
-        said
-    }
-
-    /// Shows the nodes and what is used of them. It copies a pointer and the totals of each node.
+    /// Does a step, or refuses it and changes nothing but the pass's count of calls. It waits for the lock.
     ///
-    /// Errors: `NoMemory` where there are nodes to show; nothing changes.
-    pub fn look(&self, pass: &mut Pass) -> Result<Snapshot, NoMemory>
-        ensures snapshot { IfOk result (λ shown. shown ≡ snapshot self.now.state.cluster) }
-        ensures pass { pass.new ≡ pass.old }
-        ensures no_memory { IsErr result → 1 ≤ len self.now.state.cluster.nodes }
-
-        // It is the snapshot of the history that left the desk so.
-        ensures history { (l : List Call) → Leaves l self.now → IfOk result (λ shown. shown ≡ snap l) }
-
-        // Where that history is calm, no node has more used than it has.
-        ensures calm { (l : List Call) → Leaves l self.now → IsCalm l → IfOk result (All HasRoom) }
-
-        // And the pass now has seen that history.
-        ensures looked { (l seen : List Call) → Leaves l self.now → HasSeen pass.old seen l
-            → IfOk result (λ shown. Looked self.now.state.cluster.limits self.now.handed pass.old seen l shown × HasSeen pass.new l l) }
+    /// Errors: `NoMemory` where `MAX_CALLS` calls of the pass were answered, where a popped pod can have no further owner,
+    /// and where there is no room to publish a call; nothing changes.
+    pub fn apply<R: Wait>(&self, rt: &R, pass: &mut Pass<J>, step: Step) -> Result<Reply, NoMemory>
+        requires of { IsPassOf pass.old self.now }
+        requires timely { IsTimely step }
+        ensures applied { IfOk result (λ answer. IsApplied self.now pass.old step answer pass.new) }
+        ensures used_up { MAX_CALLS ≤ pass.old.caller.calls → IsErr result }
+        ensures err { OnErr result (pass.new ≡ pass.old) }
     {
-        let _ = pass;
-        let shown = self.show()?;
-        Ok(shown)
+        let mut place = self.lock.lock(rt);
+        let answer = match place.take() {
+            None => Err(NoMemory),
+            Some(held) => {
+                let (held, answer) = held.apply(rt, &self.head, self.handed, pass, step);
+                put_back(rt, &mut *place, held);
+                answer
+            }
+        };
+        MutexGuard::unlock(place);
+        answer
     }
 
-    // The rows of the nodes, with what is used of each.
-    pub(crate) fn show(&self) -> Result<Snapshot, NoMemory>
-        ensures snapshot { IfOk result (λ shown. shown ≡ snapshot self.now.state.cluster) }
-        ensures no_memory { IsErr result → 1 ≤ len self.now.state.cluster.nodes }
+    /// Shows the nodes and what is used of them, as they are published. It takes no lock and waits for nobody. It copies a
+    /// pointer and the totals of each node.
+    ///
+    /// Errors: `NoMemory`; nothing changes.
+    pub fn look(&self, pass: &mut Pass<J>) -> Result<Snapshot, NoMemory>
+        requires of { IsPassOf pass.old self.now }
+        ensures looked { IfOk result (λ shown. IsLooked self.now pass.old shown pass.new) }
+        ensures err { OnErr result (pass.new ≡ pass.old) }
     {
-        let nodes = self.book.rows();
-        let mut rows = Vec::with_capacity(self.alloc, nodes.len())?;
-        for node in nodes {
-            let used = self.book.used(&node.name);
-            let node = node.share()?;
-            rows.push(Row { node, used }).map_err(AllocError::from)?;
+        pass.look(self.handed)
+    }
+
+    /// Tells each of two passes what the other has seen: both then have seen one history. It waits for the lock.
+    pub fn meet<R: Wait>(&self, rt: &R, first: &mut Pass<J>, second: &mut Pass<J>)
+        requires first { IsPassOf first.old self.now }
+        requires second { IsPassOf second.old self.now }
+        ensures { Met self.now first.old second.old first.new second.new }
+    {
+        for _ in rt.forever() {
+            let place = self.lock.lock(rt);
+            let have_met = match place.as_ref() {
+                Some(held) => held.meet(self.handed, first, second),
+                None => false,
+            };
+            MutexGuard::unlock(place);
+            if have_met {
+                return;
+            }
         }
-        Ok(Snapshot::new(rows))
+        unreachable!()
+    }
+
+    /// Ends the desk, and gives its book. The pass then has seen the history that left the book so: all calls that it made
+    /// or was told of are among it.
+    pub fn close<R: Wait>(self, rt: &R, pass: &mut Pass<J>) -> Book
+        requires { IsPassOf pass.old self }
+        ensures { Closed self pass.old pass.new result }
+    {
+        let Desk {
+            head: _head,
+            nothing: _nothing,
+            lock,
+            handed,
+        } = self;
+        if let Some(held) = lock.into_inner() {
+            return held.close(rt, handed, pass);
+        }
+        for _ in rt.forever() {}
+        unreachable!()
+    }
+
+    /// Ends the desk, and drops its book.
+    pub fn discard<R: Wait>(self, rt: &R) {
+        let Desk {
+            head: _head,
+            nothing: _nothing,
+            lock,
+            handed: _,
+        } = self;
+        if let Some(held) = lock.into_inner() {
+            held.discard(rt);
+        }
     }
 }
 
-// Whether no call of the passes from this number on was answered.
-fn has_none_from(calls: &[u64; MAX_PASSES], handed: usize) -> bool
-    ensures { IsTrue result → HasNoCalls handed calls.now }
-{
-    for pass in handed..MAX_PASSES {
-        if calls[pass] != 0 {
-            return false;
-        }
-    }
-    true
-}
-
-// What there is to say of a step that was done or refused.
-fn said(done: Result<Reply, Refusal>) -> Said
-    ensures { MatchResult done (λ reply. result ≡ said_of reply) (λ why. result ≡ Said.Refused why) }
-{
-    match done {
-        Ok(reply) => Said::of(&reply),
-        Err(why) => Said::Refused(why),
+// What was taken from under the lock is there again.
+fn put_back<J: Naming, R: Wait>(rt: &R, place: &mut Option<UnderLock<J>>, held: UnderLock<J>) {
+    if let Some(other) = place.replace(held) {
+        other.discard(rt);
     }
 }

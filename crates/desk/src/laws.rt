@@ -6,7 +6,7 @@ ghost use Rattle.desk.specs.History.{Call, Legal, state_after, rows_of, places_o
 ghost use Rattle.desk.specs.Laws.{TicketsOnce, TicketsInOrder, EntryOrPlace, EntryGoesWithPlace, InFlightIsUnanswered};
 ghost use Rattle.desk.specs.Alone.{AnswersAlone, LooksAlone};
 
-use crate::pass::{MAX_CALLS, MAX_PASSES};
+use crate::limits::{MAX_CALLS, MAX_PASSES};
 
 /// How many passes a desk hands out, and how many calls of each are answered, are these numbers.
 pub fn desk_limits_are_these()

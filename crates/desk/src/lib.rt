@@ -1,30 +1,42 @@
 //! The desk: every step of the scheduler goes through it, in one history that all callers share.
+//!
+//! - `Desk` is what threads share, and a `Pass` is a caller's leave to use it. A step is done under a lock; a look takes none.
+//! - What a step does and answers is done by `Core`, the state of a desk with one owner. Its definition is
+//!   `specs/Machine.antt`.
+//! - Two cores and the answer to the last call are `Published`, one copy for looks and one to write, each with the prefix of
+//!   the history that left it so; `Order` is a call on its way there. `UnderLock` has both copies, and makes each call one step
+//!   of what is published. The rule of what is published is `PublishedRule`.
+//! - The history exists in the proofs alone: `Prefix` is a beginning of it that was seen, `Head` the word that threads share,
+//!   its length. `HistoryRule` says how it grows: by one `NextCall` at a time. `Naming` tells one desk from another, and `Blank`
+//!   is a history before it has a name.
+//! - `Step`, `Reply` and `Counts` are what is asked and answered; `BareReply` is an answer without the pod that it hands out.
+//!   `Snapshot` is what a look shows.
+//! - What holds of every history are the laws.
 #![tactic(auto)]
 
+mod bare_reply;
 mod desk;
-mod entry;
-mod front;
+mod desk_core;
+mod history;
+mod history_rule;
 mod laws;
-mod locked;
-mod member;
-mod next;
+mod limits;
+mod next_call;
 mod pass;
 mod published;
-mod rule;
-mod said;
+mod published_rule;
 mod snapshot;
 mod step;
 mod under_lock;
 
 pub use book::{Limits, NoMemory, Refusal};
 pub use desk::Desk;
-pub use front::{Blank, Naming};
+pub use history::{Blank, Naming};
 pub use laws::{
     desk_limits_are_these, entry_or_place, history_tells_the_state, in_flight_is_unanswered,
     one_pass_is_alone, tickets_are_given_once,
 };
-pub use locked::LockedDesk;
-pub use member::LockedPass;
-pub use pass::{MAX_CALLS, MAX_PASSES, NoPlace, Pass};
+pub use limits::{MAX_CALLS, MAX_PASSES, NoPlace};
+pub use pass::Pass;
 pub use snapshot::{Row, Snapshot};
 pub use step::{Counts, Reply, Step};

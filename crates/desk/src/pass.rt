@@ -1,58 +1,142 @@
 //! Leave to use a desk.
-ghost use Rattle.std.specs.Prelude.{◌≡◌, ◌<◌, ◌+◌, ◌^◌};
+ghost use Rattle.std.specs.Prelude.{◌≡◌, ◌<◌, ◌≤◌, ◌+◌, ◌^◌, [], IfOk, OnErr};
+ghost use Rattle.std.specs.Bool.{IsTrue};
+ghost use Rattle.desk.specs.History.{HasCallsOf};
+ghost use Rattle.desk.specs.Shared.{Stands, IsAhead, IsLooked};
+ghost use Rattle.desk.specs.declared.limits.TheConstants.{MAX_PASSES};
 
+use crate::history::{Naming, Prefix};
+use crate::published::Published;
+use crate::published_rule::{PublishedRule, Sees};
+use crate::snapshot::Snapshot;
+use book::NoMemory;
+use left_right::reader::Reader;
 use std::marker::Model;
-use thiserror::Error;
 
-/// How many passes a desk hands out.
-pub const MAX_PASSES: usize = 64;
-
-/// How many calls of one pass are answered.
-pub const MAX_CALLS: u64 = 1_000_000_000_000_000_000;
-
-/// All passes were handed out.
-#[derive(Clone, Copy, Debug, PartialEq, Eq, Error)]
-#[error("no place")]
-pub struct NoPlace;
-
-/// A caller's leave to use a desk: its number among the desk's passes, and how many of its calls were answered.
-#[derive(Debug, Drop)]
-pub struct Pass {
+/// A caller's leave to use a desk, from one thread at a time: its number among the desk's passes, and how many of its
+/// calls were answered. Contracts see the history that it has seen too, of which memory has the length.
+#[derive(Drop)]
+pub struct Pass<J: Naming> {
     number: usize,
     calls: u64,
+    prefix: Prefix,
+    // It is there between calls.
+    reader: Option<Reader<Published, (), PublishedRule<J>>>,
 }
 
-impl Model for Pass {
-    ghost use Rattle.desk.specs.Caller.{Caller};
+impl<J: Naming> Model for Pass<J> {
+    ghost use Rattle.std.specs.Prelude.{◌≡◌};
+    ghost use Rattle.desk.specs.History.{HasCallsOf};
+    ghost use Rattle.desk.specs.Shared.{Pass as Seeing};
+    ghost use Rattle.desk.specs.SharedCodes.{pass_code};
 
-    ghost Value = { Caller };
+    ghost Value = { Seeing };
 
-    ghost view = { λ p. record { number = p.number; calls = p.calls } };
+    ghost coded = { pass_code };
+
+    ghost view = { λ p. record { caller = record { number = p.number; calls = p.calls }; seen = p.prefix.list } };
+
+    ghost invariant = { λ p. HasCallsOf (record { number = p.number; calls = p.calls }) p.prefix.list × (p.prefix.book ≡ J.book) };
 }
 
-impl Pass {
-    pub(crate) fn new(number: usize) -> Self
-        ensures { result ≡ record { number = number; calls = 0 } }
+impl<J: Naming> Pass<J> {
+    // A pass that has made no call and seen nothing.
+    pub(crate) fn new(
+        number: usize,
+        nothing: Prefix,
+        reader: Reader<Published, (), PublishedRule<J>>,
+    ) -> Self
+        requires { nothing ≡ record { book = J.book; list = [] } }
+        ensures { result ≡ record { caller = record { number = number; calls = 0 }; seen = [] } }
     {
-        Pass { number, calls: 0 }
+        Pass {
+            number,
+            calls: 0,
+            prefix: nothing,
+            reader: Some(reader),
+        }
     }
 
     pub(crate) fn number(&self) -> usize
-        ensures { result ≡ self.now.number }
+        ensures { result ≡ self.now.caller.number }
     {
         self.number
     }
 
     pub(crate) fn calls(&self) -> u64
-        ensures { result ≡ self.now.calls }
+        ensures { result ≡ self.now.caller.calls }
     {
         self.calls
     }
 
-    pub(crate) fn count(&mut self)
-        requires { self.old.calls < 10 ^ 18 }
-        ensures { self.new ≡ record self.old { calls = self.old.calls + 1 } }
+    /// Whether the published history begins with what the pass has seen, has just the calls that it made, and none of a
+    /// pass that wasn't handed out. It is always so; but what threads share tells a proof no more than its rule.
+    pub(crate) fn may_go_on(&self, published: &Published, handed: usize) -> bool
+        requires stands { Stands J.book J.limits published.now }
+        requires of { self.now.caller.number < handed }
+        requires handed { handed ≤ MAX_PASSES }
+        ensures { IsTrue result → IsAhead (record { limits = J.limits; handed = handed }) self.now published.now.prefix.list }
+    {
+        self.prefix.begins(&published.prefix)
+            && published.desk.counts_alike(self.number, self.calls, handed)
+    }
+
+    /// It has seen this history from now on.
+    pub(crate) fn see(&mut self, prefix: &Prefix)
+        requires own { HasCallsOf self.old.caller prefix.now.list }
+        requires book { prefix.now.book ≡ J.book }
+        ensures { self.new ≡ record self.old { seen = prefix.now.list } }
+    {
+        self.prefix = prefix.again();
+    }
+
+    /// One more of its calls was answered, which this history ends with.
+    pub(crate) fn count(&mut self, prefix: Prefix)
+        requires calls { self.old.caller.calls < 10 ^ 18 }
+        requires own { HasCallsOf (record self.old.caller { calls = self.old.caller.calls + 1 }) prefix.list }
+        requires book { prefix.book ≡ J.book }
+        ensures { self.new ≡ record { caller = record self.old.caller { calls = self.old.caller.calls + 1 }; seen = prefix.list } }
     {
         self.calls += 1;
+        self.prefix = prefix;
+    }
+
+    /// Shows what is published, and has then seen its history.
+    pub(crate) fn look(&mut self, handed: usize) -> Result<Snapshot, NoMemory>
+        requires of { self.old.caller.number < handed }
+        requires handed { handed ≤ MAX_PASSES }
+        ensures looked { IfOk result (λ shown. IsLooked (record { limits = J.limits; handed = handed }) self.old shown self.new) }
+        ensures err { OnErr result (self.new ≡ self.old) }
+    {
+        let Some(reader) = self.reader.take() else {
+            return Err(NoMemory);
+        };
+        match reader.enter_as::<Sees<J>>() {
+            Err(reader) => {
+                self.reader = Some(reader);
+                Err(NoMemory)
+            }
+            Ok(reading) => {
+                let shown = self.look_at(reading.get(), handed);
+                self.reader = Some(reading.leave());
+                shown
+            }
+        }
+    }
+
+    // Shows this, and has then seen its history.
+    fn look_at(&mut self, published: &Published, handed: usize) -> Result<Snapshot, NoMemory>
+        requires stands { Stands J.book J.limits published.now }
+        requires of { self.old.caller.number < handed }
+        requires handed { handed ≤ MAX_PASSES }
+        ensures looked { IfOk result (λ shown. IsLooked (record { limits = J.limits; handed = handed }) self.old shown self.new) }
+        ensures err { OnErr result (self.new ≡ self.old) }
+    {
+        if !self.may_go_on(published, handed) {
+            return Err(NoMemory);
+        }
+        let shown = published.desk.show()?;
+        self.see(&published.prefix);
+        Ok(shown)
     }
 }

@@ -3,9 +3,9 @@ ghost use Rattle.std.specs.Prelude.{◌≡◌};
 ghost use Rattle.desk.specs.Caller.{IsTimely};
 ghost use Rattle.desk.specs.Shared.{published_after};
 
-use crate::desk::Desk;
-use crate::front::Front;
-use crate::said::Said;
+use crate::bare_reply::BareReply;
+use crate::desk_core::Core;
+use crate::history::Prefix;
 use crate::step::Step;
 use left_right::Absorb;
 use std::alloc::AllocError;
@@ -16,19 +16,19 @@ use std::marker::Model;
 pub struct Order {
     pub(crate) pass: usize,
     pub(crate) step: Step,
-    pub(crate) front: Front,
+    pub(crate) prefix: Prefix,
 }
 
 impl Model for Order {
     ghost use Rattle.desk.specs.Caller.{IsTimely};
-    ghost use Rattle.desk.specs.Shared.{Ordered};
-    ghost use Rattle.desk.specs.SharedCodes.{ordered_code};
+    ghost use Rattle.desk.specs.Shared.{Order as Asked};
+    ghost use Rattle.desk.specs.SharedCodes.{order_code};
 
-    ghost Value = { Ordered };
+    ghost Value = { Asked };
 
-    ghost coded = { ordered_code };
+    ghost coded = { order_code };
 
-    ghost view = { λ o. record { pass = o.pass; step = o.step; known = o.front } };
+    ghost view = { λ o. record { pass = o.pass; step = o.step; prefix = o.prefix } };
 
     ghost invariant = { λ o. IsTimely o.step };
 }
@@ -36,9 +36,9 @@ impl Model for Order {
 /// What looks read: the desk, what there is to say of its last call, and the history that left it so.
 #[derive(Drop)]
 pub struct Published {
-    pub(crate) desk: Desk,
-    pub(crate) said: Said,
-    pub(crate) front: Front,
+    pub(crate) desk: Core,
+    pub(crate) said: BareReply,
+    pub(crate) prefix: Prefix,
 }
 
 impl Model for Published {
@@ -49,16 +49,16 @@ impl Model for Published {
 
     ghost coded = { published_code };
 
-    ghost view = { λ p. record { desk = p.desk; said = p.said; known = p.front } };
+    ghost view = { λ p. record { desk = p.desk; said = p.said; prefix = p.prefix } };
 }
 
 impl Published {
     // Takes a call, if the desk has one left for this pass. It takes no memory.
-    fn take(&mut self, pass: usize, step: Step, front: Front)
+    fn take(&mut self, pass: usize, step: Step, prefix: Prefix)
         requires { IsTimely step }
-        ensures { self.new ≡ published_after self.old (record { pass = pass; step = step; known = front }) }
+        ensures { self.new ≡ published_after self.old (record { pass = pass; step = step; prefix = prefix }) }
     {
-        self.front = front;
+        self.prefix = prefix;
         if self.desk.has_call_for(pass) {
             self.said = self.desk.take_call(pass, step);
         }
@@ -74,13 +74,13 @@ impl Absorb<Order> for Published {
 
     fn absorb_first(&mut self, order: &Order, _other: &Published) -> Result<(), AllocError> {
         let step = order.step.share()?;
-        self.take(order.pass, step, order.front.again());
+        self.take(order.pass, step, order.prefix.again());
         Ok(())
     }
 
     fn absorb_second(&mut self, order: Order, _other: &Published) -> Result<(), Order> {
-        let Order { pass, step, front } = order;
-        self.take(pass, step, front);
+        let Order { pass, step, prefix } = order;
+        self.take(pass, step, prefix);
         Ok(())
     }
 }

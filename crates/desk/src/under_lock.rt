@@ -1,18 +1,18 @@
-//! What lies under a locked desk's lock: what is published, and the one way to change it.
+//! What lies under a desk's lock: what is published, and the one way to change it.
 ghost use Rattle.std.specs.Prelude.{◌≡◌, ◌<◌, ◌≤◌, ◌++◌, ◌∷◌, [], fold, drop, IfOk, OnErr, IsErr, MatchBool};
 ghost use Rattle.desk.specs.Caller.{IsTimely};
-ghost use Rattle.desk.specs.Said.{handed_by};
+ghost use Rattle.desk.specs.BareReply.{handed_by};
 ghost use Rattle.desk.specs.Shared.{Stands, IsAhead, IsApplied, Met, Closed, published_after, first_published, no_order, order_of};
-ghost use Rattle.desk.specs.declared.pass.TheConstants.{MAX_PASSES, MAX_CALLS};
+ghost use Rattle.desk.specs.declared.limits.TheConstants.{MAX_PASSES, MAX_CALLS};
 
-use crate::desk::Desk;
-use crate::front::{Front, Head, Naming};
-use crate::member::LockedPass;
-use crate::next::Next;
-use crate::pass::{MAX_CALLS, MAX_PASSES};
+use crate::bare_reply::BareReply;
+use crate::desk_core::Core;
+use crate::history::{Head, Naming, Prefix};
+use crate::limits::{MAX_CALLS, MAX_PASSES};
+use crate::next_call::NextCall;
+use crate::pass::Pass;
 use crate::published::{Order, Published};
-use crate::rule::{History, Sees};
-use crate::said::Said;
+use crate::published_rule::{PublishedRule, Sees};
 use crate::step::{Reply, Step};
 use book::{Book, Limits, NoMemory};
 use left_right::reader::Reader;
@@ -21,11 +21,12 @@ use quant::SharedPod;
 use std::alloc::{AllocError, Global};
 use std::hash::RandomState;
 use std::marker::Model;
+use std::mem::size_of;
 use std::sync::Wait;
 
 /// What lies under the lock. Contracts see what is published.
 pub struct UnderLock<J: Naming> {
-    writer: Writer<Published, Order, (), History<J>>,
+    writer: Writer<Published, Order, (), PublishedRule<J>>,
     // Whether there is room for the calls that are to be published.
     has_room: bool,
 }
@@ -49,36 +50,40 @@ fn opening(
     alloc: Global,
     keys: RandomState,
     limits: Limits,
-    nothing: &Front,
+    nothing: &Prefix,
 ) -> Result<Published, NoMemory>
     requires { nothing.now.list ≡ [] }
     ensures { IfOk result (λ first. first ≡ first_published nothing.now.book limits) }
 {
-    let desk = Desk::for_all_passes(alloc, keys, limits)?;
+    let desk = Core::new(alloc, keys, limits)?;
     Ok(Published {
         desk,
-        said: Said::Done,
-        front: nothing.again(),
+        said: BareReply::Done,
+        prefix: nothing.again(),
     })
 }
 
 // A call of no pass, which changes nothing.
-fn no_order(front: Front) -> Order
-    ensures { result ≡ no_order front }
+fn no_order(prefix: Prefix) -> Order
+    ensures { result ≡ no_order prefix }
 {
     Order {
         pass: MAX_PASSES,
         step: Step::Count,
-        front,
+        prefix,
     }
 }
+
+// A row of values of at most 1,024 bytes has room for four from its first one on, and at most three calls are kept at once:
+// the one for which room was made, the last one, which the other copy lacks, and the one that comes.
+const _: () = prove!(size_of::<Order>() <= 1_024);
 
 // Adds a call to those that are to be published. It waits for room, where there is none.
 fn add_order<J: Naming, R: Wait>(
     rt: &R,
-    writer: Writer<Published, Order, (), History<J>>,
+    writer: Writer<Published, Order, (), PublishedRule<J>>,
     order: Order,
-) -> Writer<Published, Order, (), History<J>>
+) -> Writer<Published, Order, (), PublishedRule<J>>
     ensures { (result.desk.shown.value ≡ writer.desk.shown.value) × (drop result.behind result.log.items ≡ drop writer.behind writer.log.items ++ order ∷ []) }
 {
     let mut writer = writer;
@@ -95,8 +100,8 @@ fn add_order<J: Naming, R: Wait>(
 // Publishes the calls that are to be published. It waits where a row can have no further owner.
 fn publish_orders<J: Naming, R: Wait>(
     rt: &R,
-    writer: Writer<Published, Order, (), History<J>>,
-) -> Writer<Published, Order, (), History<J>>
+    writer: Writer<Published, Order, (), PublishedRule<J>>,
+) -> Writer<Published, Order, (), PublishedRule<J>>
     requires { Stands J.book J.limits (fold published_after writer.desk.shown.value (drop writer.behind writer.log.items)) }
     ensures { (result.desk.shown.value ≡ fold published_after writer.desk.shown.value (drop writer.behind writer.log.items)) × (drop result.behind result.log.items ≡ []) }
 {
@@ -117,7 +122,7 @@ impl<J: Naming> UnderLock<J> {
         alloc: Global,
         keys: RandomState,
         limits: Limits,
-        nothing: &Front,
+        nothing: &Prefix,
     ) -> Result<Self, NoMemory>
         requires limits { limits ≡ J.limits }
         requires nothing { nothing.now ≡ record { book = J.book; list = [] } }
@@ -134,7 +139,7 @@ impl<J: Naming> UnderLock<J> {
     }
 
     /// A reader of what is published.
-    pub(crate) fn reader(&self) -> Result<Reader<Published, (), History<J>>, AllocError> {
+    pub(crate) fn reader(&self) -> Result<Reader<Published, (), PublishedRule<J>>, AllocError> {
         self.writer.factory().reader()
     }
 
@@ -143,8 +148,8 @@ impl<J: Naming> UnderLock<J> {
         ensures { self.new ≡ self.old }
     {
         if !self.has_room {
-            let front = self.writer.published().front.again();
-            match self.writer.append(no_order(front)) {
+            let prefix = self.writer.published().prefix.again();
+            match self.writer.append(no_order(prefix)) {
                 Ok(()) => self.has_room = true,
                 Err(_) => return Err(NoMemory),
             }
@@ -169,7 +174,7 @@ impl<J: Naming> UnderLock<J> {
         &mut self,
         head: &Head<J>,
         handed: usize,
-        pass: &LockedPass<J>,
+        pass: &Pass<J>,
         step: Step,
     ) -> Result<(Order, Option<SharedPod>), NoMemory>
         requires of { pass.now.caller.number < handed }
@@ -179,7 +184,7 @@ impl<J: Naming> UnderLock<J> {
         ensures left { IfOk result (λ ready. pass.now.caller.calls < MAX_CALLS) }
         ensures stands { IfOk result (λ ready. Stands J.book J.limits self.old) }
         ensures used_up { MAX_CALLS ≤ pass.now.caller.calls → IsErr result }
-        ensures ahead { IfOk result (λ ready. IsAhead (record { limits = J.limits; handed = handed }) pass.now self.old.known.list) }
+        ensures ahead { IfOk result (λ ready. IsAhead (record { limits = J.limits; handed = handed }) pass.now self.old.prefix.list) }
         ensures order { IfOk result (λ ready. ready.0 ≡ order_of self.old pass.now.caller step) }
         ensures pod { IfOk result (λ ready. ready.1 ≡ handed_by self.old.desk.state step) }
     {
@@ -196,7 +201,7 @@ impl<J: Naming> UnderLock<J> {
         &self,
         head: &Head<J>,
         handed: usize,
-        pass: &LockedPass<J>,
+        pass: &Pass<J>,
         step: Step,
     ) -> Result<(Order, Option<SharedPod>), NoMemory>
         requires of { pass.now.caller.number < handed }
@@ -204,7 +209,7 @@ impl<J: Naming> UnderLock<J> {
         requires fits { pass.now.caller.calls < MAX_CALLS }
         requires timely { IsTimely step }
         ensures stands { Stands J.book J.limits self.now }
-        ensures ahead { IfOk result (λ ready. IsAhead (record { limits = J.limits; handed = handed }) pass.now self.now.known.list) }
+        ensures ahead { IfOk result (λ ready. IsAhead (record { limits = J.limits; handed = handed }) pass.now self.now.prefix.list) }
         ensures order { IfOk result (λ ready. ready.0 ≡ order_of self.now pass.now.caller step) }
         ensures pod { IfOk result (λ ready. ready.1 ≡ handed_by self.now.desk.state step) }
     {
@@ -214,19 +219,19 @@ impl<J: Naming> UnderLock<J> {
         }
         let pod = published.desk.pod_for(&step)?;
         let by = pass.number();
-        let next = Next {
+        let next = NextCall {
             desk: &published.desk,
             pass: by,
             number: pass.calls() + 1,
             step: &step,
         };
-        let Some(front) = published.front.with_call(head, &next) else {
+        let Some(prefix) = published.prefix.with_call(head, &next) else {
             return Err(NoMemory);
         };
         let order = Order {
             pass: by,
             step,
-            front,
+            prefix,
         };
         Ok((order, pod))
     }
@@ -237,7 +242,7 @@ impl<J: Naming> UnderLock<J> {
         rt: &R,
         head: &Head<J>,
         handed: usize,
-        pass: &mut LockedPass<J>,
+        pass: &mut Pass<J>,
         step: Step,
     ) -> (Self, Result<Reply, NoMemory>)
         requires of { pass.old.caller.number < handed }
@@ -252,9 +257,9 @@ impl<J: Naming> UnderLock<J> {
         match held.get_ready(head, handed, pass, step) {
             Err(no_memory) => (held, Err(no_memory)),
             Ok((order, pod)) => {
-                let front = order.front.again();
+                let prefix = order.prefix.again();
                 let held = held.publish(rt, order);
-                pass.count(front);
+                pass.count(prefix);
                 let answer = held.writer.published().said.with(pod);
                 (held, Ok(answer))
             }
@@ -262,12 +267,7 @@ impl<J: Naming> UnderLock<J> {
     }
 
     /// Shows two passes all that was published. It answers whether it did.
-    pub(crate) fn meet(
-        &self,
-        handed: usize,
-        first: &mut LockedPass<J>,
-        second: &mut LockedPass<J>,
-    ) -> bool
+    pub(crate) fn meet(&self, handed: usize, first: &mut Pass<J>, second: &mut Pass<J>) -> bool
         requires first { first.old.caller.number < handed }
         requires second { second.old.caller.number < handed }
         requires handed { handed ≤ MAX_PASSES }
@@ -277,13 +277,13 @@ impl<J: Naming> UnderLock<J> {
         if !first.may_go_on(published, handed) || !second.may_go_on(published, handed) {
             return false;
         }
-        first.see(&published.front);
-        second.see(&published.front);
+        first.see(&published.prefix);
+        second.see(&published.prefix);
         true
     }
 
     /// Waits for the readers, and gives the book as it was published last.
-    pub(crate) fn close<R: Wait>(self, rt: &R, handed: usize, pass: &mut LockedPass<J>) -> Book
+    pub(crate) fn close<R: Wait>(self, rt: &R, handed: usize, pass: &mut Pass<J>) -> Book
         requires of { pass.old.caller.number < handed }
         requires handed { handed ≤ MAX_PASSES }
         ensures { Closed (record { limits = J.limits; handed = handed }) pass.old pass.new result }
@@ -297,11 +297,11 @@ impl<J: Naming> UnderLock<J> {
                 break;
             }
         }
-        pass.see(&writer.published().front);
+        pass.see(&writer.published().prefix);
         let Published {
             desk,
             said: _,
-            front: _front,
+            prefix: _front,
         } = Box::into_inner(writer.take(rt));
         desk.into_book()
     }

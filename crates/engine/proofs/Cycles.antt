@@ -16,7 +16,7 @@ use Rattle.book.specs.Step as book_step
 use Rattle.book.specs.declared.step.ClusterStep.TheVariants as cluster
 use Rattle.desk.specs.Machine.{State, opening, reply, after, entry_at, popped, unless}
 use Rattle.desk.specs.History.{Call, AreAnswered, call, state_after}
-use Rattle.desk.specs.Shared.{Member, Locked, IsMember, IsApplied, IsLooked}
+use Rattle.desk.specs.Shared.{Pass, Desk, IsPassOf, IsApplied, IsLooked}
 use Rattle.desk.specs.Alone.{state_seen, AnswersAlone, LooksAlone}
 use Rattle.desk.proofs.Fair.{answered_next}
 use Rattle.desk.specs.Shown.{Shown}
@@ -33,17 +33,17 @@ use Rattle.engine.specs.CycleAlone.{AfterAssumeAlone, EndsAlone, IsDecidedAlone,
 -- ---- whose pass it is
 
 -- a pass is of its desk after a step
-pub member_applied : (desk : Locked) (p p' : Member) (e : Step) (answer : Reply) → IsApplied desk p e answer p' → IsMember p desk → IsMember p' desk
+pub member_applied : (desk : Desk) (p p' : Pass) (e : Step) (answer : Reply) → IsApplied desk p e answer p' → IsPassOf p desk → IsPassOf p' desk
 member_applied desk p p' e answer applied member = subst (λ n. n < desk.handed) (sym (ap (λ c. c.number) applied.counted)) member
 
 -- and after a look
-pub member_looked : (desk : Locked) (p p' : Member) (rows : List Shown) → IsLooked desk p rows p' → IsMember p desk → IsMember p' desk
+pub member_looked : (desk : Desk) (p p' : Pass) (rows : List Shown) → IsLooked desk p rows p' → IsPassOf p desk → IsPassOf p' desk
 member_looked desk p p' rows looked member = subst (λ n. n < desk.handed) (sym (ap (λ c. c.number) looked.same)) member
 
 -- ---- what is answered
 
 -- a step is answered as the machine answers it in some state
-answered_in : (desk : Locked) (p p' : Member) (e : Step) (answer : Reply) → IsApplied desk p e answer p' → (s : State) × (answer ≡ reply s p.caller.number e)
+answered_in : (desk : Desk) (p p' : Pass) (e : Step) (answer : Reply) → IsApplied desk p e answer p' → (s : State) × (answer ≡ reply s p.caller.number e)
 answered_in desk p p' e answer applied =
     let s = opening desk.limits in
     let c : Call = call p.caller e answer in
@@ -72,7 +72,7 @@ next_answers None = tt
 next_answers (Some item) = tt
 
 -- a `Pop` gives a pod, or none waits
-pub pop_answers : (desk : Locked) (p p' : Member) (answer : Reply) → IsApplied desk p Pop answer p' → AnswersPop answer
+pub pop_answers : (desk : Desk) (p p' : Pass) (answer : Reply) → IsApplied desk p Pop answer p' → AnswersPop answer
 pop_answers desk p p' answer applied =
     let from = answered_in desk p p' Pop answer applied in
     subst AnswersPop (sym from.1) (next_answers (next_of from.0.queue))
@@ -82,7 +82,7 @@ given_or_refused None s done ticket = tt
 given_or_refused (Some why) s done ticket = tt
 
 -- an `Assume` gives a ticket, or is refused
-pub assume_answers : (desk : Locked) (p p' : Member) (uid node : Name) (answer : Reply) → IsApplied desk p (Assume uid node) answer p' → AnswersAssume answer
+pub assume_answers : (desk : Desk) (p p' : Pass) (uid node : Name) (answer : Reply) → IsApplied desk p (Assume uid node) answer p' → AnswersAssume answer
 assume_answers desk p p' uid node answer applied =
     let from = answered_in desk p p' (Assume uid node) answer applied in
     let s = from.0 in
@@ -99,21 +99,21 @@ chosen_by_first answers (kit ∷ kits) rows pod decision some all = all 0 kit so
 
 -- ---- a pod that was popped in vain
 
-pub popped_in_vain : (desk : Locked) (p popped looked p' : Member) (answer : Reply) (pod : Pod) (held : Option Name) → answer ≡ replies.Popped pod → IsApplied desk p Pop answer popped → MayLook desk popped looked → IsLeft desk looked pod.uid held p' → IsCutShort desk p held p'
+pub popped_in_vain : (desk : Desk) (p popped looked p' : Pass) (answer : Reply) (pod : Pod) (held : Option Name) → answer ≡ replies.Popped pod → IsApplied desk p Pop answer popped → MayLook desk popped looked → IsLeft desk looked pod.uid held p' → IsCutShort desk p held p'
 popped_in_vain desk p popped looked p' answer pod held is pops looks left =
     inr (record { pod = pod; popped = popped; pops = subst (λ a. IsApplied desk p Pop a popped) is pops; looked = looked; looks = looks; left = left })
 
 -- a pod for which no place was asked
-pub left_alone : (desk : Locked) (p p' : Member) (uid : Name) (held : Option Name) → IsGivenUp desk p uid held p' → IsLeft desk p uid held p'
+pub left_alone : (desk : Desk) (p p' : Pass) (uid : Name) (held : Option Name) → IsGivenUp desk p uid held p' → IsLeft desk p uid held p'
 left_alone desk p p' uid held given_up = record { left = p; refused = inl refl; given_up = given_up }
 
 -- ---- the only pass
 
-module _ (desk : Locked) (one : desk.handed ≡ 1) (answers : AnswersAlone) (looks : LooksAlone) where
-  fails_alone : (p p' : Member) (uid : Name) (how : Failure) → IsMember p desk → IsFailed desk p uid how p' → state_seen desk p' ≡ after (state_seen desk p) 0 (Fail uid how)
+module _ (desk : Desk) (one : desk.handed ≡ 1) (answers : AnswersAlone) (looks : LooksAlone) where
+  fails_alone : (p p' : Pass) (uid : Name) (how : Failure) → IsPassOf p desk → IsFailed desk p uid how p' → state_seen desk p' ≡ after (state_seen desk p) 0 (Fail uid how)
   fails_alone p p' uid how member failed = (answers desk p p' (Fail uid how) failed.answer one member failed.applied).1
 
-  after_assume_alone : (p p' : Member) (uid node : Name) (total : ℕ) (answer : Reply) (came : Cycled) → IsMember p desk → AfterAssume desk p uid node total answer came p' → AfterAssumeAlone (state_seen desk p) uid node total answer came (state_seen desk p')
+  after_assume_alone : (p p' : Pass) (uid node : Name) (total : ℕ) (answer : Reply) (came : Cycled) → IsPassOf p desk → AfterAssume desk p uid node total answer came p' → AfterAssumeAlone (state_seen desk p) uid node total answer came (state_seen desk p')
   after_assume_alone p p' uid node total (replies.Ticket ticket) came member ends = (ends.0, ap (state_seen desk) ends.1)
   after_assume_alone p p' uid node total (replies.Refused why) came member ends = (ends.0, fails_alone p p' uid Again member ends.1)
   after_assume_alone p p' uid node total replies.Done came member ends = ends
@@ -121,7 +121,7 @@ module _ (desk : Locked) (one : desk.handed ≡ 1) (answers : AnswersAlone) (loo
   after_assume_alone p p' uid node total (replies.Popped pod) came member ends = ends
   after_assume_alone p p' uid node total (replies.Counts n) came member ends = ends
 
-  ends_alone : (p p' : Member) (uid : Name) (decision : Decision) (came : Cycled) → IsMember p desk → EndsWith desk p uid decision came p' → EndsAlone (state_seen desk p) uid decision came (state_seen desk p')
+  ends_alone : (p p' : Pass) (uid : Name) (decision : Decision) (came : Cycled) → IsPassOf p desk → EndsWith desk p uid decision came p' → EndsAlone (state_seen desk p) uid decision came (state_seen desk p')
   ends_alone p p' uid (decisions.Node node total) came member ends =
       let said = answers desk p ends.answered (Assume uid node) ends.answer one member ends.applied in
       let there = member_applied desk p ends.answered (Assume uid node) ends.answer ends.applied member in
@@ -131,7 +131,7 @@ module _ (desk : Locked) (one : desk.handed ≡ 1) (answers : AnswersAlone) (loo
   ends_alone p p' uid (decisions.Unschedulable counts) came member ends = (ends.0, fails_alone p p' uid Unschedulable member ends.1)
   ends_alone p p' uid (decisions.PluginError place node cause) came member ends = (ends.0, fails_alone p p' uid Again member ends.1)
 
-  decided_alone : (rules : RuleSet) (p p' : Member) (pod : Pod) (came : Cycled) → IsMember p desk → IsDecided rules desk p pod came p' → IsDecidedAlone rules (state_seen desk p) pod came (state_seen desk p')
+  decided_alone : (rules : RuleSet) (p p' : Pass) (pod : Pod) (came : Cycled) → IsPassOf p desk → IsDecided rules desk p pod came p' → IsDecidedAlone rules (state_seen desk p) pod came (state_seen desk p')
   decided_alone rules p p' pod came member decided =
       let chosen = decided.chosen in
       let seen = looks desk p decided.looked chosen.rows one member chosen.looked in
@@ -142,7 +142,7 @@ module _ (desk : Locked) (one : desk.handed ≡ 1) (answers : AnswersAlone) (loo
         ends = subst (λ s. EndsAlone s pod.uid decided.decision came (state_seen desk p')) seen.1 (ends_alone decided.looked p' pod.uid decided.decision came there decided.ends);
       }
 
-  after_pop_alone : (rules : RuleSet) (p p' : Member) (answer : Reply) (came : Cycled) → IsMember p desk → AfterPop rules desk p answer came p' → AfterPopAlone rules (state_seen desk p) answer came (state_seen desk p')
+  after_pop_alone : (rules : RuleSet) (p p' : Pass) (answer : Reply) (came : Cycled) → IsPassOf p desk → AfterPop rules desk p answer came p' → AfterPopAlone rules (state_seen desk p) answer came (state_seen desk p')
   after_pop_alone rules p p' (replies.Popped pod) came member then = decided_alone rules p p' pod came member then
   after_pop_alone rules p p' replies.Idle came member then = (then.0, ap (state_seen desk) then.1)
   after_pop_alone rules p p' replies.Done came member then = then
@@ -151,7 +151,7 @@ module _ (desk : Locked) (one : desk.handed ≡ 1) (answers : AnswersAlone) (loo
   after_pop_alone rules p p' (replies.Refused why) came member then = then
 
   -- a cycle of the only pass is told by the state that it has seen
-  pub cycle_alone : (rules : RuleSet) (p p' : Member) (came : Cycled) → IsMember p desk → IsCycle rules desk p came p' → IsCycleAlone rules (state_seen desk p) came (state_seen desk p')
+  pub cycle_alone : (rules : RuleSet) (p p' : Pass) (came : Cycled) → IsPassOf p desk → IsCycle rules desk p came p' → IsCycleAlone rules (state_seen desk p) came (state_seen desk p')
   cycle_alone rules p p' came member cycle =
       let said = answers desk p cycle.popped Pop cycle.answer one member cycle.pops in
       let there = member_applied desk p cycle.popped Pop cycle.answer cycle.pops member in

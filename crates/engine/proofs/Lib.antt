@@ -1,5 +1,6 @@
 pub mod Cycles
 pub mod Either
+pub mod Ends
 pub mod Fronts
 pub mod Known
 pub mod OneOutput

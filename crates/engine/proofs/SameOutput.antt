@@ -50,7 +50,7 @@ module _ (rules other : RuleSet) (alike : (pod : Pod) (shown : Shown) (verdict :
   answered names s asked.Cycle s' text (came, cycle, is) = (came, record { is = after_pop (machine.after s 0 Pop) (reply s 0 Pop) came s' cycle.is }, is)
 
   -- and to all that is asked
-  all_answered : (names : List Name) (s : State) (l : List Asked) (s' : State) (text : List ℕ) → AllAnswered rules names s l s' text → AllAnswered other names s l s' text
+  pub all_answered : (names : List Name) (s : State) (l : List Asked) (s' : State) (text : List ℕ) → AllAnswered rules names s l s' text → AllAnswered other names s l s' text
   all_answered names s [] s' text told = told
   all_answered names s (first ∷ later) s' text (between, answer, rest, now, then, is) =
       (between, answer, rest, answered names s first between answer now, all_answered names between later s' rest then, is)

@@ -13,3 +13,16 @@ AppendsFront old new text = (front rest : List ℕ) × (text ≡ front ++ rest) 
 -- known bytes grow by a beginning of what waits, and the rest of it waits on
 abbrev pub WritesSome : Option (List ℕ) → Option (List ℕ) → List ℕ → List ℕ → Type 0
 WritesSome old new waits later = (front : List ℕ) × (waits ≡ front ++ later) × Appends old new front
+
+-- What a call makes of a device: its bytes, where they are known, and how many reads or writes of it have failed, before the call and after.
+pub record DeviceUse : Type 1 where
+  pub old : Option (List ℕ)
+  pub new : Option (List ℕ)
+  pub failures_old : ℕ
+  pub failures_new : ℕ
+  -- it is as it was
+  pub IsUntouched : Type 0
+
+-- the same, of a device that was this before the call and is this after it
+abbrev pub use_of : {D : Type 0} → (bytes : D → Option (List ℕ)) → (failures : D → ℕ) → (old new : D) → DeviceUse
+use_of bytes failures old new = record { old = bytes old; new = bytes new; failures_old = failures old; failures_new = failures new; IsUntouched = new ≡ old }

@@ -6,4 +6,5 @@ pub mod Fault
 pub mod Laws
 pub mod Lines
 pub mod Output
+pub mod Run
 pub mod Text

@@ -7,10 +7,7 @@ ghost use Rattle.engine.specs.CycleAlone.{IsCycleAlone};
 
 use crate::fault::RunFault;
 use crate::one_cycle::{CutShort, Cycled, cycle};
-use desk::{
-    Blank, Limits, LockedDesk, LockedPass, Naming, NoMemory, Reply, Snapshot, Step,
-    one_pass_is_alone,
-};
+use desk::{Blank, Desk, Limits, Naming, NoMemory, Pass, Reply, Snapshot, Step, one_pass_is_alone};
 use fleet::Fleet;
 use plugin::Rules;
 use std::alloc::Global;
@@ -24,15 +21,15 @@ use std::thread::Threads;
 //
 // It isn't `Drop`: end it by `end`.
 pub(crate) struct LoneDesk<J: Naming> {
-    desk: LockedDesk<J>,
-    pass: LockedPass<J>,
+    desk: Desk<J>,
+    pass: Pass<J>,
 }
 
 impl<J: Naming> Model for LoneDesk<J> {
     ghost use Rattle.std.specs.Prelude.{◌≡◌};
     ghost use Rattle.desk.specs.Machine.{State};
     ghost use Rattle.desk.specs.Codes.{state_code};
-    ghost use Rattle.desk.specs.Shared.{IsMember};
+    ghost use Rattle.desk.specs.Shared.{IsPassOf};
     ghost use Rattle.desk.specs.Alone.{state_seen};
 
     ghost Value = { State };
@@ -41,7 +38,7 @@ impl<J: Naming> Model for LoneDesk<J> {
 
     ghost view = { λ d. state_seen d.desk d.pass };
 
-    ghost invariant = { λ d. (d.desk.handed ≡ 1) × IsMember d.pass d.desk };
+    ghost invariant = { λ d. (d.desk.handed ≡ 1) × IsPassOf d.pass d.desk };
 }
 
 impl<J: Naming> LoneDesk<J> {
@@ -58,7 +55,7 @@ impl<J: Naming> LoneDesk<J> {
         ensures opening { IfOk result (λ desk. desk ≡ machine.opening limits) }
         ensures faults { IfErr result (λ e. (e ≡ RunFault.NoMemory) ⊎ (e ≡ RunFault.NoPlace)) }
     {
-        let mut desk = LockedDesk::<J>::new(blank, alloc, keys, limits)?;
+        let mut desk = Desk::<J>::new(blank, alloc, keys, limits)?;
         match desk.pass() {
             Ok(pass) => Ok(LoneDesk { desk, pass }),
             Err(_) => {

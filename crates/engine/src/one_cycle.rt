@@ -1,11 +1,11 @@
 //! One cycle of the scheduler: a pod is popped, a node is chosen for it, and its place is assumed.
 ghost use Rattle.std.specs.Prelude.{◌≡◌, IfOk, IfErr, OnErr};
-ghost use Rattle.desk.specs.Shared.{IsMember};
+ghost use Rattle.desk.specs.Shared.{IsPassOf};
 ghost use Rattle.fleet.specs.Team.{rules_of};
 ghost use Rattle.engine.specs.Cycle.{IsFailed, EndsWith, IsAssumed, IsChosen, IsDecided, MayLook, IsGivenUp, IsLeft, IsCycle, IsCutShort};
 
 use choose::{Counts, Decision};
-use desk::{LockedDesk, LockedPass, Naming, NoMemory, Refusal, Reply, Step};
+use desk::{Desk, Naming, NoMemory, Pass, Refusal, Reply, Step};
 use fleet::{Fleet, NoGate};
 use plugin::{Cause, Rules};
 use quant::{Name, Pod, Ticket};
@@ -54,13 +54,13 @@ pub struct CutShort {
 
 // Fails a pod that the pass popped. That may be refused, where the pod went meanwhile.
 fn fail<J: Naming, T: Wait>(
-    desk: &LockedDesk<J>,
+    desk: &Desk<J>,
     rt: &T,
-    pass: &mut LockedPass<J>,
+    pass: &mut Pass<J>,
     uid: &Name,
     how: Failure,
 ) -> Result<(), NoMemory>
-    requires { IsMember pass.old desk.now }
+    requires { IsPassOf pass.old desk.now }
     ensures failed { IfOk result (λ _. IsFailed desk.now pass.old uid.now how pass.new) }
     ensures err { OnErr result (pass.new ≡ pass.old) }
 {
@@ -70,13 +70,8 @@ fn fail<J: Naming, T: Wait>(
 }
 
 // Fails a pod for which memory was wanting, so that it is tried again.
-fn give_up<J: Naming, T: Wait>(
-    desk: &LockedDesk<J>,
-    rt: &T,
-    pass: &mut LockedPass<J>,
-    uid: &Name,
-) -> CutShort
-    requires { IsMember pass.old desk.now }
+fn give_up<J: Naming, T: Wait>(desk: &Desk<J>, rt: &T, pass: &mut Pass<J>, uid: &Name) -> CutShort
+    requires { IsPassOf pass.old desk.now }
     ensures { IsGivenUp desk.now pass.old uid.now result.held pass.new }
 {
     match fail(desk, rt, pass, uid, Failure::Again) {
@@ -89,14 +84,14 @@ fn give_up<J: Naming, T: Wait>(
 
 // Assumes a pod on the node that was chosen, or fails it where that is refused.
 fn assume<J: Naming, T: Wait>(
-    desk: &LockedDesk<J>,
+    desk: &Desk<J>,
     rt: &T,
-    pass: &mut LockedPass<J>,
+    pass: &mut Pass<J>,
     uid: &Name,
     node: Name,
     total: u32,
 ) -> Result<Cycled, CutShort>
-    requires { IsMember pass.old desk.now }
+    requires { IsPassOf pass.old desk.now }
     ensures assumed { IfOk result (λ came. IsAssumed desk.now pass.old uid.now node total came pass.new) }
     ensures left { IfErr result (λ short. IsLeft desk.now pass.old uid.now short.held pass.new) }
 {
@@ -130,13 +125,13 @@ fn assume<J: Naming, T: Wait>(
 
 // Does what was decided of a pod.
 fn end_with<J: Naming, T: Wait>(
-    desk: &LockedDesk<J>,
+    desk: &Desk<J>,
     rt: &T,
-    pass: &mut LockedPass<J>,
+    pass: &mut Pass<J>,
     uid: &Name,
     decision: Decision,
 ) -> Result<Cycled, CutShort>
-    requires { IsMember pass.old desk.now }
+    requires { IsPassOf pass.old desk.now }
     ensures ends { IfOk result (λ came. EndsWith desk.now pass.old uid.now decision came pass.new) }
     ensures left { IfErr result (λ short. IsLeft desk.now pass.old uid.now short.held pass.new) }
 {
@@ -169,13 +164,13 @@ fn end_with<J: Naming, T: Wait>(
 
 // Looks, and chooses a node for a pod.
 fn decide<J: Naming, T: Threads + Sync, K: Rules + Send>(
-    desk: &LockedDesk<J>,
+    desk: &Desk<J>,
     rt: &T,
-    pass: &mut LockedPass<J>,
+    pass: &mut Pass<J>,
     pod: &Pod,
     fleet: &mut Fleet<K>,
 ) -> Result<Decision, NoMemory>
-    requires { IsMember pass.old desk.now }
+    requires { IsPassOf pass.old desk.now }
     ensures chosen { IfOk result (λ decision. IsChosen (rules_of K.answers fleet.old.kits) desk.now pass.old pod.now decision pass.new) }
     ensures looked { OnErr result (MayLook desk.now pass.old pass.new) }
     ensures kits { fleet.new.kits ≡ fleet.old.kits }
@@ -190,12 +185,12 @@ fn decide<J: Naming, T: Threads + Sync, K: Rules + Send>(
 ///
 /// Errors: `CutShort`, for want of memory. A popped pod was then failed, to be tried again, or it is told that it could not.
 pub fn cycle<J: Naming, T: Wait + Threads + Sync, K: Rules + Send>(
-    desk: &LockedDesk<J>,
+    desk: &Desk<J>,
     rt: &T,
-    pass: &mut LockedPass<J>,
+    pass: &mut Pass<J>,
     fleet: &mut Fleet<K>,
 ) -> Result<Cycled, CutShort>
-    requires { IsMember pass.old desk.now }
+    requires { IsPassOf pass.old desk.now }
     ensures cycled { IfOk result (λ came. IsCycle (rules_of K.answers fleet.old.kits) desk.now pass.old came pass.new) }
     ensures cut_short { IfErr result (λ short. IsCutShort desk.now pass.old short.held pass.new) }
     ensures kits { fleet.new.kits ≡ fleet.old.kits }

@@ -1,11 +1,11 @@
 //! A script from its first line to its last.
-ghost use Rattle.std.specs.Prelude.{◌≡◌, ◌≢◌, ℕ, ◌^◌, ◌<◌, Some, None, Ok, Err, [], length, vec_len, IsTrue, IfSome, IfOk, OnOk, OnErr, IfErr};
+ghost use Rattle.std.specs.Prelude.{◌≡◌, ◌≢◌, ◌^◌, ◌<◌, Err, [], vec_len, IsTrue, IfSome, IfOk, OnOk, OnErr, IfErr};
 ghost use Rattle.std.specs.Io.KnownBytes.{Appends};
-ghost use Rattle.engine.specs.Device.{AppendsFront, WritesSome, CountsFailure};
+ghost use Rattle.engine.specs.Device.{AppendsFront, WritesSome, CountsFailure, use_of};
 ghost use Rattle.manifest.specs.Reading.{Answers};
-ghost use Rattle.manifest.specs.declared.fault.LineFault.{LineFault};
 ghost use Rattle.fleet.specs.Team.{rules_of};
-ghost use Rattle.engine.specs.Output.{asked_by, first_fault, WritesOutput, WritesFront, IsAnswered, IsLineFault};
+ghost use Rattle.engine.specs.Output.{asked_by, IsAnswered, IsLineFault};
+ghost use Rattle.engine.specs.Run.{IsRun};
 ghost use Rattle.engine.specs.Answers.{opening, limits, IsTimely};
 
 use crate::asked::{Asked, asked_for};
@@ -112,29 +112,8 @@ fn run_lines<J: Naming, T: Wait + Threads + Sync, K: Rules + Send, R: Source, W:
     requires reads { R.failure_count source.old < 10 ^ 18 }
     requires writes { W.failure_count sink.old < 10 ^ 18 }
     requires finite { R.bytes_left source.old < 2 ^ 64 }
-
-    // No line is faulty, the output is written whole, and everything is read.
-    ensures done { OnOk result (IfSome (R.remaining source.old) (λ script. (first_fault script ≡ None)
-        × WritesOutput (rules_of K.answers fleet.old.kits) names.now script (W.written sink.old) (W.written sink.new)
-        × (R.remaining source.new ≡ Some []))) }
-
-    // The line is the first faulty one, and the output of the lines before it is written whole.
-    ensures line { (number : ℕ) (fault : LineFault) → result ≡ Err (RunFault.Line number fault)
-        → IfSome (R.remaining source.old) (λ script. (first_fault script ≡ Some (number, fault))
-        × WritesOutput (rules_of K.answers fleet.old.kits) names.now script (W.written sink.old) (W.written sink.new)) }
-
-    // At any fault a beginning of the output is written, and nothing else.
-    ensures front { OnErr result (IfSome (R.remaining source.old) (λ script.
-        WritesFront (rules_of K.answers fleet.old.kits) names.now script (W.written sink.old) (W.written sink.new))) }
-
-    // A failure is told only where the device failed in this call.
-    ensures read { result ≡ Err RunFault.Read → R.failure_count source.old < R.failure_count source.new }
-    ensures write { result ≡ Err RunFault.Write → W.failure_count sink.old < W.failure_count sink.new }
-
-    // And each failure is told: at any other end no read, and no write, has failed.
-    ensures read_told { result ≢ Err RunFault.Read → R.failure_count source.new ≡ R.failure_count source.old }
-    ensures write_told { result ≢ Err RunFault.Write → W.failure_count sink.new ≡ W.failure_count sink.old }
-
+    ensures run { IsRun (rules_of K.answers fleet.old.kits) names.now
+        (use_of R.remaining R.failure_count source.old source.new) (use_of W.written W.failure_count sink.old sink.new) result }
     ensures placed { result ≢ Err RunFault.NoPlace }
     ensures kits { fleet.new.kits ≡ fleet.old.kits }
 {
@@ -183,29 +162,8 @@ fn run_desk<J: Naming, T: Wait + Threads + Sync, K: Rules + Send, R: Source, W: 
     requires reads { R.failure_count source.old < 10 ^ 18 }
     requires writes { W.failure_count sink.old < 10 ^ 18 }
     requires finite { R.bytes_left source.old < 2 ^ 64 }
-
-    // No line is faulty, the output is written whole, and everything is read.
-    ensures done { OnOk result (IfSome (R.remaining source.old) (λ script. (first_fault script ≡ None)
-        × WritesOutput (rules_of K.answers fleet.old.kits) names.now script (W.written sink.old) (W.written sink.new)
-        × (R.remaining source.new ≡ Some []))) }
-
-    // The line is the first faulty one, and the output of the lines before it is written whole.
-    ensures line { (number : ℕ) (fault : LineFault) → result ≡ Err (RunFault.Line number fault)
-        → IfSome (R.remaining source.old) (λ script. (first_fault script ≡ Some (number, fault))
-        × WritesOutput (rules_of K.answers fleet.old.kits) names.now script (W.written sink.old) (W.written sink.new)) }
-
-    // At any fault a beginning of the output is written, and nothing else.
-    ensures front { OnErr result (IfSome (R.remaining source.old) (λ script.
-        WritesFront (rules_of K.answers fleet.old.kits) names.now script (W.written sink.old) (W.written sink.new))) }
-
-    // A failure is told only where the device failed in this call.
-    ensures read { result ≡ Err RunFault.Read → R.failure_count source.old < R.failure_count source.new }
-    ensures write { result ≡ Err RunFault.Write → W.failure_count sink.old < W.failure_count sink.new }
-
-    // And each failure is told: at any other end no read, and no write, has failed.
-    ensures read_told { result ≢ Err RunFault.Read → R.failure_count source.new ≡ R.failure_count source.old }
-    ensures write_told { result ≢ Err RunFault.Write → W.failure_count sink.new ≡ W.failure_count sink.old }
-
+    ensures run { IsRun (rules_of K.answers fleet.old.kits) names.now
+        (use_of R.remaining R.failure_count source.old source.new) (use_of W.written W.failure_count sink.old sink.new) result }
     ensures no_place { result ≡ Err RunFault.NoPlace → (source.new ≡ source.old) × (sink.new ≡ sink.old) }
     ensures kits { fleet.new.kits ≡ fleet.old.kits }
 {
@@ -238,29 +196,8 @@ pub fn run<T: Wait + Threads + Sync, K: Rules + Send, R: Source, W: Sink>(
     requires reads { R.failure_count source.old < 10 ^ 18 }
     requires writes { W.failure_count sink.old < 10 ^ 18 }
     requires finite { R.bytes_left source.old < 2 ^ 64 }
-
-    // No line is faulty, the output is written whole, and everything is read.
-    ensures done { OnOk result (IfSome (R.remaining source.old) (λ script. (first_fault script ≡ None)
-        × WritesOutput (rules_of K.answers fleet.old.kits) names.now script (W.written sink.old) (W.written sink.new)
-        × (R.remaining source.new ≡ Some []))) }
-
-    // The line is the first faulty one, and the output of the lines before it is written whole.
-    ensures line { (number : ℕ) (fault : LineFault) → result ≡ Err (RunFault.Line number fault)
-        → IfSome (R.remaining source.old) (λ script. (first_fault script ≡ Some (number, fault))
-        × WritesOutput (rules_of K.answers fleet.old.kits) names.now script (W.written sink.old) (W.written sink.new)) }
-
-    // At any fault a beginning of the output is written, and nothing else.
-    ensures front { OnErr result (IfSome (R.remaining source.old) (λ script.
-        WritesFront (rules_of K.answers fleet.old.kits) names.now script (W.written sink.old) (W.written sink.new))) }
-
-    // A failure is told only where the device failed in this call.
-    ensures read { result ≡ Err RunFault.Read → R.failure_count source.old < R.failure_count source.new }
-    ensures write { result ≡ Err RunFault.Write → W.failure_count sink.old < W.failure_count sink.new }
-
-    // And each failure is told: at any other end no read, and no write, has failed.
-    ensures read_told { result ≢ Err RunFault.Read → R.failure_count source.new ≡ R.failure_count source.old }
-    ensures write_told { result ≢ Err RunFault.Write → W.failure_count sink.new ≡ W.failure_count sink.old }
-
+    ensures run { IsRun (rules_of K.answers fleet.old.kits) names.now
+        (use_of R.remaining R.failure_count source.old source.new) (use_of W.written W.failure_count sink.old sink.new) result }
     ensures no_place { result ≡ Err RunFault.NoPlace → (source.new ≡ source.old) × (sink.new ≡ sink.old) }
     ensures kits { fleet.new.kits ≡ fleet.old.kits }
 {

@@ -74,7 +74,7 @@ impl<J: Naming> Session<J> {
         add(out, &self.text)
     }
 
-    // Does a step, shows the nodes where the desk's numbers are asked for, and adds the answer to the text.
+    // Takes a step, and adds the lines that answer it to the text, with those of the nodes in front where the desk's numbers are asked for.
     #[tactic(auto, unfolding(crate::specs::Answers::after, crate::specs::Answers::text_of))]
     fn step<R: Wait>(&mut self, rt: &R, step: Step) -> Result<(), RunFault>
         requires { caller.IsTimely step }
@@ -85,7 +85,9 @@ impl<J: Naming> Session<J> {
         if let Step::Count = step {
             self.show()?;
         }
-        self.apply(rt, step)
+        let reply = self.desk.apply(rt, step)?;
+        push_reply(&mut self.text, reply)?;
+        Ok(())
     }
 
     // Does a cycle, and adds the line that tells what it came to.
@@ -102,19 +104,6 @@ impl<J: Naming> Session<J> {
     {
         let came = self.desk.cycle(rt, fleet)?;
         push_cycled(&mut self.text, names, &came)?;
-        Ok(())
-    }
-
-    // Takes a step, and adds the lines that answer it to the text.
-    fn apply<R: Wait>(&mut self, rt: &R, step: Step) -> Result<(), RunFault>
-        requires { caller.IsTimely step }
-        ensures state { OnOk result (self.new.desk ≡ machine.after self.old.desk 0 step) }
-        ensures text { OnOk result (self.new.text.items ≡ self.old.text.items
-            ++ reply_lines (machine.reply self.old.desk 0 step)) }
-        ensures faults { IfErr result (λ e. e ≡ RunFault.NoMemory) }
-    {
-        let reply = self.desk.apply(rt, step)?;
-        push_reply(&mut self.text, reply)?;
         Ok(())
     }
 

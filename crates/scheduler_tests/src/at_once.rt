@@ -1,11 +1,11 @@
 //! Passes that use a desk at once, each in a thread of its own.
 ghost use Rattle.std.specs.Prelude.{◌≡◌, IfOk};
 ghost use Rattle.desk.specs.Caller.{IsTimely};
-ghost use Rattle.desk.specs.Shared.{IsMember};
+ghost use Rattle.desk.specs.Shared.{IsPassOf};
 
 use crate::steps::{Answer, told};
 use book::Book;
-use desk::{Blank, Limits, LockedDesk, LockedPass, Naming, NoPlace, Reply, Snapshot, Step};
+use desk::{Blank, Desk, Limits, Naming, NoPlace, Pass, Reply, Snapshot, Step};
 use quant::{Bytes, Cpu, Event, Name, Node, Pod, Request, Res, SharedNode, SharedPod, Version};
 use queue::Failure;
 use std::alloc::Global;
@@ -95,13 +95,8 @@ fn bound(rt: &impl Abort, version: u64, number: u32) -> Step
 }
 
 /// Does a step, for which there is memory.
-fn take<J: Naming, R: Abort + Wait>(
-    rt: &R,
-    desk: &LockedDesk<J>,
-    pass: &mut LockedPass<J>,
-    step: Step,
-) -> Reply
-    requires of { IsMember pass.old desk.now }
+fn take<J: Naming, R: Abort + Wait>(rt: &R, desk: &Desk<J>, pass: &mut Pass<J>, step: Step) -> Reply
+    requires of { IsPassOf pass.old desk.now }
     requires timely { IsTimely step }
     ensures { pass.new.caller.number ≡ pass.old.caller.number }
 {
@@ -109,13 +104,8 @@ fn take<J: Naming, R: Abort + Wait>(
 }
 
 /// Does a step that changes the desk.
-fn tell<J: Naming, R: Abort + Wait>(
-    rt: &R,
-    desk: &LockedDesk<J>,
-    pass: &mut LockedPass<J>,
-    step: Step,
-)
-    requires of { IsMember pass.old desk.now }
+fn tell<J: Naming, R: Abort + Wait>(rt: &R, desk: &Desk<J>, pass: &mut Pass<J>, step: Step)
+    requires of { IsPassOf pass.old desk.now }
     requires timely { IsTimely step }
     ensures { pass.new.caller.number ≡ pass.old.caller.number }
 {
@@ -124,12 +114,8 @@ fn tell<J: Naming, R: Abort + Wait>(
 }
 
 /// A pass pops a pod.
-fn pop<J: Naming, R: Abort + Wait>(
-    rt: &R,
-    desk: &LockedDesk<J>,
-    pass: &mut LockedPass<J>,
-) -> SharedPod
-    requires { IsMember pass.old desk.now }
+fn pop<J: Naming, R: Abort + Wait>(rt: &R, desk: &Desk<J>, pass: &mut Pass<J>) -> SharedPod
+    requires { IsPassOf pass.old desk.now }
     ensures { pass.new.caller.number ≡ pass.old.caller.number }
 {
     match take(rt, desk, pass, Step::Pop) {
@@ -155,13 +141,8 @@ fn end_of(reply: &Reply, uid: Name) -> Step
 }
 
 /// A pass pops a pod, wants to place it on this node, says that it is bound or gives it back, and counts: four steps.
-fn place_next<J: Naming, R: Abort + Wait>(
-    rt: &R,
-    desk: &LockedDesk<J>,
-    pass: &mut LockedPass<J>,
-    node: Name,
-)
-    requires { IsMember pass.old desk.now }
+fn place_next<J: Naming, R: Abort + Wait>(rt: &R, desk: &Desk<J>, pass: &mut Pass<J>, node: Name)
+    requires { IsPassOf pass.old desk.now }
     ensures { pass.new.caller.number ≡ pass.old.caller.number }
 {
     let pod = pop(rt, desk, pass);
@@ -172,12 +153,8 @@ fn place_next<J: Naming, R: Abort + Wait>(
 }
 
 /// A pass takes 1,000 steps to place pods, on one node after another.
-fn place_many<J: Naming, R: Abort + Wait>(
-    rt: &R,
-    desk: &LockedDesk<J>,
-    mut pass: LockedPass<J>,
-) -> LockedPass<J>
-    requires { IsMember pass desk.now }
+fn place_many<J: Naming, R: Abort + Wait>(rt: &R, desk: &Desk<J>, mut pass: Pass<J>) -> Pass<J>
+    requires { IsPassOf pass desk.now }
     ensures { result.caller.number ≡ pass.caller.number }
 {
     for round in 0..EACH {
@@ -191,11 +168,11 @@ fn place_many<J: Naming, R: Abort + Wait>(
 /// Two passes place pods at once.
 fn place_two<J: Naming + Send + Sync, R: Threads + Abort + Wait + Sync>(
     rt: &R,
-    desk: &LockedDesk<J>,
-    first: LockedPass<J>,
-    second: LockedPass<J>,
-) -> (LockedPass<J>, LockedPass<J>)
-    requires { IsMember first desk.now × IsMember second desk.now }
+    desk: &Desk<J>,
+    first: Pass<J>,
+    second: Pass<J>,
+) -> (Pass<J>, Pass<J>)
+    requires { IsPassOf first desk.now × IsPassOf second desk.now }
     ensures { (result.0.caller.number ≡ first.caller.number) × (result.1.caller.number ≡ second.caller.number) }
 {
     join(
@@ -206,13 +183,8 @@ fn place_two<J: Naming + Send + Sync, R: Threads + Abort + Wait + Sync>(
 }
 
 /// 1,000 pods come.
-fn tell_pods<J: Naming, R: Abort + Wait>(
-    rt: &R,
-    alloc: Global,
-    desk: &LockedDesk<J>,
-    pass: &mut LockedPass<J>,
-)
-    requires { IsMember pass.old desk.now }
+fn tell_pods<J: Naming, R: Abort + Wait>(rt: &R, alloc: Global, desk: &Desk<J>, pass: &mut Pass<J>)
+    requires { IsPassOf pass.old desk.now }
     ensures { pass.new.caller.number ≡ pass.old.caller.number }
 {
     for number in 0..1_000u32 {
@@ -222,13 +194,8 @@ fn tell_pods<J: Naming, R: Abort + Wait>(
 }
 
 /// Four nodes come.
-fn tell_nodes<J: Naming, R: Abort + Wait>(
-    rt: &R,
-    alloc: Global,
-    desk: &LockedDesk<J>,
-    pass: &mut LockedPass<J>,
-)
-    requires { IsMember pass.old desk.now }
+fn tell_nodes<J: Naming, R: Abort + Wait>(rt: &R, alloc: Global, desk: &Desk<J>, pass: &mut Pass<J>)
+    requires { IsPassOf pass.old desk.now }
     ensures { pass.new.caller.number ≡ pass.old.caller.number }
 {
     tell(rt, desk, pass, node(rt, alloc, 1, b'a', 300));
@@ -238,8 +205,8 @@ fn tell_nodes<J: Naming, R: Abort + Wait>(
 }
 
 /// A look is to show so many pods on each node.
-fn assert_shown<J: Naming, R: Abort>(rt: &R, desk: &LockedDesk<J>, pass: &mut LockedPass<J>)
-    requires { IsMember pass.old desk.now }
+fn assert_shown<J: Naming, R: Abort>(rt: &R, desk: &Desk<J>, pass: &mut Pass<J>)
+    requires { IsPassOf pass.old desk.now }
     ensures { pass.new.caller.number ≡ pass.old.caller.number }
 {
     let shown = desk.look(pass).expect(rt, "memory");
@@ -263,13 +230,13 @@ fn assert_kept<R: Abort>(rt: &R, book: &Book) {
 fn place_all<J: Naming + Send + Sync, R: Threads + Abort + Wait + Sync>(
     rt: &R,
     alloc: Global,
-    desk: LockedDesk<J>,
-    passes: (LockedPass<J>, LockedPass<J>, LockedPass<J>, LockedPass<J>),
+    desk: Desk<J>,
+    passes: (Pass<J>, Pass<J>, Pass<J>, Pass<J>),
 )
-    requires a { IsMember passes.0 desk }
-    requires b { IsMember passes.1 desk }
-    requires c { IsMember passes.2 desk }
-    requires d { IsMember passes.3 desk }
+    requires a { IsPassOf passes.0 desk }
+    requires b { IsPassOf passes.1 desk }
+    requires c { IsPassOf passes.2 desk }
+    requires d { IsPassOf passes.3 desk }
 {
     let (mut a, b, c, d) = passes;
     tell_nodes(rt, alloc, &desk, &mut a);
@@ -278,10 +245,10 @@ fn place_all<J: Naming + Send + Sync, R: Threads + Abort + Wait + Sync>(
     let ((mut a, mut b), (mut c, mut d)) = join(
         rt,
         ||
-            requires { IsMember a shared.now × IsMember b shared.now }
+            requires { IsPassOf a shared.now × IsPassOf b shared.now }
         { place_two(rt, shared, a, b) },
         ||
-            requires { IsMember c shared.now × IsMember d shared.now }
+            requires { IsPassOf c shared.now × IsPassOf d shared.now }
         { place_two(rt, shared, c, d) },
     );
     desk.meet(rt, &mut a, &mut b);
@@ -293,10 +260,8 @@ fn place_all<J: Naming + Send + Sync, R: Threads + Abort + Wait + Sync>(
 }
 
 /// Four passes.
-fn four<J: Naming>(
-    desk: &mut LockedDesk<J>,
-) -> Result<(LockedPass<J>, LockedPass<J>, LockedPass<J>, LockedPass<J>), NoPlace>
-    ensures { IfOk result (λ p. IsMember p.0 desk.new × IsMember p.1 desk.new × IsMember p.2 desk.new × IsMember p.3 desk.new) }
+fn four<J: Naming>(desk: &mut Desk<J>) -> Result<(Pass<J>, Pass<J>, Pass<J>, Pass<J>), NoPlace>
+    ensures { IfOk result (λ p. IsPassOf p.0 desk.new × IsPassOf p.1 desk.new × IsPassOf p.2 desk.new × IsPassOf p.3 desk.new) }
 {
     Ok((desk.pass()?, desk.pass()?, desk.pass()?, desk.pass()?))
 }
@@ -307,12 +272,8 @@ fn used_of_first(shown: &Snapshot) -> u32 {
 }
 
 /// A pass looks 100,000 times, and tells how often a node had fewer pods than before.
-fn look_often<J: Naming, R: Abort>(
-    rt: &R,
-    desk: &LockedDesk<J>,
-    mut pass: LockedPass<J>,
-) -> (LockedPass<J>, u32)
-    requires { IsMember pass desk.now }
+fn look_often<J: Naming, R: Abort>(rt: &R, desk: &Desk<J>, mut pass: Pass<J>) -> (Pass<J>, u32)
+    requires { IsPassOf pass desk.now }
     ensures { result.0.caller.number ≡ pass.caller.number }
 {
     let (mut last, mut falls) = (0u32, 0u32);
@@ -326,12 +287,8 @@ fn look_often<J: Naming, R: Abort>(
 }
 
 /// A pass tells of 10,000 pods that are bound to one node.
-fn bind_many<J: Naming, R: Abort + Wait>(
-    rt: &R,
-    desk: &LockedDesk<J>,
-    mut pass: LockedPass<J>,
-) -> LockedPass<J>
-    requires { IsMember pass desk.now }
+fn bind_many<J: Naming, R: Abort + Wait>(rt: &R, desk: &Desk<J>, mut pass: Pass<J>) -> Pass<J>
+    requires { IsPassOf pass desk.now }
     ensures { result.caller.number ≡ pass.caller.number }
 {
     for number in 0..10_000u32 {
@@ -350,11 +307,11 @@ fn bind_many<J: Naming, R: Abort + Wait>(
 fn look_beside<J: Naming + Send + Sync, R: Threads + Abort + Wait + Sync>(
     rt: &R,
     alloc: Global,
-    desk: LockedDesk<J>,
-    passes: (LockedPass<J>, LockedPass<J>, LockedPass<J>, LockedPass<J>),
+    desk: Desk<J>,
+    passes: (Pass<J>, Pass<J>, Pass<J>, Pass<J>),
 )
-    requires a { IsMember passes.0 desk }
-    requires b { IsMember passes.1 desk }
+    requires a { IsPassOf passes.0 desk }
+    requires b { IsPassOf passes.1 desk }
 {
     let (mut a, b, _c, _d) = passes;
     tell(rt, &desk, &mut a, node(rt, alloc, 1, b'a', 100_000));
@@ -376,7 +333,7 @@ fn at_once<J: Naming + Send + Sync, R: Threads + Abort + Wait + Sync>(
 )
     requires { (blank.seen.book ≡ J.book) × (limits ≡ J.limits) }
 {
-    let mut desk = LockedDesk::<J>::new(blank, alloc, keys, limits).expect(rt, "memory");
+    let mut desk = Desk::<J>::new(blank, alloc, keys, limits).expect(rt, "memory");
     let passes = four(&mut desk).expect(rt, "four passes");
     if all_place {
         place_all(rt, alloc, desk, passes);

@@ -7,6 +7,8 @@ mod amounts;
 #[cfg(test)]
 mod at_once;
 #[cfg(test)]
+mod binding;
+#[cfg(test)]
 mod lines;
 #[cfg(test)]
 mod names;

@@ -1,17 +1,17 @@
-//! A desk at work. Names are single letters.
+//! A desk at work, by one pass. Names are single letters.
 ghost use Rattle.std.specs.Prelude.{◌≡◌, IfOk, OnOk};
 ghost use Rattle.desk.specs.Caller.{IsTimely};
-ghost use Rattle.desk.specs.History.{IsOf};
+ghost use Rattle.desk.specs.Shared.{IsPassOf};
 
-use desk::{Counts, Desk, Limits, Pass, Refusal, Reply, Step};
+use desk::{Counts, Desk, Naming, Pass, Refusal, Reply, Step};
 use quant::{
     Bytes, Cpu, Event, Moment, Name, Node, Pod, Request, Res, SharedNode, SharedPod, Ticket,
     Version,
 };
 use queue::Failure;
 use std::alloc::Global;
-use std::hash::RandomState;
 use std::process::Abort;
+use std::sync::Wait;
 use std::test::Fail;
 
 /// An answer with a popped pod's letter in place of the pod, so that answers can be compared.
@@ -78,12 +78,34 @@ pub fn pending(alloc: Global, version: u64, uid: u8) -> Result<Step, Fail>
     }))
 }
 
-fn gone(version: u64, uid: u8) -> Result<Step, Fail>
+pub fn gone(version: u64, uid: u8) -> Result<Step, Fail>
     ensures { IfOk result IsTimely }
 {
     Ok(Step::Event(Event::PodGone {
         version: Version(version),
         uid: name(uid)?,
+    }))
+}
+
+/// A node of this name is gone.
+pub fn node_gone(version: u64, letter: u8) -> Result<Step, Fail>
+    ensures { IfOk result IsTimely }
+{
+    Ok(Step::Event(Event::NodeGone {
+        version: Version(version),
+        name: name(letter)?,
+    }))
+}
+
+/// A pod of this name is bound to a node, and asks for 600 thousandths of a core.
+pub fn bound(version: u64, uid: u8, node: u8) -> Result<Step, Fail>
+    ensures { IfOk result IsTimely }
+{
+    Ok(Step::Event(Event::PodBound {
+        version: Version(version),
+        uid: name(uid)?,
+        node: name(node)?,
+        request: Request::new(Cpu(600), Bytes(0))?,
     }))
 }
 
@@ -114,7 +136,7 @@ fn bind_done(uid: u8, ticket: u64) -> Result<Step, Fail>
     })
 }
 
-fn fail(uid: u8) -> Result<Step, Fail>
+pub fn fail(uid: u8) -> Result<Step, Fail>
     ensures { IfOk result IsTimely }
 {
     Ok(Step::Fail {
@@ -123,32 +145,51 @@ fn fail(uid: u8) -> Result<Step, Fail>
     })
 }
 
-/// Does a step, whose answer is to be this one. It promises no more than that the pass stays the
-/// desk's own: else each proof below would go through all its earlier states.
-fn take(
-    rt: &impl Abort,
-    desk: &mut Desk,
-    pass: &mut Pass,
+/// Does a step, whose answer is to be this one. It promises no more than that it is still the same pass: else each proof below
+/// would go through all its earlier states.
+pub fn take<J: Naming, R: Abort + Wait>(
+    rt: &R,
+    desk: &Desk<J>,
+    pass: &mut Pass<J>,
     step: Result<Step, Fail>,
     want: Answer,
 ) -> Result<(), Fail>
-    requires of { IsOf pass.old desk.old }
+    requires of { IsPassOf pass.old desk.now }
     requires timely { IfOk step IsTimely }
-    ensures { OnOk result (IsOf pass.new desk.new) }
+    ensures { OnOk result (pass.new.caller.number ≡ pass.old.caller.number) }
 {
-    let answer = desk.apply(pass, step?)?;
+    let answer = desk.apply(rt, pass, step?)?;
     assert_eq!(rt; told(&answer), want);
     Ok(())
 }
 
-fn opened(alloc: Global, keys: RandomState) -> Result<Desk, Fail> {
-    Ok(Desk::new(alloc, keys, Limits::greatest())?)
+/// A look is to show one node, with so much CPU used by so many pods.
+pub fn assert_used<J: Naming, R: Abort>(
+    rt: &R,
+    desk: &Desk<J>,
+    pass: &mut Pass<J>,
+    cpu: u64,
+    pods: u32,
+) -> Result<(), Fail>
+    requires of { IsPassOf pass.old desk.now }
+    ensures { pass.new.caller.number ≡ pass.old.caller.number }
+{
+    let shown = desk.look(pass)?;
+    let rows = shown.rows();
+    assert!(rt; rows.len() == 1);
+    assert_eq!(rt; (rows[0].used.cpu, rows[0].used.pods), (Cpu(cpu), pods));
+    Ok(())
 }
 
 /// Pods p and q wait for node a, that has room for one of them.
-fn tell_events(rt: &impl Abort, alloc: Global, desk: &mut Desk, pass: &mut Pass) -> Result<(), Fail>
-    requires { IsOf pass.old desk.old }
-    ensures { OnOk result (IsOf pass.new desk.new) }
+fn tell_events<J: Naming, R: Abort + Wait>(
+    rt: &R,
+    alloc: Global,
+    desk: &Desk<J>,
+    pass: &mut Pass<J>,
+) -> Result<(), Fail>
+    requires { IsPassOf pass.old desk.now }
+    ensures { OnOk result (pass.new.caller.number ≡ pass.old.caller.number) }
 {
     take(rt, desk, pass, Ok(Step::Pop), Answer::Idle)?;
     take(rt, desk, pass, node(alloc, 1, b'a'), Answer::Done)?;
@@ -171,9 +212,13 @@ fn tell_events(rt: &impl Abort, alloc: Global, desk: &mut Desk, pass: &mut Pass)
 }
 
 /// Pod p gets its place, and q finds none beside it.
-fn place_one(rt: &impl Abort, desk: &mut Desk, pass: &mut Pass) -> Result<(), Fail>
-    requires { IsOf pass.old desk.old }
-    ensures { OnOk result (IsOf pass.new desk.new) }
+fn place_one<J: Naming, R: Abort + Wait>(
+    rt: &R,
+    desk: &Desk<J>,
+    pass: &mut Pass<J>,
+) -> Result<(), Fail>
+    requires { IsPassOf pass.old desk.now }
+    ensures { OnOk result (pass.new.caller.number ≡ pass.old.caller.number) }
 {
     take(
         rt,
@@ -209,9 +254,13 @@ fn place_one(rt: &impl Abort, desk: &mut Desk, pass: &mut Pass) -> Result<(), Fa
 }
 
 /// The bind of p fails once, and it is placed anew once its backoff is over.
-fn place_again(rt: &impl Abort, desk: &mut Desk, pass: &mut Pass) -> Result<(), Fail>
-    requires { IsOf pass.old desk.old }
-    ensures { OnOk result (IsOf pass.new desk.new) }
+fn place_again<J: Naming, R: Abort + Wait>(
+    rt: &R,
+    desk: &Desk<J>,
+    pass: &mut Pass<J>,
+) -> Result<(), Fail>
+    requires { IsPassOf pass.old desk.now }
+    ensures { OnOk result (pass.new.caller.number ≡ pass.old.caller.number) }
 {
     take(
         rt,
@@ -241,9 +290,13 @@ fn place_again(rt: &impl Abort, desk: &mut Desk, pass: &mut Pass) -> Result<(), 
     take(rt, desk, pass, bind_done(b'p', 2), Answer::Done)
 }
 
-fn assert_counts(rt: &impl Abort, desk: &mut Desk, pass: &mut Pass) -> Result<(), Fail>
-    requires { IsOf pass.old desk.old }
-    ensures { OnOk result (IsOf pass.new desk.new) }
+fn assert_counts<J: Naming, R: Abort + Wait>(
+    rt: &R,
+    desk: &Desk<J>,
+    pass: &mut Pass<J>,
+) -> Result<(), Fail>
+    requires { IsPassOf pass.old desk.now }
+    ensures { OnOk result (pass.new.caller.number ≡ pass.old.caller.number) }
 {
     let counts = Counts {
         bound: 0,
@@ -258,27 +311,15 @@ fn assert_counts(rt: &impl Abort, desk: &mut Desk, pass: &mut Pass) -> Result<()
     take(rt, desk, pass, Ok(Step::Count), Answer::Counts(counts))
 }
 
-fn assert_used(
-    rt: &impl Abort,
-    desk: &Desk,
-    pass: &mut Pass,
-    cpu: u64,
-    pods: u32,
-) -> Result<(), Fail>
-    ensures { pass.new ≡ pass.old }
-{
-    let shown = desk.look(pass)?;
-    let rows = shown.rows();
-    assert!(rt; rows.len() == 1);
-    assert_eq!(rt; rows[0].used.cpu, Cpu(cpu));
-    assert_eq!(rt; rows[0].used.pods, pods);
-    Ok(())
-}
-
 /// Pod p gets the one place.
-fn place_first(rt: &impl Abort, alloc: Global, desk: &mut Desk, pass: &mut Pass) -> Result<(), Fail>
-    requires { IsOf pass.old desk.old }
-    ensures { OnOk result (IsOf pass.new desk.new) }
+fn place_first<J: Naming, R: Abort + Wait>(
+    rt: &R,
+    alloc: Global,
+    desk: &Desk<J>,
+    pass: &mut Pass<J>,
+) -> Result<(), Fail>
+    requires { IsPassOf pass.old desk.now }
+    ensures { OnOk result (pass.new.caller.number ≡ pass.old.caller.number) }
 {
     tell_events(rt, alloc, desk, pass)?;
     place_one(rt, desk, pass)?;
@@ -286,8 +327,12 @@ fn place_first(rt: &impl Abort, alloc: Global, desk: &mut Desk, pass: &mut Pass)
 }
 
 /// It loses it, gets it again, and goes.
-fn place_second(rt: &impl Abort, desk: &mut Desk, pass: &mut Pass) -> Result<(), Fail>
-    requires { IsOf pass.old desk.old }
+fn place_second<J: Naming, R: Abort + Wait>(
+    rt: &R,
+    desk: &Desk<J>,
+    pass: &mut Pass<J>,
+) -> Result<(), Fail>
+    requires { IsPassOf pass.old desk.now }
 {
     place_again(rt, desk, pass)?;
     assert_counts(rt, desk, pass)?;
@@ -296,13 +341,15 @@ fn place_second(rt: &impl Abort, desk: &mut Desk, pass: &mut Pass) -> Result<(),
     assert_used(rt, desk, pass, 0, 0)
 }
 
-/// Two pods for one place: the second waits until the first one's bind failed, and what is used is
-/// counted once.
-#[test]
-fn places_a_pod_once(rt: HostRuntime) -> Result<(), Fail> {
-    let alloc = rt.alloc();
-    let mut desk = opened(alloc, RandomState::new(&rt)?)?;
-    let mut pass = desk.pass()?;
-    place_first(&rt, alloc, &mut desk, &mut pass)?;
-    place_second(&rt, &mut desk, &mut pass)
+/// Two pods for one place: the second waits until the first one's bind failed, and what is used is counted once.
+pub fn place_once<J: Naming, R: Abort + Wait>(
+    rt: &R,
+    alloc: Global,
+    desk: &Desk<J>,
+    pass: &mut Pass<J>,
+) -> Result<(), Fail>
+    requires { IsPassOf pass.old desk.now }
+{
+    place_first(rt, alloc, desk, pass)?;
+    place_second(rt, desk, pass)
 }

@@ -12,7 +12,7 @@ invariant_of-self g c =
     let x = w.desk.shown.value in
     let ok = c.in-Ok.ensures in
     let more = drop c.append.new.self.behind c.append.new.self.log.items in
-    let known : c.again-front.result ≡ x.known = c.again-front.ensures ∙ ap (λ (y : Published). y.known) (c.behind-self.view_is ∙ c.published.ensures) in
-    let waits = ok.pending ∙ ap (λ o. drop w.behind w.log.items ++ o ∷ []) (c.no_order.ensures ∙ ap no_order known) in
+    let prefix : c.again-prefix.result ≡ x.prefix = c.again-prefix.ensures ∙ ap (λ (y : Published). y.prefix) (c.behind-self.view_is ∙ c.published.ensures) in
+    let waits = ok.pending ∙ ap (λ o. drop w.behind w.log.items ++ o ∷ []) (c.no_order.ensures ∙ ap no_order prefix) in
     subst (λ d. Stands book limits d.shown.value × (fold published_after d.shown.value more ≡ d.shown.value)) (sym ok.desk)
     (c.self.invariant.0, still_nothing book limits x (drop w.behind w.log.items) more c.self.invariant.0 c.self.invariant.1 waits)

@@ -6,9 +6,9 @@ use Rattle.desk.proofs.under_lock.UnderLock.meet.Goals as goal
 pub returns : goal.returns
 returns g c =
     let published = c.published-published.result.now in
-    let same : c.published.inside.front.list ≡ published.known.list = ap (λ (x : Published). x.known.list) c.published.view_is in
+    let same : c.published.inside.prefix.list ≡ published.prefix.list = ap (λ (x : Published). x.prefix.list) c.published.view_is in
     record {
-      list = published.known.list;
+      list = published.prefix.list;
       first = c.if-not-may_go_on.ensures refl;
       second = c.if-not-may_go_on-2.ensures refl;
       first_new = c.see.ensures ∙ ap (λ l. record c.args.first.now { seen = l }) same;

@@ -1,0 +1,415 @@
+//! The state of a desk, and each step on it. It has one owner: what passes share stands over two of these.
+ghost use Rattle.std.specs.Prelude.{◌≡◌, ◌≤◌, ◌<◌, ◌+◌, ℕ, IfOk, IsErr, MatchResult, slice_index};
+ghost use Rattle.std.specs.Bool.{IsTrue};
+ghost use Rattle.desk.specs.Caller.{HasNoCalls};
+ghost use Rattle.desk.specs.BareReply.{bare_reply};
+
+use crate::bare_reply::BareReply;
+use crate::limits::{MAX_CALLS, MAX_PASSES};
+use crate::snapshot::{Row, Snapshot};
+use crate::step::{Counts, Reply, Step};
+use book::{Book, ClusterStep, Entry, Limits, NoMemory, Refusal};
+use quant::{Event, LATEST_MOMENT, Moment, Name, Request, SharedPod, Ticket, Version};
+use queue::{Failure, PassNumber, Queue};
+use std::alloc::{AllocError, Global};
+use std::hash::RandomState;
+use std::marker::Model;
+
+/// Book, queue and clock, how many calls of each pass were answered, and of how many passes calls are taken. Each step is done
+/// or refused here.
+#[derive(Drop)]
+pub struct Core {
+    alloc: Global,
+    book: Book,
+    queue: Queue,
+    clock: Moment,
+    calls: [u64; MAX_PASSES],
+    handed: usize,
+}
+
+impl Model for Core {
+    ghost use Rattle.desk.specs.Caller.{Core as State};
+
+    ghost Value = { State };
+
+    ghost use Rattle.desk.specs.Codes.{core_code};
+
+    ghost coded = { core_code };
+
+    ghost use Rattle.std.specs.Prelude.{◌≡◌, ◌≤◌, length};
+    ghost use Rattle.quant.specs.declared.limits.TheConstants.{LATEST_MOMENT};
+    ghost use Rattle.desk.specs.declared.limits.TheConstants.{MAX_PASSES};
+
+    ghost view = { λ d. record { state = record { cluster = d.book; queue = d.queue; clock = d.clock; calls = d.calls }; handed = d.handed } };
+
+    ghost invariant = { λ d. (length d.calls ≡ MAX_PASSES) × (d.handed ≤ MAX_PASSES) × (d.clock.0 ≤ LATEST_MOMENT) };
+}
+
+impl Core {
+    ghost use Rattle.desk.specs.Caller.{new_core, with_state, IsTimely, hands_out};
+    ghost use Rattle.desk.specs.Shared.{may_call};
+    ghost use Rattle.desk.specs.Machine.{both, of_node, moved, step, entry_for, counts, reply, after, snapshot};
+    ghost use Rattle.desk.specs.Machine as machine;
+    ghost use Rattle.desk.specs.Done.{IsTold, IsTaken, IsDone, IsSaid};
+    ghost use Rattle.desk.specs.BareReply.{bare_reply, handed_by};
+    ghost use Rattle.std.specs.FinMap.{len};
+    ghost use Rattle.queue.specs.Queue as queue;
+
+    /// No nodes and no pods; calls are taken of all passes. Names are looked up under the keys, so that nobody can choose names
+    /// that are slow to look up.
+    ///
+    /// Errors: `NoMemory`.
+    pub(crate) fn new(alloc: Global, keys: RandomState, limits: Limits) -> Result<Self, NoMemory>
+        ensures { IfOk result (λ core. core ≡ new_core limits) }
+    {
+        let book = Book::new(alloc, keys, limits)?;
+        let queue = Queue::new(alloc, keys, limits.queued)?;
+        Ok(Core {
+            alloc,
+            book,
+            queue,
+            clock: Moment(0),
+            calls: [0; MAX_PASSES],
+            handed: MAX_PASSES,
+        })
+    }
+
+    // The book takes its part of a step, or refuses it.
+    fn tell_book(&mut self, part: ClusterStep) -> Result<book::Reply, Refusal>
+        ensures { IsTold self.old part result self.new }
+    {
+        match self.book.step(part) {
+            book::Reply::Refused(why) => Err(why),
+            said => Ok(said),
+        }
+    }
+
+    // The watch tells of a node: the book takes it or not, and where it does there may be a move.
+    fn take_node(&mut self, event: Event) -> Result<(), Refusal>
+        ensures { IsTaken self.old (of_node self.old.state event) result self.new }
+    {
+        let queue_full = self.queue.is_full();
+        let queued = false;
+        self.tell_book(ClusterStep::Event {
+            event,
+            queued,
+            queue_full,
+        })?;
+        Ok(())
+    }
+
+    // A node's row is set, and there is a move.
+    fn set_node(&mut self, event: Event) -> Result<Reply, Refusal>
+        ensures { IsDone self.old (both self.old.state (of_node self.old.state event) (moved self.old.state self.old.state.queue)) result self.new }
+    {
+        self.take_node(event)?;
+        self.queue.move_all(self.clock);
+        Ok(Reply::Done)
+    }
+
+    // A node is gone, and there is no move.
+    fn drop_node(&mut self, event: Event) -> Result<Reply, Refusal>
+        ensures { IsDone self.old (both self.old.state (of_node self.old.state event) self.old.state.queue) result self.new }
+    {
+        self.take_node(event)?;
+        Ok(Reply::Done)
+    }
+
+    // A pod waits for a place: it has an entry from now on.
+    fn add_pod(&mut self, version: Version, pod: SharedPod) -> Result<Reply, Refusal>
+        ensures { IsDone self.old (step self.old.state 0 (Step.Event (Event.PodPending version pod))) result self.new }
+    {
+        let part = ClusterStep::Event {
+            queued: self.queue.has(&pod.uid),
+            queue_full: self.queue.is_full(),
+            event: Event::PodPending { version, pod },
+        };
+        if let book::Reply::Queue(pod) = self.tell_book(part)? {
+            let _ = self.queue.add(pod, self.clock);
+        }
+        Ok(Reply::Done)
+    }
+
+    // A pod is bound: it is there, in place of where it was, and its entry goes.
+    fn bind_pod(
+        &mut self,
+        version: Version,
+        uid: Name,
+        node: Name,
+        request: Request,
+    ) -> Result<Reply, Refusal>
+        ensures { IsDone self.old (step self.old.state 0 (Step.Event (Event.PodBound version uid node request))) result self.new }
+    {
+        let bound = uid.copied();
+        let part = ClusterStep::Event {
+            queued: self.queue.has(&uid),
+            queue_full: self.queue.is_full(),
+            event: Event::PodBound {
+                version,
+                uid,
+                node,
+                request,
+            },
+        };
+        self.tell_book(part)?;
+        self.queue.remove(&bound);
+        Ok(Reply::Done)
+    }
+
+    // A pod is gone: its place and its entry go, with a move if it had a place.
+    fn drop_pod(&mut self, version: Version, uid: Name) -> Result<Reply, Refusal>
+        ensures { IsDone self.old (step self.old.state 0 (Step.Event (Event.PodGone version uid))) result self.new }
+    {
+        let gone = uid.copied();
+        let was_placed = self.book.is_placed(&uid);
+        let part = ClusterStep::Event {
+            queued: self.queue.has(&uid),
+            queue_full: self.queue.is_full(),
+            event: Event::PodGone { version, uid },
+        };
+        self.tell_book(part)?;
+        self.queue.remove(&gone);
+        if was_placed {
+            self.queue.move_all(self.clock);
+        }
+        Ok(Reply::Done)
+    }
+
+    // What the queue has of a pod that a pass wants to place.
+    fn entry_of(&self, pass: PassNumber, uid: &Name) -> Entry
+        ensures { result ≡ entry_for pass (queue.entry_of self.now.state.queue uid.now) }
+    {
+        match self.queue.pod_of(uid) {
+            None => Entry::Missing,
+            Some(pod) if self.queue.is_in_flight(uid, pass) => Entry::Held(pod.request),
+            Some(_) => Entry::Elsewhere,
+        }
+    }
+
+    // A pod that the pass popped is assumed on a node, and its entry stays in flight.
+    fn assume(&mut self, pass: usize, uid: Name, node: Name) -> Result<Reply, Refusal>
+        ensures { IsDone self.old (step self.old.state pass (Step.Assume uid node)) result self.new }
+    {
+        let entry = self.entry_of(PassNumber(pass as u64), &uid);
+        match self.tell_book(ClusterStep::Assume { uid, node, entry })? {
+            book::Reply::Ticket(ticket) => Ok(Reply::Ticket(ticket)),
+            _ => Ok(Reply::Done),
+        }
+    }
+
+    // An assumed place is marked as finished.
+    fn finish_bind(&mut self, uid: Name, ticket: Ticket) -> Result<Reply, Refusal>
+        ensures { IsDone self.old (step self.old.state 0 (Step.BindDone uid ticket)) result self.new }
+    {
+        let queued = self.queue.has(&uid);
+        self.tell_book(ClusterStep::BindDone {
+            uid,
+            ticket,
+            queued,
+        })?;
+        Ok(Reply::Done)
+    }
+
+    // An assumed place is given up: its entry backs off, and there is a move.
+    fn forget(&mut self, uid: Name, ticket: Ticket) -> Result<Reply, Refusal>
+        ensures { IsDone self.old (step self.old.state 0 (Step.Forget uid ticket)) result self.new }
+    {
+        let forgotten = uid.copied();
+        let queued = self.queue.has(&uid);
+        self.tell_book(ClusterStep::Forget {
+            uid,
+            ticket,
+            queued,
+        })?;
+        let _ = self.queue.forget_back(&forgotten, self.clock);
+        self.queue.move_all(self.clock);
+        Ok(Reply::Done)
+    }
+
+    // A pass gives a pod back that it popped and found no place for.
+    #[tactic(auto, unfolding(queue::specs::Queue::refusal_to_fail, queue::specs::Queue::after_fail))]
+    fn fail(&mut self, pass: usize, uid: Name, how: Failure) -> Result<Reply, Refusal>
+        ensures { IsDone self.old (step self.old.state pass (Step.Fail uid how)) result self.new }
+    {
+        if self.book.is_placed(&uid) {
+            return Err(Refusal::Placed);
+        }
+        if !self.queue.has(&uid) {
+            return Err(Refusal::Gone);
+        }
+        match self
+            .queue
+            .fail(&uid, PassNumber(pass as u64), how, self.clock)
+        {
+            Ok(()) => Ok(Reply::Done),
+            Err(_) => Err(Refusal::NotInFlight),
+        }
+    }
+
+    // Time goes on to this moment.
+    fn tick(&mut self, now: Moment) -> Result<Reply, Refusal>
+        requires { now.0 ≤ LATEST_MOMENT }
+        ensures { IsDone self.old (step self.old.state 0 (Step.Tick now)) result self.new }
+    {
+        if now < self.clock {
+            return Err(Refusal::ClockBack);
+        }
+        self.clock = now;
+        self.queue.tick(now);
+        Ok(Reply::Done)
+    }
+
+    // One more owner of the pod that a step hands out, if it hands one out.
+    pub(crate) fn pod_for(&self, step: &Step) -> Result<Option<SharedPod>, NoMemory>
+        ensures pod { IfOk result (λ pod. pod ≡ handed_by self.now.state step.now) }
+        ensures no_memory { IsErr result → IsTrue (hands_out self.now.state step.now) }
+    {
+        if !matches!(step, Step::Pop) {
+            return Ok(None);
+        }
+        match self.queue.peek() {
+            None => Ok(None),
+            Some(first) => Ok(Some(first.share()?)),
+        }
+    }
+
+    // The pod that goes first is the pass's now.
+    #[tactic(auto, unfolding(queue::specs::Queue::after_pop))]
+    fn pop(&mut self, pass: usize) -> BareReply
+        ensures { IsSaid self.old pass Step.Pop result self.new }
+    {
+        match self.queue.pop(PassNumber(pass as u64)) {
+            Some(_) => BareReply::Popped,
+            None => BareReply::Idle,
+        }
+    }
+
+    // The watch tells of something.
+    fn take_event(&mut self, event: Event) -> Result<Reply, Refusal>
+        ensures { (pass : ℕ) → IsDone self.old (step self.old.state pass (Step.Event event)) result self.new }
+    {
+        match event {
+            Event::NodeSet { .. } => self.set_node(event),
+            Event::NodeGone { .. } => self.drop_node(event),
+            Event::PodPending { version, pod } => self.add_pod(version, pod),
+            Event::PodBound {
+                version,
+                uid,
+                node,
+                request,
+            } => self.bind_pod(version, uid, node, request),
+            Event::PodGone { version, uid } => self.drop_pod(version, uid),
+        }
+    }
+
+    // Does a step for a pass, or refuses it, and says so. It takes no memory and hands nothing out. No call is counted.
+    fn do_step(&mut self, pass: usize, step: Step) -> BareReply
+        requires { IsTimely step }
+        ensures { IsSaid self.old pass step result self.new }
+    {
+        match step {
+            Step::Pop => self.pop(pass),
+            Step::Event(event) => said(self.take_event(event)),
+            Step::Assume { uid, node } => said(self.assume(pass, uid, node)),
+            Step::BindDone { uid, ticket } => said(self.finish_bind(uid, ticket)),
+            Step::Forget { uid, ticket } => said(self.forget(uid, ticket)),
+            Step::Fail { uid, how } => said(self.fail(pass, uid, how)),
+            Step::Tick(now) => said(self.tick(now)),
+            Step::Count => BareReply::Counts(self.counts()),
+        }
+    }
+
+    fn counts(&self) -> Counts
+        ensures { result ≡ counts self.now.state }
+    {
+        let queued = self.queue.counts();
+        let assumed = self.book.assumed();
+        Counts {
+            bound: self.book.bound(),
+            assumed,
+            active: queued.active,
+            backoff: queued.backoff,
+            unschedulable: queued.unschedulable,
+            in_flight: queued.in_flight.saturating_sub(assumed),
+            clock: self.clock,
+            version: self.book.version(),
+        }
+    }
+
+    /// Whether a pass of this number was handed out, and has a call left.
+    pub(crate) fn has_call_for(&self, pass: usize) -> bool
+        ensures { result ≡ may_call self.now pass }
+    {
+        pass < self.handed && self.calls[pass] < MAX_CALLS
+    }
+
+    /// Whether so many calls of this pass were answered, and none of the passes from this number on.
+    pub(crate) fn counts_alike(&self, pass: usize, calls: u64, handed: usize) -> bool
+        requires { pass < MAX_PASSES }
+        ensures calls { IsTrue result → slice_index self.now.state.calls pass ≡ calls }
+        ensures handed { IsTrue result → HasNoCalls handed self.now.state.calls }
+    {
+        self.calls[pass] == calls && has_none_from(&self.calls, handed)
+    }
+
+    /// The book as it is.
+    pub(crate) fn into_book(self) -> Book
+        ensures { result ≡ self.state.cluster }
+    {
+        let Core { book, .. } = self;
+        book
+    }
+
+    // Does a step for a pass, or refuses it, says so, and counts the call. It takes no memory and hands nothing out.
+    pub(crate) fn take_call(&mut self, pass: usize, step: Step) -> BareReply
+        requires handed { pass < self.old.handed }
+        requires fits { slice_index self.old.state.calls pass < MAX_CALLS }
+        requires timely { IsTimely step }
+        ensures said { result ≡ bare_reply (reply self.old.state pass step) }
+        ensures after { self.new ≡ with_state self.old (after self.old.state pass step) }
+        ensures counted { slice_index self.new.state.calls pass ≡ slice_index self.old.state.calls pass + 1 }
+    {
+        // A pass's number is within its desk's counts.
+        let _ = &self.calls;
+        let said = self.do_step(pass, step);
+        self.calls[pass] += 1;
+        said
+    }
+
+    // The rows of the nodes, with what is used of each.
+    pub(crate) fn show(&self) -> Result<Snapshot, NoMemory>
+        ensures snapshot { IfOk result (λ shown. shown ≡ snapshot self.now.state.cluster) }
+        ensures no_memory { IsErr result → 1 ≤ len self.now.state.cluster.nodes }
+    {
+        let nodes = self.book.rows();
+        let mut rows = Vec::with_capacity(self.alloc, nodes.len())?;
+        for node in nodes {
+            let used = self.book.used(&node.name);
+            let node = node.share()?;
+            rows.push(Row { node, used }).map_err(AllocError::from)?;
+        }
+        Ok(Snapshot::new(rows))
+    }
+}
+
+// Whether no call of the passes from this number on was answered.
+fn has_none_from(calls: &[u64; MAX_PASSES], handed: usize) -> bool
+    ensures { IsTrue result → HasNoCalls handed calls.now }
+{
+    for pass in handed..MAX_PASSES {
+        if calls[pass] != 0 {
+            return false;
+        }
+    }
+    true
+}
+
+// What there is to say of a step that was done or refused.
+fn said(done: Result<Reply, Refusal>) -> BareReply
+    ensures { MatchResult done (λ reply. result ≡ bare_reply reply) (λ why. result ≡ BareReply.Refused why) }
+{
+    match done {
+        Ok(reply) => BareReply::of(&reply),
+        Err(why) => BareReply::Refused(why),
+    }
+}

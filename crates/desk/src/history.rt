@@ -1,0 +1,142 @@
+//! The history that all passes of a desk share. It exists in the proofs alone: what threads share is a word, its
+//! length, and a `Prefix` is a beginning of it that was seen.
+ghost use Rattle.std.specs.Prelude.{◌≡◌, [], IfSome};
+ghost use Rattle.std.specs.Bool.{IsTrue};
+ghost use mathlib.Core.List.{IsPrefix};
+ghost use Rattle.desk.specs.Shared.{head_of, next_call, with_call};
+
+use crate::history_rule::{Adds, Entry, HistoryRule, Nothing};
+use crate::next_call::NextCall;
+use logbook::{Offer, Seen, Start, Word};
+use std::marker::{Brand, Model, PhantomData};
+
+/// Which desk it is, and how large it may grow. Whoever opens a desk picks it.
+pub trait Naming {
+    ghost use Rattle.logbook.specs.Pages.{Book};
+    ghost use Rattle.book.specs.declared.limits.Limits.{Limits};
+
+    ghost book: { Book };
+
+    ghost limits: { Limits };
+}
+
+impl Naming for Brand {
+    ghost use Rattle.std.proofs.Common.{zero-le};
+
+    ghost book = { record { number = 0; log_name = 0; cells_name = 0 } };
+
+    ghost limits = { record { nodes = 0; placed = 0; queued = 0; few_nodes = zero-le; few_placed = zero-le; few_queued = zero-le } };
+}
+
+/// An empty history, before it has a name.
+pub struct Blank {
+    head: Word<Entry, u64, HistoryRule>,
+    seen: Seen<Entry, u64, HistoryRule>,
+    pub ghost empty: { seen.log ≡ [] },
+    pub ghost head_is: { head ≡ head_of seen.book },
+}
+
+/// The word that all threads share: the length of the history.
+#[derive(Drop)]
+pub struct Head<J: Naming> {
+    word: Word<Entry, u64, HistoryRule>,
+    of: PhantomData<J>,
+    ghost word_is: { word ≡ head_of J.book },
+}
+
+/// A beginning of the history that was seen. Contracts see it as its calls.
+#[derive(Drop)]
+pub struct Prefix {
+    calls: u64,
+    seen: Seen<Entry, u64, HistoryRule>,
+}
+
+impl Model for Prefix {
+    ghost use Rattle.std.specs.Prelude.{◌≡◌, length};
+    ghost use Rattle.desk.specs.Shared.{Prefix as Begun};
+    ghost use Rattle.desk.specs.SharedCodes.{prefix_code};
+
+    ghost Value = { Begun };
+
+    ghost coded = { prefix_code };
+
+    ghost view = { λ f. record { book = f.seen.book; list = f.seen.log } };
+
+    ghost invariant = { λ f. f.calls ≡ length f.seen.log };
+}
+
+impl Blank {
+    /// An empty history.
+    pub fn new() -> Blank {
+        let (seen, mut first, _second) = Seen::open(Start::alone(), 0, 0);
+        Blank {
+            head: Word::tracked(0, &mut first),
+            seen,
+        }
+    }
+
+    /// The history under a name.
+    pub(crate) fn named<J: Naming>(self) -> (Head<J>, Prefix)
+        requires { self.seen.book ≡ J.book }
+        ensures { result.1 ≡ record { book = J.book; list = [] } }
+    {
+        let Blank { head, seen } = self;
+        (
+            Head {
+                word: head,
+                of: PhantomData,
+            },
+            Prefix { calls: 0, seen },
+        )
+    }
+}
+
+impl Prefix {
+    /// A copy.
+    pub(crate) fn again(&self) -> Prefix
+        ensures { result ≡ self.now }
+    {
+        Prefix {
+            calls: self.calls,
+            seen: self.seen.again(),
+        }
+    }
+
+    /// Whether the other is no shorter, and so begins with this one.
+    pub(crate) fn begins(&self, other: &Prefix) -> bool
+        requires { other.now.book ≡ self.now.book }
+        ensures { IsTrue result → IsPrefix self.now.list other.now.list }
+    {
+        let mut both = self.seen.again();
+        both.learn(&other.seen);
+        self.calls <= other.calls
+    }
+
+    /// With one call more, if this is the whole history and there is room for a call in it.
+    pub(crate) fn with_call<J: Naming>(&self, head: &Head<J>, next: &NextCall<'_>) -> Option<Prefix>
+        requires { self.now.book ≡ J.book }
+        ensures { IfSome result (λ more. more ≡ with_call self.now (next_call next.now.desk.now.state next.now.pass next.now.number next.now.step.now)) }
+    {
+        let calls = self.calls;
+        if calls >= 1 << 62 {
+            return None;
+        }
+        let mut seen = self.seen.again();
+        let mut offer: Offer<Entry, u64, HistoryRule, Nothing> = seen.plain::<
+            Nothing,
+            NextCall<'_>,
+            Adds,
+        >(next);
+        let mut pen = seen.no_pen();
+        let found = head
+            .word
+            .compare_exchange::<Adds, Nothing>(calls, calls + 1, &mut seen, &mut offer, &mut pen);
+        if found != calls {
+            return None;
+        }
+        Some(Prefix {
+            calls: calls + 1,
+            seen,
+        })
+    }
+}
