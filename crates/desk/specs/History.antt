@@ -1,5 +1,5 @@
 -- Histories of a desk: which are legal, and what is read from them.
-use Rattle.std.specs.Prelude.{◌≡◌, ℕ, ◌+◌, ◌<◌, Bool, true, false, List, [], ◌∷◌, ◌++◌, map, filter, length, Contains, Option, None, Some, Ok, if◌then◌else◌, unwrap_or, ◌==◌, ⊤, slice_index}
+use Rattle.std.specs.Prelude.{◌≡◌, ℕ, ◌+◌, ◌<◌, Bool, true, false, List, [], ◌∷◌, ◌++◌, map, filter, length, Contains, Option, None, Some, Ok, if◌then◌else◌, unwrap_or, ◌==◌, ⊤}
 use Rattle.std.specs.List.{filter_map, range_with_len, AllByRecursion}
 use Rattle.std.specs.Option.{option_or, option_map}
 use Rattle.std.specs.Str.{bytes_eq}
