@@ -20,7 +20,9 @@ pub use blocks::Block;
 pub use expression::{NESTING, read_expr};
 pub use fault::{BinFault, Kind, OpFault};
 pub use instruction::{Instr, MemArg, Op, Plain};
-pub use known::{i32_at, i64_at, index_at, load_at, opening_at, plain_at, store_at, word_at};
+pub use known::{
+    i32_at, i64_at, index_at, load_at, opening_at, plain_at, store_at, table_at, word_at,
+};
 pub use laws::{
     blocks_are_spelled, blocks_stay, marks_are_one_byte, one_body_at, one_expression, one_word,
 };

@@ -31,12 +31,10 @@ use Rattle.wmach.specs.OpenLabels.{Open}
 use Rattle.wmach.specs.InPlace.{Whole, context_in}
 use Rattle.wmach.specs.Machine.{frame_words, belows, On, Spent, Trapped}
 use Rattle.wmach.proofs.Sound.{first_holds}
-use Rattle.wmach.proofs.SoundAccess.{with_written, grown}
-use Rattle.wmach.proofs.Chains.{store_typed}
+use Rattle.wmach.proofs.SoundAccess.{length-with_bytes, same_size, grown}
 use Rattle.wmach.proofs.InRange.{bytes_of_number, bytes_with, bytes_grown, loaded_in_range}
 use Rattle.wmach.proofs.RangesKept.{pages_small}
 use Rattle.wmach.proofs.Ranges.{only_true}
-use Rattle.wmach.proofs.CallsLeave.{store_fits}
 use Rattle.wmach.proofs.SlotLemmas.{frame_push, frame_pop}
 use Rattle.wmach.proofs.Going.{at}
 use Rattle.wmach.proofs.MachineSteps.{went}
@@ -75,7 +73,13 @@ either_one false x y = record { reduction = record { cost = 1; to = y }; is = re
 -- a store whose memory was written to
 pub written_fits : (m : ModuleSyntax) (store : Store) → StoreFits m store → (address : ℕ) (new : List ℕ) → AllByRecursion (λ byte. byte < 256) new → address + length new ≤ length store.memory → StoreFits m (record store { memory = with_bytes store.memory address new })
 written_fits m store fits address new are within =
-    store_fits m (record store { memory = with_bytes store.memory address new }) (with_written m store address new (store_typed m store fits) within) (record { bytes = bytes_with store.memory new address fits.bytes are; globals = fits.numbers })
+    record {
+      memory = same_size m.memories store.memory (with_bytes store.memory address new) (length-with_bytes store.memory new address within) fits.memory;
+      bytes = bytes_with store.memory new address fits.bytes are;
+      globals = fits.globals;
+      numbers = fits.numbers;
+      table = fits.table;
+    }
 
 -- a store whose memory has grown
 grown_fits : (m : ModuleSyntax) (store : Store) → StoreFits m store → (delta : ℕ) → is_there m.memories ≡ true → pages_in store.memory + delta ≤ cap_of m.memories → StoreFits m (record store { memory = store.memory ++ zeros (page_size * delta) })

@@ -101,131 +101,132 @@ followed_in_range (loop t inside rest) second f g = (f.0, followed_in_range rest
 followed_in_range (if_else t then_arm else_arm rest) second f g = (f.0, f.1, followed_in_range rest second f.2 g)
 followed_in_range (br_table labels default rest) second f g = followed_in_range rest second f g
 
--- where the topmost values are taken
-kept_topmost : (n : ℕ) (values : List Value) (go : List Value → Option Reduction) → AllInRange values → ((vs : List Value) → AllInRange vs → Kept (go vs)) → Kept (option_and_then go (topmost n values))
-kept_topmost n values go are k =
-    kept_and_then (topmost n values) go (λ vs e. k vs (let test = tested (nat_le n (length values)) (take n values) vs e in subst AllInRange test.same (all-take InRange n values are)))
+module _ (elements : List (Option ℕ)) where
+  -- where the topmost values are taken
+  kept_topmost : (n : ℕ) (values : List Value) (go : List Value → Option Reduction) → AllInRange values → ((vs : List Value) → AllInRange vs → Kept elements (go vs)) → Kept elements (option_and_then go (topmost n values))
+  kept_topmost n values go are k =
+      kept_and_then elements (topmost n values) go (λ vs e. k vs (let test = tested (nat_le n (length values)) (take n values) vs e in subst AllInRange test.same (all-take InRange n values are)))
 
-zeros_in_range : (ts : List ValueType) → AllInRange (map zero_of ts)
-zeros_in_range [] = tt
-zeros_in_range (types.I32 ∷ ts) = (lit< tt, zeros_in_range ts)
-zeros_in_range (types.I64 ∷ ts) = (lit< tt, zeros_in_range ts)
+  zeros_in_range : (ts : List ValueType) → AllInRange (map zero_of ts)
+  zeros_in_range [] = tt
+  zeros_in_range (types.I32 ∷ ts) = (lit< tt, zeros_in_range ts)
+  zeros_in_range (types.I64 ∷ ts) = (lit< tt, zeros_in_range ts)
 
-module _ (store : Store) (store_is : StoreInRange store) (locals : List Value) (locals_are : AllInRange locals) (below : List Value) (below_are : AllInRange below) (arity : ℕ) (rest : Body) (rest_is : BodyInRange rest) where
-  -- inside a label
-  module _ (continuation : Body) (continuation_is : BodyInRange continuation) where
-    in_label : (on : Option Reduction) → Kept on → Kept (option_map (inside_label below arity continuation rest) on)
-    in_label None k = tt
-    in_label (Some r) k = record { store = k.store; locals = k.locals; execution = (below_are, continuation_is, k.execution, rest_is) }
+  module _ (store : Store) (store_is : StoreInRange elements store) (locals : List Value) (locals_are : AllInRange locals) (below : List Value) (below_are : AllInRange below) (arity : ℕ) (rest : Body) (rest_is : BodyInRange rest) where
+    -- inside a label
+    module _ (continuation : Body) (continuation_is : BodyInRange continuation) where
+      in_label : (on : Option Reduction) → Kept elements on → Kept elements (option_map (inside_label below arity continuation rest) on)
+      in_label None k = tt
+      in_label (Some r) k = record { store = k.store; locals = k.locals; execution = (below_are, continuation_is, k.execution, rest_is) }
 
-    open_kept : (e : Execution) (on : Option Reduction) → ExecutionInRange e → Kept on → (b : Option (List Value)) → branching 0 e ≡ b → Kept (option_map_or (branch store locals below arity continuation rest) b (option_map (inside_label below arity continuation rest) on))
-    open_kept e on e_is k None is = in_label on k
-    open_kept e on e_is k (Some values) is =
-        kept_topmost arity values (λ carried. leads_to 1 store locals (instructions (carried ++ below) (followed_by continuation rest))) (branch_in_range e 0 values e_is is)
-        (λ vs vs_are. there 1 store locals (instructions (vs ++ below) (followed_by continuation rest)) store_is locals_are (all-append InRange vs below vs_are below_are, followed_in_range continuation rest continuation_is rest_is))
+      open_kept : (e : Execution) (on : Option Reduction) → ExecutionInRange e → Kept elements on → (b : Option (List Value)) → branching 0 e ≡ b → Kept elements (option_map_or (branch store locals below arity continuation rest) b (option_map (inside_label below arity continuation rest) on))
+      open_kept e on e_is k None is = in_label on k
+      open_kept e on e_is k (Some values) is =
+          kept_topmost arity values (λ carried. leads_to 1 store locals (instructions (carried ++ below) (followed_by continuation rest))) (branch_in_range e 0 values e_is is)
+          (λ vs vs_are. there elements 1 store locals (instructions (vs ++ below) (followed_by continuation rest)) store_is locals_are (all-append InRange vs below vs_are below_are, followed_in_range continuation rest continuation_is rest_is))
 
-    opened : (e : Execution) (on : Option Reduction) → (IsEnd e → ⊥) → ExecutionInRange e → Kept on → Kept (reduce_label store locals below arity continuation e rest on)
-    opened e on unended e_is k = subst Kept (sym (open_label e store locals below arity continuation rest on unended)) (open_kept e on e_is k (branching 0 e) refl)
+      opened : (e : Execution) (on : Option Reduction) → (IsEnd e → ⊥) → ExecutionInRange e → Kept elements on → Kept elements (reduce_label store locals below arity continuation e rest on)
+      opened e on unended e_is k = subst (Kept elements) (sym (open_label e store locals below arity continuation rest on unended)) (open_kept e on e_is k (branching 0 e) refl)
 
-    kept_label : (e : Execution) (on : Option Reduction) → ExecutionInRange e → Kept on → Kept (reduce_label store locals below arity continuation e rest on)
-    kept_label (instructions vs done) on e_is k = there 0 store locals (instructions (vs ++ below) rest) store_is locals_are (all-append InRange vs below e_is.0 below_are, rest_is)
-    kept_label (trap t) on e_is k = there 0 store locals (trap t) store_is locals_are tt
-    kept_label (instructions vs (plain p r)) on e_is k = opened (instructions vs (plain p r)) on (λ end. cc) e_is k
-    kept_label (instructions vs (block t i r)) on e_is k = opened (instructions vs (block t i r)) on (λ end. cc) e_is k
-    kept_label (instructions vs (loop t i r)) on e_is k = opened (instructions vs (loop t i r)) on (λ end. cc) e_is k
-    kept_label (instructions vs (if_else t i j r)) on e_is k = opened (instructions vs (if_else t i j r)) on (λ end. cc) e_is k
-    kept_label (instructions vs (br_table ls d r)) on e_is k = opened (instructions vs (br_table ls d r)) on (λ end. cc) e_is k
-    kept_label (label b a c i r) on e_is k = opened (label b a c i r) on (λ end. end) e_is k
-    kept_label (frame b a ls i r) on e_is k = opened (frame b a ls i r) on (λ end. end) e_is k
-    kept_label (invoke b f r) on e_is k = opened (invoke b f r) on (λ end. end) e_is k
+      kept_label : (e : Execution) (on : Option Reduction) → ExecutionInRange e → Kept elements on → Kept elements (reduce_label store locals below arity continuation e rest on)
+      kept_label (instructions vs done) on e_is k = there elements 0 store locals (instructions (vs ++ below) rest) store_is locals_are (all-append InRange vs below e_is.0 below_are, rest_is)
+      kept_label (trap t) on e_is k = there elements 0 store locals (trap t) store_is locals_are tt
+      kept_label (instructions vs (plain p r)) on e_is k = opened (instructions vs (plain p r)) on (λ end. cc) e_is k
+      kept_label (instructions vs (block t i r)) on e_is k = opened (instructions vs (block t i r)) on (λ end. cc) e_is k
+      kept_label (instructions vs (loop t i r)) on e_is k = opened (instructions vs (loop t i r)) on (λ end. cc) e_is k
+      kept_label (instructions vs (if_else t i j r)) on e_is k = opened (instructions vs (if_else t i j r)) on (λ end. cc) e_is k
+      kept_label (instructions vs (br_table ls d r)) on e_is k = opened (instructions vs (br_table ls d r)) on (λ end. cc) e_is k
+      kept_label (label b a c i r) on e_is k = opened (label b a c i r) on (λ end. end) e_is k
+      kept_label (frame b a ls i r) on e_is k = opened (frame b a ls i r) on (λ end. end) e_is k
+      kept_label (invoke b f r) on e_is k = opened (invoke b f r) on (λ end. end) e_is k
 
-  -- inside a frame, whose own locals are the reduction's
-  in_frame : (on : Option Reduction) → Kept on → Kept (option_map (inside_frame locals below arity rest) on)
-  in_frame None k = tt
-  in_frame (Some r) k = record { store = k.store; locals = locals_are; execution = (below_are, k.locals, k.execution, rest_is) }
+    -- inside a frame, whose own locals are the reduction's
+    in_frame : (on : Option Reduction) → Kept elements on → Kept elements (option_map (inside_frame locals below arity rest) on)
+    in_frame None k = tt
+    in_frame (Some r) k = record { store = k.store; locals = locals_are; execution = (below_are, k.locals, k.execution, rest_is) }
 
-  open_frame_kept : (e : Execution) (on : Option Reduction) → ExecutionInRange e → Kept on → (b : Option (List Value)) → returning e ≡ b → Kept (option_map_or (return_from store locals below arity rest) b (option_map (inside_frame locals below arity rest) on))
-  open_frame_kept e on e_is k None is = in_frame on k
-  open_frame_kept e on e_is k (Some values) is =
-      kept_topmost arity values (λ carried. leads_to 1 store locals (instructions (carried ++ below) rest)) (return_in_range e values e_is is)
-      (λ vs vs_are. there 1 store locals (instructions (vs ++ below) rest) store_is locals_are (all-append InRange vs below vs_are below_are, rest_is))
+    open_frame_kept : (e : Execution) (on : Option Reduction) → ExecutionInRange e → Kept elements on → (b : Option (List Value)) → returning e ≡ b → Kept elements (option_map_or (return_from store locals below arity rest) b (option_map (inside_frame locals below arity rest) on))
+    open_frame_kept e on e_is k None is = in_frame on k
+    open_frame_kept e on e_is k (Some values) is =
+        kept_topmost arity values (λ carried. leads_to 1 store locals (instructions (carried ++ below) rest)) (return_in_range e values e_is is)
+        (λ vs vs_are. there elements 1 store locals (instructions (vs ++ below) rest) store_is locals_are (all-append InRange vs below vs_are below_are, rest_is))
 
-  opened_frame : (e : Execution) (on : Option Reduction) → (IsEnd e → ⊥) → ExecutionInRange e → Kept on → Kept (reduce_frame store locals below arity e rest on)
-  opened_frame e on unended e_is k = subst Kept (sym (open_frame e store locals below arity rest on unended)) (open_frame_kept e on e_is k (returning e) refl)
+    opened_frame : (e : Execution) (on : Option Reduction) → (IsEnd e → ⊥) → ExecutionInRange e → Kept elements on → Kept elements (reduce_frame store locals below arity e rest on)
+    opened_frame e on unended e_is k = subst (Kept elements) (sym (open_frame e store locals below arity rest on unended)) (open_frame_kept e on e_is k (returning e) refl)
 
-  kept_frame : (e : Execution) (on : Option Reduction) → ExecutionInRange e → Kept on → Kept (reduce_frame store locals below arity e rest on)
-  kept_frame (instructions vs done) on e_is k =
-      kept_if (length vs == arity) _ None (λ yes. there 0 store locals (instructions (vs ++ below) rest) store_is locals_are (all-append InRange vs below e_is.0 below_are, rest_is)) tt
-  kept_frame (trap t) on e_is k = there 0 store locals (trap t) store_is locals_are tt
-  kept_frame (instructions vs (plain p r)) on e_is k = opened_frame (instructions vs (plain p r)) on (λ end. cc) e_is k
-  kept_frame (instructions vs (block t i r)) on e_is k = opened_frame (instructions vs (block t i r)) on (λ end. cc) e_is k
-  kept_frame (instructions vs (loop t i r)) on e_is k = opened_frame (instructions vs (loop t i r)) on (λ end. cc) e_is k
-  kept_frame (instructions vs (if_else t i j r)) on e_is k = opened_frame (instructions vs (if_else t i j r)) on (λ end. cc) e_is k
-  kept_frame (instructions vs (br_table ls d r)) on e_is k = opened_frame (instructions vs (br_table ls d r)) on (λ end. cc) e_is k
-  kept_frame (label b a c i r) on e_is k = opened_frame (label b a c i r) on (λ end. end) e_is k
-  kept_frame (frame b a ls i r) on e_is k = opened_frame (frame b a ls i r) on (λ end. end) e_is k
-  kept_frame (invoke b f r) on e_is k = opened_frame (invoke b f r) on (λ end. end) e_is k
+    kept_frame : (e : Execution) (on : Option Reduction) → ExecutionInRange e → Kept elements on → Kept elements (reduce_frame store locals below arity e rest on)
+    kept_frame (instructions vs done) on e_is k =
+        kept_if elements (length vs == arity) _ None (λ yes. there elements 0 store locals (instructions (vs ++ below) rest) store_is locals_are (all-append InRange vs below e_is.0 below_are, rest_is)) tt
+    kept_frame (trap t) on e_is k = there elements 0 store locals (trap t) store_is locals_are tt
+    kept_frame (instructions vs (plain p r)) on e_is k = opened_frame (instructions vs (plain p r)) on (λ end. cc) e_is k
+    kept_frame (instructions vs (block t i r)) on e_is k = opened_frame (instructions vs (block t i r)) on (λ end. cc) e_is k
+    kept_frame (instructions vs (loop t i r)) on e_is k = opened_frame (instructions vs (loop t i r)) on (λ end. cc) e_is k
+    kept_frame (instructions vs (if_else t i j r)) on e_is k = opened_frame (instructions vs (if_else t i j r)) on (λ end. cc) e_is k
+    kept_frame (instructions vs (br_table ls d r)) on e_is k = opened_frame (instructions vs (br_table ls d r)) on (λ end. cc) e_is k
+    kept_frame (label b a c i r) on e_is k = opened_frame (label b a c i r) on (λ end. end) e_is k
+    kept_frame (frame b a ls i r) on e_is k = opened_frame (frame b a ls i r) on (λ end. end) e_is k
+    kept_frame (invoke b f r) on e_is k = opened_frame (invoke b f r) on (λ end. end) e_is k
 
-module _ (setting : Setting) (records : RecordsFit setting.records) (bodies : BodiesInRange (setting.module_syntax)) where
-  kept_instructions : (store : Store) → MemoryFits (setting.module_syntax.memories) store.memory → StoreInRange store → (locals : List Value) → AllInRange locals → (values : List Value) (e : Body) → AllInRange values → BodyInRange e → Kept (reduce_instructions setting store locals values e)
-  kept_instructions store memory store_is locals locals_are values done are e_is = tt
-  kept_instructions store memory store_is locals locals_are values (plain p rest) are e_is =
-      kept_plain setting records store memory store_is locals locals_are rest e_is.1 p values e_is.0 are
-  kept_instructions store memory store_is locals locals_are values (block t inside rest) are e_is =
-      there 1 store locals (label values (length (results_of t)) done (instructions [] inside) rest) store_is locals_are (are, tt, (tt, e_is.0), e_is.1)
-  kept_instructions store memory store_is locals locals_are values (loop t inside rest) are e_is =
-      there 1 store locals (label values 0 (loop t inside done) (instructions [] inside) rest) store_is locals_are (are, (e_is.0, tt), (tt, e_is.0), e_is.1)
-  kept_instructions store memory store_is locals locals_are values (if_else t then_arm else_arm rest) are e_is =
-      kept_one types.I32 values (λ condition below. leads_to 1 store locals (label below (length (results_of t)) done (instructions [] (if condition == 0 then else_arm else then_arm)) rest)) are
-      (λ condition below condition_is below_are. there 1 store locals (label below (length (results_of t)) done (instructions [] (if condition == 0 then else_arm else then_arm)) rest) store_is locals_are
-      (below_are, tt, (tt, either_body (condition == 0) else_arm then_arm e_is.1 e_is.0), e_is.2))
-  kept_instructions store memory store_is locals locals_are values (br_table labels default rest) are e_is =
-      kept_one types.I32 values (λ i below. leads_to 1 store locals (instructions below (plain (Br (unwrap_or (slice_get labels i) default)) rest))) are
-      (λ i below i_is below_are. there 1 store locals (instructions below (plain (Br (unwrap_or (slice_get labels i) default)) rest)) store_is locals_are (below_are, (tt, e_is)))
+  module _ (setting : Setting) (records : RecordsFit setting.records) (bodies : BodiesInRange (setting.module_syntax)) where
+    kept_instructions : (store : Store) → MemoryFits (setting.module_syntax.memories) store.memory → StoreInRange elements store → (locals : List Value) → AllInRange locals → (values : List Value) (e : Body) → AllInRange values → BodyInRange e → Kept elements (reduce_instructions setting store locals values e)
+    kept_instructions store memory store_is locals locals_are values done are e_is = tt
+    kept_instructions store memory store_is locals locals_are values (plain p rest) are e_is =
+        kept_plain elements setting records store memory store_is locals locals_are rest e_is.1 p values e_is.0 are
+    kept_instructions store memory store_is locals locals_are values (block t inside rest) are e_is =
+        there elements 1 store locals (label values (length (results_of t)) done (instructions [] inside) rest) store_is locals_are (are, tt, (tt, e_is.0), e_is.1)
+    kept_instructions store memory store_is locals locals_are values (loop t inside rest) are e_is =
+        there elements 1 store locals (label values 0 (loop t inside done) (instructions [] inside) rest) store_is locals_are (are, (e_is.0, tt), (tt, e_is.0), e_is.1)
+    kept_instructions store memory store_is locals locals_are values (if_else t then_arm else_arm rest) are e_is =
+        kept_one elements types.I32 values (λ condition below. leads_to 1 store locals (label below (length (results_of t)) done (instructions [] (if condition == 0 then else_arm else then_arm)) rest)) are
+        (λ condition below condition_is below_are. there elements 1 store locals (label below (length (results_of t)) done (instructions [] (if condition == 0 then else_arm else then_arm)) rest) store_is locals_are
+        (below_are, tt, (tt, either_body (condition == 0) else_arm then_arm e_is.1 e_is.0), e_is.2))
+    kept_instructions store memory store_is locals locals_are values (br_table labels default rest) are e_is =
+        kept_one elements types.I32 values (λ i below. leads_to 1 store locals (instructions below (plain (Br (unwrap_or (slice_get labels i) default)) rest))) are
+        (λ i below i_is below_are. there elements 1 store locals (instructions below (plain (Br (unwrap_or (slice_get labels i) default)) rest)) store_is locals_are (below_are, (tt, e_is)))
 
-  kept_enter : (store : Store) → StoreInRange store → (locals : List Value) → AllInRange locals → (values : List Value) → AllInRange values → (rest : Body) → BodyInRange rest → (f : FunctionSyntax) → BodyInRange f.body → (type : Signature) → Kept (enter store locals values f type rest)
-  kept_enter store store_is locals locals_are values are rest rest_is f body_is type =
-      let arity = length (at_most_one type.result) in
-      let n = length type.parameters in
-      kept_topmost n values (λ arguments. leads_to 0 store locals (frame (drop n values) arity (reverse arguments ++ map zero_of f.locals) (label [] arity done (instructions [] f.body) done) rest)) are
-      (λ arguments arguments_are. there 0 store locals (frame (drop n values) arity (reverse arguments ++ map zero_of f.locals) (label [] arity done (instructions [] f.body) done) rest) store_is locals_are
-      (all-drop InRange n values are, all-append InRange (reverse arguments) (map zero_of f.locals) (all-reverse InRange arguments arguments_are) (zeros_in_range f.locals), (tt, tt, (tt, body_is), tt), rest_is))
+    kept_enter : (store : Store) → StoreInRange elements store → (locals : List Value) → AllInRange locals → (values : List Value) → AllInRange values → (rest : Body) → BodyInRange rest → (f : FunctionSyntax) → BodyInRange f.body → (type : Signature) → Kept elements (enter store locals values f type rest)
+    kept_enter store store_is locals locals_are values are rest rest_is f body_is type =
+        let arity = length (at_most_one type.result) in
+        let n = length type.parameters in
+        kept_topmost n values (λ arguments. leads_to 0 store locals (frame (drop n values) arity (reverse arguments ++ map zero_of f.locals) (label [] arity done (instructions [] f.body) done) rest)) are
+        (λ arguments arguments_are. there elements 0 store locals (frame (drop n values) arity (reverse arguments ++ map zero_of f.locals) (label [] arity done (instructions [] f.body) done) rest) store_is locals_are
+        (all-drop InRange n values are, all-append InRange (reverse arguments) (map zero_of f.locals) (all-reverse InRange arguments arguments_are) (zeros_in_range f.locals), (tt, tt, (tt, body_is), tt), rest_is))
 
-  kept_invoke : (frames : ℕ) (store : Store) → MemoryFits (setting.module_syntax.memories) store.memory → StoreInRange store → (locals : List Value) → AllInRange locals → (values : List Value) → AllInRange values → (function : ℕ) (rest : Body) → BodyInRange rest → Kept (reduce_invoke setting frames store locals values function rest)
-  kept_invoke frames store memory store_is locals locals_are values are function rest rest_is =
+    kept_invoke : (frames : ℕ) (store : Store) → MemoryFits (setting.module_syntax.memories) store.memory → StoreInRange elements store → (locals : List Value) → AllInRange locals → (values : List Value) → AllInRange values → (function : ℕ) (rest : Body) → BodyInRange rest → Kept elements (reduce_invoke setting frames store locals values function rest)
+    kept_invoke frames store memory store_is locals locals_are values are function rest rest_is =
+        let m = setting.module_syntax in
+        let by_index = option_and_then (λ (g : FunctionSyntax). option_and_then (λ t. enter store locals values g t rest) (slice_get m.types g.signature)) (slice_get m.functions (function - imported_count m)) in
+        let found : Kept elements by_index = kept_and_then elements (slice_get m.functions (function - imported_count m)) (λ (g : FunctionSyntax). option_and_then (λ t. enter store locals values g t rest) (slice_get m.types g.signature))
+        (λ g e. kept_and_then elements (slice_get m.types g.signature) (λ t. enter store locals values g t rest) (λ t f. kept_enter store store_is locals locals_are values are rest rest_is g (bodies (function - imported_count m) g e) t)) in
+        kept_if elements (nat_lt function (imported_count m)) (reduce_import setting store locals values function rest) _
+        (λ yes. kept_import elements setting records store memory store_is locals locals_are rest rest_is values function are)
+        (kept_if elements (nat_lt frames most_frames) by_index (leads_to 0 store locals (trap CallDepth)) (λ yes. found) (there elements 0 store locals (trap CallDepth) store_is locals_are tt))
+
+    -- one reduction
+    pub kept_in_range : (e : Execution) (frames : ℕ) (store : Store) → MemoryFits (setting.module_syntax.memories) store.memory → StoreInRange elements store → (locals : List Value) → AllInRange locals → ExecutionInRange e → Kept elements (reduce setting frames store locals e)
+    kept_in_range (instructions values rest) frames store memory store_is locals locals_are e_is =
+        kept_instructions store memory store_is locals locals_are values rest e_is.0 e_is.1
+    kept_in_range (label below arity continuation inside rest) frames store memory store_is locals locals_are e_is =
+        kept_label store store_is locals locals_are below (e_is.0) arity rest (e_is.3) continuation (e_is.1) inside _ (e_is.2) (kept_in_range inside frames store memory store_is locals locals_are (e_is.2))
+    kept_in_range (frame below arity locals inside rest) frames store memory store_is outer outer_are e_is =
+        kept_frame store store_is outer outer_are below (e_is.0) arity rest (e_is.3) inside _ (e_is.2) (kept_in_range inside (frames + 1) store memory store_is locals (e_is.1) (e_is.2))
+    kept_in_range (invoke values function rest) frames store memory store_is locals locals_are e_is =
+        kept_invoke frames store memory store_is locals locals_are values e_is.0 function rest e_is.1
+    kept_in_range (trap t) frames store memory store_is locals locals_are e_is = tt
+
+  -- a configuration in range
+  pub record CallInRange (c : Configuration) : Type 0 where
+    pub store : StoreInRange elements c.store
+    pub locals : AllInRange c.locals
+    pub execution : ExecutionInRange c.execution
+
+  -- a chain of reductions
+  pub ranges_by_chain : (setting : Setting) → Accepted (setting.module_syntax) → RecordsFit setting.records → (after : Operands) (n cost : ℕ) (from to : Configuration) → CallTyped setting after from → CallInRange from → Chain setting n from cost to → CallInRange to
+  ranges_by_chain setting ok records after zero cost from to t k ch = subst CallInRange ch.0 k
+  ranges_by_chain setting ok records after (suc n) cost from to t k ch =
       let m = setting.module_syntax in
-      let by_index = option_and_then (λ (g : FunctionSyntax). option_and_then (λ t. enter store locals values g t rest) (slice_get m.types g.signature)) (slice_get m.functions (function - imported_count m)) in
-      let found : Kept by_index = kept_and_then (slice_get m.functions (function - imported_count m)) (λ (g : FunctionSyntax). option_and_then (λ t. enter store locals values g t rest) (slice_get m.types g.signature))
-      (λ g e. kept_and_then (slice_get m.types g.signature) (λ t. enter store locals values g t rest) (λ t f. kept_enter store store_is locals locals_are values are rest rest_is g (bodies (function - imported_count m) g e) t)) in
-      kept_if (nat_lt function (imported_count m)) (reduce_import setting store locals values function rest) _
-      (λ yes. kept_import setting records store memory store_is locals locals_are rest rest_is values function are)
-      (kept_if (nat_lt frames most_frames) by_index (leads_to 0 store locals (trap CallDepth)) (λ yes. found) (there 0 store locals (trap CallDepth) store_is locals_are tt))
-
-  -- one reduction
-  pub kept_in_range : (e : Execution) (frames : ℕ) (store : Store) → MemoryFits (setting.module_syntax.memories) store.memory → StoreInRange store → (locals : List Value) → AllInRange locals → ExecutionInRange e → Kept (reduce setting frames store locals e)
-  kept_in_range (instructions values rest) frames store memory store_is locals locals_are e_is =
-      kept_instructions store memory store_is locals locals_are values rest e_is.0 e_is.1
-  kept_in_range (label below arity continuation inside rest) frames store memory store_is locals locals_are e_is =
-      kept_label store store_is locals locals_are below (e_is.0) arity rest (e_is.3) continuation (e_is.1) inside _ (e_is.2) (kept_in_range inside frames store memory store_is locals locals_are (e_is.2))
-  kept_in_range (frame below arity locals inside rest) frames store memory store_is outer outer_are e_is =
-      kept_frame store store_is outer outer_are below (e_is.0) arity rest (e_is.3) inside _ (e_is.2) (kept_in_range inside (frames + 1) store memory store_is locals (e_is.1) (e_is.2))
-  kept_in_range (invoke values function rest) frames store memory store_is locals locals_are e_is =
-      kept_invoke frames store memory store_is locals locals_are values e_is.0 function rest e_is.1
-  kept_in_range (trap t) frames store memory store_is locals locals_are e_is = tt
-
--- a configuration in range
-pub record CallInRange (c : Configuration) : Type 0 where
-  pub store : StoreInRange c.store
-  pub locals : AllInRange c.locals
-  pub execution : ExecutionInRange c.execution
-
--- a chain of reductions
-pub ranges_by_chain : (setting : Setting) → Accepted (setting.module_syntax) → RecordsFit setting.records → (after : Operands) (n cost : ℕ) (from to : Configuration) → CallTyped setting after from → CallInRange from → Chain setting n from cost to → CallInRange to
-ranges_by_chain setting ok records after zero cost from to t k ch = subst CallInRange ch.0 k
-ranges_by_chain setting ok records after (suc n) cost from to t k ch =
-    let m = setting.module_syntax in
-    let s = sound setting (functions_right m ok) from.execution 0 from.store from.locals [] None after t.store t.typed in
-    let on = kept_in_range setting records (bodies_in_range m ok) from.execution 0 from.store t.store.memory k.store from.locals k.locals k.execution in
-    let reached : InRangeThere ch.0 = subst (λ (o : Option Reduction). Kept o) ch.1 on in
-    let there_is : CallInRange (ch.0.to) = record { store = reached.store; locals = reached.locals; execution = reached.execution } in
-    ranges_by_chain setting ok records after n (ch.2.0) (ch.0.to) to (kept setting after from ch.0 s ch.1) there_is ch.2.2
+      let s = sound setting (functions_right m ok) from.execution 0 from.store from.locals [] None after t.store t.typed in
+      let on = kept_in_range setting records (bodies_in_range m ok) from.execution 0 from.store t.store.memory k.store from.locals k.locals k.execution in
+      let reached : InRangeThere elements ch.0 = subst (λ (o : Option Reduction). Kept elements o) ch.1 on in
+      let there_is : CallInRange (ch.0.to) = record { store = reached.store; locals = reached.locals; execution = reached.execution } in
+      ranges_by_chain setting ok records after n (ch.2.0) (ch.0.to) to (kept setting after from ch.0 s ch.1) there_is ch.2.2

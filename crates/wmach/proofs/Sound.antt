@@ -11,15 +11,9 @@ use Rattle.wbody.specs.Typing.{PlainType, takes_gives, of_found, only_where, Rul
 use Rattle.wmach.specs.declared.outcome.Trap.{Trap}
 use Rattle.wmach.specs.Configuration.{Store, Execution, instructions, trap, Reduction, leads_to}
 use Rattle.wmach.specs.Reduction.{branching, returning}
-use Rattle.wmach.specs.Fits.{types_of, MemoryFits, TableFits}
+use Rattle.wmach.specs.Fits.{types_of, StoreTyped}
 use Rattle.wmach.specs.Outcome.{IsEnd}
 use Rattle.wmach.proofs.TypedExecution.{inner_context, ExecutionTyped}
-
--- a store that keeps the module's types and limits, whatever its numbers are
-pub record StoreTyped (m : ModuleSyntax) (store : Store) : Type 0 where
-  pub memory : MemoryFits m.memories store.memory
-  pub globals : types_of store.globals ≡ map (λ g. g.kind.value) m.globals
-  pub table : TableFits m m.tables store.table
 
 -- what a reduction keeps: the store's types, the types of the locals, and what is left in the end
 pub record Keeps (m : ModuleSyntax) (locals : List ValueType) (labels : List Operands) (result : Option Operands) (after : Operands) (r : Reduction) : Type 0 where

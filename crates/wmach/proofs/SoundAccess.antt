@@ -22,10 +22,10 @@ use Rattle.wmach.specs.declared.outcome.Trap.TheVariants.{MemoryOutOfBounds}
 use Rattle.wmach.specs.Configuration.{Store, Execution, instructions, trap, Reduction, leads_to}
 use Rattle.wmach.specs.Operands.{value_of, with_one}
 use Rattle.wmach.specs.Access.{load_of, stored_bytes, with_memory, most_of, cap_of, minus_one, reduce_load, reduce_store, reduce_size, reduce_grow}
-use Rattle.wmach.specs.Fits.{types_of, MemoryFits}
+use Rattle.wmach.specs.Fits.{types_of, MemoryFits, StoreTyped}
 use Rattle.wmach.proofs.Values.{type_of_value, one_taken}
 use Rattle.wmach.proofs.TypedExecution.{inner_context}
-use Rattle.wmach.proofs.Sound.{StoreTyped, Sound, to_values, to_trap, either}
+use Rattle.wmach.proofs.Sound.{Sound, to_values, to_trap, either}
 
 -- a write leaves the size
 pub length-with_bytes : (bytes new : List ℕ) (address : ℕ) → address + length new ≤ length bytes → length (with_bytes bytes address new) ≡ length bytes
@@ -37,7 +37,7 @@ length-with_bytes bytes new address within =
     omega (arith, within, front, back, whole, behind)
 
 -- a memory of the same size fits alike
-same_size : (ls : List Limits) (before after : List ℕ) → length after ≡ length before → MemoryFits ls before → MemoryFits ls after
+pub same_size : (ls : List Limits) (before after : List ℕ) → length after ≡ length before → MemoryFits ls before → MemoryFits ls after
 same_size [] before after long fits = nil_from_length after (long ∙ ap length fits)
 same_size (l ∷ ls) before after long fits = (fits.0, long ∙ fits.1, fits.2, fits.3)
 

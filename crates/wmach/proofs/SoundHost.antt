@@ -13,10 +13,10 @@ use Rattle.wbody.specs.Typing.{Typed}
 use Rattle.wmach.specs.declared.outcome.Trap.TheVariants.{HostOutOfBounds, NoRecord}
 use Rattle.wmach.specs.Configuration.{Store, Setting, Execution, instructions, trap, Reduction, leads_to}
 use Rattle.wmach.specs.Host.{imported_names, record_named, cost_of_bytes, has_room, hand_over, hand_over_given, reduce_host, reduce_import}
-use Rattle.wmach.specs.Fits.{types_of}
+use Rattle.wmach.specs.Fits.{types_of, StoreTyped}
 use Rattle.wmach.proofs.Values.{two_taken}
 use Rattle.wmach.proofs.TypedExecution.{inner_context}
-use Rattle.wmach.proofs.Sound.{StoreTyped, Sound, to_values, to_trap, either}
+use Rattle.wmach.proofs.Sound.{Sound, to_values, to_trap, either}
 use Rattle.wmach.proofs.SoundAccess.{with_written}
 use Rattle.wmach.proofs.SoundIndirect.{second_holds}
 

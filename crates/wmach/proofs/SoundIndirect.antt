@@ -1,6 +1,7 @@
 -- A call through the table is sound.
 use Rattle.std.proofs.Common.{◌≡◌, ℕ, ◌<◌, List, [], ◌∷◌, ◌++◌, Bool, true, false, Option, Some, None, length, reverse, refl, sym, ap, ◌∙◌, subst}
 use Rattle.std.specs.Prelude.{slice_get, option_and_then, ◌&&◌, if◌then◌else◌, IfSome}
+use Rattle.std.specs.List.{AllByRecursion}
 use Rattle.wcode.specs.declared.value.ValueType.{ValueType}
 use Rattle.wcode.specs.declared.value.ValueType.TheVariants.{I32, I64}
 use Rattle.wcode.specs.declared.value.Value.{Value}
@@ -13,11 +14,11 @@ use Rattle.wmach.specs.declared.outcome.Trap.TheVariants.{UndefinedElement, Unin
 use Rattle.wmach.specs.Configuration.{Store, Execution, invoke, trap, Reduction, leads_to}
 use Rattle.wmach.specs.Operands.{with_one}
 use Rattle.wmach.specs.Indirect.{same_type, same_types, same_result, same_signature, type_of_function, call_as, call_element, reduce_call_indirect}
-use Rattle.wmach.specs.Fits.{types_of, TableFits}
+use Rattle.wmach.specs.Fits.{types_of, TableWithin, StoreTyped}
 use Rattle.wmach.proofs.Values.{one_taken, all_at}
 use Rattle.wmach.proofs.TypedExecution.{inner_context}
 use Rattle.wmach.proofs.Callable.{FunctionsRight}
-use Rattle.wmach.proofs.Sound.{StoreTyped, Sound, goes, to_trap, either, first_holds}
+use Rattle.wmach.proofs.Sound.{Sound, goes, to_trap, either, first_holds}
 
 pub second_holds : (a b : Bool) → (a && b) ≡ true → b ≡ true
 second_holds true b e = e
@@ -55,11 +56,17 @@ same_signature-true t u e =
     ap (λ ps. signature_of ps t.result) takes ∙ ap (λ r. signature_of u.parameters r) gives
 
 -- what a table holds is a function's index
-pub element_within : (m : ModuleSyntax) (ls : List Limits) (elements : List (Option ℕ)) (i function : ℕ) → TableFits m ls elements → slice_get elements i ≡ Some (Some function) → function < length (function_types m)
-element_within m [] elements i function fits is =
-    let none : slice_get {X = Option ℕ} [] i ≡ Some (Some function) = ap (λ l. slice_get l i) (sym fits) ∙ is in absurd (cc)
-element_within m (l ∷ ls) elements i function fits is =
-    all_at (λ e. IfSome e (λ f. f < length (function_types m))) elements i (Some function) fits.1 is
+pub element_of : (m : ModuleSyntax) (elements : List (Option ℕ)) (i function : ℕ) → AllByRecursion (λ e. IfSome e (λ f. f < length (function_types m))) elements → slice_get elements i ≡ Some (Some function) → function < length (function_types m)
+element_of m elements i function all is = all_at (λ e. IfSome e (λ f. f < length (function_types m))) elements i (Some function) all is
+
+-- where there is no table, nothing is found
+pub no_element : (elements : List (Option ℕ)) (i function : ℕ) → elements ≡ [] → slice_get elements i ≡ Some (Some function) → ⊥
+no_element elements i function none is =
+    let nothing : slice_get {X = Option ℕ} [] i ≡ Some (Some function) = ap (λ l. slice_get l i) (sym none) ∙ is in absurd (cc)
+
+element_within : (m : ModuleSyntax) (ls : List Limits) (elements : List (Option ℕ)) (i function : ℕ) → TableWithin m ls elements → slice_get elements i ≡ Some (Some function) → function < length (function_types m)
+element_within m [] elements i function fits is = absurd (no_element elements i function fits is)
+element_within m (l ∷ ls) elements i function fits is = element_of m elements i function fits.1 is
 
 module _ (m : ModuleSyntax) (store : Store) (locals : List Value) (labels : List Operands) (result : Option Operands) (after : Operands) (e : Execution) (rest : Body) (fits : StoreTyped m store) (right : FunctionsRight m) where
   -- the result of this type above the others, and what comes next

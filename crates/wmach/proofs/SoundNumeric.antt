@@ -18,10 +18,10 @@ use Rattle.wbody.specs.Typing.{Typed}
 use Rattle.wmach.specs.Configuration.{Store, Execution, instructions, Reduction, leads_to}
 use Rattle.wmach.specs.Operands.{value_of, width_of}
 use Rattle.wmach.specs.Numeric.{unary_gives, binary_gives, test_gives, relation_gives, conversion_gives, converted_from, converted_to, trap_where, after_binary, reduce_unary, reduce_binary, reduce_test, reduce_relation, reduce_convert}
-use Rattle.wmach.specs.Fits.{types_of}
+use Rattle.wmach.specs.Fits.{types_of, StoreTyped}
 use Rattle.wmach.proofs.Values.{type_of_value, one_taken, two_taken}
 use Rattle.wmach.proofs.TypedExecution.{inner_context}
-use Rattle.wmach.proofs.Sound.{StoreTyped, Sound, to_values, to_trap}
+use Rattle.wmach.proofs.Sound.{Sound, to_values, to_trap}
 
 module _ (m : ModuleSyntax) (store : Store) (locals : List Value) (labels : List Operands) (result : Option Operands) (after : Operands) (e : Execution) (rest : Body) (fits : StoreTyped m store) where
   -- a number of this type above the others, and what comes next

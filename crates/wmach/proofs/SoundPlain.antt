@@ -20,11 +20,11 @@ use Rattle.wmach.specs.Configuration.{Store, Setting, Execution, instructions, l
 use Rattle.wmach.specs.Numeric.{converted_from, converted_to}
 use Rattle.wmach.specs.Plain.{reduce_plain}
 use Rattle.wmach.specs.Reduction.{reduce_instructions, branching}
-use Rattle.wmach.specs.Fits.{types_of}
+use Rattle.wmach.specs.Fits.{types_of, StoreTyped}
 use Rattle.wmach.proofs.Values.{one_taken, all_at}
 use Rattle.wmach.proofs.TypedExecution.{inner_context, ExecutionTyped}
 use Rattle.wmach.proofs.Callable.{FunctionsRight}
-use Rattle.wmach.proofs.Sound.{StoreTyped, Sound, goes, ended, branches, returns, taken, found, holds, first_holds, to_values, to_trap, either}
+use Rattle.wmach.proofs.Sound.{Sound, goes, ended, branches, returns, taken, found, holds, first_holds, to_values, to_trap, either}
 use Rattle.wmach.proofs.SoundNumeric.{sound_unary, sound_binary, sound_test, sound_relation, sound_convert}
 use Rattle.wmach.proofs.SoundVariables.{sound_drop, sound_select, sound_local_get, sound_local_set, sound_local_tee, sound_global_get, sound_global_set}
 use Rattle.wmach.proofs.SoundAccess.{sound_load, sound_store, sound_size, sound_grow}

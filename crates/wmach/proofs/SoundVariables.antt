@@ -15,10 +15,10 @@ use Rattle.wbody.specs.Typing.{takes_gives, of_found, TypeAllows, Typed}
 use Rattle.wmach.specs.Configuration.{Store, Execution, instructions, Reduction, leads_to}
 use Rattle.wmach.specs.Operands.{with_any}
 use Rattle.wmach.specs.Variables.{reduce_drop, reduce_select, reduce_local_get, reduce_local_set, reduce_local_tee, reduce_global_get, reduce_global_set}
-use Rattle.wmach.specs.Fits.{types_of}
+use Rattle.wmach.specs.Fits.{types_of, StoreTyped}
 use Rattle.wmach.proofs.Values.{one_taken, any_taken, type_of_either, value_at, types_of-set, within_values}
 use Rattle.wmach.proofs.TypedExecution.{inner_context}
-use Rattle.wmach.proofs.Sound.{StoreTyped, Sound, to_values}
+use Rattle.wmach.proofs.Sound.{Sound, to_values}
 
 -- a global's type, from its kind
 pub value_kind : (o : Option GlobalSyntax) (g : GlobalType) → option_map (λ (s : GlobalSyntax). s.kind) o ≡ Some g → option_map (λ (s : GlobalSyntax). s.kind.value) o ≡ Some g.value

@@ -17,13 +17,13 @@ use Rattle.wmach.specs.Configuration.{Store, Setting, Execution, instructions, l
 use Rattle.wmach.specs.Operands.{value_of}
 use Rattle.wmach.specs.Host.{reduce_import}
 use Rattle.wmach.specs.Reduction.{reduce, reduce_label, reduce_frame, branching, returning, inside_label, inside_frame, branch, return_from, followed_by, enter, reduce_invoke, imported_count, most_frames}
-use Rattle.wmach.specs.Fits.{types_of}
+use Rattle.wmach.specs.Fits.{types_of, StoreTyped}
 use Rattle.wmach.specs.Outcome.{IsEnd}
 use Rattle.wmach.proofs.Values.{types_of-append, types_of-reverse, types_of-zeros, on_top, topmost_is, drop_is}
 use Rattle.wmach.proofs.TypedExecution.{inner_context, ExecutionTyped}
 use Rattle.wmach.proofs.Callable.{FunctionsRight, OwnFunction, Callable, own, host}
 use Rattle.wmach.proofs.Sequences.{followed_by-typed}
-use Rattle.wmach.proofs.Sound.{StoreTyped, Sound, goes, ended, branches, returns, found, to_trap}
+use Rattle.wmach.proofs.Sound.{Sound, goes, ended, branches, returns, found, to_trap}
 use Rattle.wmach.proofs.SoundHost.{sound_import}
 use Rattle.wmach.proofs.SoundPlain.{sound_instructions}
 

@@ -14,7 +14,7 @@ use Rattle.wmach.specs.Configuration.{Store, Setting, Configuration}
 use Rattle.wmach.specs.Operands.{InRange}
 pub use Rattle.wstore.specs.Values.{first_value}
 pub use Rattle.wstore.specs.Store.{first_memory, first_table, first_store}
-use Rattle.wmach.specs.Fits.{StoreFits}
+use Rattle.wmach.specs.Fits.{StoreFits, StoreTyped}
 use Rattle.wmach.specs.Outcome.{Chain, Stuck, call_of, cost_of, HasOutcome}
 
 -- the function that is called, by its index, if it is there
@@ -24,11 +24,11 @@ called_function m Score = option_map (λ e. e.index) (export_named score_name m.
 called_function m Start = m.start
 
 -- No chain of reductions of a call leads to where neither a rule applies nor the call has ended: whatever
--- accepted module, store that fits it, records, and function that can be called.
+-- accepted module, store that keeps its types and limits, records, and function that can be called.
 abbrev pub NeverStuck : Type 0
 NeverStuck =
     (setting : Setting) (store : Store) (export : Export) (function : ℕ) →
-    Accepted (setting.module_syntax) → StoreFits (setting.module_syntax) store →
+    Accepted (setting.module_syntax) → StoreTyped (setting.module_syntax) store →
     called_function (setting.module_syntax) export ≡ Some function →
     (n cost : ℕ) (c : Configuration) → Chain setting n (call_of store function) cost c → ¬ (Stuck setting c)
 
