@@ -1,4 +1,4 @@
-// Eight programs for the benchmark of the machine, one for each value of PROGRAM. Each is a module with one export, `filter`.
+// Six programs for the benchmark of the machine, one for each value of PROGRAM. Each is a module with one export, `filter`.
 typedef unsigned char u8;
 typedef unsigned int u32;
 typedef unsigned long long u64;
@@ -87,7 +87,7 @@ __attribute__((export_name("filter"))) int filter(void) {
     }
     return (int)numbers[77];
 }
-#elif PROGRAM == 6
+#else
 // words of 64 bits: a hash of words by multiplying and turning them
 static u64 words[4096];
 static inline u64 turn(u64 x, u32 n) { return x << n | x >> (64 - n); }
@@ -101,35 +101,5 @@ __attribute__((export_name("filter"))) int filter(void) {
             if (a > b) b -= a & 0xFFFF;
         }
     return (int)(a ^ b >> 32);
-}
-#elif PROGRAM == 7
-// a switch in a loop: a small machine of its own
-static const u8 code[16] = {0, 3, 1, 5, 2, 7, 4, 1, 6, 0, 2, 5, 3, 7, 4, 6};
-__attribute__((export_name("filter"))) int filter(void) {
-    u32 x = 1, y = 2;
-    for (u32 i = 0; i < 4000000; i++) switch (code[(i ^ (x & 3)) & 15]) {
-        case 0: x += y; break;
-        case 1: y ^= x << 3; break;
-        case 2: x = x * 5 + 1; break;
-        case 3: y -= x; break;
-        case 4: x ^= y >> 7; break;
-        case 5: y += 77; break;
-        case 6: x = y - x; break;
-        case 7: y = y * 3 + x; break;
-        }
-    return (int)(x ^ y);
-}
-#else
-// calls through a table
-typedef u32 (*step)(u32, u32);
-__attribute__((noinline)) static u32 add(u32 x, u32 y) { return x + y; }
-__attribute__((noinline)) static u32 mix(u32 x, u32 y) { return x ^ y << 5; }
-__attribute__((noinline)) static u32 less(u32 x, u32 y) { return x - (y >> 3); }
-__attribute__((noinline)) static u32 times(u32 x, u32 y) { return x * 33 + y; }
-static step volatile steps[4] = {add, mix, less, times};
-__attribute__((export_name("filter"))) int filter(void) {
-    u32 x = 1;
-    for (u32 i = 0; i < 3000000; i++) x = steps[i & 3](x, i);
-    return (int)x;
 }
 #endif
