@@ -216,6 +216,16 @@ fn opened<J: Naming, R: Abort + Wait>(
     with_pass(rt, alloc, desk, row)
 }
 
+/// Works a row over a desk of its own.
+fn worked<R: Abort + Wait>(
+    rt: &R,
+    alloc: Global,
+    keys: RandomState,
+    row: &Late,
+) -> Result<(), Fail> {
+    opened::<Brand, _>(rt, alloc, keys, Limits::greatest(), Blank::new(), row)
+}
+
 /// The rows are worked by hand from the table of steps in docs/SCHEDULING.md.
 #[test]
 fn binders_may_be_late(rt: HostRuntime) -> Result<(), Fail> {
@@ -273,7 +283,7 @@ fn binders_may_be_late(rt: HostRuntime) -> Result<(), Fail> {
     ];
     for row in &rows {
         let keys = RandomState::new(&rt)?;
-        opened::<Brand, _>(&rt, rt.alloc(), keys, Limits::greatest(), Blank::new(), row)?;
+        worked(&rt, rt.alloc(), keys, row)?;
     }
     Ok(())
 }
