@@ -1,15 +1,14 @@
 -- How a kit is made, plugin by plugin.
-use Rattle.std.proofs.Common.{◌≡◌, ℕ, zero, suc, ◌+◌, ◌<◌, ◌≤◌, List, [], ◌∷◌, ◌++◌, length, map, take, Option, Some, IfSome, Result, Ok, Err, OnOk, slice_get, All, sym, subst, arith, add-one}
+use Rattle.std.proofs.Common.{◌≡◌, ℕ, zero, suc, ◌+◌, ◌<◌, ◌≤◌, List, [], ◌∷◌, ◌++◌, length, take, Option, Some, IfSome, Result, Ok, Err, OnOk, slice_get, All, sym, subst, arith, add-one}
 use Rattle.std.specs.List.{AllZip}
 use Rattle.std.proofs.lemmas.List.{map-append, length-map, length-take}
 use Rattle.std.proofs.lemmas.List.Elements.{All-nil, All-cons, All-push}
 use Rattle.std.proofs.lemmas.Slice.Zip.{AllZip-long}
 use Rattle.wmach.proofs.OverBr.{slice_get_some}
 use Rattle.plugin.specs.declared.fault.KitFault.{KitFault}
-use Rattle.plugin.specs.declared.member.Member.{Member}
 use Rattle.plugin.specs.Plugins.{Configured, IsWeight}
 use Rattle.plugin.specs.Refused.{HasImage, WhyNotReady, WhyNoKit}
-use Rattle.plugin.specs.Kit.{Ready, ready, IsReadyOf, OneMoreReady, AreMembers}
+use Rattle.plugin.specs.Kit.{Ready, InstanceState, ready_parts, IsAtImage, IsReadyOf, OneMoreReady, AreInstances}
 
 -- one more of each of two lists
 zipped_more : {A B : Type 0} (R : A → B → Type 0) (xs : List A) (ys : List B) (i : ℕ) (x : A) (y : B) → slice_get xs i ≡ Some x → AllZip R (take i xs) ys → R x y → AllZip R (take (suc i) xs) (ys ++ y ∷ [])
@@ -22,20 +21,28 @@ zipped_more R (a ∷ xs) [] (suc i) x y at zip now = absurd zip
 zipped_more R (a ∷ xs) (b ∷ ys) (suc i) x y at zip now = (zip.0, zipped_more R xs ys i x y at zip.1 now)
 
 -- one more plugin is ready
-pub ready_more : (plugins : List Configured) (old new : List Member) (i : ℕ) → i < length plugins → AllZip IsReadyOf (take i plugins) (map ready old)
-    → IfSome (slice_get plugins i) (λ p. OneMoreReady p old new) → AllZip IsReadyOf (take (i + 1) plugins) (map ready new)
+pub ready_more : (plugins : List Configured) (old new : List InstanceState) (i : ℕ) → i < length plugins → AllZip IsReadyOf (take i plugins) (ready_parts old)
+    → IfSome (slice_get plugins i) (λ p. OneMoreReady p old new) → AllZip IsReadyOf (take (i + 1) plugins) (ready_parts new)
 ready_more plugins old new i below zip joined =
     let there = slice_get_some plugins i below in
     let more = subst (λ (o : Option Configured). IfSome o (λ p. OneMoreReady p old new)) there.1 joined in
-    rw (add-one, more.joined, map-append ready old (more.member ∷ [])) (zipped_more IsReadyOf plugins (map ready old) i there.0 (ready more.member) there.1 zip more.is)
+    rw (add-one, more.joined, map-append (λ (i : InstanceState). i.ready) old (more.instance ∷ [])) (zipped_more IsReadyOf plugins (ready_parts old) i there.0 more.instance.ready there.1 zip more.is)
 
 -- and its weight is one as well
-pub weights_more : (plugins : List Configured) (old new : List Member) (i : ℕ) → i < length plugins → All (λ m. IsWeight m.weight) old
-    → IfSome (slice_get plugins i) (λ p. OneMoreReady p old new) → All (λ m. IsWeight m.weight) new
+pub weights_more : (plugins : List Configured) (old new : List InstanceState) (i : ℕ) → i < length plugins → All (λ i. IsWeight i.ready.weight) old
+    → IfSome (slice_get plugins i) (λ p. OneMoreReady p old new) → All (λ i. IsWeight i.ready.weight) new
 weights_more plugins old new i below weights joined =
     let there = slice_get_some plugins i below in
     let more = subst (λ (o : Option Configured). IfSome o (λ p. OneMoreReady p old new)) there.1 joined in
-    subst (λ (ms : List Member). All (λ m. IsWeight m.weight) ms) (sym more.joined) (All-push (λ (m : Member). IsWeight m.weight) old more.member weights more.weight)
+    subst (λ (kit : List InstanceState). All (λ i. IsWeight i.ready.weight) kit) (sym more.joined) (All-push (λ (i : InstanceState). IsWeight i.ready.weight) old more.instance weights more.weight)
+
+-- and its instance is at its image
+pub images_more : (plugins : List Configured) (old new : List InstanceState) (i : ℕ) → i < length plugins → All IsAtImage old
+    → IfSome (slice_get plugins i) (λ p. OneMoreReady p old new) → All IsAtImage new
+images_more plugins old new i below images joined =
+    let there = slice_get_some plugins i below in
+    let more = subst (λ (o : Option Configured). IfSome o (λ p. OneMoreReady p old new)) there.1 joined in
+    subst (λ (kit : List InstanceState). All IsAtImage kit) (sym more.joined) (All-push IsAtImage old more.instance images more.at_image)
 
 -- each plugin of which an instance was made has an image
 have_images : (plugins : List Configured) (kit : List Ready) → AllZip IsReadyOf plugins kit → All HasImage plugins
@@ -57,11 +64,11 @@ no_kit plugins kit place fault below zip why =
       before = have_images (take place plugins) kit zip;
     }
 
--- all members of a kit
-pub all_members : (plugins : List Configured) (members : List Member) (i : ℕ) → length plugins ≤ 16 → AllZip IsReadyOf (take i plugins) (map ready members) → All (λ m. IsWeight m.weight) members → AreMembers members
-all_members plugins members i most zip weights =
-    let long = AllZip-long IsReadyOf (take i plugins) (map ready members) zip in
-    record { most = omega (arith, long, length-map members ready, length-take i plugins); weights = weights }
+-- all instances of a kit
+pub all_instances : (plugins : List Configured) (kit : List InstanceState) (i : ℕ) → length plugins ≤ 16 → AllZip IsReadyOf (take i plugins) (ready_parts kit) → All (λ i. IsWeight i.ready.weight) kit → AreInstances kit
+all_instances plugins kit i most zip weights =
+    let long = AllZip-long IsReadyOf (take i plugins) (ready_parts kit) zip in
+    record { most = omega (arith, long, length-map kit (λ (i : InstanceState). i.ready), length-take i plugins); weights = weights }
 
 -- what follows from what holds where there is no error
 pub on_ok_more : {T E : Type 0} (r : Result T E) (P Q : Type 0) → (P → Q) → OnOk r P → OnOk r Q

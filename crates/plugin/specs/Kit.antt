@@ -9,7 +9,6 @@ use Rattle.wmach.specs.declared.outcome.Outcome.{Outcome}
 use Rattle.wmach.specs.Call.{MachineState, called_function}
 use Rattle.whost.specs.Calls.{CallsFromImage}
 use Rattle.whost.specs.Image.{IsImage}
-use Rattle.plugin.specs.declared.member.Member.{Member}
 use Rattle.plugin.specs.declared.verdict.FilterVerdict.{FilterVerdict}
 use Rattle.plugin.specs.declared.verdict.FilterVerdict.TheVariants as filter
 use Rattle.plugin.specs.declared.verdict.ScoreVerdict.{ScoreVerdict}
@@ -19,12 +18,26 @@ use Rattle.plugin.specs.RuleSet.{RuleSet}
 use Rattle.plugin.specs.Plugins.{Configured, IsWeight}
 
 -- A plugin that is ready to be asked: how much its score counts, the fuel of each call, its module, and the image from which
--- each call begins. What its instance's store is between two calls isn't seen, since no call can tell it.
+-- each call begins.
 pub record Ready : Type 0 where
   pub weight : ℕ
   pub fuel : ℕ
   pub content : ModuleParts
   pub image : Store
+
+-- A plugin's instance in a kit: the plugin, ready to be asked, and what the instance's store is now. No answer tells of the
+-- store, since each call begins from the image.
+pub record InstanceState : Type 0 where
+  pub ready : Ready
+  pub store : Store
+
+-- the plugins of a kit, whatever their instances' stores are
+abbrev pub ready_parts : List InstanceState → List Ready
+ready_parts kit = map (λ i. i.ready) kit
+
+-- an instance is where its calls begin
+abbrev pub IsAtImage : InstanceState → Type 0
+IsAtImage i = i.store ≡ i.ready.image
 
 -- its instance, as it is before its first call
 abbrev pub at_image : Ready → MachineState
@@ -72,25 +85,22 @@ pub record IsReadyOf (plugin : Configured) (ready : Ready) : Type 0 where
 abbrev pub IsKitOf : List Configured → List Ready → Type 0
 IsKitOf plugins kit = AllZip IsReadyOf plugins kit
 
--- what a member of a kit is seen as, whatever its instance's store
-abbrev pub ready : Member → Ready
-ready m = record { weight = m.weight; fuel = m.fuel; content = m.instance.content; image = m.instance.image }
+-- there is one more instance, behind the others: it is of this plugin, and where its calls begin
+pub record OneMoreReady (plugin : Configured) (old new : List InstanceState) : Type 0 where
+  pub instance : InstanceState
+  pub joined : new ≡ old ++ instance ∷ []
+  pub is : IsReadyOf plugin instance.ready
+  pub at_image : IsAtImage instance
+  pub weight : IsWeight instance.ready.weight
 
--- there is one more member, behind the others, and it is this plugin
-pub record OneMoreReady (plugin : Configured) (old new : List Member) : Type 0 where
-  pub member : Member
-  pub joined : new ≡ old ++ member ∷ []
-  pub is : IsReadyOf plugin (ready member)
-  pub weight : IsWeight member.weight
+-- there are at most 16 instances, and the score of each one's plugin counts 1 to 10 times
+pub record AreInstances (kit : List InstanceState) : Type 0 where
+  pub most : length kit ≤ 16
+  pub weights : All (λ i. IsWeight i.ready.weight) kit
 
--- there are at most 16 members, and each one's score counts 1 to 10 times
-pub record AreMembers (members : List Member) : Type 0 where
-  pub most : length members ≤ 16
-  pub weights : All (λ m. IsWeight m.weight) members
-
--- Of all members only the one at a place has changed, and of it only its instance's store.
-pub record OnlyItsStore (place : ℕ) (old new : List Member) : Type 0 where
-  pub member : Member
-  pub there : slice_get old place ≡ Some member
+-- Of all instances only the one at a place has changed, and of it only its store.
+pub record OnlyItsStore (place : ℕ) (old new : List InstanceState) : Type 0 where
+  pub instance : InstanceState
+  pub there : slice_get old place ≡ Some instance
   pub store : Store
-  pub others : new ≡ slice_set old place (record member { instance = record member.instance { store = store } })
+  pub others : new ≡ slice_set old place (record instance { store = store })

@@ -1,12 +1,14 @@
 //! A kit: one instance of each plugin.
-ghost use Rattle.std.specs.Prelude.{◌≡◌, IfErr, IfOk};
-ghost use Rattle.plugin.specs.Kit.{IsKitOf};
+ghost use Rattle.std.specs.Prelude.{◌≡◌, ◌<◌, ◌≤◌, length, IfErr, IfOk, IfSome, slice_get};
+ghost use Rattle.std.specs.List.{All};
+ghost use Rattle.plugin.specs.Plugins.{IsWeight};
+ghost use Rattle.plugin.specs.Verdict.{IsWithin};
+ghost use Rattle.plugin.specs.Kit.{IsKitOf, ready_parts, IsAtImage, FilterSays, ScoreSays, OnlyItsStore};
 ghost use Rattle.plugin.specs.Refused.{WhyNoKit};
 
 use crate::fault::KitFault;
-use crate::member::{Member, filter_at, score_at};
+use crate::member::Member;
 use crate::plugins::Plugins;
-use crate::rules::Rules;
 use crate::verdict::{FilterVerdict, ScoreVerdict};
 use std::alloc::Global;
 use std::marker::Model;
@@ -20,27 +22,28 @@ pub struct Kit {
 }
 
 impl Model for Kit {
-    ghost use Rattle.std.specs.Prelude.{List, map};
+    ghost use Rattle.std.specs.Prelude.{List};
     ghost use Rattle.std.specs.Coded.{codes};
-    ghost use Rattle.plugin.specs.Kit.{Ready, ready, AreMembers};
+    ghost use Rattle.plugin.specs.Kit.{InstanceState, AreInstances};
 
-    ghost Value = { List Ready };
+    ghost Value = { List InstanceState };
 
     ghost coded = { Prim.hlevel codes };
 
-    ghost view = { λ kit. map ready kit.members.items };
+    ghost view = { λ kit. kit.members.items };
 
-    ghost invariant = { λ kit. AreMembers kit.members.items };
+    ghost invariant = { λ kit. AreInstances kit.members.items };
 }
 
 impl Kit {
-    /// A kit of these plugins.
+    /// A kit of these plugins, each of whose instances is at its image.
     ///
     /// # Errors
     ///
     /// The first plugin of which no instance can be made, and why.
     pub fn new(alloc: Global, plugins: &Plugins) -> Result<Kit, KitFault>
-        ensures made { IfOk result (IsKitOf plugins.now) }
+        ensures made { IfOk result (λ kit. IsKitOf plugins.now (ready_parts kit)) }
+        ensures at_image { IfOk result (All IsAtImage) }
         ensures refused { IfErr result (WhyNoKit plugins.now) }
     {
         let mut members = Vec::new(alloc);
@@ -49,29 +52,42 @@ impl Kit {
         }
         Ok(Kit { members })
     }
-}
 
-impl Rules for Kit {
-    ghost use Rattle.plugin.specs.Kit.{rules_of};
-    ghost use Rattle.plugin.specs.OneAnswer.{one_answer};
-
-    ghost answers = { rules_of };
-
-    fn count(&self) -> usize {
+    /// How many plugins there are: at most 16.
+    pub fn count(&self) -> usize
+        ensures value { result ≡ length self.now }
+        ensures most { result ≤ 16 }
+    {
         self.members.len()
     }
 
-    fn weight(&self, place: usize) -> u8 {
-        self.members[place].weight
+    /// How much the score of the plugin at a place counts: 1 to 10.
+    pub fn weight(&self, place: usize) -> u8
+        requires { place < length self.now }
+        ensures value { IfSome (slice_get self.now place) (λ i. result ≡ i.ready.weight) }
+        ensures within { IsWeight result }
+    {
+        self.members[place].weight()
     }
 
-    fn filter(&mut self, place: usize, records: &Records) -> FilterVerdict {
-        filter_at(self.members.as_mut_slice(), place, records)
+    /// Asks the filter of the plugin at a place, from its image. A plugin without one lets the node pass. No other instance
+    /// changes, and of this one only the store, also where the call is cut off.
+    pub fn filter(&mut self, place: usize, records: &Records) -> FilterVerdict
+        requires { place < length self.old }
+        ensures says { IfSome (slice_get self.old place) (λ i. FilterSays i.ready records.now.pod records.now.node result) }
+        ensures others { OnlyItsStore place self.old self.new }
+    {
+        self.members[place].filter(records)
     }
 
-    fn score(&mut self, place: usize, records: &Records) -> ScoreVerdict {
-        score_at(self.members.as_mut_slice(), place, records)
+    /// Asks the score of the plugin at a place, from its image. A plugin without one gives 0. No other instance changes, and of
+    /// this one only the store, also where the call is cut off.
+    pub fn score(&mut self, place: usize, records: &Records) -> ScoreVerdict
+        requires { place < length self.old }
+        ensures says { IfSome (slice_get self.old place) (λ i. ScoreSays i.ready records.now.pod records.now.node result) }
+        ensures within { IsWithin result }
+        ensures others { OnlyItsStore place self.old self.new }
+    {
+        self.members[place].score(records)
     }
-
-    ghost say_one_thing = { one_answer };
 }

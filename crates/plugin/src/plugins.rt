@@ -3,7 +3,7 @@ ghost use Rattle.std.specs.Prelude.{◌≡◌, ℕ, ◌≤◌, ◌<◌, List, �
 ghost use Rattle.std.specs.Arc.{arc_value};
 ghost use Rattle.wbin.specs.Syntax.{module_of};
 ghost use Rattle.whost.specs.Refused.{WhyRefused};
-ghost use Rattle.plugin.specs.Plugins.{names, IsTaken, IsWeight, IsFuel};
+ghost use Rattle.plugin.specs.Plugins.{IsTaken, IsWeight, IsFuel};
 ghost use Rattle.plugin.specs.Entries.{configured, configured_as};
 ghost use Rattle.plugin.specs.Refused.{WhyNotAdded, WhyNotReady};
 ghost use Rattle.plugin.specs.Kit.{OneMoreReady};
@@ -84,14 +84,6 @@ impl Plugins {
         ensures most { result ≤ 16 }
     {
         self.entries.len()
-    }
-
-    /// The name of the plugin at a place.
-    pub fn name(&self, place: usize) -> &Name
-        requires { place < length self.now }
-        ensures { slice_get (names self.now) place ≡ Some result.now }
-    {
-        self.entry(place).0
     }
 
     /// One of them has this name.

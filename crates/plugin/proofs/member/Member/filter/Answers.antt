@@ -1,12 +1,14 @@
-use Rattle.std.proofs.Common.{refl, inl, inr}
+use Rattle.std.proofs.Common.{refl, sym, inl, inr}
+use Rattle.wbin.specs.Syntax.{module_of}
+use Rattle.wmach.specs.Call.{called_function}
 use Rattle.wmach.specs.declared.export.Export.TheVariants as export
-use Rattle.plugin.specs.Kit.{called, ready}
 use Rattle.plugin.proofs.KitLemmas.{nothing_called, ends_of_call}
 use Rattle.plugin.proofs.member.Member.filter.Goals as goal
 
 pub returns-then-not-has-clause-says : goal.returns-then-not-has-clause-says
-returns-then-not-has-clause-says c = inl (nothing_called (called (ready c.args.self.now) export.Filter) c.if-not-has.ensures, refl)
+returns-then-not-has-clause-says c =
+    rw (sym c.self.view_is) (inl (nothing_called (called_function (module_of c.self.inside.instance.content) export.Filter) c.if-not-has.ensures, refl))
 
 pub returns-clause-says : goal.returns-clause-says
 returns-clause-says c =
-    inr (c.call.result, ends_of_call c.args.self.now export.Filter c.args.records.now c.call.result c.call.new.self c.call.ensures.calls, c.filter_verdict.ensures)
+    rw (sym c.self.view_is) (inr (c.call.result, ends_of_call c.self.inside.weight c.self.inside.fuel c.self.inside.instance c.call.new.self export.Filter c.args.records.now c.call.result c.call.ensures.calls, c.filter_verdict.ensures))
