@@ -1,6 +1,6 @@
 -- Kits that are the same judge alike.
 use Rattle.std.specs.List.{Contains}
-use Rattle.std.proofs.Common.{◌≡◌, ℕ, List, [], ◌∷◌, slice_index_or, sym, subst, ◌∙◌, arith}
+use Rattle.std.proofs.Common.{◌≡◌, List, [], ◌∷◌, slice_index_or, sym, subst, ◌∙◌, arith}
 use Rattle.plugin.specs.RuleSet.{RuleSet}
 use Rattle.choose.specs.Verdict.{HasVerdict}
 use Rattle.fleet.specs.Alike.{JudgeAlike}

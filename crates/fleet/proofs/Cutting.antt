@@ -91,3 +91,18 @@ nodes_of_all nodes pieces some =
     let n : ℕ = length nodes in
     let all : places_of n pieces 0 pieces ≡ n = ap (λ k. begins n pieces k - begins n pieces 0) (zero-add pieces) ∙ omega (arith, begins_first n pieces some, begins_last n pieces some) in
     ap (λ k. take (places_of n pieces 0 pieces) (drop k nodes)) (begins_first n pieces some) ∙ take_all (places_of n pieces 0 pieces) nodes (omega (arith, all))
+
+-- the first of some pieces have no more places than all of them
+pub front_within : (nodes pieces first many half places : ℕ) → half ≤ many → ArePieces nodes pieces first many places → places_of nodes pieces first half ≤ places
+front_within nodes pieces first many half places within are =
+    let rise = between nodes pieces first many half (omega (arith, are.there, are.some)) within in
+    omega (arith, are.all, rise.0, rise.1)
+
+-- all pieces have all places
+pub all_pieces : (nodes pieces : ℕ) → 0 < pieces → pieces ≤ 64 → ArePieces nodes pieces 0 pieces nodes
+all_pieces nodes pieces some few = record {
+  some = some;
+  few = few;
+  there = omega arith;
+  all = omega (arith, begins_first nodes pieces some, begins_last nodes pieces some, ap (begins nodes pieces) (zero-add pieces));
+}

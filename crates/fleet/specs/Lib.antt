@@ -1,3 +1,6 @@
 pub mod Alike
+pub mod Asking
+pub mod Message
 pub mod Pieces
+pub mod Speaking
 pub mod Team

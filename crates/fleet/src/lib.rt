@@ -2,13 +2,25 @@
 //! is the one that any of the kits would make alone.
 #![tactic(auto)]
 
+mod asked;
 mod cut;
+mod decider;
 mod fleet;
 mod gate;
+mod helper;
 mod laws;
+mod message;
 mod pieces;
+mod pool;
+mod rule;
+#[cfg(test)]
+mod samples;
+mod worker;
 
+pub use asked::{Blank, Site};
 pub use choose::{Decision, NoMemory};
+pub use decider::Decider;
 pub use fleet::{Fleet, MAX_KITS};
 pub use gate::{Gate, NoGate};
 pub use laws::{most_kits_are_these, pieces_are_all_nodes};
+pub use pool::Pool;

@@ -7,6 +7,7 @@ ghost use Rattle.choose.specs.Choice.{AreVerdicts};
 ghost use Rattle.fleet.specs.Pieces.{nodes_of, ArePieces};
 ghost use Rattle.fleet.specs.Alike.{JudgeAlike};
 
+use crate::asked::Asked;
 use crate::cut::begin;
 use crate::gate::Gate;
 use choose::{Verdict, judge};
@@ -26,7 +27,7 @@ pub struct Work<'a, G> {
 }
 
 /// Judges a piece, with this kit, in this thread.
-fn judge_piece<K: Rules, G: Gate>(
+pub fn judge_piece<K: Rules, G: Gate>(
     work: &Work<G>,
     piece: usize,
     kit: &mut K,
@@ -41,6 +42,30 @@ fn judge_piece<K: Rules, G: Gate>(
     let end = begin(nodes, work.pieces, piece + 1);
     work.gate.enter(piece);
     judge(&work.rows[first..end], work.pod, kit, verdicts);
+}
+
+/// Judges a piece of what a pool is asked, with this kit, in this thread. A piece that has no node doesn't begin.
+pub fn judge_asked<K: Rules, G: Gate>(
+    asked: &Asked,
+    gate: &G,
+    piece: usize,
+    kit: &mut K,
+    verdicts: &mut [Verdict],
+)
+    requires { ArePieces (length asked.now.snapshot) asked.now.pieces piece 1 (length verdicts.old) }
+    ensures are { AreVerdicts (K.answers kit.old) asked.now.pod (nodes_of asked.now.snapshot asked.now.pieces piece 1) verdicts.new }
+    ensures stays { kit.new ≡ kit.old }
+{
+    if verdicts.is_empty() {
+        return;
+    }
+    let work = Work {
+        rows: asked.snapshot.rows(),
+        pod: &asked.pod,
+        gate,
+        pieces: asked.pieces,
+    };
+    judge_piece(&work, piece, kit, verdicts);
 }
 
 /// Judges some pieces, one with each kit, from the first piece on: the first of them in this thread, each other one that has a

@@ -1,0 +1,6 @@
+use Rattle.fleet.proofs.Collecting.{are_said}
+use Rattle.fleet.proofs.helper.Helper.take_back.Goals as goal
+
+pub returns-clause-are : goal.returns-clause-are
+returns-clause-are g c = λ yes.
+    are_said g.J.Site.Says (g.K.Rules.answers c.in-Some-receive.done.kit) c.args.order.now.pod c.in-Some-receive.ensures _ _ (c.take-is_this.ensures.are yes)

@@ -1,0 +1,5 @@
+use Rattle.fleet.proofs.pool.tests.look.Given as goal
+
+-- the desk that is opened, and its limits
+abbrev pub ghosts-look_in : goal.ghosts-look_in
+ghosts-look_in g a = record { book = a.blank.seen.book; limits = a.limits }

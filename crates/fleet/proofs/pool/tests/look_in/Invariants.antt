@@ -1,0 +1,6 @@
+use Rattle.desk.specs.Shared.{IsPassOf}
+use Rattle.fleet.proofs.pool.tests.look_in.Given as goal
+
+-- it is the desk's pass
+abbrev pub invariant-loop-at : goal.invariant-loop-at
+invariant-loop-at g l = IsPassOf l.pass l.desk

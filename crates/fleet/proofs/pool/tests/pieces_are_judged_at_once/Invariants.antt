@@ -1,0 +1,7 @@
+use Rattle.choose.specs.Verdict.{HasVerdict}
+use Rattle.fleet.proofs.TallyKits.{tally_rules}
+use Rattle.fleet.proofs.pool.tests.pieces_are_judged_at_once.Given as goal
+
+-- the pool that is started, and what its kits say
+abbrev pub ghosts-meet_in : goal.ghosts-meet_in
+ghosts-meet_in g a = record { book = a.blank.seen.book; Says = λ pod node verdict. HasVerdict tally_rules pod node verdict }

@@ -1,0 +1,67 @@
+//! What decides where pods go.
+ghost use Rattle.std.specs.Prelude.{◌≡◌, List, IfOk};
+ghost use denote.Param.Send.{IsSync};
+ghost use Rattle.choose.specs.Choice.{Choice};
+ghost use Rattle.fleet.specs.Team.{rules_of};
+
+use crate::asked::Site;
+use crate::fleet::Fleet;
+use crate::gate::{Gate, NoGate};
+use crate::pool::Pool;
+use choose::{Decision, NoMemory};
+use desk::Snapshot;
+use plugin::{KitRules, Rules};
+use quant::SharedPod;
+use std::sync::Wait;
+use std::thread::Threads;
+
+/// What decides where pods go, by the built-in rules and those of its kits.
+pub trait Decider {
+    type Kit: Rules;
+
+    // The kits for whose rules it stands: the first for all.
+    ghost kits: { Self → List Self.Kit };
+
+    /// Where a pod goes, by a look at the nodes: the choice that the first kit would make alone.
+    ///
+    /// Errors: `NoMemory`. Nothing is decided then, and it can be used again.
+    fn decide<R: Threads + Wait + Sync>(
+        &mut self,
+        rt: &R,
+        snapshot: Snapshot,
+        pod: &SharedPod,
+    ) -> Result<Decision, NoMemory>
+        requires { IsSync R.row }
+        ensures chosen { IfOk result (Choice (rules_of Self.Kit.answers (kits self.old)) snapshot pod.now) }
+        ensures kits { kits self.new ≡ kits self.old };
+}
+
+impl Decider for Fleet<KitRules> {
+    type Kit = KitRules;
+
+    ghost kits = { λ fleet. fleet.kits };
+
+    fn decide<R: Threads + Wait + Sync>(
+        &mut self,
+        rt: &R,
+        snapshot: Snapshot,
+        pod: &SharedPod,
+    ) -> Result<Decision, NoMemory> {
+        self.decide(rt, &snapshot, pod, &NoGate)
+    }
+}
+
+impl<J: Site, K: Rules + Drop, G: Gate + Drop> Decider for Pool<J, K, G> {
+    type Kit = K;
+
+    ghost kits = { λ pool. pool.kits };
+
+    fn decide<R: Threads + Wait + Sync>(
+        &mut self,
+        rt: &R,
+        snapshot: Snapshot,
+        pod: &SharedPod,
+    ) -> Result<Decision, NoMemory> {
+        self.decide(rt, snapshot, pod)
+    }
+}

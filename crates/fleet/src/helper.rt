@@ -1,0 +1,273 @@
+//! A kit of a pool beside the first, and the worker that judges with it.
+ghost use Rattle.std.specs.Prelude.{◌≡◌, ◌+◌, ◌≤◌, length};
+ghost use Rattle.std.specs.Bool.{IsTrue};
+ghost use Rattle.std.specs.Arc.{arc_value};
+ghost use Rattle.choose.specs.Choice.{AreVerdicts};
+ghost use Rattle.fleet.specs.Pieces.{nodes_of, ArePieces};
+ghost use Rattle.fleet.specs.Speaking.{SpeaksFor, AreSaid};
+
+use crate::asked::{Order, Site};
+use crate::gate::Gate;
+use crate::message::{Done, Job};
+use crate::pieces::judge_asked;
+use crate::worker::Hand;
+use choose::{UNJUDGED, Verdict};
+use plugin::Rules;
+use std::alloc::Global;
+use std::marker::Model;
+use std::mem;
+use std::sync::{Arc, Wait};
+use std::thread::Threads;
+
+/// A kit, where it isn't under way, with the room for its verdicts and the way to its worker, if there is one.
+#[derive(Drop)]
+pub struct Helper<J: Site, K: Rules + Drop> {
+    pub hand: Option<Hand<J, K>>,
+    pub kit: Option<K>,
+    room: Vec<Verdict>,
+    // Whether a piece is under way.
+    is_out: bool,
+}
+
+impl<J: Site, K: Rules + Drop> Model for Helper<J, K> {
+    ghost use Rattle.std.specs.Prelude.{Option, IfSome};
+    ghost use Rattle.fleet.specs.Speaking.{SpeaksFor};
+
+    ghost Value = { Option K };
+
+    ghost view = { λ h. h.kit };
+
+    ghost invariant = { λ h. IfSome h.kit (λ kit. SpeaksFor J.Says (K.answers kit)) };
+}
+
+impl<J: Site, K: Rules + Drop> Helper<J, K> {
+    /// A kit, with a worker where one can be started.
+    pub fn start<G: Gate + Drop + Send + Sync + 'static, R: Threads + Wait + Copy + Send + 'static>(
+        rt: R,
+        alloc: Global,
+        kit: K,
+        gate: &Arc<G>,
+    ) -> Helper<J, K>
+    where
+        J: Send + Sync + 'static,
+        K: Send + 'static,
+        requires { SpeaksFor J.Says (K.answers kit) }
+    {
+        let hand = match gate.clone() {
+            Ok(gate) => Hand::start(rt, alloc, gate).ok(),
+            Err(_) => None,
+        };
+        Helper {
+            hand,
+            kit: Some(kit),
+            room: Vec::new(alloc),
+            is_out: false,
+        }
+    }
+
+    /// Sends a piece to the worker, where there is one, and memory for it.
+    fn send<R: Wait>(
+        &mut self,
+        rt: &R,
+        alloc: Global,
+        order: &Arc<Order<J>>,
+        piece: usize,
+        places: usize,
+    )
+        requires { let asked = arc_value order.now in ArePieces (length asked.snapshot) asked.pieces piece 1 places }
+    {
+        self.is_out = false;
+        if places == 0 {
+            return;
+        }
+        let Some(hand) = self.hand.as_mut() else {
+            return;
+        };
+        let Ok(order) = order.clone() else {
+            return;
+        };
+        if self.room.resize(places, UNJUDGED).is_err() {
+            return;
+        }
+        let Some(kit) = self.kit.take() else {
+            return;
+        };
+        let verdicts = mem::replace(&mut self.room, Vec::new(alloc));
+        let job = Job {
+            kit,
+            order,
+            piece,
+            verdicts,
+        };
+        match hand.send(rt, job) {
+            Ok(()) => self.is_out = true,
+            Err(job) => {
+                let Job {
+                    kit,
+                    order: _,
+                    piece: _,
+                    verdicts,
+                } = job;
+                self.kit = Some(kit);
+                self.room = verdicts;
+            }
+        }
+    }
+
+    // Waits for the piece that is under way, and says whether its verdicts are there. The kit is back where a result came.
+    fn take_back<R: Wait>(
+        &mut self,
+        rt: &R,
+        order: &Order<J>,
+        piece: usize,
+        verdicts: &mut [Verdict],
+    ) -> bool
+        ensures are { IsTrue result → AreSaid J.Says order.now.pod (nodes_of order.now.snapshot order.now.pieces piece 1) verdicts.new }
+        ensures length { length verdicts.new ≡ length verdicts.old }
+    {
+        if !self.is_out {
+            return false;
+        }
+        self.is_out = false;
+        let Some(hand) = self.hand.as_mut() else {
+            return false;
+        };
+        let Some(done) = hand.receive(rt) else {
+            self.hand = None;
+            return false;
+        };
+        let is_this = take(&done, order, piece, verdicts);
+        let Done {
+            kit,
+            order: _,
+            piece: _,
+            verdicts: room,
+        } = done;
+        self.kit = Some(kit);
+        self.room = room;
+        is_this
+    }
+
+    // The verdicts on a piece: those that come back, or else those that are found here, with its kit or with the first.
+    fn fill<R: Wait, G: Gate>(
+        &mut self,
+        rt: &R,
+        order: &Order<J>,
+        gate: &G,
+        home: &mut K,
+        piece: usize,
+        verdicts: &mut [Verdict],
+    )
+        requires pieces { ArePieces (length order.now.snapshot) order.now.pieces piece 1 (length verdicts.old) }
+        requires speaks { SpeaksFor J.Says (K.answers home.old) }
+        ensures are { AreSaid J.Says order.now.pod (nodes_of order.now.snapshot order.now.pieces piece 1) verdicts.new }
+        ensures stays { home.new ≡ home.old }
+    {
+        if self.take_back(rt, order, piece, verdicts) {
+            return;
+        }
+        if let Some(kit) = self.kit.as_mut() {
+            judge_said(order, gate, piece, kit, verdicts);
+            return;
+        }
+        judge_said(order, gate, piece, home, verdicts);
+    }
+
+    /// Waits until the worker is gone.
+    pub fn end<R: Wait>(self, rt: &R) {
+        let Helper {
+            hand,
+            kit: _,
+            room: _,
+            is_out: _,
+        } = self;
+        if let Some(hand) = hand {
+            hand.end(rt);
+        }
+    }
+}
+
+// Takes the verdicts of a result, if it is of this piece of what is asked, and says whether it is.
+fn take<J: Site, K: Rules + Drop>(
+    done: &Done<J, K>,
+    order: &Order<J>,
+    piece: usize,
+    verdicts: &mut [Verdict],
+) -> bool
+    ensures are { IsTrue result → AreVerdicts (K.answers done.now.kit) order.now.pod (nodes_of order.now.snapshot order.now.pieces piece 1) verdicts.new }
+    ensures length { length verdicts.new ≡ length verdicts.old }
+{
+    if done.piece != piece {
+        return false;
+    }
+    if !order.is(&done.order) {
+        return false;
+    }
+    if done.verdicts.len() != verdicts.len() {
+        return false;
+    }
+    verdicts.copy_from_slice(done.verdicts.as_slice());
+    true
+}
+
+/// Judges a piece here, with one of the pool's kits.
+pub fn judge_said<J: Site, K: Rules, G: Gate>(
+    order: &Order<J>,
+    gate: &G,
+    piece: usize,
+    kit: &mut K,
+    verdicts: &mut [Verdict],
+)
+    requires pieces { ArePieces (length order.now.snapshot) order.now.pieces piece 1 (length verdicts.old) }
+    requires speaks { SpeaksFor J.Says (K.answers kit.old) }
+    ensures are { AreSaid J.Says order.now.pod (nodes_of order.now.snapshot order.now.pieces piece 1) verdicts.new }
+    ensures stays { kit.new ≡ kit.old }
+{
+    judge_asked(order.asked(), gate, piece, kit, verdicts);
+}
+
+/// Sends each helper its piece, from the second piece on.
+#[tactic(auto, using(crate::proofs::Cutting::begins_rise))]
+pub fn send_all<J: Site, K: Rules + Drop, R: Wait>(
+    rt: &R,
+    alloc: Global,
+    order: &Arc<Order<J>>,
+    helpers: &mut [Helper<J, K>],
+)
+    requires pieces { (arc_value order.now).pieces ≡ length helpers.old + 1 }
+    requires few { length helpers.old + 1 ≤ 64 }
+    ensures { length helpers.new ≡ length helpers.old }
+{
+    for at in 0..helpers.len() {
+        let piece = at + 1;
+        let places = order.begin(piece + 1) - order.begin(piece);
+        helpers[at].send(rt, alloc, order, piece, places);
+    }
+}
+
+/// The verdicts on some pieces, one of each helper, from the first piece on.
+pub fn collect<J: Site, K: Rules + Drop, R: Wait, G: Gate>(
+    rt: &R,
+    order: &Order<J>,
+    gate: &G,
+    home: &mut K,
+    helpers: &mut [Helper<J, K>],
+    first: usize,
+    verdicts: &mut [Verdict],
+)
+    requires pieces { ArePieces (length order.now.snapshot) order.now.pieces first (length helpers.old) (length verdicts.old) }
+    requires speaks { SpeaksFor J.Says (K.answers home.old) }
+    ensures are { AreSaid J.Says order.now.pod (nodes_of order.now.snapshot order.now.pieces first (length helpers.old)) verdicts.new }
+    ensures stays { home.new ≡ home.old }
+    ensures length { length helpers.new ≡ length helpers.old }
+{
+    if helpers.len() == 1 {
+        helpers[0].fill(rt, order, gate, home, first, verdicts);
+        return;
+    }
+    let at = order.begin(first + 1) - order.begin(first);
+    let (mine, behind) = helpers.split_at_mut(1);
+    let (here, there) = verdicts.split_at_mut(at);
+    mine[0].fill(rt, order, gate, home, first, here);
+    collect(rt, order, gate, home, behind, first + 1, there);
+}

@@ -1,0 +1,235 @@
+//! A pool: kits, and workers that stay, which decide with them.
+ghost use Rattle.std.specs.Prelude.{◌≡◌, ◌+◌, ◌<◌, [], ◌∷◌, length, vec_len, IfOk};
+ghost use Rattle.std.specs.List.{All};
+ghost use Rattle.std.specs.Arc.{arc_value};
+ghost use Rattle.choose.specs.Choice.{Choice, AreVerdicts};
+ghost use Rattle.fleet.specs.Team.{rules_of};
+ghost use Rattle.fleet.specs.Speaking.{SpeaksFor};
+
+#[cfg(test)]
+mod tests;
+
+use crate::asked::{Asked, Blank, History, Order, Site};
+use crate::fleet::MAX_KITS;
+use crate::gate::Gate;
+use crate::helper::{Helper, collect, judge_said, send_all};
+use choose::{Decision, NoMemory, UNJUDGED, Verdict, decide, judge};
+use desk::Snapshot;
+use plugin::Rules;
+use quant::SharedPod;
+use std::alloc::Global;
+use std::marker::Model;
+use std::sync::{Arc, Wait};
+use std::thread::Threads;
+
+// Up to so many nodes without a site's rules are judged by the caller alone; a worker must first be woken.
+const FEW_NODES: usize = 8_192;
+
+/// A kit that stays with the caller, and others with a worker each, which stay until the pool ends.
+#[derive(Drop)]
+pub struct Pool<J: Site, K: Rules + Drop, G: Drop> {
+    alloc: Global,
+    gate: Arc<G>,
+    home: K,
+    helpers: Vec<Helper<J, K>>,
+    history: History<J>,
+    // The room for the verdicts of a decision, which stays between two decisions.
+    verdicts: Vec<Verdict>,
+}
+
+impl<J: Site, K: Rules + Drop, G: Drop> Model for Pool<J, K, G> {
+    ghost use Rattle.std.specs.Prelude.{◌<◌, [], ◌∷◌, length, vec_capacity};
+    ghost use Rattle.fleet.specs.Team.{Team};
+    ghost use Rattle.fleet.specs.Speaking.{SpeaksFor};
+
+    ghost Value = { Team K };
+
+    ghost view = { λ p. record { kits = p.home ∷ []; room = vec_capacity p.verdicts } };
+
+    ghost invariant = { λ p. SpeaksFor J.Says (K.answers p.home) × (length p.helpers.items < 64) };
+}
+
+impl<J: Site, K: Rules + Drop, G: Gate + Drop> Pool<J, K, G> {
+    /// A pool of 1 to 64 kits that say the same. The first one stays with the caller, and each other has a worker where one can
+    /// be started. Who is told that pieces begin is told from the workers' threads too.
+    ///
+    /// Errors: `NoMemory` where there is none for the list of workers. The kits are given up then.
+    pub fn start<R: Threads + Wait + Copy + Send + 'static>(
+        rt: R,
+        alloc: Global,
+        blank: Blank,
+        first: K,
+        others: Vec<K>,
+        gate: Arc<G>,
+    ) -> Result<Pool<J, K, G>, NoMemory>
+    where
+        J: Send + Sync + 'static,
+        K: Send + 'static,
+        G: Send + Sync + 'static,
+        requires most { vec_len others < MAX_KITS }
+        requires pool { blank.seen.book ≡ J.book }
+        requires first { SpeaksFor J.Says (K.answers first) }
+        requires others { All (λ kit. SpeaksFor J.Says (K.answers kit)) others.items }
+        ensures { IfOk result (λ pool. pool.kits ≡ first ∷ []) }
+    {
+        let mut others = others;
+        let mut helpers = Vec::new(alloc);
+        helpers.reserve(others.len())?;
+        for _ in 0..others.len() {
+            if let Some(kit) = others.pop() {
+                if helpers.push(Helper::start(rt, alloc, kit, &gate)).is_err() {
+                    return Err(NoMemory);
+                }
+            }
+        }
+        Ok(Pool {
+            alloc,
+            gate,
+            home: first,
+            helpers,
+            history: blank.named(),
+            verdicts: Vec::new(alloc),
+        })
+    }
+
+    /// Where a pod goes, by a look at the nodes: the choice that each of the kits would make alone.
+    ///
+    /// The nodes are cut into as many pieces as there are kits. The first is judged here, and each other one that has a node by
+    /// a worker. A piece that doesn't come back is judged here too. Where there is too little to do, all is done here.
+    ///
+    /// Errors: `NoMemory` where there is none for what the workers share, or where the look has more nodes than any before and
+    /// there is none for a verdict each. Nothing is decided then, nor sent, and the pool can be used again.
+    pub fn decide<R: Wait>(
+        &mut self,
+        rt: &R,
+        snapshot: Snapshot,
+        pod: &SharedPod,
+    ) -> Result<Decision, NoMemory>
+        ensures chosen { IfOk result (Choice (rules_of K.answers self.old.kits) snapshot pod.now) }
+        ensures kits { self.new.kits ≡ self.old.kits }
+    {
+        let nodes = snapshot.rows().len();
+        self.verdicts.resize(nodes, UNJUDGED)?;
+        if self.helpers.is_empty() || self.home.count() == 0 && nodes <= FEW_NODES {
+            return Ok(choose_here(
+                &snapshot,
+                pod,
+                &*self.gate,
+                &mut self.home,
+                self.verdicts.as_mut_slice(),
+            ));
+        }
+        let asked = Asked {
+            snapshot,
+            pod: pod.share()?,
+            pieces: self.helpers.len() + 1,
+        };
+        let order = match self.history.add(asked) {
+            Ok(order) => order,
+            Err(asked) => {
+                return Ok(choose_here(
+                    &asked.snapshot,
+                    &asked.pod,
+                    &*self.gate,
+                    &mut self.home,
+                    self.verdicts.as_mut_slice(),
+                ));
+            }
+        };
+        let Ok(order) = Arc::new(self.alloc, order) else {
+            return Err(NoMemory);
+        };
+        Ok(choose_there(
+            rt,
+            self.alloc,
+            &order,
+            &*self.gate,
+            &mut self.home,
+            self.helpers.as_mut_slice(),
+            self.verdicts.as_mut_slice(),
+        ))
+    }
+
+    /// Ends the pool: it waits until its workers are gone.
+    pub fn end<R: Wait>(self, rt: &R) {
+        let Pool {
+            alloc: _,
+            gate: _,
+            home: _,
+            helpers,
+            history: _,
+            verdicts: _,
+        } = self;
+        for helper in helpers {
+            helper.end(rt);
+        }
+    }
+}
+
+// The choice with the first kit alone.
+fn choose_here<K: Rules, G: Gate>(
+    snapshot: &Snapshot,
+    pod: &SharedPod,
+    gate: &G,
+    home: &mut K,
+    verdicts: &mut [Verdict],
+) -> Decision
+    requires { length verdicts.old ≡ length snapshot.now }
+    ensures chosen { Choice (K.answers home.old) snapshot.now pod.now result }
+    ensures stays { home.new ≡ home.old }
+{
+    let rows = snapshot.rows();
+    if !rows.is_empty() {
+        gate.enter(0);
+    }
+    judge(rows, pod, home, verdicts);
+    decide(rows, verdicts)
+}
+
+// The choice with all kits: the first piece is judged here while the others are under way.
+fn choose_there<J: Site, K: Rules + Drop, G: Gate, R: Wait>(
+    rt: &R,
+    alloc: Global,
+    order: &Arc<Order<J>>,
+    gate: &G,
+    home: &mut K,
+    helpers: &mut [Helper<J, K>],
+    verdicts: &mut [Verdict],
+) -> Decision
+    requires some { 0 < length helpers.old }
+    requires few { length helpers.old < 64 }
+    requires pieces { (arc_value order.now).pieces ≡ length helpers.old + 1 }
+    requires places { length verdicts.old ≡ length (arc_value order.now).snapshot }
+    requires speaks { SpeaksFor J.Says (K.answers home.old) }
+    ensures chosen { let asked = arc_value order.now in Choice (K.answers home.old) asked.snapshot asked.pod result }
+    ensures stays { home.new ≡ home.old }
+    ensures length { length helpers.new ≡ length helpers.old }
+{
+    send_all(rt, alloc, order, helpers);
+    judge_and_collect(rt, &**order, gate, home, helpers, verdicts);
+    decide(order.asked().snapshot.rows(), verdicts)
+}
+
+// The verdicts on all nodes, where all pieces but the first are under way, or are to be judged here too.
+fn judge_and_collect<J: Site, K: Rules + Drop, G: Gate, R: Wait>(
+    rt: &R,
+    order: &Order<J>,
+    gate: &G,
+    home: &mut K,
+    helpers: &mut [Helper<J, K>],
+    verdicts: &mut [Verdict],
+)
+    requires some { 0 < length helpers.old }
+    requires few { length helpers.old < 64 }
+    requires pieces { order.now.pieces ≡ length helpers.old + 1 }
+    requires places { length verdicts.old ≡ length order.now.snapshot }
+    requires speaks { SpeaksFor J.Says (K.answers home.old) }
+    ensures are { AreVerdicts (K.answers home.old) order.now.pod order.now.snapshot verdicts.new }
+    ensures stays { home.new ≡ home.old }
+    ensures length { length helpers.new ≡ length helpers.old }
+{
+    let at = order.begin(1);
+    let (here, there) = verdicts.split_at_mut(at);
+    judge_said(order, gate, 0, home, here);
+    collect(rt, order, gate, home, helpers, 1, there);
+}
