@@ -1,5 +1,5 @@
 -- What the steps of a cycle are answered, and what the only pass's cycle does to its desk.
-use Rattle.std.proofs.Common.{◌≡◌, ℕ, ◌<◌, List, [], ◌∷◌, Option, Some, None, inl, inr, length, refl, sym, ap, subst, arith}
+use Rattle.std.proofs.Common.{◌≡◌, ℕ, ◌<◌, List, [], Option, Some, None, inl, inr, refl, sym, ap, subst}
 use Rattle.quant.specs.declared.name.Name.{Name}
 use Rattle.quant.specs.declared.objects.Pod.{Pod}
 use Rattle.book.specs.declared.refusal.Refusal.{Refusal}
@@ -20,9 +20,7 @@ use Rattle.desk.specs.Shared.{Pass, Desk, IsPassOf, IsApplied, IsLooked}
 use Rattle.desk.specs.Alone.{state_seen, AnswersAlone, LooksAlone}
 use Rattle.desk.proofs.Fair.{answered_next}
 use Rattle.desk.specs.Shown.{Shown}
-use Rattle.std.specs.List.{All}
 use Rattle.plugin.specs.RuleSet.{RuleSet}
-use Rattle.fleet.specs.Team.{rules_of}
 use Rattle.choose.specs.declared.decision.Decision.{Decision}
 use Rattle.choose.specs.declared.decision.Decision.TheVariants as decisions
 use Rattle.choose.specs.Choice.{Choice}
@@ -89,13 +87,6 @@ assume_answers desk p p' uid node answer applied =
     let part = cluster.Assume uid node (entry_at s p.caller.number uid) in
     subst AnswersAssume (sym from.1)
     (given_or_refused (book_step.refusal s.cluster part) s (record s { cluster = book_step.effect s.cluster part; queue = s.queue }) (book_step.next_ticket s.cluster))
-
--- ---- what is chosen
-
--- the choice of each kit is the choice by the rules of the first
-pub chosen_by_first : {Kit : Type 0} (answers : Kit → RuleSet) (kits : List Kit) (rows : List Shown) (pod : Pod) (decision : Decision) → 0 < length kits → All (λ kit. Choice (answers kit) rows pod decision) kits → Choice (rules_of answers kits) rows pod decision
-chosen_by_first answers [] rows pod decision some all = absurd (omega (arith, some))
-chosen_by_first answers (kit ∷ kits) rows pod decision some all = all 0 kit some
 
 -- ---- a pod that was popped in vain
 

@@ -2,6 +2,7 @@ pub mod Cycles
 pub mod Either
 pub mod Ends
 pub mod Fronts
+pub mod Kits
 pub mod Known
 pub mod OneOutput
 pub mod OwnNames

@@ -22,8 +22,8 @@ abbrev pub FrontsAgree : RuleSet → Type 0
 FrontsAgree rules =
     (names : List Name) (script one other : List ℕ) → BeginsOutput rules names script one → BeginsOutput rules names script other → Begins one other ⊎ Begins other one
 
--- The output of a script by one kit is its output by another that judges alike. A fleet's kits do, so that how many they are changes
--- nothing.
+-- The output of a script by one kit is its output by another that judges alike. A decider's kits do, so that how many they are
+-- changes nothing.
 abbrev pub SameOutput : {Kit : Type 0} → (answers : Kit → RuleSet) → (one other : Kit) → Type 0
 SameOutput answers one other =
     (names : List Name) (script text : List ℕ) → JudgeAlike answers (one ∷ other ∷ []) → IsOutput (answers one) names script text → IsOutput (answers other) names script text

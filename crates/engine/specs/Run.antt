@@ -1,5 +1,5 @@
 -- What a run of a script promises.
-use Rattle.std.specs.Prelude.{◌≡◌, ◌≢◌, ◌<◌, ℕ, List, [], Option, Some, None, Result, Err, IfSome, OnOk, OnErr}
+use Rattle.std.specs.Prelude.{◌≡◌, ◌≢◌, ◌<◌, ℕ, List, [], Some, None, Result, Err, IfSome, OnOk, OnErr}
 use Rattle.quant.specs.declared.name.Name.{Name}
 use Rattle.manifest.specs.declared.fault.LineFault.{LineFault}
 use Rattle.plugin.specs.RuleSet.{RuleSet}

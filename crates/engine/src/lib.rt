@@ -23,9 +23,11 @@ mod one_cycle;
 mod script;
 mod session;
 mod text;
+mod with_kits;
 
 pub use device::{DeviceFailed, Sink, Source, write_all};
 pub use fault::RunFault;
 pub use laws::{one_output, same_output};
 pub use one_cycle::{CutShort, Cycled, cycle};
 pub use script::run;
+pub use with_kits::run_with_kits;

@@ -8,8 +8,7 @@ ghost use Rattle.engine.specs.CycleAlone.{IsCycleAlone};
 use crate::fault::RunFault;
 use crate::one_cycle::{CutShort, Cycled, cycle};
 use desk::{Blank, Desk, Limits, Naming, NoMemory, Pass, Reply, Snapshot, Step, one_pass_is_alone};
-use fleet::Fleet;
-use plugin::Rules;
+use fleet::Decider;
 use std::alloc::Global;
 use std::hash::RandomState;
 use std::marker::Model;
@@ -85,17 +84,17 @@ impl<J: Naming> LoneDesk<J> {
         self.desk.look(&mut self.pass)
     }
 
-    // One cycle by a fleet. It waits for the desk's lock.
-    pub(crate) fn cycle<R: Wait + Threads + Sync, K: Rules + Send>(
+    // One cycle by a decider. It may wait.
+    pub(crate) fn cycle<R: Wait + Threads + Sync, D: Decider>(
         &mut self,
         rt: &R,
-        fleet: &mut Fleet<K>,
+        decider: &mut D,
     ) -> Result<Cycled, CutShort>
-        ensures cycled { IfOk result (λ came. IsCycleAlone (rules_of K.answers fleet.old.kits) self.old came self.new) }
-        ensures kits { fleet.new.kits ≡ fleet.old.kits }
+        ensures cycled { IfOk result (λ came. IsCycleAlone (rules_of D.Kit.answers (D.kits decider.old)) self.old came self.new) }
+        ensures kits { D.kits decider.new ≡ D.kits decider.old }
     {
         one_pass_is_alone();
-        cycle(&self.desk, rt, &mut self.pass, fleet)
+        cycle(&self.desk, rt, &mut self.pass, decider)
     }
 
     // Ends the desk.

@@ -6,9 +6,9 @@ ghost use Rattle.engine.specs.Cycle.{IsFailed, EndsWith, IsAssumed, IsChosen, Is
 
 use choose::{Counts, Decision};
 use desk::{Desk, Naming, NoMemory, Pass, Refusal, Reply, Step};
-use fleet::{Fleet, NoGate};
-use plugin::{Cause, Rules};
-use quant::{Name, Pod, Ticket};
+use fleet::Decider;
+use plugin::Cause;
+use quant::{Name, SharedPod, Ticket};
 use queue::Failure;
 use std::sync::Wait;
 use std::thread::Threads;
@@ -163,37 +163,37 @@ fn end_with<J: Naming, T: Wait>(
 }
 
 // Looks, and chooses a node for a pod.
-fn decide<J: Naming, T: Threads + Sync, K: Rules + Send>(
+fn decide<J: Naming, T: Wait + Threads + Sync, D: Decider>(
     desk: &Desk<J>,
     rt: &T,
     pass: &mut Pass<J>,
-    pod: &Pod,
-    fleet: &mut Fleet<K>,
+    pod: &SharedPod,
+    decider: &mut D,
 ) -> Result<Decision, NoMemory>
     requires { IsPassOf pass.old desk.now }
-    ensures chosen { IfOk result (λ decision. IsChosen (rules_of K.answers fleet.old.kits) desk.now pass.old pod.now decision pass.new) }
+    ensures chosen { IfOk result (λ decision. IsChosen (rules_of D.Kit.answers (D.kits decider.old)) desk.now pass.old pod.now decision pass.new) }
     ensures looked { OnErr result (MayLook desk.now pass.old pass.new) }
-    ensures kits { fleet.new.kits ≡ fleet.old.kits }
+    ensures kits { D.kits decider.new ≡ D.kits decider.old }
 {
     let snapshot = desk.look(pass)?;
-    fleet.decide(rt, &snapshot, pod, &NoGate)
+    decider.decide(rt, snapshot, pod)
 }
 
-/// One cycle of a pass: it pops a pod, looks at the nodes, chooses one by the built-in rules and the fleet's, and assumes the
+/// One cycle of a pass: it pops a pod, looks at the nodes, chooses one by the built-in rules and the decider's, and assumes the
 /// pod there. A pod for which no node is left fails as unschedulable; one for which a rule errs, or whose place is refused
 /// since it was chosen, fails to be tried again.
 ///
 /// Errors: `CutShort`, for want of memory. A popped pod was then failed, to be tried again, or it is told that it could not.
-pub fn cycle<J: Naming, T: Wait + Threads + Sync, K: Rules + Send>(
+pub fn cycle<J: Naming, T: Wait + Threads + Sync, D: Decider>(
     desk: &Desk<J>,
     rt: &T,
     pass: &mut Pass<J>,
-    fleet: &mut Fleet<K>,
+    decider: &mut D,
 ) -> Result<Cycled, CutShort>
     requires { IsPassOf pass.old desk.now }
-    ensures cycled { IfOk result (λ came. IsCycle (rules_of K.answers fleet.old.kits) desk.now pass.old came pass.new) }
+    ensures cycled { IfOk result (λ came. IsCycle (rules_of D.Kit.answers (D.kits decider.old)) desk.now pass.old came pass.new) }
     ensures cut_short { IfErr result (λ short. IsCutShort desk.now pass.old short.held pass.new) }
-    ensures kits { fleet.new.kits ≡ fleet.old.kits }
+    ensures kits { D.kits decider.new ≡ D.kits decider.old }
 {
     let pod = match desk.apply(rt, pass, Step::Pop) {
         Ok(Reply::Popped(pod)) => pod,
@@ -204,7 +204,7 @@ pub fn cycle<J: Naming, T: Wait + Threads + Sync, K: Rules + Send>(
         Ok(Reply::Refused(_)) => unreachable!(),
         Err(NoMemory) => return Err(CutShort { held: None }),
     };
-    match decide(desk, rt, pass, &pod, fleet) {
+    match decide(desk, rt, pass, &pod, decider) {
         Ok(decision) => end_with(desk, rt, pass, &pod.uid, decision),
         Err(NoMemory) => Err(give_up(desk, rt, pass, &pod.uid)),
     }

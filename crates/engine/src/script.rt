@@ -14,9 +14,8 @@ use crate::fault::RunFault;
 use crate::lines::LineReader;
 use crate::session::Session;
 use desk::{Blank, Limits, Naming};
-use fleet::Fleet;
+use fleet::Decider;
 use manifest::{LineFault, read_line};
-use plugin::Rules;
 use quant::Name;
 use std::alloc::Global;
 use std::hash::RandomState;
@@ -73,37 +72,37 @@ fn asked_in(alloc: Global, line: &[u8]) -> Result<Option<Asked>, LineFault>
 
 // Does what a line asks for, and adds the answer to what waits, so that no more waits than the most
 // that may and this answer. A faulty line changes nothing.
-fn answer_line<J: Naming, T: Wait + Threads + Sync, K: Rules + Send>(
+fn answer_line<J: Naming, T: Wait + Threads + Sync, D: Decider>(
     rt: &T,
     alloc: Global,
     names: &[Name],
-    fleet: &mut Fleet<K>,
+    decider: &mut D,
     session: &mut Session<J>,
     line: &[u8],
     number: u64,
     pending: &mut Vec<u8>,
 ) -> Result<(), RunFault>
     requires { vec_len pending.old < MAX_PENDING }
-    ensures answered { OnOk result (IsAnswered (rules_of K.answers fleet.old.kits) names.now (asked_by line.now) session.old.desk session.new.desk
+    ensures answered { OnOk result (IsAnswered (rules_of D.Kit.answers (D.kits decider.old)) names.now (asked_by line.now) session.old.desk session.new.desk
         pending.old.items pending.new.items) }
     ensures kept { OnErr result (pending.new.items ≡ pending.old.items) }
-    ensures kits { fleet.new.kits ≡ fleet.old.kits }
+    ensures kits { D.kits decider.new ≡ D.kits decider.old }
     ensures faults { IfErr result (IsLineFault number (asked_by line.now)) }
 {
     match asked_in(alloc, line) {
         Ok(None) => Ok(()),
-        Ok(Some(asked)) => session.answer(rt, names, fleet, asked, pending),
+        Ok(Some(asked)) => session.answer(rt, names, decider, asked, pending),
         Err(LineFault::NoMemory) => Err(RunFault::NoMemory),
         Err(fault) => Err(RunFault::Line(number, fault)),
     }
 }
 
 // Does what the lines of a script ask of a new desk, up to the first faulty one, and writes the answers.
-fn run_lines<J: Naming, T: Wait + Threads + Sync, K: Rules + Send, R: Source, W: Sink>(
+fn run_lines<J: Naming, T: Wait + Threads + Sync, D: Decider, R: Source, W: Sink>(
     rt: &T,
     alloc: Global,
     names: &[Name],
-    fleet: &mut Fleet<K>,
+    decider: &mut D,
     session: &mut Session<J>,
     source: &mut R,
     sink: &mut W,
@@ -112,10 +111,10 @@ fn run_lines<J: Naming, T: Wait + Threads + Sync, K: Rules + Send, R: Source, W:
     requires reads { R.failure_count source.old < 10 ^ 18 }
     requires writes { W.failure_count sink.old < 10 ^ 18 }
     requires finite { R.bytes_left source.old < 2 ^ 64 }
-    ensures run { IsRun (rules_of K.answers fleet.old.kits) names.now
+    ensures run { IsRun (rules_of D.Kit.answers (D.kits decider.old)) names.now
         (use_of R.remaining R.failure_count source.old source.new) (use_of W.written W.failure_count sink.old sink.new) result }
     ensures placed { result ≢ Err RunFault.NoPlace }
-    ensures kits { fleet.new.kits ≡ fleet.old.kits }
+    ensures kits { D.kits decider.new ≡ D.kits decider.old }
 {
     let mut reader = LineReader::new(alloc)?;
     let mut line = Vec::new(alloc);
@@ -131,7 +130,7 @@ fn run_lines<J: Naming, T: Wait + Threads + Sync, K: Rules + Send, R: Source, W:
             rt,
             alloc,
             names,
-            fleet,
+            decider,
             session,
             &line,
             number,
@@ -145,14 +144,14 @@ fn run_lines<J: Naming, T: Wait + Threads + Sync, K: Rules + Send, R: Source, W:
 }
 
 // Opens a desk, does what the lines of a script ask of it, and ends it.
-fn run_desk<J: Naming, T: Wait + Threads + Sync, K: Rules + Send, R: Source, W: Sink>(
+fn run_desk<J: Naming, T: Wait + Threads + Sync, D: Decider, R: Source, W: Sink>(
     rt: &T,
     blank: Blank,
     alloc: Global,
     keys: RandomState,
     greatest: Limits,
     names: &[Name],
-    fleet: &mut Fleet<K>,
+    decider: &mut D,
     source: &mut R,
     sink: &mut W,
 ) -> Result<(), RunFault>
@@ -162,20 +161,20 @@ fn run_desk<J: Naming, T: Wait + Threads + Sync, K: Rules + Send, R: Source, W: 
     requires reads { R.failure_count source.old < 10 ^ 18 }
     requires writes { W.failure_count sink.old < 10 ^ 18 }
     requires finite { R.bytes_left source.old < 2 ^ 64 }
-    ensures run { IsRun (rules_of K.answers fleet.old.kits) names.now
+    ensures run { IsRun (rules_of D.Kit.answers (D.kits decider.old)) names.now
         (use_of R.remaining R.failure_count source.old source.new) (use_of W.written W.failure_count sink.old sink.new) result }
     ensures no_place { result ≡ Err RunFault.NoPlace → (source.new ≡ source.old) × (sink.new ≡ sink.old) }
-    ensures kits { fleet.new.kits ≡ fleet.old.kits }
+    ensures kits { D.kits decider.new ≡ D.kits decider.old }
 {
     let mut session = Session::<J>::new(rt, blank, alloc, keys, greatest)?;
-    let done = run_lines(rt, alloc, names, fleet, &mut session, source, sink);
+    let done = run_lines(rt, alloc, names, decider, &mut session, source, sink);
     session.end(rt);
     done
 }
 
 /// Reads a script to its end or its first faulty line, does what its lines ask of a new desk with
-/// one pass, and writes the answers. A cycle goes by the fleet, and has a worker for each of its kits;
-/// the names of its rules are handed in beside it, in their order. Names are looked up under the keys.
+/// one pass, and writes the answers. A cycle goes by the decider; the names of its rules are handed in
+/// beside it, in their order. Names are looked up under the keys.
 /// A line ends at a newline, which the last one may lack; an empty line is passed over and counted.
 ///
 /// Before more is read, all answers so far are written, so that a peer that waits for them goes on.
@@ -184,31 +183,31 @@ fn run_desk<J: Naming, T: Wait + Threads + Sync, K: Rules + Send, R: Source, W: 
 /// Errors: `Line` with the number of the first faulty line and its fault, when the answers to all
 /// lines before it are written; `NoMemory`, `Read` and `Write`, when a beginning of the output is
 /// written; `NoPlace`, when nothing is read or written.
-pub fn run<T: Wait + Threads + Sync, K: Rules + Send, R: Source, W: Sink>(
+pub fn run<T: Wait + Threads + Sync, D: Decider, R: Source, W: Sink>(
     rt: &T,
     alloc: Global,
     keys: RandomState,
     names: &[Name],
-    fleet: &mut Fleet<K>,
+    decider: &mut D,
     source: &mut R,
     sink: &mut W,
 ) -> Result<(), RunFault>
     requires reads { R.failure_count source.old < 10 ^ 18 }
     requires writes { W.failure_count sink.old < 10 ^ 18 }
     requires finite { R.bytes_left source.old < 2 ^ 64 }
-    ensures run { IsRun (rules_of K.answers fleet.old.kits) names.now
+    ensures run { IsRun (rules_of D.Kit.answers (D.kits decider.old)) names.now
         (use_of R.remaining R.failure_count source.old source.new) (use_of W.written W.failure_count sink.old sink.new) result }
     ensures no_place { result ≡ Err RunFault.NoPlace → (source.new ≡ source.old) × (sink.new ≡ sink.old) }
-    ensures kits { fleet.new.kits ≡ fleet.old.kits }
+    ensures kits { D.kits decider.new ≡ D.kits decider.old }
 {
-    run_desk::<Brand, T, K, R, W>(
+    run_desk::<Brand, T, D, R, W>(
         rt,
         Blank::new(),
         alloc,
         keys,
         Limits::greatest(),
         names,
-        fleet,
+        decider,
         source,
         sink,
     )

@@ -14,8 +14,7 @@ use crate::fault::RunFault;
 use crate::lone_desk::LoneDesk;
 use crate::text::{push_clock, push_cycled, push_node, push_places, push_queue, push_refused};
 use desk::{Blank, Counts, Limits, Naming, Reply, Snapshot, Step};
-use fleet::Fleet;
-use plugin::Rules;
+use fleet::Decider;
 use quant::Name;
 use std::alloc::{AllocError, Global};
 use std::hash::RandomState;
@@ -50,26 +49,26 @@ impl<J: Naming> Session<J> {
         })
     }
 
-    // Does what is asked for, and adds the answer to the output. The fleet's rules have these names, in their order.
-    pub(crate) fn answer<R: Wait + Threads + Sync, K: Rules + Send>(
+    // Does what is asked for, and adds the answer to the output. The decider's rules have these names, in their order.
+    pub(crate) fn answer<R: Wait + Threads + Sync, D: Decider>(
         &mut self,
         rt: &R,
         names: &[Name],
-        fleet: &mut Fleet<K>,
+        decider: &mut D,
         asked: Asked,
         out: &mut Vec<u8>,
     ) -> Result<(), RunFault>
         requires { IsTimely asked }
-        ensures answered { OnOk result ((text : List ℕ) × Answered (rules_of K.answers fleet.old.kits) names.now self.old.desk asked self.new.desk text
+        ensures answered { OnOk result ((text : List ℕ) × Answered (rules_of D.Kit.answers (D.kits decider.old)) names.now self.old.desk asked self.new.desk text
             × (out.new.items ≡ out.old.items ++ text)) }
         ensures kept { OnErr result (out.new.items ≡ out.old.items) }
-        ensures kits { fleet.new.kits ≡ fleet.old.kits }
+        ensures kits { D.kits decider.new ≡ D.kits decider.old }
         ensures faults { IfErr result (λ e. e ≡ RunFault.NoMemory) }
     {
         self.text.clear();
         match asked {
             Asked::Step(step) => self.step(rt, step)?,
-            Asked::Cycle => self.cycle(rt, names, fleet)?,
+            Asked::Cycle => self.cycle(rt, names, decider)?,
         }
         add(out, &self.text)
     }
@@ -91,18 +90,18 @@ impl<J: Naming> Session<J> {
     }
 
     // Does a cycle, and adds the line that tells what it came to.
-    fn cycle<R: Wait + Threads + Sync, K: Rules + Send>(
+    fn cycle<R: Wait + Threads + Sync, D: Decider>(
         &mut self,
         rt: &R,
         names: &[Name],
-        fleet: &mut Fleet<K>,
+        decider: &mut D,
     ) -> Result<(), RunFault>
-        ensures cycled { OnOk result ((came : Cycled) × IsCycleAlone (rules_of K.answers fleet.old.kits) self.old.desk came self.new.desk
+        ensures cycled { OnOk result ((came : Cycled) × IsCycleAlone (rules_of D.Kit.answers (D.kits decider.old)) self.old.desk came self.new.desk
             × (self.new.text.items ≡ self.old.text.items ++ cycle_line names.now came)) }
-        ensures kits { fleet.new.kits ≡ fleet.old.kits }
+        ensures kits { D.kits decider.new ≡ D.kits decider.old }
         ensures faults { IfErr result (λ e. e ≡ RunFault.NoMemory) }
     {
-        let came = self.desk.cycle(rt, fleet)?;
+        let came = self.desk.cycle(rt, decider)?;
         push_cycled(&mut self.text, names, &came)?;
         Ok(())
     }

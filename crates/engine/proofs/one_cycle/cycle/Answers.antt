@@ -21,7 +21,7 @@ pub returns-in-Ok-clause-cut_short : goal.returns-in-Ok-clause-cut_short
 returns-in-Ok-clause-cut_short g c =
     let chosen = c.in-Ok.ensures.chosen in
     let looks = inr (chosen.rows, chosen.looked) in
-    let left = rw c.deref-in-Ok.ensures at c.end_with.ensures.left in
+    let left = rw c.deref.ensures at c.end_with.ensures.left in
     IfErr-weaker c.end_with.result _ _ (λ short left. popped_in_vain _ _ _ _ _ _ _ _ c.in-Ok-Popped.field-0-is c.in-Ok-Popped.ensures.applied looks left) left
 
 -- nothing was decided of a popped pod

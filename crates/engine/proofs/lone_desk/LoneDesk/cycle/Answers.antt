@@ -13,6 +13,6 @@ returns-clause-cycled g c =
     let law = c.one_pass_is_alone.ensures in
     IfOk-weaker c.cycle.result _ _
     (λ came cycle.
-    subst (λ s. IsCycleAlone (rules_of g.K.Rules.answers c.args.fleet.now.kits) s came (state_seen d.desk c.cycle.new.pass)) c.self.view_is
+    subst (λ s. IsCycleAlone (rules_of g.D.Kit.Rules.answers (g.D.Decider.kits c.args.decider.now)) s came (state_seen d.desk c.cycle.new.pass)) c.self.view_is
     (cycle_alone d.desk c.self.invariant.0 law.answers law.looks _ d.pass c.cycle.new.pass came c.self.invariant.1 cycle))
     c.cycle.ensures.cycled
