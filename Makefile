@@ -1,10 +1,14 @@
 # The commands of the README.
 
-.PHONY: first-run plugins test
+.PHONY: first-run try-run plugins test
 
 # Proves and builds the program, and runs it on the first script.
 first-run:
 	cd crates/wsched && rt run -- run < ../../examples/first-run.jsonl
+
+# Runs the same sources on the first script before any proof: it proves nothing, and leaves no program.
+try-run:
+	cd crates/wsched && rt try -- run < ../../examples/first-run.jsonl
 
 # Runs each plugin of examples/plugins over its script, by the program that first-run built.
 plugins:

@@ -5,28 +5,11 @@
 //! the module is accepted, 1 at a faulty line or a refused module, 2 at bad words, 3 for want of
 //! memory or of a place at the desk, and 4 when a file, a read or a write failed.
 //!
-//! - `answer`: what is done from the words to the status: a run by `serve`, a check by `check`.
-//! - `site`: a site's plugins, from what the words configure and the files have to a fleet of kits.
-//! - `faults`, `refusal`: why the program ends early, and its status; why a module is refused.
-//! - `message`: the line that tells a fault; `verdict`: what is found of a module, and its line.
-//! - `device`, `folder`: standard input and output, and files, as the engine reads and writes.
+//! What it does is `serving::answer`; here are the process's words, streams and files.
 #![tactic(auto)]
 
-mod answer;
-mod check;
-mod device;
-mod faults;
-mod folder;
-mod message;
-mod refusal;
-mod serve;
-mod site;
-mod verdict;
-
-use crate::answer::answer;
-use crate::device::{Input, Output};
-use crate::folder::Folder;
 use command::arguments;
+use serving::{Folder, Input, Output, answer};
 use std::hash::RandomState;
 use std::process::ExitCode;
 
@@ -48,6 +31,3 @@ fn main(rt: HostRuntime) -> ExitCode {
         &mut err,
     ))
 }
-
-#[cfg(test)]
-mod tests;

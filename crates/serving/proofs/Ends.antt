@@ -1,0 +1,240 @@
+-- A run of a site's script keeps its promise at each of its ends.
+use Rattle.std.proofs.Common.{◌≡◌, ◌≢◌, ◌⊎◌, ◌∙◌, ◌<◌, ◌≤◌, ℕ, List, Ok, Err, inl, inr, refl, sym, subst, ap, arith}
+use Rattle.quant.specs.declared.name.Name.{Name}
+use Rattle.plugin.specs.Kit.{Ready, rules_of}
+use Rattle.plugin.specs.RuleSet.{RuleSet}
+use Rattle.fleet.specs.Team as team
+use Rattle.engine.specs.Device.{DeviceUse}
+use Rattle.engine.specs.Run.{IsRun}
+use Rattle.engine.specs.declared.fault.RunFault.{RunFault}
+use Rattle.engine.specs.declared.fault.RunFault.TheVariants as run_fault
+use Rattle.command.specs.Words.{SpecSyntax}
+use Rattle.command.specs.declared.fault.WordFault.TheVariants as word_fault
+use Rattle.serving.specs.declared.faults.Fault.{Fault}
+use Rattle.serving.specs.declared.faults.Fault.TheVariants.{Words, Plugin, Run}
+use Rattle.serving.specs.Fault.{status_of}
+use Rattle.serving.specs.Run.{IsSiteRun, TellsFailures, TellsFault}
+use Rattle.serving.specs.Site.{AreSiteKits, IsToldAs, SiteFaulty, SiteFront, SiteRefused, WhyNoPlugin, WhyNoSite, names_of}
+use Rattle.serving.proofs.Quiet.{at_a_line, no_memory_told}
+use Rattle.serving.proofs.SiteOutput.{site_done, site_front, site_line, done_front}
+
+-- ---- what is told of failures
+
+-- what is so where a fault is told, besides that it is
+abbrev pub Besides : (NotBegun : Type 0) → (source out : DeviceUse) → Fault → Type 0
+Besides NotBegun source out (Run run_fault.NoPlace) = source.IsUntouched × out.IsUntouched × (source.failures_new ≡ source.failures_old) × (out.failures_new ≡ out.failures_old)
+Besides NotBegun source out (Run run_fault.Read) = (NotBegun × source.IsUntouched × out.IsUntouched) ⊎ (source.failures_old < source.failures_new)
+Besides NotBegun source out (Run run_fault.Write) = out.failures_old < out.failures_new
+Besides NotBegun source out (Run run_fault.NoMemory) = (source.failures_new ≡ source.failures_old) × (out.failures_new ≡ out.failures_old)
+Besides NotBegun source out (Run (run_fault.Line number why)) = (source.failures_new ≡ source.failures_old) × (out.failures_new ≡ out.failures_old)
+Besides NotBegun source out (Plugin name why) = (source.failures_new ≡ source.failures_old) × (out.failures_new ≡ out.failures_old)
+Besides NotBegun source out (Words why) = (source.failures_new ≡ source.failures_old) × (out.failures_new ≡ out.failures_old)
+
+module _ (NotBegun : Type 0) (source out err : DeviceUse) (ended : ℕ) where
+  -- a fault that leaves the devices' failures as they were is told
+  kept : (n : ℕ) → ended ≡ n → n ≢ 0 → n ≢ 4 → (n ≡ 3 → TellsFault err (Run run_fault.NoMemory)
+      ⊎ (TellsFault err (Run run_fault.NoPlace) × source.IsUntouched × out.IsUntouched))
+      → (source.failures_new ≡ source.failures_old) × (out.failures_new ≡ out.failures_old) → TellsFailures NotBegun source out err ended
+  kept n is some other room same = record {
+    quiet = λ e. absurd (some (sym is ∙ e));
+    room = λ e. room (sym is ∙ e);
+    failed = λ e. absurd (other (sym is ∙ e));
+    failures_told = λ _. same;
+  }
+
+  -- a fault is told
+  pub told : (fault : Fault) → ended ≡ status_of fault → TellsFault err fault → Besides NotBegun source out fault → TellsFailures NotBegun source out err ended
+  told (Words word_fault.BadWords) is tells besides = kept 2 is (λ e. omega (arith, e)) (λ e. omega (arith, e)) (λ e. absurd (omega (arith, e))) besides
+  told (Words word_fault.NoMemory) is tells besides =
+      kept 3 is (λ e. omega (arith, e)) (λ e. omega (arith, e)) (λ _. inl (rw no_memory_told at tells)) besides
+  told (Plugin name why) is tells besides = kept 1 is (λ e. omega (arith, e)) (λ e. omega (arith, e)) (λ e. absurd (omega (arith, e))) besides
+  told (Run (run_fault.Line number why)) is tells besides = kept 1 is (λ e. omega (arith, e)) (λ e. omega (arith, e)) (λ e. absurd (omega (arith, e))) besides
+  told (Run run_fault.NoMemory) is tells besides = kept 3 is (λ e. omega (arith, e)) (λ e. omega (arith, e)) (λ _. inl tells) besides
+  told (Run run_fault.NoPlace) is tells (unread, unwritten, reads, writes) =
+      kept 3 is (λ e. omega (arith, e)) (λ e. omega (arith, e)) (λ _. inr (tells, unread, unwritten)) (reads, writes)
+  told (Run run_fault.Read) is tells besides = record {
+    quiet = λ e. absurd (omega (arith, is, e));
+    room = λ e. absurd (omega (arith, is, e));
+    failed = λ _. inl (tells, besides);
+    failures_told = λ other. absurd (other is);
+  }
+  told (Run run_fault.Write) is tells besides = record {
+    quiet = λ e. absurd (omega (arith, is, e));
+    room = λ e. absurd (omega (arith, is, e));
+    failed = λ _. inr (tells, besides);
+    failures_told = λ other. absurd (other is);
+  }
+
+  -- all was done
+  pub nothing_told : ended ≡ 0 → err.IsUntouched → source.failures_new ≡ source.failures_old → out.failures_new ≡ out.failures_old → TellsFailures NotBegun source out err ended
+  nothing_told is quiet reads writes = record {
+    quiet = λ _. quiet;
+    room = λ e. absurd (omega (arith, is, e));
+    failed = λ e. absurd (omega (arith, is, e));
+    failures_told = λ _. (reads, writes);
+  }
+
+-- what is so besides where a run ends early
+pub besides_run : {T : Type 0} (NotBegun : Type 0) (rules : RuleSet) (names : List Name) (source out : DeviceUse) (fault : RunFault)
+    → IsRun {T = T} rules names source out (Err fault) → (fault ≡ run_fault.NoPlace → source.IsUntouched × out.IsUntouched) → Besides NotBegun source out (Run fault)
+besides_run NotBegun rules names source out (run_fault.Line number why) run none = (run.read_told (λ e. cc), run.write_told (λ e. cc))
+besides_run NotBegun rules names source out run_fault.NoMemory run none = (run.read_told (λ e. cc), run.write_told (λ e. cc))
+besides_run NotBegun rules names source out run_fault.NoPlace run none =
+    let untouched = none refl in
+    (untouched.0, untouched.1, run.read_told (λ e. cc), run.write_told (λ e. cc))
+besides_run NotBegun rules names source out run_fault.Read run none = inr (run.read refl)
+besides_run NotBegun rules names source out run_fault.Write run none = run.write refl
+
+-- ---- what is done
+
+-- why there are no kits of a site is an input's fault, or want of memory
+plugin_status : (name bytes : List ℕ) (fault : Fault) → WhyNoPlugin name bytes fault → (status_of fault ≡ 1) ⊎ (fault ≡ Run run_fault.NoMemory)
+plugin_status name bytes (Words why) why_not = absurd why_not
+plugin_status name bytes (Plugin named why) why_not = inl refl
+plugin_status name bytes (Run run_fault.NoMemory) why_not = inr refl
+plugin_status name bytes (Run (run_fault.Line number why)) why_not = absurd why_not
+plugin_status name bytes (Run run_fault.Read) why_not = absurd why_not
+plugin_status name bytes (Run run_fault.Write) why_not = absurd why_not
+plugin_status name bytes (Run run_fault.NoPlace) why_not = absurd why_not
+
+site_status : (specs : List SpecSyntax) (modules : List (List ℕ)) (fault : Fault) → WhyNoSite specs modules fault → (status_of fault ≡ 1) ⊎ (fault ≡ Run run_fault.NoMemory)
+site_status specs modules fault (inl memory) = inr memory
+site_status specs modules fault (inr (inl refused)) = plugin_status refused.spec.name refused.bytes fault refused.why
+site_status specs modules fault (inr (inr refused)) = by refused.none.told
+  where
+    by : IsToldAs refused.none.kit fault → (status_of fault ≡ 1) ⊎ (fault ≡ Run run_fault.NoMemory)
+    by (inl (is, memory)) = inr memory
+    by (inr (is, plugin)) = inl (ap status_of plugin)
+
+-- then the devices' failures are as they were
+besides_no_site : (NotBegun : Type 0) (source out : DeviceUse) (fault : Fault) → (status_of fault ≡ 1) ⊎ (fault ≡ Run run_fault.NoMemory)
+    → source.failures_new ≡ source.failures_old → out.failures_new ≡ out.failures_old → Besides NotBegun source out fault
+besides_no_site NotBegun source out fault (inr memory) reads writes = subst (Besides NotBegun source out) (sym memory) (reads, writes)
+besides_no_site NotBegun source out (Words why) (inl one) reads writes = (reads, writes)
+besides_no_site NotBegun source out (Plugin name why) (inl one) reads writes = (reads, writes)
+besides_no_site NotBegun source out (Run (run_fault.Line number why)) (inl one) reads writes = (reads, writes)
+besides_no_site NotBegun source out (Run run_fault.NoMemory) (inl one) reads writes = (reads, writes)
+besides_no_site NotBegun source out (Run run_fault.Read) (inl one) reads writes = absurd (omega (arith, one))
+besides_no_site NotBegun source out (Run run_fault.Write) (inl one) reads writes = absurd (omega (arith, one))
+besides_no_site NotBegun source out (Run run_fault.NoPlace) (inl one) reads writes = absurd (omega (arith, one))
+
+-- and why there is none is told
+pub no_site_told : (NotBegun : Type 0) (source out err : DeviceUse) (ended : ℕ) (specs : List SpecSyntax) (modules : List (List ℕ)) (fault : Fault) → WhyNoSite specs modules fault
+    → ended ≡ status_of fault → TellsFault err fault → source.failures_new ≡ source.failures_old → out.failures_new ≡ out.failures_old → TellsFailures NotBegun source out err ended
+no_site_told NotBegun source out err ended specs modules fault why is tells reads writes =
+    told NotBegun source out err ended fault is tells (besides_no_site NotBegun source out fault (site_status specs modules fault why) reads writes)
+
+module _ (AreGiven : List (List ℕ) → Type 0) (specs : List SpecSyntax) (source out err : DeviceUse) (ended : ℕ) where
+  -- nothing was begun
+  pub not_begun : (ended ≡ 3) ⊎ (ended ≡ 4) → out.IsUntouched → IsSiteRun AreGiven specs source out err ended
+  not_begun (inl three) untouched = record {
+    status = inr (inr (inl three));
+    done = λ e. absurd (omega (arith, three, e));
+    input = λ e. absurd (omega (arith, three, e));
+    front = inl untouched;
+  }
+  not_begun (inr four) untouched = record {
+    status = inr (inr (inr four));
+    done = λ e. absurd (omega (arith, four, e));
+    input = λ e. absurd (omega (arith, four, e));
+    front = inl untouched;
+  }
+
+  -- there are no kits of the plugins
+  pub no_site : (modules : List (List ℕ)) (fault : Fault) → AreGiven modules → WhyNoSite specs modules fault → ended ≡ status_of fault → TellsFault err fault
+      → source.IsUntouched → out.IsUntouched → IsSiteRun AreGiven specs source out err ended
+  no_site modules fault given why is tells unread unwritten = by (site_status specs modules fault why)
+    where
+      by : (status_of fault ≡ 1) ⊎ (fault ≡ Run run_fault.NoMemory) → IsSiteRun AreGiven specs source out err ended
+      by (inl one) = record {
+        status = inr (inl (is ∙ one));
+        done = λ e. absurd (omega (arith, is, one, e));
+        input = λ _. (fault, tells, inl ((modules, given, why, one), unread, unwritten));
+        front = inl unwritten;
+      }
+      by (inr memory) = not_begun (inl (is ∙ ap status_of memory)) unwritten
+
+  module _ (modules : List (List ℕ)) (workers : ℕ) (kits : List (List Ready)) (names : List Name) (some : 1 ≤ workers) (are : AreSiteKits specs modules workers kits)
+      (named : names ≡ names_of specs) (given : AreGiven modules) where
+    -- the whole script was served
+    pub served : {T : Type 0} (x : T) → IsRun (team.rules_of rules_of kits) names source out (Ok x) → ended ≡ 0 → IsSiteRun AreGiven specs source out err ended
+    served x run is =
+        let done = site_done specs modules workers kits names some are named source.old source.new out.old out.new run.done in
+        record {
+          status = inl is;
+          done = λ _. (modules, given, done);
+          input = λ e. absurd (omega (arith, is, e));
+          front = inr (modules, given, done_front specs modules source.old source.new out.old out.new done);
+        }
+
+    -- it was not
+    pub cut_short : {T : Type 0} (fault : RunFault) → IsRun {T = T} (team.rules_of rules_of kits) names source out (Err fault) → ended ≡ status_of (Run fault) → TellsFault err (Run fault)
+        → IsSiteRun AreGiven specs source out err ended
+    cut_short fault run is tells = record {
+      status = inr (status_by fault is);
+      done = λ e. absurd (no_zero fault (sym is ∙ e));
+      input = λ one.
+          let line = at_a_line fault (sym is ∙ one) in (
+            Run fault,
+            tells,
+            inr (
+              modules,
+              given,
+              line.0,
+              line.1,
+              ap Run line.2,
+              site_line specs modules workers kits names some are named source.old out.old out.new line.0 line.1 (run.line line.0 line.1 (ap Err line.2)),
+            ),
+          );
+      front = inr (modules, given, site_front specs modules workers kits names some are named source.old out.old out.new run.front);
+    }
+      where
+        status_by : (fault : RunFault) → ended ≡ status_of (Run fault) → (ended ≡ 1) ⊎ ((ended ≡ 3) ⊎ (ended ≡ 4))
+        status_by (run_fault.Line number why) is = inl is
+        status_by run_fault.NoMemory is = inr (inl is)
+        status_by run_fault.NoPlace is = inr (inl is)
+        status_by run_fault.Read is = inr (inr is)
+        status_by run_fault.Write is = inr (inr is)
+
+        no_zero : (fault : RunFault) → status_of (Run fault) ≡ 0 → ⊥
+        no_zero (run_fault.Line number why) e = omega (arith, e)
+        no_zero run_fault.NoMemory e = omega (arith, e)
+        no_zero run_fault.NoPlace e = omega (arith, e)
+        no_zero run_fault.Read e = omega (arith, e)
+        no_zero run_fault.Write e = omega (arith, e)
+
+-- ---- the same, where less is said of what is given
+
+pub run_given : (A B : List (List ℕ) → Type 0) (specs : List SpecSyntax) (source out err : DeviceUse) (ended : ℕ) → ((modules : List (List ℕ)) → A modules → B modules)
+    → IsSiteRun A specs source out err ended → IsSiteRun B specs source out err ended
+run_given A B specs source out err ended weaker run = record {
+  status = run.status;
+  done = λ e. let done = run.done e in (done.0, weaker done.0 done.1, done.2);
+  input = λ e. let input = run.input e in (input.0, input.1, faulty input.0 input.2);
+  front = front run.front;
+}
+  where
+    faulty : (fault : Fault) → (SiteRefused A specs fault × source.IsUntouched × out.IsUntouched) ⊎ SiteFaulty A specs fault source.old out.old out.new
+        → (SiteRefused B specs fault × source.IsUntouched × out.IsUntouched) ⊎ SiteFaulty B specs fault source.old out.old out.new
+    faulty fault (inl ((modules, given, why, one), unread, unwritten)) = inl ((modules, weaker modules given, why, one), unread, unwritten)
+    faulty fault (inr (modules, given, number, why, is, line)) = inr (modules, weaker modules given, number, why, is, line)
+
+    front : out.IsUntouched ⊎ SiteFront A specs source.old out.old out.new → out.IsUntouched ⊎ SiteFront B specs source.old out.old out.new
+    front (inl untouched) = inl untouched
+    front (inr (modules, given, begins)) = inr (modules, weaker modules given, begins)
+
+pub failures_given : (A B : Type 0) (source out err : DeviceUse) (ended : ℕ) → (A → B) → TellsFailures A source out err ended → TellsFailures B source out err ended
+failures_given A B source out err ended weaker failures = record {
+  quiet = failures.quiet;
+  room = failures.room;
+  failed = λ e. by (failures.failed e);
+  failures_told = failures.failures_told;
+}
+  where
+    by : TellsFault err (Run run_fault.Read) × ((A × source.IsUntouched × out.IsUntouched) ⊎ (source.failures_old < source.failures_new))
+        ⊎ (TellsFault err (Run run_fault.Write) × (out.failures_old < out.failures_new))
+        → TellsFault err (Run run_fault.Read) × ((B × source.IsUntouched × out.IsUntouched) ⊎ (source.failures_old < source.failures_new))
+        ⊎ (TellsFault err (Run run_fault.Write) × (out.failures_old < out.failures_new))
+    by (inl (tells, inl (begun, unread, unwritten))) = inl (tells, inl (weaker begun, unread, unwritten))
+    by (inl (tells, inr read)) = inl (tells, inr read)
+    by (inr write) = inr write

@@ -1,0 +1,44 @@
+-- What holds where a fault of the words ends the program.
+use Rattle.std.proofs.Common.{◌≡◌, List, [], ℕ, Option, sym, refl, arith}
+use Rattle.plugin.specs.RuleSet.{RuleSet}
+use Rattle.std.proofs.lemmas.List.{append-nil}
+use Rattle.engine.specs.Lines.{lines_of}
+use Rattle.engine.specs.Output.{asked_in, WritesOutput, WritesFront}
+use Rattle.engine.specs.declared.fault.RunFault.{RunFault}
+use Rattle.engine.specs.declared.fault.RunFault.TheVariants as run_fault
+use Rattle.quant.specs.declared.name.Name.{Name}
+use Rattle.manifest.specs.declared.fault.LineFault.{LineFault}
+use Rattle.serving.specs.Fault.{status_of}
+use Rattle.serving.specs.Message.{message_of, run_text}
+use Rattle.serving.specs.declared.faults.Fault.TheVariants.{Words, Run}
+use Rattle.command.specs.declared.fault.WordFault.TheVariants as word_fault
+
+-- the whole output is a beginning of it
+pub output_front : (rules : RuleSet) (names : List Name) (script : List ℕ) (old new : Option (List ℕ)) → WritesOutput rules names script old new → WritesFront rules names script old new
+output_front rules names script old new (text, output, writes) = (
+  text,
+  record {
+    asked = asked_in (lines_of script);
+    later = [];
+    cut = sym (append-nil (asked_in (lines_of script)));
+    end = output.end;
+    text = text;
+    answered = output.answered;
+    rest = [];
+    begins = sym (append-nil text);
+  },
+  writes,
+)
+
+-- want of memory is told in the same words, whatever it was wanted for
+pub no_memory_told : message_of (Words word_fault.NoMemory) ≡ message_of (Run run_fault.NoMemory)
+unfolding message_of run_text
+no_memory_told = refl
+
+-- a run ends with status 1 at a faulty line alone
+pub at_a_line : (fault : RunFault) → status_of (Run fault) ≡ 1 → (number : ℕ) × (told : LineFault) × (fault ≡ run_fault.Line number told)
+at_a_line (run_fault.Line number told) one = (number, told, refl)
+at_a_line run_fault.NoMemory one = absurd (omega (arith, one))
+at_a_line run_fault.Read one = absurd (omega (arith, one))
+at_a_line run_fault.Write one = absurd (omega (arith, one))
+at_a_line run_fault.NoPlace one = absurd (omega (arith, one))

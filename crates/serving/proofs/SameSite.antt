@@ -1,0 +1,248 @@
+-- A site's script has one output: what its plugins say depends on the modules that their bytes spell, their images and their fuels.
+use Rattle.std.proofs.Common.{◌≡◌, ◌∙◌, ℕ, zero, suc, List, [], ◌∷◌, length, map, Option, Some, None, Result, Ok, Err, IfSome, MatchOption, slice_get, slice_index, inl, inr, refl, sym, subst, ap, arith}
+use Rattle.quant.specs.declared.objects.Pod.{Pod}
+use Rattle.desk.specs.Shown.{Shown}
+use Rattle.wbin.specs.Syntax.{ModuleSyntax, module_of}
+use Rattle.wbin.specs.Grammar.{Spells}
+use Rattle.wmach.specs.declared.export.Export.{Export}
+use Rattle.wmach.specs.declared.export.Export.TheVariants as export
+use Rattle.wmach.specs.declared.outcome.Outcome.{Outcome}
+use Rattle.wmach.specs.Call.{called_function}
+use Rattle.wmach.specs.Outcome.{HasOutcome}
+use Rattle.wstore.specs.Store.{Store}
+use Rattle.whost.specs.Handed.{record_of}
+use Rattle.whost.specs.Image.{IsImage}
+use Rattle.whost.specs.Refused.{OneImage}
+use Rattle.plugin.specs.declared.verdict.FilterVerdict.{FilterVerdict}
+use Rattle.plugin.specs.declared.verdict.FilterVerdict.TheVariants as filter
+use Rattle.plugin.specs.declared.verdict.ScoreVerdict.{ScoreVerdict}
+use Rattle.plugin.specs.declared.verdict.ScoreVerdict.TheVariants as score
+use Rattle.plugin.specs.Verdict.{filter_said, score_said}
+use Rattle.plugin.specs.RuleSet.{RuleSet}
+use Rattle.plugin.specs.Plugins.{Configured}
+use Rattle.plugin.specs.Kit.{Ready, Ends, Says, IsKitOf, IsReadyOf, rules_of}
+use Rattle.plugin.specs.OneAnswer.{one_answer}
+use Rattle.choose.specs.declared.decision.Reason.{Reason}
+use Rattle.choose.specs.declared.decision.Verdict.{Verdict}
+use Rattle.choose.specs.declared.decision.Verdict.TheVariants.{Rejected}
+use Rattle.choose.specs.Verdict.{built_in, weighted, Filtered, Scored, ByScores, ByRules, HasVerdict}
+use Rattle.engine.specs.Output.{IsOutput, BeginsOutput, asked_in}
+use Rattle.engine.specs.Lines.{lines_of}
+use Rattle.engine.specs.Answers.{opening}
+use Rattle.engine.proofs.OneOutput.{one_output}
+use Rattle.engine.proofs.Fronts.{fronts_agree, fronts_begin_output}
+use Rattle.engine.proofs.SameOutput.{all_answered}
+use Rattle.command.specs.Words.{SpecSyntax}
+use Rattle.serving.specs.Laws.{FilesGiveModules, OneSiteOutput, SiteFrontsAgree, SiteFrontsBeginOutput}
+use Rattle.serving.specs.Site.{ArePlugins, IsPlugin, IsSiteKit, names_of}
+use Rattle.serving.specs.Verdict.{front_of}
+
+-- bytes spell one module
+abbrev pub OneModule : Type 0
+OneModule = (bytes : List ℕ) (m n : ModuleSyntax) → Spells bytes m → Spells bytes n → m ≡ n
+
+-- ---- rules that say the same
+
+-- what the one says the other says
+record Agree (one other : RuleSet) : Type 0 where
+  weights : one.weights ≡ other.weights
+  filters : (place : ℕ) (pod node : List ℕ) (verdict : FilterVerdict) → one.Filters place pod node verdict → other.Filters place pod node verdict
+  scores : (place : ℕ) (pod node : List ℕ) (verdict : ScoreVerdict) → one.Scores place pod node verdict → other.Scores place pod node verdict
+
+module _ (one other : RuleSet) (agree : Agree one other) where
+  as_many : length other.weights ≡ length one.weights
+  as_many = ap length (sym agree.weights)
+
+  filtered : (pod node : List ℕ) (f : Option Verdict) → Filtered one pod node f → Filtered other pod node f
+  filtered pod node None passes = λ k below. agree.filters k pod node filter.Passes (passes k (omega (arith, below, as_many)))
+  filtered pod node (Some verdict) stops = record {
+    place = stops.place;
+    there = omega (arith, stops.there, as_many);
+    before = λ k below. agree.filters k pod node filter.Passes (stops.before k below);
+    said = stops.said;
+    says = agree.filters stops.place pod node stops.said stops.says;
+    makes = stops.makes;
+  }
+
+  scored : (pod node : List ℕ) (r : Result ℕ Verdict) → Scored one pod node r → Scored other pod node r
+  scored pod node (Ok sum) sums = record {
+    scores = sums.scores;
+    all = sums.all ∙ sym as_many;
+    are = λ k below. agree.scores k pod node (score.Good (slice_index sums.scores k)) (sums.are k below);
+    adds = subst (λ ws. sum ≡ weighted ws sums.scores) agree.weights sums.adds;
+  }
+  scored pod node (Err verdict) errs = record {
+    before = errs.before;
+    there = omega (arith, errs.there, as_many);
+    are = λ k below. agree.scores k pod node (score.Good (slice_index errs.before k)) (errs.are k below);
+    why = errs.why;
+    says = agree.scores (length errs.before) pod node (score.Errs errs.why) errs.says;
+    makes = errs.makes;
+  }
+
+  by_scores : (pod : Pod) (shown : Shown) (verdict : Verdict) → ByScores one pod shown verdict → ByScores other pod shown verdict
+  by_scores pod shown verdict by = record { scored = by.scored; are = scored _ _ by.scored by.are; is = by.is }
+
+  or_by_scores : (f : Option Verdict) (pod : Pod) (shown : Shown) (verdict : Verdict) → MatchOption f (ByScores one pod shown verdict) (λ stopped. verdict ≡ stopped)
+      → MatchOption f (ByScores other pod shown verdict) (λ stopped. verdict ≡ stopped)
+  or_by_scores None pod shown verdict by = by_scores pod shown verdict by
+  or_by_scores (Some stopped) pod shown verdict is = is
+
+  by_rules : (pod : Pod) (shown : Shown) (verdict : Verdict) → ByRules one pod shown verdict → ByRules other pod shown verdict
+  by_rules pod shown verdict by = record { filtered = by.filtered; are = filtered _ _ by.filtered by.are; is = or_by_scores by.filtered pod shown verdict by.is }
+
+  -- have the same verdicts
+  verdict_by : (pod : Pod) (shown : Shown) (verdict : Verdict) → HasVerdict one pod shown verdict → HasVerdict other pod shown verdict
+  verdict_by pod shown verdict has = by (built_in shown pod) has
+    where
+      by : (b : Option Reason) → MatchOption b (ByRules one pod shown verdict) (λ reason. verdict ≡ Rejected reason) → MatchOption b (ByRules other pod shown verdict) (λ reason. verdict ≡ Rejected reason)
+      by None rules = by_rules pod shown verdict rules
+      by (Some reason) is = is
+
+-- ---- kits of a site
+
+-- plugins that are ready alike: their modules are one, and so are the images, whatever the code keeps of them
+record Alike (one other : Ready) : Type 0 where
+  weight : one.weight ≡ other.weight
+  fuel : one.fuel ≡ other.fuel
+  content : module_of one.content ≡ module_of other.content
+  image : one.image ≡ other.image
+
+-- a call with these records ends so, from this image of a module
+abbrev Ended : (pod node : List ℕ) → Outcome → (after : Store) → ModuleSyntax → (image : Store) → (function fuel : ℕ) → Type 0
+Ended pod node outcome after m image function fuel = HasOutcome (record { module_syntax = m; records = record_of (record { pod = pod; node = node }) }) image function fuel outcome after
+
+-- end alike
+ends_alike : (one other : Ready) (e : Export) (pod node : List ℕ) (outcome : Outcome) → Alike one other → Ends one e pod node outcome → Ends other e pod node outcome
+ends_alike one other e pod node outcome alike ends = record {
+  after = ends.after;
+  calls = record {
+    function = ends.calls.function;
+    function_is = subst (λ m. called_function m e ≡ Some ends.calls.function) alike.content ends.calls.function_is;
+    ends = subst (λ m. Ended pod node outcome ends.after.store m other.image ends.calls.function other.fuel) alike.content
+        (subst (λ image. Ended pod node outcome ends.after.store (module_of one.content) image ends.calls.function other.fuel) alike.image
+        (subst (λ fuel. Ended pod node outcome ends.after.store (module_of one.content) one.image ends.calls.function fuel) alike.fuel ends.calls.ends));
+  };
+}
+
+-- and so say the same
+say_alike : {V : Type 0} (one other : Ready) (e : Export) (without : V) (said : Outcome → V) (pod node : List ℕ) (v : V) → Alike one other → Says one e without said pod node v → Says other e without said pod node v
+say_alike one other e without said pod node v alike (inl (none, is)) = inl (subst (λ m. called_function m e ≡ None) alike.content none, is)
+say_alike one other e without said pod node v alike (inr (outcome, ends, is)) = inr (outcome, ends_alike one other e pod node outcome alike ends, is)
+
+-- kits whose plugins are alike, each at its place
+abbrev AllAlike : List Ready → List Ready → Type 0
+AllAlike [] [] = Unit {0}
+AllAlike (x ∷ xs) (y ∷ ys) = Alike x y × AllAlike xs ys
+AllAlike _ _ = ⊥
+
+alike_at : (one other : List Ready) (place : ℕ) (p : Ready) → AllAlike one other → slice_get one place ≡ Some p → (q : Ready) × (slice_get other place ≡ Some q) × Alike p q
+alike_at [] [] place p all there = cc
+alike_at [] (y ∷ ys) place p all there = absurd all
+alike_at (x ∷ xs) [] place p all there = absurd all
+alike_at (x ∷ xs) (y ∷ ys) zero p all there =
+    let same : x ≡ p = cc in
+    (y, refl, subst (λ r. Alike r y) same all.0)
+alike_at (x ∷ xs) (y ∷ ys) (suc place) p all there = alike_at xs ys place p all.1 there
+
+weights_alike : (one other : List Ready) → AllAlike one other → map (λ (p : Ready). p.weight) one ≡ map (λ (p : Ready). p.weight) other
+weights_alike [] [] all = refl
+weights_alike [] (y ∷ ys) all = absurd all
+weights_alike (x ∷ xs) [] all = absurd all
+weights_alike (x ∷ xs) (y ∷ ys) all = λ j. all.0.weight j ∷ weights_alike xs ys all.1 j
+
+agree_alike : (one other : List Ready) → AllAlike one other → Agree (rules_of one) (rules_of other)
+agree_alike one other all = record {
+  weights = weights_alike one other all;
+  filters = λ place pod node verdict said.
+      let at = alike_at one other place said.0 all said.1 in
+      (at.0, at.1, say_alike said.0 at.0 export.Filter filter.Passes filter_said pod node verdict at.2 said.2);
+  scores = λ place pod node verdict said.
+      let at = alike_at one other place said.0 all said.1 in
+      (at.0, at.1, say_alike said.0 at.0 export.Score (score.Good 0) score_said pod node verdict at.2 said.2);
+}
+
+module _ (one_module : OneModule) (one_image : OneImage) where
+  -- kits of plugins that the same words configure with the same bytes are alike
+  ready_alike : (spec : SpecSyntax) (bytes : List ℕ) (p q : Configured) (x y : Ready) → IsPlugin spec bytes p → IsPlugin spec bytes q → IsReadyOf p x → IsReadyOf q y → Alike x y
+  ready_alike spec bytes p q x y is also ready too =
+      let content : module_of p.content ≡ module_of q.content = one_module bytes (module_of p.content) (module_of q.content) is.spells also.spells in
+      let fuel : p.fuel ≡ q.fuel = is.fuel ∙ sym also.fuel in
+      record {
+        weight = ready.weight ∙ is.weight ∙ sym (too.weight ∙ also.weight);
+        fuel = ready.fuel ∙ fuel ∙ sym too.fuel;
+        content = ap module_of ready.content ∙ content ∙ sym (ap module_of too.content);
+        image = one_image.same (module_of q.content) q.fuel x.image y.image
+            (subst (λ f. IsImage (module_of q.content) f x.image) fuel (subst (λ m. IsImage m p.fuel x.image) content ready.image)) too.image;
+      }
+
+  kits_alike : (specs : List SpecSyntax) (modules : List (List ℕ)) (ps qs : List Configured) (one other : List Ready) → ArePlugins specs modules ps → ArePlugins specs modules qs
+      → IsKitOf ps one → IsKitOf qs other → AllAlike one other
+  kits_alike [] [] [] [] [] [] are also ready too = tt
+  kits_alike [] [] [] [] [] (y ∷ ys) are also ready too = absurd too
+  kits_alike [] [] [] [] (x ∷ xs) other are also ready too = absurd ready
+  kits_alike [] [] [] (q ∷ qs) one other are also ready too = absurd also
+  kits_alike [] [] (p ∷ ps) qs one other are also ready too = absurd are
+  kits_alike [] (b ∷ modules) ps qs one other are also ready too = absurd are
+  kits_alike (s ∷ specs) [] ps qs one other are also ready too = absurd are
+  kits_alike (s ∷ specs) (b ∷ modules) [] qs one other are also ready too = absurd are
+  kits_alike (s ∷ specs) (b ∷ modules) (p ∷ ps) [] one other are also ready too = absurd also
+  kits_alike (s ∷ specs) (b ∷ modules) (p ∷ ps) (q ∷ qs) [] other are also ready too = absurd ready
+  kits_alike (s ∷ specs) (b ∷ modules) (p ∷ ps) (q ∷ qs) (x ∷ xs) [] are also ready too = absurd too
+  kits_alike (s ∷ specs) (b ∷ modules) (p ∷ ps) (q ∷ qs) (x ∷ xs) (y ∷ ys) are also ready too =
+      (ready_alike s b p q x y are.0 also.0 ready.0 too.0, kits_alike specs modules ps qs xs ys are.1 also.1 ready.1 too.1)
+
+  site_alike : (specs : List SpecSyntax) (modules : List (List ℕ)) (one other : List Ready) → IsSiteKit specs modules one → IsSiteKit specs modules other → Agree (rules_of one) (rules_of other)
+  site_alike specs modules one other a b = agree_alike one other (kits_alike specs modules a.plugins b.plugins one other a.are b.are a.is b.is)
+
+  -- ---- what is written
+
+  output_alike : (specs : List SpecSyntax) (modules : List (List ℕ)) (script text : List ℕ) (one other : List Ready) → IsSiteKit specs modules one → IsSiteKit specs modules other
+      → IsOutput (rules_of one) (names_of specs) script text → IsOutput (rules_of other) (names_of specs) script text
+  output_alike specs modules script text one other a b output = record {
+    end = output.end;
+    answered = all_answered (rules_of one) (rules_of other) (verdict_by (rules_of one) (rules_of other) (site_alike specs modules one other a b)) (names_of specs) opening (asked_in (lines_of script)) output.end text output.answered;
+  }
+
+  front_alike : (specs : List SpecSyntax) (modules : List (List ℕ)) (script front : List ℕ) (one other : List Ready) → IsSiteKit specs modules one → IsSiteKit specs modules other
+      → BeginsOutput (rules_of one) (names_of specs) script front → BeginsOutput (rules_of other) (names_of specs) script front
+  front_alike specs modules script front one other a b begins = record {
+    asked = begins.asked;
+    later = begins.later;
+    cut = begins.cut;
+    end = begins.end;
+    text = begins.text;
+    answered = all_answered (rules_of one) (rules_of other) (verdict_by (rules_of one) (rules_of other) (site_alike specs modules one other a b)) (names_of specs) opening begins.asked begins.end begins.text begins.answered;
+    rest = begins.rest;
+    begins = begins.begins;
+  }
+
+  pub one_site_output : OneSiteOutput
+  one_site_output specs modules script one other (kit, is, output) (kit', is', output') =
+      one_output (rules_of kit') (one_answer kit') (names_of specs) script one other (output_alike specs modules script one kit kit' is is' output) output'
+
+  pub site_fronts_begin : SiteFrontsBeginOutput
+  site_fronts_begin specs modules script front text (kit, is, begins) (kit', is', output) =
+      fronts_begin_output (rules_of kit') (one_answer kit') (names_of specs) script front text (front_alike specs modules script front kit kit' is is' begins) output
+
+  pub site_fronts_agree : SiteFrontsAgree
+  site_fronts_agree specs modules script one other (kit, is, begins) (kit', is', begins') =
+      fronts_agree (rules_of kit') (one_answer kit') (names_of specs) script one other (front_alike specs modules script one kit kit' is is' begins) begins'
+
+-- ---- files
+
+same_front : (o : Option (List ℕ)) (whole one other : List ℕ) → o ≡ Some whole → IfSome o (λ w. one ≡ front_of w) → IfSome o (λ w. other ≡ front_of w) → one ≡ other
+same_front None whole one other is a b = cc
+same_front (Some w) whole one other is a b = a ∙ sym b
+
+pub files_give_modules : FilesGiveModules
+files_give_modules contents [] [] [] known a b = refl
+files_give_modules contents [] [] (y ∷ ys) known a b = absurd b
+files_give_modules contents [] (x ∷ xs) other known a b = absurd a
+files_give_modules contents (s ∷ specs) [] other known a b = absurd a
+files_give_modules contents (s ∷ specs) (x ∷ xs) [] known a b = absurd b
+files_give_modules contents (s ∷ specs) (x ∷ xs) (y ∷ ys) known a b =
+    let first : (whole : List ℕ) × (contents s.file ≡ Some whole) = known 0 s (omega arith) in
+    let here : x ≡ y = same_front (contents s.file) first.0 x y first.1 a.0 b.0 in
+    let rest : xs ≡ ys = files_give_modules contents specs xs ys (λ k d below. known (suc k) d (omega (arith, below))) a.1 b.1 in
+    λ j. here j ∷ rest j

@@ -1,0 +1,71 @@
+-- What is written for a site is written by one of its kits.
+use Rattle.std.proofs.Common.{◌≡◌, ℕ, ◌≤◌, List, [], ◌∷◌, Option, Some, None, IfSome, refl, sym, ap, ◌∙◌, arith}
+use Rattle.std.proofs.lemmas.List.Elements.{All-head}
+use Rattle.quant.specs.declared.name.Name.{Name}
+use Rattle.manifest.specs.declared.fault.LineFault.{LineFault}
+use Rattle.plugin.specs.Kit.{Ready, IsKitOf, rules_of}
+use Rattle.fleet.specs.Team as team
+use Rattle.engine.specs.Output.{first_fault, WritesOutput, WritesFront}
+use Rattle.command.specs.Words.{SpecSyntax, Asked, run, check}
+use Rattle.serving.specs.Site.{AreSiteKits, IsSiteKit, WritesSiteOutput, WritesSiteFront, names_of}
+use Rattle.serving.proofs.Quiet.{output_front}
+
+-- the first of a site's kits is one, and its rules are the run's
+abbrev IsFirst : List SpecSyntax → List (List ℕ) → List (List Ready) → Type 1
+IsFirst specs modules kits = (kit : List Ready) × IsSiteKit specs modules kit × (team.rules_of rules_of kits ≡ rules_of kit)
+
+first_kit : (specs : List SpecSyntax) (modules : List (List ℕ)) (workers : ℕ) (kits : List (List Ready)) → 1 ≤ workers → AreSiteKits specs modules workers kits → IsFirst specs modules kits
+first_kit specs modules workers [] some are = absurd (omega (arith, some, are.count))
+first_kit specs modules workers (kit ∷ kits) some are = (kit, record { plugins = are.plugins; are = are.are; is = All-head (IsKitOf are.plugins) kit kits are.all }, refl)
+
+pub site_output : (specs : List SpecSyntax) (modules : List (List ℕ)) (workers : ℕ) (kits : List (List Ready)) (names : List Name) → 1 ≤ workers → AreSiteKits specs modules workers kits
+    → names ≡ names_of specs → (script : List ℕ) (old new : Option (List ℕ)) → WritesOutput (team.rules_of rules_of kits) names script old new
+    → WritesSiteOutput specs modules script old new
+site_output specs modules workers kits names some are named script old new writes =
+    let first = first_kit specs modules workers kits some are in
+    (first.0, first.1, rw (first.2, named) at writes)
+
+pub site_front : (specs : List SpecSyntax) (modules : List (List ℕ)) (workers : ℕ) (kits : List (List Ready)) (names : List Name) → 1 ≤ workers → AreSiteKits specs modules workers kits
+    → names ≡ names_of specs → (known old new : Option (List ℕ)) → IfSome known (λ script. WritesFront (team.rules_of rules_of kits) names script old new)
+    → IfSome known (λ script. WritesSiteFront specs modules script old new)
+site_front specs modules workers kits names some are named None old new writes = tt
+site_front specs modules workers kits names some are named (Some script) old new writes =
+    let first = first_kit specs modules workers kits some are in
+    (first.0, first.1, rw (first.2, named) at writes)
+
+-- no line is faulty
+pub site_done : (specs : List SpecSyntax) (modules : List (List ℕ)) (workers : ℕ) (kits : List (List Ready)) (names : List Name) → 1 ≤ workers → AreSiteKits specs modules workers kits
+    → names ≡ names_of specs → (known left old new : Option (List ℕ))
+    → IfSome known (λ script. (first_fault script ≡ None) × WritesOutput (team.rules_of rules_of kits) names script old new × (left ≡ Some []))
+    → IfSome known (λ script. (first_fault script ≡ None) × WritesSiteOutput specs modules script old new × (left ≡ Some []))
+site_done specs modules workers kits names some are named None left old new done = tt
+site_done specs modules workers kits names some are named (Some script) left old new (fine, writes, read) =
+    (fine, site_output specs modules workers kits names some are named script old new writes, read)
+
+-- the whole output is a beginning of it
+pub done_front : (specs : List SpecSyntax) (modules : List (List ℕ)) (known left old new : Option (List ℕ))
+    → IfSome known (λ script. (first_fault script ≡ None) × WritesSiteOutput specs modules script old new × (left ≡ Some []))
+    → IfSome known (λ script. WritesSiteFront specs modules script old new)
+done_front specs modules None left old new done = tt
+done_front specs modules (Some script) left old new (fine, (kit, is, writes), read) =
+    (kit, is, output_front (rules_of kit) (names_of specs) script old new writes)
+
+-- a line is faulty
+pub site_line : (specs : List SpecSyntax) (modules : List (List ℕ)) (workers : ℕ) (kits : List (List Ready)) (names : List Name) → 1 ≤ workers → AreSiteKits specs modules workers kits
+    → names ≡ names_of specs → (known old new : Option (List ℕ)) (number : ℕ) (fault : LineFault)
+    → IfSome known (λ script. (first_fault script ≡ Some (number, fault)) × WritesOutput (team.rules_of rules_of kits) names script old new)
+    → IfSome known (λ script. (first_fault script ≡ Some (number, fault)) × WritesSiteOutput specs modules script old new)
+site_line specs modules workers kits names some are named None old new number fault line = tt
+site_line specs modules workers kits names some are named (Some script) old new number fault (first, writes) =
+    (first, site_output specs modules workers kits names some are named script old new writes)
+
+-- ---- what words ask for
+
+abbrev specs_in : Option Asked → List SpecSyntax
+specs_in None = []
+specs_in (Some (run workers specs)) = specs
+specs_in (Some (check file)) = []
+
+-- the plugins of a run that words ask for are those of the run that they were read as
+pub same_specs : (asked : Option Asked) (workers other : ℕ) (specs others : List SpecSyntax) → asked ≡ Some (run workers specs) → asked ≡ Some (run other others) → specs ≡ others
+same_specs asked workers other specs others one two = ap specs_in (sym one ∙ two)

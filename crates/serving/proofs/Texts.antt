@@ -1,0 +1,24 @@
+-- How a message grows by why a module is refused.
+use Rattle.std.proofs.Common.{◌≡◌, ℕ, List, ◌++◌, codes, sym, ap, ◌∙◌}
+use Rattle.std.proofs.lemmas.List.{append_assoc}
+use Rattle.wcode.specs.declared.fault.BinFault.{BinFault}
+use Rattle.wbody.specs.declared.fault.TypeFault.{TypeFault}
+use Rattle.serving.specs.Refusal.{bin_text, type_text, refusal_text}
+use Rattle.serving.specs.declared.refusal.Refusal.{Refusal}
+use Rattle.serving.specs.declared.refusal.Refusal.TheVariants.{Undecoded, Untyped}
+
+-- two pieces behind one another are one
+joined : (old mid new piece text whole : List ℕ) → mid ≡ old ++ piece → new ≡ mid ++ text → whole ≡ piece ++ text → new ≡ old ++ whole
+joined old mid new piece text whole a b e = b ∙ ap (λ m. m ++ text) a ∙ append_assoc old piece text ∙ ap (λ w. old ++ w) (sym e)
+
+pub undecoded_added : (old mid new : List ℕ) (refusal : Refusal) (fault : BinFault) → refusal ≡ Undecoded fault
+    → mid ≡ old ++ codes "refused decode " → new ≡ mid ++ bin_text fault → new ≡ old ++ refusal_text refusal
+unfolding refusal_text
+undecoded_added old mid new refusal fault is a b =
+    joined old mid new (codes "refused decode ") (bin_text fault) (refusal_text refusal) a b (ap refusal_text is)
+
+pub untyped_added : (old mid new : List ℕ) (refusal : Refusal) (fault : TypeFault) → refusal ≡ Untyped fault
+    → mid ≡ old ++ codes "refused type " → new ≡ mid ++ type_text fault → new ≡ old ++ refusal_text refusal
+unfolding refusal_text
+untyped_added old mid new refusal fault is a b =
+    joined old mid new (codes "refused type ") (type_text fault) (refusal_text refusal) a b (ap refusal_text is)

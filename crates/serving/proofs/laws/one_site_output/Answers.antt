@@ -1,0 +1,14 @@
+use Rattle.serving.proofs.SameSite.{files_give_modules, one_site_output, site_fronts_agree, site_fronts_begin}
+use Rattle.serving.proofs.laws.one_site_output.Goals as goal
+
+pub returns-clause-whole : goal.returns-clause-whole
+returns-clause-whole c = one_site_output c.one_module.ensures c.one_image.ensures
+
+pub returns-clause-front : goal.returns-clause-front
+returns-clause-front c = site_fronts_begin c.one_module.ensures c.one_image.ensures
+
+pub returns-clause-fronts : goal.returns-clause-fronts
+returns-clause-fronts c = site_fronts_agree c.one_module.ensures c.one_image.ensures
+
+pub returns-clause-files : goal.returns-clause-files
+returns-clause-files c = files_give_modules

@@ -1,0 +1,41 @@
+use Rattle.std.proofs.Common.{◌≡◌, ◌∙◌, ℕ, List, map, inl, inr, refl, sym, subst, ap}
+use Rattle.command.specs.Words.{syntax_of}
+use Rattle.serving.specs.declared.faults.Fault.TheVariants.{Run}
+use Rattle.serving.specs.Fault.{status_of}
+use Rattle.serving.specs.Site.{AreFromFiles}
+use Rattle.serving.proofs.Ends.{failures_given, not_begun, run_given}
+use Rattle.serving.proofs.Sites.{many_modules}
+use Rattle.serving.proofs.site_run.serve_plan.Goals as goal
+
+-- ---- there are no keys
+
+pub returns-in_default-clause-run : goal.returns-in_default-clause-run
+returns-in_default-clause-run g c = not_begun _ _ _ _ _ _ (inr c.report.ensures.status) refl
+
+-- ---- the files were read
+
+pub serve-requires-clause-modules : goal.serve-requires-clause-modules
+serve-requires-clause-modules g c κs within =
+    let read = rw c.as_slice.ensures.value at c.in-Ok.ensures.modules in
+    rw c.as_slice-in-Ok.ensures.value (many_modules (λ m. m.items) (g.F.Files.contents c.args.files.now) c.args.plan.now.specs.items c.in-Ok.modules.items read)
+
+pub returns-in-Ok-clause-run : goal.returns-in-Ok-clause-run
+returns-in-Ok-clause-run g c =
+    let read = rw c.as_slice.ensures.value at c.in-Ok.ensures.modules in
+    let here : AreFromFiles (g.F.Files.contents c.args.files.now) (map syntax_of c.args.plan.now.specs.items) (map (λ m. m.items) c.as_slice-in-Ok.result.now) =
+    rw c.as_slice-in-Ok.ensures.value read in
+    let weaker : (given : List (List ℕ)) → given ≡ map (λ m. m.items) c.as_slice-in-Ok.result.now
+    → AreFromFiles (g.F.Files.contents c.args.files.now) (map syntax_of c.args.plan.now.specs.items) given =
+    λ given is. subst (AreFromFiles (g.F.Files.contents c.args.files.now) (map syntax_of c.args.plan.now.specs.items)) (sym is) here in
+    run_given _ _ _ _ _ _ _ weaker c.serve.ensures.run
+
+pub returns-in-Ok-clause-failures : goal.returns-in-Ok-clause-failures
+returns-in-Ok-clause-failures g c = failures_given _ _ _ _ _ _ (λ none. absurd none) c.serve.ensures.failures
+
+-- ---- they weren't
+
+pub returns-in-Err-clause-run : goal.returns-in-Err-clause-run
+returns-in-Err-clause-run g c = elim c.in-Err.ensures.faults [
+  | inl read ↦ not_begun _ _ _ _ _ _ (inr (c.report-in-Err.ensures.status ∙ ap (λ f. status_of (Run f)) read)) refl
+  | inr memory ↦ not_begun _ _ _ _ _ _ (inl (c.report-in-Err.ensures.status ∙ ap (λ f. status_of (Run f)) memory)) refl
+]

@@ -1,0 +1,39 @@
+-- What a run of a site's script promises, by its exit status.
+use Rattle.std.specs.Prelude.{◌≡◌, ◌≢◌, ◌⊎◌, ◌<◌, List, ℕ}
+use Rattle.engine.specs.Device.{DeviceUse}
+use Rattle.engine.specs.declared.fault.RunFault.TheVariants as run_fault
+use Rattle.command.specs.Words.{SpecSyntax}
+use Rattle.serving.specs.declared.faults.Fault.{Fault}
+use Rattle.serving.specs.declared.faults.Fault.TheVariants.{Run}
+use Rattle.serving.specs.Message.{Tells, message_of}
+use Rattle.serving.specs.Site.{SiteDone, SiteFaulty, SiteFront, SiteRefused}
+
+-- a fault's line is written to a stream, or a beginning of it where a write failed meanwhile
+abbrev pub TellsFault : DeviceUse → Fault → Type 0
+TellsFault err fault = Tells err.old err.new err.failures_old err.failures_new (message_of fault)
+
+-- A run of a script by the plugins that are configured ended with this status. `AreGiven` says which modules they have.
+pub record IsSiteRun (AreGiven : List (List ℕ) → Type 0) (specs : List SpecSyntax) (source out err : DeviceUse) (ended : ℕ) : Type 0 where
+  -- these are the statuses of a run
+  pub status : (ended ≡ 0) ⊎ ((ended ≡ 1) ⊎ ((ended ≡ 3) ⊎ (ended ≡ 4)))
+  -- no line is faulty, the output is written whole, and everything is read
+  pub done : ended ≡ 0 → SiteDone AreGiven specs source.old source.new out.old out.new
+  -- A plugin's module is refused, that is told, and nothing is read or written. Or a line is faulty: it is the first one and its fault is
+  -- told, and the output of the lines before it is written whole.
+  pub input : ended ≡ 1 → (fault : Fault) × TellsFault err fault
+      × ((SiteRefused AreGiven specs fault × source.IsUntouched × out.IsUntouched) ⊎ SiteFaulty AreGiven specs fault source.old out.old out.new)
+  -- nothing but the output, or a beginning of it, is written
+  pub front : out.IsUntouched ⊎ SiteFront AreGiven specs source.old out.old out.new
+
+-- What is told of failures and of want of memory by this status. `NotBegun` says why nothing was begun that a failed read is told of.
+pub record TellsFailures (NotBegun : Type 0) (source out err : DeviceUse) (ended : ℕ) : Type 0 where
+  -- all was done, and no fault is told
+  pub quiet : ended ≡ 0 → err.IsUntouched
+  -- Memory, or the desk's place, was wanting, and that is told. Without a place nothing is read or written.
+  pub room : ended ≡ 3 → TellsFault err (Run run_fault.NoMemory)
+      ⊎ (TellsFault err (Run run_fault.NoPlace) × source.IsUntouched × out.IsUntouched)
+  -- Nothing was begun: that is told, and nothing is read or written. Or a read or a write failed meanwhile, and that is told.
+  pub failed : ended ≡ 4 → TellsFault err (Run run_fault.Read) × ((NotBegun × source.IsUntouched × out.IsUntouched) ⊎ (source.failures_old < source.failures_new))
+      ⊎ (TellsFault err (Run run_fault.Write) × (out.failures_old < out.failures_new))
+  -- and each failure is told: at any other status no read, and no write to the output, has failed
+  pub failures_told : ended ≢ 4 → (source.failures_new ≡ source.failures_old) × (out.failures_new ≡ out.failures_old)

@@ -1,0 +1,39 @@
+//! Why the program ends early, and the exit status by which it tells it.
+ghost use Rattle.std.specs.Prelude.{◌≡◌};
+ghost use Rattle.serving.specs.Fault.{status_of};
+
+use crate::refusal::Refusal;
+use command::WordFault;
+use engine::RunFault;
+use quant::Name;
+use thiserror::Error;
+
+/// Why the program ends early.
+#[derive(Debug, PartialEq, Eq, Drop, Error)]
+pub enum Fault {
+    /// Its words were refused.
+    #[error("{0}")]
+    Words(WordFault),
+    /// The module of the plugin of this name was refused.
+    #[error("plugin {}: refused {}", .0.as_str(), .1)]
+    Plugin(Name, Refusal),
+    /// The run of a script ended early.
+    #[error("{0}")]
+    Run(RunFault),
+}
+
+impl Fault {
+    /// The exit status: 1 at a faulty line or a refused module, 2 at bad words, 3 for want of memory or of a place at
+    /// the desk, 4 when a read or a write failed.
+    pub fn status(&self) -> u8
+        ensures { result ≡ status_of self.now }
+    {
+        match self {
+            Fault::Plugin(_, _) | Fault::Run(RunFault::Line(_, _)) => 1,
+            Fault::Words(WordFault::BadWords) => 2,
+            Fault::Words(WordFault::NoMemory)
+            | Fault::Run(RunFault::NoMemory | RunFault::NoPlace) => 3,
+            Fault::Run(RunFault::Read | RunFault::Write) => 4,
+        }
+    }
+}

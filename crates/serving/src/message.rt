@@ -1,0 +1,122 @@
+//! The line by which the program tells a fault.
+ghost use Rattle.std.specs.Prelude.{◌≡◌, ◌+◌, ◌^◌, ◌<◌, ◌≤◌, ◌++◌, codes, length, decimal};
+ghost use Rattle.serving.specs.Fault.{status_of};
+ghost use Rattle.serving.specs.Text.{fault_text};
+ghost use Rattle.serving.specs.Refusal.{refusal_text};
+ghost use Rattle.serving.specs.Message.{Tells, line_fault_text, run_text, text_of, message_of};
+
+use crate::faults::Fault;
+use crate::refusal::{Refusal, push_refusal};
+use arrayvec::ArrayVec;
+use engine::{RunFault, Sink, write_all};
+use itoa::Buffer;
+use manifest::LineFault;
+use quant::Name;
+
+// Room for the longest line: a number has up to 20 digits, a fault's name up to 20 bytes, a field's
+// key up to 13, and a plugin's name up to 63. Each `push_..` says how much of the room it wants at most.
+const MAX_MESSAGE: usize = 256;
+
+/// A line that is made without memory, so that want of memory can be told.
+pub(crate) type Message = ArrayVec<u8, MAX_MESSAGE>;
+
+/// Adds a piece to a message.
+pub(crate) fn push(message: &mut Message, piece: &[u8])
+    requires { length message.old.items + length piece.now ≤ 256 }
+    ensures text { message.new.items ≡ message.old.items ++ piece.now }
+    ensures len { length message.new.items ≡ length message.old.items + length piece.now }
+{
+    message.try_extend_from_slice(piece).unwrap();
+}
+
+/// Adds a number in decimal.
+pub(crate) fn push_number(message: &mut Message, n: u64)
+    requires { length message.old.items + 20 ≤ 256 }
+    ensures text { message.new.items ≡ message.old.items ++ decimal n }
+    ensures len { length message.new.items ≤ length message.old.items + 20 }
+{
+    let mut buffer = Buffer::new();
+    push(message, buffer.format(n).as_bytes());
+}
+
+/// Adds a fault's number and its name.
+pub(crate) fn push_fault(message: &mut Message, number: u8, name: &str)
+    requires { length message.old.items + (length name.now + 21) ≤ 256 }
+    ensures text { message.new.items ≡ message.old.items ++ fault_text number name.now }
+    ensures len { length message.new.items ≤ length message.old.items + (length name.now + 21) }
+{
+    push_number(message, u64::from(number));
+    push(message, b" ");
+    push(message, name.as_bytes());
+}
+
+// Adds a line's fault, with the field in which it stands.
+#[tactic(auto, using(crate::proofs::Lengths::line_name_short, crate::proofs::Lengths::key_short), unfolding(crate::specs::Message::line_fault_text))]
+fn push_line_fault(message: &mut Message, fault: LineFault)
+    requires { length message.old.items + 45 ≤ 256 }
+    ensures text { message.new.items ≡ message.old.items ++ line_fault_text fault }
+    ensures len { length message.new.items ≤ length message.old.items + 45 }
+{
+    push_fault(message, fault.number(), fault.name());
+    if let Some(field) = fault.field() {
+        push(message, b" ");
+        push(message, field.key().as_bytes());
+    }
+}
+
+// Adds why a run ended early.
+#[tactic(auto, using(crate::proofs::Lengths::run_name_short), unfolding(crate::specs::Message::run_text))]
+fn push_run_fault(message: &mut Message, fault: RunFault)
+    requires { length message.old.items + 80 ≤ 256 }
+    ensures text { message.new.items ≡ message.old.items ++ run_text fault }
+    ensures len { length message.new.items ≤ length message.old.items + 80 }
+{
+    if let RunFault::Line(number, fault) = fault {
+        push(message, b"line ");
+        push_number(message, number);
+        push(message, b": ");
+        push_line_fault(message, fault);
+    } else {
+        push_fault(message, fault.number(), fault.name());
+    }
+}
+
+// Adds which plugin is refused, and why.
+fn push_plugin_fault(message: &mut Message, name: &Name, refusal: Refusal)
+    requires { length message.old.items + 200 ≤ 256 }
+    ensures text { message.new.items ≡ message.old.items ++ (codes "plugin " ++ name.now ++ codes ": " ++ refusal_text refusal) }
+    ensures len { length message.new.items ≤ length message.old.items + 200 }
+{
+    push(message, b"plugin ");
+    push(message, name.as_bytes());
+    push(message, b": ");
+    push_refusal(message, refusal);
+}
+
+// The line that tells a fault.
+#[tactic(auto, using(crate::proofs::Lengths::word_name_short), unfolding(crate::specs::Message::message_of))]
+fn fault_message(fault: &Fault) -> Message
+    ensures { result.items ≡ message_of fault.now }
+{
+    let mut message = Message::new();
+    push(&mut message, b"wsched: ");
+    match fault {
+        Fault::Words(fault) => push_fault(&mut message, fault.number(), fault.name()),
+        Fault::Plugin(name, refusal) => push_plugin_fault(&mut message, name, *refusal),
+        Fault::Run(fault) => push_run_fault(&mut message, *fault),
+    }
+    push(&mut message, b"\n");
+    message
+}
+
+/// Tells a fault as one line, and gives the exit status that goes with it. Where a write fails, a
+/// beginning of the line is told; that changes no status.
+pub fn report<E: Sink>(fault: Fault, err: &mut E) -> u8
+    requires { E.failure_count err.old < 10 ^ 18 }
+    ensures status { result ≡ status_of fault }
+    ensures told { Tells (E.written err.old) (E.written err.new) (E.failure_count err.old)
+        (E.failure_count err.new) (message_of fault) }
+{
+    let _ = write_all(err, fault_message(&fault).as_slice());
+    fault.status()
+}

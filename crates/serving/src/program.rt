@@ -1,0 +1,96 @@
+//! What the program does, from its words to its exit status.
+ghost use Rattle.std.specs.Prelude.{◌≡◌, ◌≢◌, ◌⊎◌, ◌^◌, ◌<◌, ◌≤◌, ℕ, List, Some, None, map, IfErr, IfSome};
+ghost use Rattle.engine.specs.Device.{use_of};
+ghost use Rattle.command.specs.Words.{SpecSyntax, asked_by, run, check};
+ghost use Rattle.command.specs.declared.fault.WordFault.TheVariants as word_fault;
+ghost use Rattle.serving.specs.declared.faults.Fault.TheVariants as faults;
+ghost use Rattle.serving.specs.Fault.{status_of};
+ghost use Rattle.serving.specs.Run.{IsSiteRun, TellsFailures, TellsFault};
+ghost use Rattle.serving.specs.Site.{AreFromFiles};
+ghost use Rattle.serving.specs.Verdict.{TellsFront, TellsVerdict};
+
+use crate::check::check_file;
+use crate::faults::Fault;
+use crate::folder::Files;
+use crate::message::report;
+use crate::site_run::serve_plan;
+use command::{WordFault, Words, words};
+use engine::{Sink, Source};
+use std::alloc::Global;
+use std::convert::AsStr;
+use std::hash::RandomState;
+use std::sync::Wait;
+use std::thread::Threads;
+
+/// Does what the words that follow the program's name ask for, and gives the exit status. Words that
+/// could not be read, or that ask for nothing, are told on `err`, and nothing is read or written.
+/// For `run` it is what `serve_plan` does under the keys, for `check` what `check_file` does.
+pub fn answer<
+    T: Wait + Threads + Copy + Send + Sync + 'static,
+    S: AsStr + Drop,
+    F: Files,
+    R: Source,
+    W: Sink,
+    E: Sink,
+>(
+    rt: &T,
+    alloc: Global,
+    args: Result<Vec<S>, WordFault>,
+    keys: Option<RandomState>,
+    files: &mut F,
+    source: &mut R,
+    out: &mut W,
+    err: &mut E,
+) -> u8
+    requires opens { F.failure_count files.old < 10 ^ 18 }
+    requires reads { R.failure_count source.old < 10 ^ 18 }
+    requires writes { W.failure_count out.old < 10 ^ 18 }
+    requires tells { E.failure_count err.old < 10 ^ 18 }
+    requires finite { R.bytes_left source.old < 2 ^ 64 }
+
+    // These are the exit statuses of the program; each says what was done.
+    ensures status { result ≤ 4 }
+
+    // Where words could not be read, that is told. Where they ask for nothing, that is told or memory
+    // was wanting, and nothing is read or written. Bad words are told only where they ask for nothing.
+    ensures unread { IfErr args (λ fault. (result ≡ status_of (faults.Words fault))
+        × TellsFault (use_of E.written E.failure_count err.old err.new) (faults.Words fault)) }
+    ensures idle { asked_by (λ given. map S.text given.items) args ≡ None
+        → ((result ≡ 2) ⊎ (result ≡ 3)) × (files.new ≡ files.old) × (source.new ≡ source.old) × (out.new ≡ out.old) }
+    ensures words { result ≡ 2 → (asked_by (λ given. map S.text given.items) args ≡ None)
+        × TellsFault (use_of E.written E.failure_count err.old err.new) (faults.Words word_fault.BadWords) }
+
+    // A check leaves the source as it is.
+    ensures of_check { (file : List ℕ) → asked_by (λ given. map S.text given.items) args ≡ Some (check file)
+        → source.new ≡ source.old }
+
+    // A run is one of the script by the plugins that the words configure, with the modules in their files.
+    ensures run { (workers : ℕ) (specs : List SpecSyntax) → asked_by (λ given. map S.text given.items) args ≡ Some (run workers specs)
+        → IsSiteRun (AreFromFiles (F.contents files.old) specs) specs (use_of R.remaining R.failure_count source.old source.new)
+        (use_of W.written W.failure_count out.old out.new) (use_of E.written E.failure_count err.old err.new) result }
+
+    // A check: what the file has deserves this verdict, the status is the verdict's, its line is
+    // written whole, and no fault is told.
+    ensures checked { (file : List ℕ) → asked_by (λ given. map S.text given.items) args ≡ Some (check file)
+        → result ≤ 1 → IfSome (F.contents files.old file) (TellsVerdict (W.written out.old) (W.written out.new) result)
+        × (err.new ≡ err.old) }
+
+    // A check: nothing but the line that the module deserves, or a beginning of it, is written.
+    ensures check_front { (file : List ℕ) → asked_by (λ given. map S.text given.items) args ≡ Some (check file)
+        → (out.new ≡ out.old) ⊎ IfSome (F.contents files.old file) (TellsFront (W.written out.old) (W.written out.new)) }
+
+    // Failures are told. Nothing is begun without keys, or where a file has failed; at any other status none has.
+    ensures failures { TellsFailures ((keys ≡ None) ⊎ (F.failure_count files.old < F.failure_count files.new))
+        (use_of R.remaining R.failure_count source.old source.new) (use_of W.written W.failure_count out.old out.new)
+        (use_of E.written E.failure_count err.old err.new) result }
+    ensures files_told { result ≢ 4 → F.failure_count files.new ≡ F.failure_count files.old }
+{
+    match args {
+        Ok(args) => match words(alloc, args.as_slice()) {
+            Ok(Words::Run(plan)) => serve_plan(rt, alloc, keys, &plan, files, source, out, err),
+            Ok(Words::Check(file)) => check_file(alloc, file, files, out, err),
+            Err(fault) => report(Fault::Words(fault), err),
+        },
+        Err(unread) => report(Fault::Words(unread), err),
+    }
+}

@@ -1,0 +1,113 @@
+//! A run of a script, by the rules of a site's plugins.
+ghost use Rattle.std.specs.Prelude.{◌≡◌, ◌≢◌, ◌⊎◌, ◌^◌, ◌<◌, None, IfOk, length, map};
+ghost use Rattle.engine.specs.Device.{use_of};
+ghost use Rattle.command.specs.Within.{IsPlan};
+ghost use Rattle.command.specs.Words.{syntax_of};
+ghost use Rattle.serving.specs.Run.{IsSiteRun, TellsFailures};
+ghost use Rattle.serving.specs.Site.{AreFromFiles, names_of};
+
+use crate::faults::Fault;
+use crate::folder::Files;
+use crate::message::report;
+use crate::site::{modules_in, site_kits};
+use command::{Plan, Spec};
+use engine::{RunFault, Sink, Source, run_with_kits};
+use quant::Name;
+use std::alloc::{AllocError, Global};
+use std::hash::RandomState;
+use std::sync::Wait;
+use std::thread::Threads;
+
+/// Reads a script from `source`, decides by the plugins that are planned, whose modules' bytes stand in their order, writes the
+/// answers to `out`, and gives the exit status. A fault goes to `err` as one line, and a failed write of that line changes
+/// nothing. Names are looked up under the keys, which whoever writes the script can't know.
+pub fn serve<T: Wait + Threads + Copy + Send + Sync + 'static, R: Source, W: Sink, E: Sink>(
+    rt: &T,
+    alloc: Global,
+    keys: RandomState,
+    plan: &Plan<'_>,
+    modules: &[Vec<u8>],
+    source: &mut R,
+    out: &mut W,
+    err: &mut E,
+) -> u8
+    requires plan { IsPlan plan.now }
+    requires modules { length modules.now ≡ length plan.now.specs.items }
+    requires reads { R.failure_count source.old < 10 ^ 18 }
+    requires writes { W.failure_count out.old < 10 ^ 18 }
+    requires tells { E.failure_count err.old < 10 ^ 18 }
+    requires finite { R.bytes_left source.old < 2 ^ 64 }
+    ensures run { IsSiteRun (λ given. given ≡ map (λ m. m.items) modules.now) (map syntax_of plan.now.specs.items)
+        (use_of R.remaining R.failure_count source.old source.new) (use_of W.written W.failure_count out.old out.new)
+        (use_of E.written E.failure_count err.old err.new) result }
+    ensures failures { TellsFailures ⊥ (use_of R.remaining R.failure_count source.old source.new)
+        (use_of W.written W.failure_count out.old out.new) (use_of E.written E.failure_count err.old err.new) result }
+{
+    let kits = match site_kits(alloc, plan, modules) {
+        Ok(kits) => kits,
+        Err(refused) => return report(refused, err),
+    };
+    let Ok(names) = names_in(alloc, plan.specs.as_slice()) else {
+        return report(Fault::Run(RunFault::NoMemory), err);
+    };
+    match run_with_kits(rt, alloc, keys, names.as_slice(), kits, source, out) {
+        Ok(()) => 0,
+        Err(fault) => report(Fault::Run(fault), err),
+    }
+}
+
+// The plugins' names, in order.
+fn names_in(alloc: Global, specs: &[Spec<'_>]) -> Result<Vec<Name>, AllocError>
+    ensures { IfOk result (λ names. names.items ≡ names_of (map syntax_of specs.now)) }
+{
+    let mut names = Vec::new(alloc);
+    for place in 0..specs.len() {
+        if names.push(specs[place].name.copied()).is_err() {
+            return Err(AllocError);
+        }
+    }
+    Ok(names)
+}
+
+/// Reads the plugins' files and serves a script by them, as `serve` does. That a file can't be read, or that there are no keys,
+/// since the system gave no random bytes, is told as a failed read, and the script isn't read then.
+pub(crate) fn serve_plan<
+    T: Wait + Threads + Copy + Send + Sync + 'static,
+    F: Files,
+    R: Source,
+    W: Sink,
+    E: Sink,
+>(
+    rt: &T,
+    alloc: Global,
+    keys: Option<RandomState>,
+    plan: &Plan<'_>,
+    files: &mut F,
+    source: &mut R,
+    out: &mut W,
+    err: &mut E,
+) -> u8
+    requires plan { IsPlan plan.now }
+    requires opens { F.failure_count files.old < 10 ^ 18 }
+    requires reads { R.failure_count source.old < 10 ^ 18 }
+    requires writes { W.failure_count out.old < 10 ^ 18 }
+    requires tells { E.failure_count err.old < 10 ^ 18 }
+    requires finite { R.bytes_left source.old < 2 ^ 64 }
+    ensures run { IsSiteRun (AreFromFiles (F.contents files.old) (map syntax_of plan.now.specs.items)) (map syntax_of plan.now.specs.items)
+        (use_of R.remaining R.failure_count source.old source.new) (use_of W.written W.failure_count out.old out.new)
+        (use_of E.written E.failure_count err.old err.new) result }
+    ensures failures { TellsFailures ((keys ≡ None) ⊎ (F.failure_count files.old < F.failure_count files.new))
+        (use_of R.remaining R.failure_count source.old source.new) (use_of W.written W.failure_count out.old out.new)
+        (use_of E.written E.failure_count err.old err.new) result }
+
+    // At any other status no file has failed.
+    ensures files_told { result ≢ 4 → F.failure_count files.new ≡ F.failure_count files.old }
+{
+    let Some(keys) = keys else {
+        return report(Fault::Run(RunFault::Read), err);
+    };
+    match modules_in(alloc, plan.specs.as_slice(), files) {
+        Ok(modules) => serve(rt, alloc, keys, plan, modules.as_slice(), source, out, err),
+        Err(fault) => report(Fault::Run(fault), err),
+    }
+}
