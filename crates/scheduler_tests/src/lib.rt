@@ -9,9 +9,13 @@ mod at_once;
 #[cfg(test)]
 mod binding;
 #[cfg(test)]
+mod choices;
+#[cfg(test)]
 mod lines;
 #[cfg(test)]
 mod names;
+#[cfg(test)]
+mod program;
 #[cfg(test)]
 mod script;
 #[cfg(test)]

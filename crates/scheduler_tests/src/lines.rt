@@ -1,3 +1,4 @@
+//! Lines of a script, and what they spell or why they are refused.
 use manifest::{Command, read_line};
 use quant::{Effect, Event, Node, Operator, Pod};
 use std::alloc::Global;
@@ -253,8 +254,8 @@ fn assert_longest(rt: &impl Abort, pod: &Pod) {
 #[test]
 fn longest_rows(rt: HostRuntime) -> Result<(), Fail> {
     let mut line = Vec::new(rt.alloc());
-    let text = ("[\"", "\",\"\"]");
-    let equal = ("[\"", "\",\"Equal\",\"\",\"\"]");
+    let text = (r#"[""#, r#"",""]"#);
+    let equal = (r#"[""#, r#"","Equal","",""]"#);
     put_items(
         &mut line,
         r#"{"op":"pod","v":1,"uid":"p","labels":["#,

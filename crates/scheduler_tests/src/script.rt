@@ -1,8 +1,13 @@
-//! When a run writes: before it reads more, and before much output waits; and the lines of cycles by a site's rule.
-use engine::{DeviceFailed, RunFault, Sink, Source, run};
-use fleet::Fleet;
+//! When a run writes: before it reads more, and before much output waits; the lines of cycles by a site's rule; and that workers
+//! that stay decide as those that are started for each decision.
+ghost use Rattle.std.specs.Prelude.{◌≡◌, ◌<◌, ◌≤◌, vec_len, IfOk};
+ghost use Rattle.std.specs.List.{All};
+
+use desk::Snapshot;
+use engine::{DeviceFailed, RunFault, Sink, Source, run, run_with_kits};
+use fleet::{Decider, Decision, Fleet, NoGate, NoMemory};
 use plugin::{Cause, FilterVerdict, Rejection, Rules, ScoreVerdict};
-use quant::Name;
+use quant::{Name, SharedPod};
 use std::alloc::Global;
 use std::cell::Cell;
 use std::hash::RandomState;
@@ -134,6 +139,27 @@ impl Rules for Same {
     } };
 }
 
+// A fleet of kits of such rules.
+#[derive(Drop)]
+struct Crew {
+    fleet: Fleet<Same>,
+}
+
+impl Decider for Crew {
+    type Kit = Same;
+
+    ghost kits = { λ crew. crew.fleet.kits };
+
+    fn decide<R: Threads + Wait + Sync>(
+        &mut self,
+        rt: &R,
+        snapshot: Snapshot,
+        pod: &SharedPod,
+    ) -> Result<Decision, NoMemory> {
+        self.fleet.decide(rt, &snapshot, pod, &NoGate)
+    }
+}
+
 const NOTHING: Same = Same {
     there: false,
     filter: FilterVerdict::Passes,
@@ -172,8 +198,9 @@ fn run_pieces<T: Wait + Threads + Sync + Abort>(
         written: &written,
     };
     let names = [Name::new(b"rule").expect(rt, "a name")];
-    let mut fleet = Fleet::of_one(alloc, rules).expect(rt, "memory");
-    let result = run(rt, alloc, keys, &names, &mut fleet, &mut source, &mut sink);
+    let fleet = Fleet::of_one(alloc, rules).expect(rt, "memory");
+    let mut crew = Crew { fleet };
+    let result = run(rt, alloc, keys, &names, &mut crew, &mut source, &mut sink);
     Ended {
         result,
         output: sink.bytes,
@@ -185,9 +212,14 @@ fn run_pieces<T: Wait + Threads + Sync + Abort>(
 fn every_answer_is_written_before_the_next_read(rt: HostRuntime) -> Result<(), Fail> {
     let keys = RandomState::new(&rt)?;
     let pieces = [
-        b"{\"op\":\"node\",\"v\":1,\"name\":\"a\",\"cpu\":\"4\",\"mem\":\"8Gi\",\"pods\":110}\n\n".as_slice(),
-        b"{\"op\":\"node\",\"v\":1,\"name\":\"a\",".as_slice(),
-        b"\"cpu\":\"4\",\"mem\":\"8Gi\",\"pods\":110}\n{\"op\":\"dump\"}".as_slice(),
+        br#"{"op":"node","v":1,"name":"a","cpu":"4","mem":"8Gi","pods":110}
+
+"#
+            .as_slice(),
+        br#"{"op":"node","v":1,"name":"a","#.as_slice(),
+        br#""cpu":"4","mem":"8Gi","pods":110}
+{"op":"dump"}"#
+            .as_slice(),
     ];
     let output = b"ok
 refused 1 Old
@@ -210,6 +242,35 @@ clock 0 version 1
     Ok(())
 }
 
+// A pod is bound to a node that isn't there: it has its place, and nothing is used of the node that is there.
+#[test]
+fn a_place_may_be_on_a_node_that_is_not_there(rt: HostRuntime) -> Result<(), Fail> {
+    let keys = RandomState::new(&rt)?;
+    let script = br#"{"op":"node","v":1,"name":"a","cpu":"4","mem":"8Gi","pods":110}
+{"op":"bound","v":2,"uid":"p0","node":"x","cpu":"1","mem":"1k"}
+{"op":"dump"}
+"#
+        .as_slice();
+    let output = b"ok
+ok
+node a cpu 0/4000 mem 0/8589934592 pods 0/110
+places bound 1 assumed 0
+queue active 0 backoff 0 unschedulable 0 inflight 0
+clock 0 version 2
+";
+    let ended = run_pieces(
+        &rt,
+        rt.alloc(),
+        keys,
+        NOTHING,
+        &[script],
+        &[0, output.len()],
+    );
+    assert_eq!(rt; ended.result, Ok(()));
+    assert_eq!(rt; ended.output.as_slice(), output.as_slice());
+    Ok(())
+}
+
 #[test]
 fn no_more_than_64_kib_wait_before_an_answer(rt: HostRuntime) -> Result<(), Fail> {
     let answer = b"places bound 0 assumed 0
@@ -221,7 +282,8 @@ clock 0 version 0
     // As many dumps as one read gives.
     let mut script = Vec::new(rt.alloc());
     for _ in 0..4681 {
-        script.extend_from_slice(b"{\"op\":\"dump\"}\n")?;
+        script.extend_from_slice(br#"{"op":"dump"}"#)?;
+        script.push(b'\n')?;
     }
     assert_eq!(rt; script.len(), 65_534);
     let ended = run_pieces(
@@ -240,13 +302,12 @@ clock 0 version 0
 // A node and a pod, and what a cycle comes to by a rule.
 #[test]
 fn a_cycle_is_told_on_a_line(rt: HostRuntime) -> Result<(), Fail> {
-    let script =
-        b"{\"op\":\"node\",\"v\":1,\"name\":\"a\",\"cpu\":\"4\",\"mem\":\"8Gi\",\"pods\":110}
-{\"op\":\"pod\",\"v\":2,\"uid\":\"p1\",\"containers\":[[\"100m\",\"64Mi\"]]}
-{\"op\":\"cycle\"}
-{\"op\":\"cycle\"}
-"
-            .as_slice();
+    let script = br#"{"op":"node","v":1,"name":"a","cpu":"4","mem":"8Gi","pods":110}
+{"op":"pod","v":2,"uid":"p1","containers":[["100m","64Mi"]]}
+{"op":"cycle"}
+{"op":"cycle"}
+"#
+        .as_slice();
     let passes = FilterVerdict::Passes;
     let rows = [
         (false, passes, None, "p1 on a total 198 ticket 1"),
@@ -299,6 +360,105 @@ fn a_cycle_is_told_on_a_line(rt: HostRuntime) -> Result<(), Fail> {
         let ended = run_pieces(&rt, rt.alloc(), keys, rules, &[script], &[0, wanted.len()]);
         assert_eq!(rt; ended.result, Ok(()));
         assert_eq!(rt; ended.output.as_slice(), wanted.as_bytes());
+    }
+    Ok(())
+}
+
+// So many kits of such rules.
+fn kits_of(alloc: Global, rules: Same, count: usize) -> Result<Vec<Same>, Fail>
+    ensures count { IfOk result (λ kits. vec_len kits ≡ count) }
+    ensures same { IfOk result (λ kits. All (λ kit. kit ≡ rules) kits.items) }
+{
+    let mut kits = Vec::new(alloc);
+    while kits.len() < count {
+        kits.push(rules)?;
+    }
+    Ok(kits)
+}
+
+// What a run by so many kits writes: by a pool, or by a fleet.
+fn written_by<T: Wait + Threads + Copy + Send + Sync + 'static>(
+    rt: &T,
+    alloc: Global,
+    keys: RandomState,
+    rules: Same,
+    count: usize,
+    stay: bool,
+    script: &[u8],
+    length: usize,
+) -> Result<Vec<u8>, Fail>
+    requires some { 0 < count }
+    requires most { count ≤ 64 }
+{
+    let written = Cell::new(0);
+    let mut source = Peer {
+        pieces: &[script],
+        answered: &[0, length],
+        reads: 0,
+        left: 1 << 20,
+        failures: 0,
+        written: &written,
+    };
+    let mut sink = Paper {
+        bytes: Vec::new(alloc),
+        longest: 0,
+        failures: 0,
+        written: &written,
+    };
+    let names = [Name::new(b"rule")?];
+    let kits = kits_of(alloc, rules, count)?;
+    if stay {
+        run_with_kits(rt, alloc, keys, &names, kits, &mut source, &mut sink)?;
+    } else {
+        let mut crew = Crew {
+            fleet: Fleet::new(alloc, kits),
+        };
+        run(rt, alloc, keys, &names, &mut crew, &mut source, &mut sink)?;
+    }
+    Ok(sink.bytes)
+}
+
+// Nodes of which two are equal but for their names, pods, and cycles.
+#[test]
+fn a_pool_writes_what_a_fleet_does(rt: HostRuntime) -> Result<(), Fail> {
+    let script =
+        b"{\"op\":\"node\",\"v\":1,\"name\":\"a.b\",\"cpu\":\"4\",\"mem\":\"8Gi\",\"pods\":110}
+{\"op\":\"node\",\"v\":2,\"name\":\"a\",\"cpu\":\"4\",\"mem\":\"8Gi\",\"pods\":110}
+{\"op\":\"node\",\"v\":3,\"name\":\"c\",\"cpu\":\"10m\",\"mem\":\"8Gi\",\"pods\":110}
+{\"op\":\"pod\",\"v\":4,\"uid\":\"p1\",\"containers\":[[\"100m\",\"64Mi\"]]}
+{\"op\":\"cycle\"}
+{\"op\":\"cycle\"}
+"
+            .as_slice();
+    let keys = RandomState::new(&rt)?;
+    let passes = FilterVerdict::Passes;
+    let traps = FilterVerdict::Errs(Cause::Trap(Trap::Unreachable));
+    let rows = [
+        (passes, "p1 on a total 298 ticket 1"),
+        (traps, "p1 error plugin rule node a trap 1 Unreachable"),
+    ];
+    for (filter, line) in rows {
+        let rules = Same {
+            there: true,
+            filter,
+            errs: None,
+        };
+        let wanted = format!(in rt.alloc(); "ok\nok\nok\nok\n{line}\nidle\n")?;
+        for count in [1, 2, 64] {
+            for stay in [false, true] {
+                let written = written_by(
+                    &rt,
+                    rt.alloc(),
+                    keys,
+                    rules,
+                    count,
+                    stay,
+                    script,
+                    wanted.len(),
+                )?;
+                assert_eq!(rt; written.as_slice(), wanted.as_bytes(), "by {count}, {stay}");
+            }
+        }
     }
     Ok(())
 }

@@ -38,6 +38,33 @@ fn is_asked(alloc: Global, args: &[&str], want: Want) -> bool {
     }
 }
 
+// Words for seventeen plugins. A run has at most sixteen.
+const SEVENTEEN: [&str; 18] = [
+    "run", "a:1:1:f", "b:1:1:f", "c:1:1:f", "d:1:1:f", "e:1:1:f", "f:1:1:f", "g:1:1:f", "h:1:1:f",
+    "i:1:1:f", "j:1:1:f", "k:1:1:f", "l:1:1:f", "m:1:1:f", "n:1:1:f", "o:1:1:f", "p:1:1:f",
+    "q:1:1:f",
+];
+
+// The sixteen plugins of all these words but the last.
+const SIXTEEN: [(&str, u8, u64, &str); 16] = [
+    ("a", 1, 1, "f"),
+    ("b", 1, 1, "f"),
+    ("c", 1, 1, "f"),
+    ("d", 1, 1, "f"),
+    ("e", 1, 1, "f"),
+    ("f", 1, 1, "f"),
+    ("g", 1, 1, "f"),
+    ("h", 1, 1, "f"),
+    ("i", 1, 1, "f"),
+    ("j", 1, 1, "f"),
+    ("k", 1, 1, "f"),
+    ("l", 1, 1, "f"),
+    ("m", 1, 1, "f"),
+    ("n", 1, 1, "f"),
+    ("o", 1, 1, "f"),
+    ("p", 1, 1, "f"),
+];
+
 #[test]
 fn words_ask_for_these(rt: HostRuntime) {
     let rows = [
@@ -70,6 +97,10 @@ fn words_ask_for_these(rt: HostRuntime) {
             Want::Nothing,
         ),
         (["run", "a:1:1:f", "a:2:2:g"].as_slice(), Want::Nothing),
+        (["run", "--workers", "0"].as_slice(), Want::Nothing),
+        (["run", "--workers=65"].as_slice(), Want::Nothing),
+        (&SEVENTEEN[..17], Want::Run(1, &SIXTEEN)),
+        (&SEVENTEEN, Want::Nothing),
     ];
     for (args, want) in rows {
         assert!(rt; is_asked(rt.alloc(), args, want), "{args:?}");

@@ -1,0 +1,11 @@
+use Rattle.std.proofs.lemmas.Result.{IfOk-weaker}
+use Rattle.choose.specs.Choice.{Choice}
+use Rattle.scheduler_tests.proofs.SameKits.{first_of_all}
+use Rattle.scheduler_tests.proofs.script.CrewDecider.decide.Goals as goal
+
+-- what each kit would choose alone is the choice by the rules of the first
+pub returns-clause-chosen : goal.returns-clause-chosen
+returns-clause-chosen g c =
+    IfOk-weaker c.decide.result _ _
+    (λ decision all. first_of_all _ (λ rules. Choice rules c.args.snapshot c.args.pod.now decision) c.args.self.now.fleet.kits c.decide.ensures.some (rw c.deref.ensures at all))
+    c.decide.ensures.chosen

@@ -1,0 +1,308 @@
+//! Scripts without plugins: those of the worked examples, by any number of workers, faulty lines, and failing devices.
+use super::{Given, RUN, assert_answers, assert_ends};
+use std::hash::RandomState;
+use std::test::Fail;
+
+pub(super) const FIRST_RUN: &str =
+    "{\"op\":\"node\",\"v\":1,\"name\":\"a\",\"cpu\":\"4\",\"mem\":\"8Gi\",\"pods\":110}
+{\"op\":\"bound\",\"v\":2,\"uid\":\"p0\",\"node\":\"a\",\"cpu\":\"500m\",\"mem\":\"1Gi\"}
+{\"op\":\"dump\"}
+";
+
+pub(super) const FIRST_OUTPUT: &str = "ok
+ok
+node a cpu 500/4000 mem 1073741824/8589934592 pods 1/110
+places bound 1 assumed 0
+queue active 0 backoff 0 unschedulable 0 inflight 0
+clock 0 version 2
+";
+
+const NOTHING_OUTPUT: &str = "places bound 0 assumed 0
+queue active 0 backoff 0 unschedulable 0 inflight 0
+clock 0 version 0
+";
+
+const NO_NODE: &str =
+    "{\"op\":\"bound\",\"v\":2,\"uid\":\"p0\",\"node\":\"x\",\"cpu\":\"1\",\"mem\":\"1k\"}
+{\"op\":\"node\",\"v\":3,\"name\":\"a\",\"cpu\":\"4\",\"mem\":\"8Gi\",\"pods\":110}
+{\"op\":\"dump\"}
+";
+
+const NO_NODE_OUTPUT: &str = "ok
+ok
+node a cpu 0/4000 mem 0/8589934592 pods 0/110
+places bound 1 assumed 0
+queue active 0 backoff 0 unschedulable 0 inflight 0
+clock 0 version 3
+";
+
+const THIRD_FAULTY: &str =
+    "{\"op\":\"node\",\"v\":1,\"name\":\"a\",\"cpu\":\"4\",\"mem\":\"8Gi\",\"pods\":110}
+{\"op\":\"node\",\"v\":1,\"name\":\"a\",\"cpu\":\"4\",\"mem\":\"8Gi\",\"pods\":110}
+{\"op\":\"node\",\"v\":2,\"name\":\"b\",\"cpu\":4,\"mem\":\"8Gi\",\"pods\":110}
+{\"op\":\"dump\"}
+";
+
+const FIFTH_FAULTY: &str =
+    "\n{\"op\":\"node\",\"v\":1,\"name\":\"a\",\"cpu\":\"4\",\"mem\":\"8Gi\",\"pods\":110}\n\n
+{\"op\":\"bound\",\"v\":2,\"uid\":\"p0\",\"node\":\"a\",\"cpu\":\"1\",\"mem\":\"1.5Gi\"}";
+
+const TWO_NODES: &str =
+    "{\"op\":\"node\",\"v\":1,\"name\":\"a\",\"cpu\":\"4\",\"mem\":\"8Gi\",\"pods\":110}
+{\"op\":\"node\",\"v\":2,\"name\":\"a.b\",\"cpu\":\"4\",\"mem\":\"8Gi\",\"pods\":110}
+{\"op\":\"pod\",\"v\":3,\"uid\":\"p1\",\"containers\":[[\"100m\",\"64Mi\"]]}
+{\"op\":\"cycle\"}
+";
+
+const TWO_NODES_OUTPUT: &str = "ok
+ok
+ok
+p1 on a total 198 ticket 1
+";
+
+const OVERFULL: &str =
+    "{\"op\":\"node\",\"v\":1,\"name\":\"a\",\"cpu\":\"1\",\"mem\":\"8Gi\",\"pods\":110}
+{\"op\":\"bound\",\"v\":2,\"uid\":\"p0\",\"node\":\"a\",\"cpu\":\"1200m\",\"mem\":\"0\"}
+{\"op\":\"pod\",\"v\":3,\"uid\":\"z\",\"containers\":[[\"0\",\"0\"]]}
+{\"op\":\"cycle\"}
+";
+
+const OVERFULL_OUTPUT: &str = "ok
+ok
+ok
+z on a total 150 ticket 1
+";
+
+const OVERFULL_MORE: &str =
+    "{\"op\":\"node\",\"v\":1,\"name\":\"a\",\"cpu\":\"1\",\"mem\":\"8Gi\",\"pods\":110}
+{\"op\":\"bound\",\"v\":2,\"uid\":\"p0\",\"node\":\"a\",\"cpu\":\"1200m\",\"mem\":\"0\"}
+{\"op\":\"pod\",\"v\":3,\"uid\":\"z\",\"containers\":[[\"1m\",\"0\"]]}
+{\"op\":\"cycle\"}
+";
+
+const OVERFULL_MORE_OUTPUT: &str = "ok
+ok
+ok
+z unschedulable marked 0 taint 0 cpu 1 memory 0 pods 0 plugin 0 final 0
+";
+
+const TAINTED: &str =
+    "{\"op\":\"node\",\"v\":1,\"name\":\"a\",\"cpu\":\"4\",\"mem\":\"8Gi\",\"pods\":110,\"taints\":[[\"k\",\"v\",\"NoExecute\"],[\"s\",\"\",\"PreferNoSchedule\"]]}
+{\"op\":\"pod\",\"v\":2,\"uid\":\"p1\",\"containers\":[[\"100m\",\"64Mi\"]]}
+{\"op\":\"cycle\"}
+";
+
+const TAINTED_OUTPUT: &str = "ok
+ok
+p1 unschedulable marked 0 taint 1 cpu 0 memory 0 pods 0 plugin 0 final 0
+";
+
+const TOLERATED: &str =
+    "{\"op\":\"node\",\"v\":1,\"name\":\"a\",\"cpu\":\"4\",\"mem\":\"8Gi\",\"pods\":110,\"taints\":[[\"k\",\"v\",\"NoExecute\"],[\"s\",\"\",\"PreferNoSchedule\"]]}
+{\"op\":\"pod\",\"v\":2,\"uid\":\"p1\",\"containers\":[[\"100m\",\"64Mi\"]],\"tolerations\":[[\"\",\"Exists\",\"\",\"NoExecute\"]]}
+{\"op\":\"cycle\"}
+";
+
+const TOLERATED_OUTPUT: &str = "ok
+ok
+p1 on a total 98 ticket 1
+";
+
+const ALL_TOLERATED: &str =
+    "{\"op\":\"node\",\"v\":1,\"name\":\"a\",\"cpu\":\"4\",\"mem\":\"8Gi\",\"pods\":110,\"taints\":[[\"k\",\"v\",\"NoExecute\"],[\"s\",\"\",\"PreferNoSchedule\"]]}
+{\"op\":\"pod\",\"v\":2,\"uid\":\"p1\",\"containers\":[[\"100m\",\"64Mi\"]],\"tolerations\":[[\"\",\"Exists\",\"\",\"\"]]}
+{\"op\":\"cycle\"}
+";
+
+const ALL_TOLERATED_OUTPUT: &str = "ok
+ok
+p1 on a total 198 ticket 1
+";
+
+const CONFIRMED: &str =
+    "{\"op\":\"node\",\"v\":1,\"name\":\"a\",\"cpu\":\"4\",\"mem\":\"8Gi\",\"pods\":110}
+{\"op\":\"pod\",\"v\":2,\"uid\":\"p1\",\"containers\":[[\"100m\",\"64Mi\"]]}
+{\"op\":\"cycle\"}
+{\"op\":\"bound\",\"v\":3,\"uid\":\"p1\",\"node\":\"a\",\"cpu\":\"100m\",\"mem\":\"64Mi\"}
+{\"op\":\"done\",\"uid\":\"p1\",\"ticket\":1}
+{\"op\":\"forget\",\"uid\":\"p1\",\"ticket\":1}
+{\"op\":\"forget\",\"uid\":\"p1\",\"ticket\":1}
+{\"op\":\"bound\",\"v\":3,\"uid\":\"p1\",\"node\":\"a\",\"cpu\":\"100m\",\"mem\":\"64Mi\"}
+{\"op\":\"dump\"}
+";
+
+const CONFIRMED_OUTPUT: &str = "ok
+ok
+p1 on a total 198 ticket 1
+ok
+refused 11 Confirmed
+refused 11 Confirmed
+refused 11 Confirmed
+refused 1 Old
+node a cpu 100/4000 mem 67108864/8589934592 pods 1/110
+places bound 1 assumed 0
+queue active 0 backoff 0 unschedulable 0 inflight 0
+clock 0 version 3
+";
+
+const FORGOTTEN: &str =
+    "{\"op\":\"node\",\"v\":1,\"name\":\"a\",\"cpu\":\"4\",\"mem\":\"8Gi\",\"pods\":110}
+{\"op\":\"pod\",\"v\":2,\"uid\":\"p1\",\"containers\":[[\"100m\",\"64Mi\"]]}
+{\"op\":\"cycle\"}
+{\"op\":\"forget\",\"uid\":\"p1\",\"ticket\":1}
+{\"op\":\"tick\",\"at\":999}
+{\"op\":\"cycle\"}
+{\"op\":\"tick\",\"at\":1000}
+{\"op\":\"cycle\"}
+{\"op\":\"forget\",\"uid\":\"p1\",\"ticket\":1}
+{\"op\":\"tick\",\"at\":5}
+";
+
+const FORGOTTEN_OUTPUT: &str = "ok
+ok
+p1 on a total 198 ticket 1
+ok
+ok
+idle
+ok
+p1 on a total 198 ticket 2
+refused 7 StaleTicket
+refused 9 ClockBack
+";
+
+const WOKEN: &str =
+    "{\"op\":\"node\",\"v\":1,\"name\":\"a\",\"cpu\":\"1\",\"mem\":\"8Gi\",\"pods\":110}
+{\"op\":\"pod\",\"v\":2,\"uid\":\"p1\",\"containers\":[[\"2\",\"0\"]]}
+{\"op\":\"cycle\"}
+{\"op\":\"node\",\"v\":3,\"name\":\"b\",\"cpu\":\"4\",\"mem\":\"8Gi\",\"pods\":110}
+{\"op\":\"cycle\"}
+{\"op\":\"tick\",\"at\":1000}
+{\"op\":\"cycle\"}
+";
+
+const WOKEN_OUTPUT: &str = "ok
+ok
+p1 unschedulable marked 0 taint 0 cpu 1 memory 0 pods 0 plugin 0 final 0
+ok
+idle
+ok
+p1 on b total 175 ticket 1
+";
+
+#[test]
+fn scripts_are_answered_alike_by_any_number_of_workers(rt: HostRuntime) -> Result<(), Fail> {
+    let keys = RandomState::new(&rt)?;
+    let rows = [
+        ("the first run", FIRST_RUN, FIRST_OUTPUT),
+        ("an empty script", "", ""),
+        ("empty lines", "\n\n", ""),
+        ("a dump of nothing", "{\"op\":\"dump\"}", NOTHING_OUTPUT),
+        (
+            "a place on a node that is not there",
+            NO_NODE,
+            NO_NODE_OUTPUT,
+        ),
+        ("ties go to the lesser name", TWO_NODES, TWO_NODES_OUTPUT),
+        (
+            "a node with more used than it has",
+            OVERFULL,
+            OVERFULL_OUTPUT,
+        ),
+        (
+            "a pod that asks for more of it",
+            OVERFULL_MORE,
+            OVERFULL_MORE_OUTPUT,
+        ),
+        ("taints that nothing tolerates", TAINTED, TAINTED_OUTPUT),
+        ("a taint that is tolerated", TOLERATED, TOLERATED_OUTPUT),
+        (
+            "taints that are all tolerated",
+            ALL_TOLERATED,
+            ALL_TOLERATED_OUTPUT,
+        ),
+        ("a place that is told twice", CONFIRMED, CONFIRMED_OUTPUT),
+        ("a place that is given up", FORGOTTEN, FORGOTTEN_OUTPUT),
+        ("a node that wakes a pod", WOKEN, WOKEN_OUTPUT),
+    ];
+    for (name, script, out) in rows {
+        assert_answers(&rt, rt.alloc(), keys, &[], script, out, name)?;
+    }
+    Ok(())
+}
+
+#[test]
+fn a_faulty_line_is_told_behind_the_answers(rt: HostRuntime) -> Result<(), Fail> {
+    let keys = RandomState::new(&rt)?;
+    let rows = [
+        ("{\"op\":\"dump\"", "", "wsched: line 1: 1 NotJson\n"),
+        ("\r\n", "", "wsched: line 1: 1 NotJson\n"),
+        ("{\"op\":\"tock\"}\n", "", "wsched: line 1: 2 BadField op\n"),
+        (
+            "{\"op\":\"tick\",\"at\":-1}\n",
+            "",
+            "wsched: line 1: 4 OverLimit at\n",
+        ),
+        (
+            THIRD_FAULTY,
+            "ok\nrefused 1 Old\n",
+            "wsched: line 3: 2 BadField cpu\n",
+        ),
+        (FIFTH_FAULTY, "ok\n", "wsched: line 5: 3 Quantity mem\n"),
+    ];
+    for (script, out, err) in rows {
+        let given = Given {
+            script: script.as_bytes(),
+            most: 9,
+            ..RUN
+        };
+        assert_ends(&rt, rt.alloc(), Some(keys), given, (1, out, err), err)?;
+    }
+    Ok(())
+}
+
+// 146 bytes in pieces of 10 and the end are 16 reads. Each of the first 16 writes has at most 10 of
+// the 158 bytes, so there are as many.
+#[test]
+fn each_failed_read_and_write_is_told(rt: HostRuntime) -> Result<(), Fail> {
+    let keys = RandomState::new(&rt)?;
+    for n in 1..17 {
+        for (bad_read, bad_write, err) in [
+            (n, 0, "wsched: 3 Read\n"),
+            (0, n, "wsched: 4 Write\n"),
+        ] {
+            let given = Given {
+                script: FIRST_RUN.as_bytes(),
+                most: 10,
+                bad_read,
+                bad_write,
+                ..RUN
+            };
+            assert_ends(
+                &rt,
+                rt.alloc(),
+                Some(keys),
+                given,
+                (4, FIRST_OUTPUT, err),
+                err,
+            )?;
+        }
+    }
+    Ok(())
+}
+
+#[test]
+fn without_keys_nothing_is_run(rt: HostRuntime) -> Result<(), Fail> {
+    let given = Given {
+        script: FIRST_RUN.as_bytes(),
+        ..RUN
+    };
+    assert_ends(
+        &rt,
+        rt.alloc(),
+        None,
+        given,
+        (4, "", "wsched: 3 Read\n"),
+        "no keys",
+    )?;
+    Ok(())
+}
