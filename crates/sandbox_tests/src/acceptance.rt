@@ -1,15 +1,14 @@
-// Modules at the borders of what is accepted, each section in its bytes (WebAssembly Core 1.0, 5.5).
+//! Modules at the borders of what is accepted.
 
+use crate::small_modules::{
+    FILTER, FILTER_ALONE, FILTER_BEHIND_IMPORT, ONE, PAGE, SCORE, TO_I32, filter_of, module,
+};
 use std::alloc::{AllocError, Global};
 use std::test::Fail;
 use wbin::decode;
 use wtype::{TypeFault, validate};
 
-const HEADER: &[u8] = b"\0asm\x01\0\0\0";
-
-// One type: from nothing to an i32, from nothing to nothing, from an i32 to an i32.
-const GIVES_I32: &[u8] = b"\x01\x05\x01\x60\x00\x01\x7F";
-
+// One type: from nothing to nothing, and from an i32 to an i32.
 const GIVES_NOTHING: &[u8] = b"\x01\x04\x01\x60\x00\x00";
 
 const TAKES_I32: &[u8] = b"\x01\x06\x01\x60\x01\x7F\x01\x7F";
@@ -19,21 +18,10 @@ const IMPORTS_FUNCTION: &[u8] = b"\x02\x07\x01\x01a\x01b\x00\x00";
 
 const IMPORTS_MEMORY: &[u8] = b"\x02\x08\x01\x01a\x01b\x02\x00\x01";
 
-// One function of the first type.
-const FUNCTION: &[u8] = b"\x03\x02\x01\x00";
-
-const MEMORY: &[u8] = b"\x05\x03\x01\x00\x01";
-
-// The function 0 is exported as `filter`, as `score`, as `x`, and as `filter` twice; and the function 1 is, as `filter`.
-const FILTER: &[u8] = b"\x07\x0A\x01\x06filter\x00\x00";
-
-const SCORE: &[u8] = b"\x07\x09\x01\x05score\x00\x00";
-
+// The function 0 is exported as `x`, and as `filter` twice.
 const OTHER: &[u8] = b"\x07\x05\x01\x01x\x00\x00";
 
 const FILTER_TWICE: &[u8] = b"\x07\x13\x02\x06filter\x00\x00\x06filter\x00\x00";
-
-const FILTER_PAST_THE_END: &[u8] = b"\x07\x0A\x01\x06filter\x00\x01";
 
 // The function 0 is called at the start.
 const START: &[u8] = b"\x08\x01\x00";
@@ -145,11 +133,11 @@ struct Row {
 
 const ROWS: [Row; 30] = [
     Row {
-        sections: &[GIVES_I32, FUNCTION, FILTER, ZERO],
+        sections: &[TO_I32, ONE, FILTER, ZERO],
         fault: None,
     },
     Row {
-        sections: &[GIVES_I32, FUNCTION, FILTER, ZERO_BEHIND_1023],
+        sections: &[TO_I32, ONE, FILTER, ZERO_BEHIND_1023],
         fault: None,
     },
     Row {
@@ -161,23 +149,23 @@ const ROWS: [Row; 30] = [
             HOST_AND_FILTER,
             IMPORTS_POD,
             FUNCTION_OF_SECOND,
-            FILTER_PAST_THE_END,
+            FILTER_BEHIND_IMPORT,
             ZERO,
         ],
         fault: None,
     },
     Row {
         sections: &[
-            GIVES_I32, FUNCTION, TABLE, MEMORY, GLOBAL, FILTER, ELEMENT, ZERO, DATA,
+            TO_I32, ONE, TABLE, PAGE, GLOBAL, FILTER, ELEMENT, ZERO, DATA,
         ],
         fault: None,
     },
     Row {
-        sections: &[GIVES_I32, FUNCTION, FILTER, ZERO_BEHIND_1024],
+        sections: &[TO_I32, ONE, FILTER, ZERO_BEHIND_1024],
         fault: Some(TypeFault::OverLimit),
     },
     Row {
-        sections: &[GIVES_I32, FUNCTION, FILTER, ZERO_BEHIND_MANY],
+        sections: &[TO_I32, ONE, FILTER, ZERO_BEHIND_MANY],
         fault: Some(TypeFault::OverLimit),
     },
     Row {
@@ -185,11 +173,11 @@ const ROWS: [Row; 30] = [
         fault: Some(TypeFault::OverLimit),
     },
     Row {
-        sections: &[GIVES_I32, FUNCTION, LARGE_TABLE, FILTER, ZERO],
+        sections: &[TO_I32, ONE, LARGE_TABLE, FILTER, ZERO],
         fault: Some(TypeFault::OverLimit),
     },
     Row {
-        sections: &[GIVES_I32, FUNCTION, LARGE_MEMORY, FILTER, ZERO],
+        sections: &[TO_I32, ONE, LARGE_MEMORY, FILTER, ZERO],
         fault: Some(TypeFault::OverLimit),
     },
     Row {
@@ -197,7 +185,7 @@ const ROWS: [Row; 30] = [
         fault: Some(TypeFault::BadExport),
     },
     Row {
-        sections: &[GIVES_I32],
+        sections: &[TO_I32],
         fault: Some(TypeFault::BadExport),
     },
     // What is told of two faults: an import before a body, a body before the exports.
@@ -206,27 +194,27 @@ const ROWS: [Row; 30] = [
         fault: Some(TypeFault::BadImport),
     },
     Row {
-        sections: &[GIVES_I32, FUNCTION, EMPTY],
+        sections: &[TO_I32, ONE, EMPTY],
         fault: Some(UNTYPED_AT_24),
     },
     Row {
-        sections: &[GIVES_I32, FUNCTION, LARGE_MEMORY, OTHER, ZERO],
+        sections: &[TO_I32, ONE, LARGE_MEMORY, OTHER, ZERO],
         fault: Some(TypeFault::BadExport),
     },
     Row {
-        sections: &[GIVES_I32, FUNCTION, SCORE, ZERO],
+        sections: &[TO_I32, ONE, SCORE, ZERO],
         fault: Some(TypeFault::BadExport),
     },
     Row {
-        sections: &[GIVES_NOTHING, FUNCTION, FILTER, EMPTY],
+        sections: &[GIVES_NOTHING, ONE, FILTER, EMPTY],
         fault: Some(TypeFault::BadExport),
     },
     Row {
-        sections: &[GIVES_I32, IMPORTS_FUNCTION, FUNCTION, FILTER, START, EMPTY],
+        sections: &[TO_I32, IMPORTS_FUNCTION, ONE, FILTER, START, EMPTY],
         fault: Some(TypeFault::BadImport),
     },
     Row {
-        sections: &[GIVES_I32, IMPORTS_MEMORY, FUNCTION, FILTER, ZERO],
+        sections: &[TO_I32, IMPORTS_MEMORY, ONE, FILTER, ZERO],
         fault: Some(TypeFault::BadImport),
     },
     Row {
@@ -234,33 +222,33 @@ const ROWS: [Row; 30] = [
             HOST_AND_FILTER,
             IMPORTS_POD_OF_SECOND,
             FUNCTION_OF_SECOND,
-            FILTER_PAST_THE_END,
+            FILTER_BEHIND_IMPORT,
             ZERO,
         ],
         fault: Some(TypeFault::BadImport),
     },
     Row {
-        sections: &[GIVES_I32, FUNCTION, FILTER_TWICE, ZERO],
+        sections: &[TO_I32, ONE, FILTER_TWICE, ZERO],
         fault: Some(UNTYPED),
     },
     Row {
-        sections: &[GIVES_I32, FUNCTION, FILTER_PAST_THE_END, EMPTY],
+        sections: &[TO_I32, ONE, FILTER_BEHIND_IMPORT, EMPTY],
         fault: Some(UNTYPED),
     },
     Row {
-        sections: &[GIVES_I32, FUNCTION, LEAST_ABOVE_MOST, FILTER, ZERO],
+        sections: &[TO_I32, ONE, LEAST_ABOVE_MOST, FILTER, ZERO],
         fault: Some(UNTYPED),
     },
     Row {
-        sections: &[GIVES_I32, FUNCTION, GLOBAL_OF_ANOTHER, FILTER, ZERO],
+        sections: &[TO_I32, ONE, GLOBAL_OF_ANOTHER, FILTER, ZERO],
         fault: Some(UNTYPED),
     },
     Row {
-        sections: &[GIVES_I32, FUNCTION, FILTER, ELEMENT, ZERO],
+        sections: &[TO_I32, ONE, FILTER, ELEMENT, ZERO],
         fault: Some(UNTYPED),
     },
     Row {
-        sections: &[TAKES_I32, FUNCTION, FILTER, START, EMPTY],
+        sections: &[TAKES_I32, ONE, FILTER, START, EMPTY],
         fault: Some(UNTYPED),
     },
     Row {
@@ -268,52 +256,44 @@ const ROWS: [Row; 30] = [
             HOST_AND_FILTER,
             IMPORTS_POD,
             FUNCTION_OF_SECOND,
-            FILTER_PAST_THE_END,
+            FILTER_BEHIND_IMPORT,
             EMPTY,
         ],
         fault: Some(UNTYPED_SECOND),
     },
     Row {
-        sections: &[GIVES_I32, FUNCTION, FILTER, LACKS_ELSE],
+        sections: &[TO_I32, ONE, FILTER, LACKS_ELSE],
         fault: Some(UNTYPED_AT_42),
     },
     Row {
-        sections: &[GIVES_I32, FUNCTION, FILTER, LACKS_ELSE_BEHIND_A_BRANCH],
+        sections: &[TO_I32, ONE, FILTER, LACKS_ELSE_BEHIND_A_BRANCH],
         fault: Some(UNTYPED_AT_44),
     },
     Row {
-        sections: &[GIVES_I32, FUNCTION, FILTER, SUM_OF_NOTHING],
+        sections: &[TO_I32, ONE, FILTER, SUM_OF_NOTHING],
         fault: Some(UNTYPED_AT_36),
     },
 ];
 
-// Bodies of `filter`, which begin at the byte 36, and the fault of the module, if it has one: a padded number; branches to a
+// Bodies of `filter` without locals, whose instructions begin at the byte 36, and the fault of the module, if it has one: a padded number; branches to a
 // loop and behind operands that they drop; and what is free where the place isn't reached, which are operands that nothing in
 // the body left there, and they alone.
 const BODIES: [(&[u8], Option<TypeFault>); 11] = [
-    (b"\x41\x80\x80\x80\x80\x00\x0B", None),
-    (b"\x03\x40\x0C\x00\x0B\x41\x00\x0B", None),
-    (b"\x41\x07\x41\x08\x41\x00\x0C\x00\x0B", None),
-    (b"\x41\x00\x0C\x00\x6A\x0B", None),
-    (b"\x00\x0B", None),
-    (b"\x00\x1B\x0B", None),
-    (b"\x00\x1A\x1B\x0B", None),
-    (b"\x00\x42\x00\x1B\x0B", Some(UNTYPED_AT_39)),
-    (b"\x00\x42\x00\x41\x00\x1B\x0B", Some(UNTYPED_AT_42)),
-    (b"\x41\x01\x04\x7F\x41\x00\x05\x41\x02\x0B\x0B", None),
+    (b"\0\x41\x80\x80\x80\x80\x00\x0B", None),
+    (b"\0\x03\x40\x0C\x00\x0B\x41\x00\x0B", None),
+    (b"\0\x41\x07\x41\x08\x41\x00\x0C\x00\x0B", None),
+    (b"\0\x41\x00\x0C\x00\x6A\x0B", None),
+    (b"\0\x00\x0B", None),
+    (b"\0\x00\x1B\x0B", None),
+    (b"\0\x00\x1A\x1B\x0B", None),
+    (b"\0\x00\x42\x00\x1B\x0B", Some(UNTYPED_AT_39)),
+    (b"\0\x00\x42\x00\x41\x00\x1B\x0B", Some(UNTYPED_AT_42)),
+    (b"\0\x41\x01\x04\x7F\x41\x00\x05\x41\x02\x0B\x0B", None),
     (
-        b"\x41\x01\x04\x7F\x41\x00\x05\x42\x02\x0B\x0B",
+        b"\0\x41\x01\x04\x7F\x41\x00\x05\x42\x02\x0B\x0B",
         Some(UNTYPED_AT_45),
     ),
 ];
-
-fn module(alloc: Global, sections: &[&[u8]]) -> Result<Vec<u8>, AllocError> {
-    let mut bytes = Vec::from_slice(alloc, HEADER)?;
-    for section in sections {
-        bytes.extend_from_slice(section)?;
-    }
-    Ok(bytes)
-}
 
 // The fault of a module of these bytes, if it has one.
 fn fault_of(alloc: Global, bytes: &[u8]) -> Result<Option<TypeFault>, Fail> {
@@ -332,19 +312,10 @@ fn faults_in_their_order(rt: HostRuntime) -> Result<(), Fail> {
     Ok(())
 }
 
-// A module whose one function is `filter`, with this body without locals, of at most 120 bytes.
-fn with_body(alloc: Global, body: &[u8]) -> Result<Vec<u8>, AllocError> {
-    let length = body.len().min(120) as u8;
-    let mut bytes = module(alloc, &[GIVES_I32, FUNCTION, FILTER])?;
-    bytes.extend_from_slice(&[0x0A, length + 3, 0x01, length + 1, 0x00])?;
-    bytes.extend_from_slice(body)?;
-    Ok(bytes)
-}
-
 #[test]
 fn bodies_of_filter(rt: HostRuntime) -> Result<(), Fail> {
     for (index, (body, fault)) in BODIES.iter().enumerate() {
-        let bytes = with_body(rt.alloc(), body)?;
+        let bytes = filter_of(rt.alloc(), body)?;
         assert_eq!(rt;
             fault_of(rt.alloc(), bytes.as_slice())?,
             *fault,
@@ -362,7 +333,7 @@ fn with_globals(
     spelled: [u8; 2],
     behind: &[&[u8]],
 ) -> Result<Vec<u8>, AllocError> {
-    let mut bytes = module(alloc, &[GIVES_I32, FUNCTION])?;
+    let mut bytes = module(alloc, &[TO_I32, ONE])?;
     bytes.push(0x06)?;
     bytes.extend_from_slice(&size)?;
     bytes.extend_from_slice(&spelled)?;
@@ -408,7 +379,7 @@ fn many_globals(rt: HostRuntime) -> Result<(), Fail> {
 // Blocks nest 256 deep at most.
 #[test]
 fn deepest_blocks(rt: HostRuntime) -> Result<(), Fail> {
-    let mut bytes = module(rt.alloc(), &[GIVES_I32, FUNCTION, FILTER])?;
+    let mut bytes = module(rt.alloc(), FILTER_ALONE)?;
     bytes.extend_from_slice(&[0x0A, 0x87, 0x06, 0x01, 0x84, 0x06, 0x00])?;
     for _ in 0..256 {
         bytes.extend_from_slice(&[0x02, 0x40])?;

@@ -1,22 +1,17 @@
-// Bodies of one function without parameters that gives an i32, with the most operands of each that has a typing, and with
-// the notes of some.
+//! Bodies of one function without parameters that gives an i32, with the most operands of each that has a typing, and with
+//! the notes of some.
 
+use crate::small_modules::filter_of;
 use std::alloc::{AllocError, Global};
 use std::test::Fail;
 use wbin::decode;
 use wbody::{BranchNote, Notes, imports_functions, type_body};
 
-// The sections up to the code: one type [] -> [i32], one function, the export `filter`.
-const FRONT: &[u8] =
-    b"\0asm\x01\0\0\0\x01\x05\x01\x60\x00\x01\x7F\x03\x02\x01\x00\x07\x0A\x01\x06filter\x00\x00";
-
-// What is found out of the body, if it has a typing. It begins at the byte 36.
+// What is found out of the body, if it has a typing. It has no locals, and begins at the byte 36.
 fn notes_of_body(alloc: Global, body: &[u8]) -> Result<Option<Notes>, AllocError> {
-    let mut bytes = Vec::new(alloc);
-    bytes.extend_from_slice(FRONT)?;
-    let length = body.len().min(100) as u8;
-    bytes.extend_from_slice(&[0x0A, length + 3, 0x01, length + 1, 0x00])?;
-    bytes.extend_from_slice(body)?;
+    let mut whole = Vec::from_slice(alloc, b"\0")?;
+    whole.extend_from_slice(body)?;
+    let bytes = filter_of(alloc, &whole)?;
     let Ok(decoded) = decode(alloc, bytes.as_slice()) else {
         return Ok(None);
     };

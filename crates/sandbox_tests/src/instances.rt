@@ -2,6 +2,10 @@
 //! hand from the table of fuel in docs/WEBASSEMBLY.md.
 use crate::records::pod_of;
 use crate::records::rows::PODS;
+use crate::small_modules::{
+    FILTER, FILTER_BEHIND_IMPORT, ONE, ONE_OF_EACH, PAGE, POD, SCORE_ALONE, TO_I32,
+    TO_I32_AND_HOST, TO_I32_AND_START, ZERO, module_with,
+};
 use std::alloc::Global;
 use std::sync::Arc;
 use std::test::Fail;
@@ -11,43 +15,20 @@ use whost::{Instance, InstanceFault, Records};
 use wmach::{Export, Outcome, Trap};
 use wtype::validate;
 
-const HEADER: &[u8] = b"\0asm\x01\0\0\0";
-
-// Types: from nothing to an i32, and from two i32 to one; from nothing to an i32, and from nothing to nothing; the first alone.
-const HOST_TYPES: &[u8] = b"\x01\x0B\x02\x60\x00\x01\x7F\x60\x02\x7F\x7F\x01\x7F";
-
-const START_TYPES: &[u8] = b"\x01\x08\x02\x60\x00\x01\x7F\x60\x00\x00";
-
-const FILTER_TYPE: &[u8] = b"\x01\x05\x01\x60\x00\x01\x7F";
-
-// The function `sched.pod`, imported with the second type.
-const POD: &[u8] = b"\x02\x0D\x01\x05sched\x03pod\x00\x01";
-
-// One function of the first type; two, of the first type and of the second; and two of the first.
-const ONE: &[u8] = b"\x03\x02\x01\x00";
-
-const WITH_START: &[u8] = b"\x03\x03\x02\x00\x01";
-
+// Two functions of the first type, and a table of two places.
 const TWO: &[u8] = b"\x03\x03\x02\x00\x00";
 
-// A table of two places, and a memory of one page.
 const TABLE: &[u8] = b"\x04\x04\x01\x70\x00\x02";
 
-const MEMORY: &[u8] = b"\x05\x03\x01\x00\x01";
-
-// The function 0 or 1 is exported as `filter`; the function 1 is called at the start.
-const FILTER: &[u8] = b"\x07\x0A\x01\x06filter\x00\x00";
-
-const FILTER_BEHIND_IMPORT: &[u8] = b"\x07\x0A\x01\x06filter\x00\x01";
-
+// The function 1 is called at the start.
 const START: &[u8] = b"\x08\x01\x01";
 
-// The second function in the table at 1, and the first function past the table's end.
+// The second function in the table at 1, and the first function there and past the table's end.
 const ELEMENT: &[u8] = b"\x09\x07\x01\x00\x41\x01\x0B\x01\x01";
 
-const ELEMENT_PAST_THE_END: &[u8] = b"\x09\x07\x01\x00\x41\x02\x0B\x01\x00";
-
 const ELEMENT_OF_ONE: &[u8] = b"\x09\x07\x01\x00\x41\x01\x0B\x01\x00";
+
+const ELEMENT_PAST_THE_END: &[u8] = b"\x09\x07\x01\x00\x41\x02\x0B\x01\x00";
 
 // A byte 5 at 0, and one past the memory's end.
 const DATA: &[u8] = b"\x0B\x07\x01\x00\x41\x00\x0B\x01\x05";
@@ -55,36 +36,39 @@ const DATA: &[u8] = b"\x0B\x07\x01\x00\x41\x00\x0B\x01\x05";
 const DATA_PAST_THE_END: &[u8] = b"\x0B\x09\x01\x00\x41\x80\x80\x04\x0B\x01\x05";
 
 // Calls of `sched.pod` with a place and a limit: 65,510 and 25; 65,510 and 26; 65,511 and 26.
-const LIMIT_25: &[u8] = b"\x0A\x0C\x01\x0A\x00\x41\xE6\xFF\x03\x41\x19\x10\x00\x0B";
+const LIMIT_25: &[u8] = b"\0\x41\xE6\xFF\x03\x41\x19\x10\x00\x0B";
 
-const LIMIT_26: &[u8] = b"\x0A\x0C\x01\x0A\x00\x41\xE6\xFF\x03\x41\x1A\x10\x00\x0B";
+const LIMIT_26: &[u8] = b"\0\x41\xE6\xFF\x03\x41\x1A\x10\x00\x0B";
 
-const PAST_THE_END: &[u8] = b"\x0A\x0C\x01\x0A\x00\x41\xE7\xFF\x03\x41\x1A\x10\x00\x0B";
+const PAST_THE_END: &[u8] = b"\0\x41\xE7\xFF\x03\x41\x1A\x10\x00\x0B";
 
 // The first two of those, and then the four bytes at 65,510.
 const LIMIT_25_READ: &[u8] =
-    b"\x0A\x14\x01\x12\x00\x41\xE6\xFF\x03\x41\x19\x10\x00\x1A\x41\xE6\xFF\x03\x28\x02\x00\x0B";
+    b"\0\x41\xE6\xFF\x03\x41\x19\x10\x00\x1A\x41\xE6\xFF\x03\x28\x02\x00\x0B";
 
 const LIMIT_26_READ: &[u8] =
-    b"\x0A\x14\x01\x12\x00\x41\xE6\xFF\x03\x41\x1A\x10\x00\x1A\x41\xE6\xFF\x03\x28\x02\x00\x0B";
+    b"\0\x41\xE6\xFF\x03\x41\x1A\x10\x00\x1A\x41\xE6\xFF\x03\x28\x02\x00\x0B";
 
 // What is at 0, which is 9 afterwards; and a start function that adds 1 to it.
-const READ_AND_WRITE: &[u8] =
-    b"\x0A\x20\x02\x0E\x00\x41\x00\x28\x02\x00\x41\x00\x41\x09\x36\x02\x00\x0B\x0F\x00\x41\x00\x41\x00\x28\x02\x00\x41\x01\x6A\x36\x02\x00\x0B";
+const READ_AND_WRITE: &[u8] = b"\0\x41\x00\x28\x02\x00\x41\x00\x41\x09\x36\x02\x00\x0B";
 
-// What the table's function at 1 gives; it gives 42.
-const THROUGH_TABLE: &[u8] = b"\x0A\x0E\x02\x07\x00\x41\x01\x11\x00\x00\x0B\x04\x00\x41\x2A\x0B";
+const ADDS_1: &[u8] = b"\0\x41\x00\x41\x00\x28\x02\x00\x41\x01\x6A\x36\x02\x00\x0B";
 
-// 0; and the same before a start function that is cut off, and before one without an end.
-const ZERO: &[u8] = b"\x0A\x06\x01\x04\x00\x41\x00\x0B";
+// What the table's function at 1 gives; and 42.
+const THROUGH_TABLE: &[u8] = b"\0\x41\x01\x11\x00\x00\x0B";
 
-const START_TRAPS: &[u8] = b"\x0A\x0A\x02\x04\x00\x41\x00\x0B\x03\x00\x00\x0B";
+const FORTY_TWO: &[u8] = b"\0\x41\x2A\x0B";
 
-const START_IS_ENDLESS: &[u8] = b"\x0A\x0E\x02\x04\x00\x41\x00\x0B\x07\x00\x03\x40\x0C\x00\x0B\x0B";
+// A start function that is cut off, and one without an end.
+const TRAPS: &[u8] = b"\0\x00\x0B";
 
-// A module with the function `score`, which gives 50.
-const FIFTY: &[u8] =
-    b"\x01\x05\x01\x60\x00\x01\x7E\x03\x02\x01\x00\x07\x09\x01\x05score\x00\x00\x0A\x06\x01\x04\x00\x42\x32\x0B";
+const ENDLESS: &[u8] = b"\0\x03\x40\x0C\x00\x0B\x0B";
+
+// A score of 50.
+const FIFTY: &[u8] = b"\0\x42\x32\x0B";
+
+// A filter that can call the host's function.
+const ASKING: &[&[u8]] = &[TO_I32_AND_HOST, POD, ONE, PAGE, FILTER_BEHIND_IMPORT];
 
 // What there is of a module.
 #[derive(Clone, Copy, PartialEq, Eq, Debug)]
@@ -99,6 +83,8 @@ enum Found {
 struct Row {
     row: &'static str,
     sections: &'static [&'static [u8]],
+    bodies: &'static [&'static [u8]],
+    data: &'static [u8],
     fuel: u64,
     found: Found,
 }
@@ -106,126 +92,105 @@ struct Row {
 const ROWS: [Row; 13] = [
     Row {
         row: "a limit below the record's length",
-        sections: &[HOST_TYPES, POD, ONE, MEMORY, FILTER_BEHIND_IMPORT, LIMIT_25],
+        sections: ASKING,
+        bodies: &[LIMIT_25],
+        data: b"",
         fuel: 1_000,
         found: Found::Ends(Outcome::Value(Some(Value::I32(26)), 1)),
     },
     Row {
         row: "nothing is written",
-        sections: &[
-            HOST_TYPES,
-            POD,
-            ONE,
-            MEMORY,
-            FILTER_BEHIND_IMPORT,
-            LIMIT_25_READ,
-        ],
+        sections: ASKING,
+        bodies: &[LIMIT_25_READ],
+        data: b"",
         fuel: 1_000,
         found: Found::Ends(Outcome::Value(Some(Value::I32(0)), 3)),
     },
     Row {
         row: "a limit that is the record's length",
-        sections: &[HOST_TYPES, POD, ONE, MEMORY, FILTER_BEHIND_IMPORT, LIMIT_26],
+        sections: ASKING,
+        bodies: &[LIMIT_26],
+        data: b"",
         fuel: 1_000,
         found: Found::Ends(Outcome::Value(Some(Value::I32(26)), 2)),
     },
     Row {
         row: "the record is written",
-        sections: &[
-            HOST_TYPES,
-            POD,
-            ONE,
-            MEMORY,
-            FILTER_BEHIND_IMPORT,
-            LIMIT_26_READ,
-        ],
+        sections: ASKING,
+        bodies: &[LIMIT_26_READ],
+        data: b"",
         fuel: 1_000,
         found: Found::Ends(Outcome::Value(Some(Value::I32(0x7002_0101)), 4)),
     },
     Row {
         row: "no fuel for the writing",
-        sections: &[HOST_TYPES, POD, ONE, MEMORY, FILTER_BEHIND_IMPORT, LIMIT_26],
+        sections: ASKING,
+        bodies: &[LIMIT_26],
+        data: b"",
         fuel: 1,
         found: Found::Ends(Outcome::Exhausted(1)),
     },
     Row {
         row: "the record would pass the memory's end",
-        sections: &[
-            HOST_TYPES,
-            POD,
-            ONE,
-            MEMORY,
-            FILTER_BEHIND_IMPORT,
-            PAST_THE_END,
-        ],
+        sections: ASKING,
+        bodies: &[PAST_THE_END],
+        data: b"",
         fuel: 1_000,
         found: Found::Ends(Outcome::Trap(Trap::HostOutOfBounds, 1)),
     },
     Row {
         row: "data, then start, and each call from there",
-        sections: &[
-            START_TYPES,
-            WITH_START,
-            MEMORY,
-            FILTER,
-            START,
-            READ_AND_WRITE,
-            DATA,
-        ],
+        sections: &[TO_I32_AND_START, ONE_OF_EACH, PAGE, FILTER, START],
+        bodies: &[READ_AND_WRITE, ADDS_1],
+        data: DATA,
         fuel: 1_000,
         found: Found::Ends(Outcome::Value(Some(Value::I32(6)), 2)),
     },
     Row {
         row: "an element of the table",
-        sections: &[FILTER_TYPE, TWO, TABLE, FILTER, ELEMENT, THROUGH_TABLE],
+        sections: &[TO_I32, TWO, TABLE, FILTER, ELEMENT],
+        bodies: &[THROUGH_TABLE, FORTY_TWO],
+        data: b"",
         fuel: 1_000,
         found: Found::Ends(Outcome::Value(Some(Value::I32(42)), 1)),
     },
     Row {
         row: "a score",
-        sections: &[FIFTY],
+        sections: SCORE_ALONE,
+        bodies: &[FIFTY],
+        data: b"",
         fuel: 0,
         found: Found::Ends(Outcome::Value(Some(Value::I64(50)), 0)),
     },
     Row {
         row: "both segments are out of bounds",
-        sections: &[
-            FILTER_TYPE,
-            ONE,
-            TABLE,
-            MEMORY,
-            FILTER,
-            ELEMENT_PAST_THE_END,
-            ZERO,
-            DATA_PAST_THE_END,
-        ],
+        sections: &[TO_I32, ONE, TABLE, PAGE, FILTER, ELEMENT_PAST_THE_END],
+        bodies: &[ZERO],
+        data: DATA_PAST_THE_END,
         fuel: 1_000,
         found: Found::Refused(InstanceFault::ElementOutOfBounds),
     },
     Row {
         row: "the data segment is out of bounds",
-        sections: &[
-            FILTER_TYPE,
-            ONE,
-            TABLE,
-            MEMORY,
-            FILTER,
-            ELEMENT_OF_ONE,
-            ZERO,
-            DATA_PAST_THE_END,
-        ],
+        sections: &[TO_I32, ONE, TABLE, PAGE, FILTER, ELEMENT_OF_ONE],
+        bodies: &[ZERO],
+        data: DATA_PAST_THE_END,
         fuel: 1_000,
         found: Found::Refused(InstanceFault::DataOutOfBounds),
     },
     Row {
         row: "start is cut off",
-        sections: &[START_TYPES, WITH_START, FILTER, START, START_TRAPS],
+        sections: &[TO_I32_AND_START, ONE_OF_EACH, FILTER, START],
+        bodies: &[ZERO, TRAPS],
+        data: b"",
         fuel: 1_000,
         found: Found::Refused(InstanceFault::StartTrap(Trap::Unreachable)),
     },
     Row {
         row: "start has no end",
-        sections: &[START_TYPES, WITH_START, FILTER, START, START_IS_ENDLESS],
+        sections: &[TO_I32_AND_START, ONE_OF_EACH, FILTER, START],
+        bodies: &[ZERO, ENDLESS],
+        data: b"",
         fuel: 1_000,
         found: Found::Refused(InstanceFault::StartExhausted),
     },
@@ -243,11 +208,8 @@ fn outcome(instance: &mut Instance, records: &Records, fuel: u64) -> Option<Outc
 }
 
 fn tried(alloc: Global, row: &Row, records: &Records) -> Result<Found, Fail> {
-    let mut bytes = Vec::from_slice(alloc, HEADER)?;
-    for section in row.sections {
-        bytes.extend_from_slice(section)?;
-    }
-    let checked = validate(alloc, decode(alloc, bytes.as_slice())?)?;
+    let bytes = module_with(alloc, row.sections, row.bodies, row.data)?;
+    let checked = validate(alloc, decode(alloc, &bytes)?)?;
     let mut instance = match Instance::new(alloc, Arc::new(alloc, checked)?, row.fuel) {
         Ok(instance) => instance,
         Err(fault) => return Ok(Found::Refused(fault)),

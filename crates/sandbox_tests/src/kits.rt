@@ -2,12 +2,16 @@
 //! every field of both records.
 mod every_field;
 
-ghost use Rattle.std.specs.Prelude.{IfOk};
+ghost use Rattle.std.specs.Prelude.{◌≡◌, ◌<◌, length, slice_get, IfOk};
 ghost use Rattle.plugin.specs.Plugins.{IsWeight, IsFuel};
 
+use crate::small_modules::{
+    COUNTS, FILTER, FILTER_ALONE, FILTER_AND_GLOBAL, ONE_OF_EACH, SCORE_ALONE, TO_I32_AND_START,
+    ZERO, module_with,
+};
 use arrayvec::ArrayVec;
 use plugin::{
-    AddFault, Cause, FilterVerdict, Kit, Plugin, Plugins, Rejection, Rules, ScoreVerdict,
+    AddFault, Cause, FilterVerdict, Kit, KitRules, Plugin, Plugins, Rejection, Rules, ScoreVerdict,
 };
 use quant::{Bytes, Cpu, Label, MAX_LABELS, Name, Node, Pod, Request, Res, Text};
 use std::alloc::Global;
@@ -19,39 +23,26 @@ use whost::Records;
 use wmach::Trap;
 use wtype::validate;
 
-// A filter that gives twice what a global is, and adds 1 to it: where a call began where the last one ended, the second would
-// reject the node.
-const COUNTS: &[u8] =
-    b"\0asm\x01\0\0\0\x01\x05\x01\x60\x00\x01\x7F\x03\x02\x01\x00\x06\x06\x01\x7F\x01\x41\x00\x0B\x07\x0A\x01\x06filter\x00\x00\x0A\x10\x01\x0E\x00\x23\x00\x23\x00\x41\x01\x6A\x24\x00\x41\x01\x74\x0B";
+// Bodies of a score: 50, and 101.
+const FIFTY: &[u8] = b"\0\x42\x32\x0B";
 
-// A score of 50.
-const FIFTY: &[u8] =
-    b"\0asm\x01\0\0\0\x01\x05\x01\x60\x00\x01\x7E\x03\x02\x01\x00\x07\x09\x01\x05score\x00\x00\x0A\x06\x01\x04\x00\x42\x32\x0B";
+const TOO_MUCH: &[u8] = b"\0\x42\xE5\x00\x0B";
 
-// A score of 101.
-const TOO_MUCH: &[u8] =
-    b"\0asm\x01\0\0\0\x01\x05\x01\x60\x00\x01\x7E\x03\x02\x01\x00\x07\x09\x01\x05score\x00\x00\x0A\x07\x01\x05\x00\x42\xE5\x00\x0B";
+// Bodies of a filter: one that is cut off, one without an end, and one that gives 3.
+const TRAPS: &[u8] = b"\0\x00\x0B";
 
-// A filter that is cut off.
-const TRAPS: &[u8] =
-    b"\0asm\x01\0\0\0\x01\x05\x01\x60\x00\x01\x7F\x03\x02\x01\x00\x07\x0A\x01\x06filter\x00\x00\x0A\x05\x01\x03\x00\x00\x0B";
+const ENDLESS: &[u8] = b"\0\x03\x40\x0C\x00\x0B\x41\x00\x0B";
 
-// A filter without an end.
-const ENDLESS: &[u8] =
-    b"\0asm\x01\0\0\0\x01\x05\x01\x60\x00\x01\x7F\x03\x02\x01\x00\x07\x0A\x01\x06filter\x00\x00\x0A\x0B\x01\x09\x00\x03\x40\x0C\x00\x0B\x41\x00\x0B";
+const NEVER: &[u8] = b"\0\x41\x03\x0B";
 
-// A filter that gives 3.
-const NEVER: &[u8] =
-    b"\0asm\x01\0\0\0\x01\x05\x01\x60\x00\x01\x7F\x03\x02\x01\x00\x07\x0A\x01\x06filter\x00\x00\x0A\x06\x01\x04\x00\x41\x03\x0B";
-
-// One whose start function is cut off.
-const NO_START: &[u8] =
-    b"\0asm\x01\0\0\0\x01\x08\x02\x60\x00\x01\x7F\x60\x00\x00\x03\x03\x02\x00\x01\x07\x0A\x01\x06filter\x00\x00\x08\x01\x01\x0A\x0A\x02\x04\x00\x41\x00\x0B\x03\x00\x00\x0B";
+// A filter beside a start function that is cut off.
+const WITH_START: &[&[u8]] = &[TO_I32_AND_START, ONE_OF_EACH, FILTER, b"\x08\x01\x01"];
 
 #[derive(Drop)]
 struct Row {
     name: &'static str,
-    module: &'static [u8],
+    sections: &'static [&'static [u8]],
+    body: &'static [u8],
     weight: u8,
     filter: FilterVerdict,
     score: ScoreVerdict,
@@ -60,42 +51,48 @@ struct Row {
 const ROWS: [Row; 6] = [
     Row {
         name: "counts",
-        module: COUNTS,
+        sections: FILTER_AND_GLOBAL,
+        body: COUNTS,
         weight: 1,
         filter: FilterVerdict::Passes,
         score: ScoreVerdict::Good(0),
     },
     Row {
         name: "fifty",
-        module: FIFTY,
+        sections: SCORE_ALONE,
+        body: FIFTY,
         weight: 2,
         filter: FilterVerdict::Passes,
         score: ScoreVerdict::Good(50),
     },
     Row {
         name: "traps",
-        module: TRAPS,
+        sections: FILTER_ALONE,
+        body: TRAPS,
         weight: 10,
         filter: FilterVerdict::Errs(Cause::Trap(Trap::Unreachable)),
         score: ScoreVerdict::Good(0),
     },
     Row {
         name: "endless",
-        module: ENDLESS,
+        sections: FILTER_ALONE,
+        body: ENDLESS,
         weight: 3,
         filter: FilterVerdict::Errs(Cause::Exhausted),
         score: ScoreVerdict::Good(0),
     },
     Row {
         name: "too-much",
-        module: TOO_MUCH,
+        sections: SCORE_ALONE,
+        body: TOO_MUCH,
         weight: 4,
         filter: FilterVerdict::Passes,
         score: ScoreVerdict::Errs(Cause::Score(101)),
     },
     Row {
         name: "never",
-        module: NEVER,
+        sections: FILTER_ALONE,
+        body: NEVER,
         weight: 5,
         filter: FilterVerdict::Rejects(Rejection::UnschedulableAndUnresolvable),
         score: ScoreVerdict::Good(0),
@@ -170,11 +167,12 @@ fn differs(mut kit: Kit) -> Option<&'static str> {
 fn kits_say_the_same_in_two_threads(rt: HostRuntime) -> Result<(), Fail> {
     let mut plugins = Plugins::new(rt.alloc());
     for row in &ROWS {
+        let module = module_with(rt.alloc(), row.sections, &[row.body], b"")?;
         let fault = refused(
             rt.alloc(),
             &mut plugins,
             plugin(row.name, row.weight)?,
-            row.module,
+            &module,
         )?;
         assert_eq!(rt; fault, None, "{}", row.name);
     }
@@ -183,6 +181,39 @@ fn kits_say_the_same_in_two_threads(rt: HostRuntime) -> Result<(), Fail> {
     let (one, other) = thread::join(&rt, move || differs(first), move || differs(second));
     assert_eq!(rt; one, None);
     assert_eq!(rt; other, None);
+    Ok(())
+}
+
+// Asks the first plugin's filter, which leaves the second one's instance as it was, its store too.
+fn ask_the_first(kit: &mut Kit, records: &Records) -> FilterVerdict
+    requires { 1 < length kit.old }
+    ensures { slice_get kit.new 1 ≡ slice_get kit.old 1 }
+{
+    kit.filter(0, records)
+}
+
+// What the second plugin's filter says before the first one's is asked and after it, if there are two.
+fn around_a_call(mut kit: Kit) -> Option<(FilterVerdict, FilterVerdict)> {
+    let records = Records::new();
+    if kit.count() != 2 {
+        return None;
+    }
+    let before = kit.filter(1, &records);
+    ask_the_first(&mut kit, &records);
+    Some((before, kit.filter(1, &records)))
+}
+
+#[test]
+fn a_call_changes_no_other_instance(rt: HostRuntime) -> Result<(), Fail> {
+    let counts = module_with(rt.alloc(), FILTER_AND_GLOBAL, &[COUNTS], b"")?;
+    let mut plugins = Plugins::new(rt.alloc());
+    for name in ["one", "other"] {
+        let fault = refused(rt.alloc(), &mut plugins, plugin(name, 1)?, &counts)?;
+        assert_eq!(rt; fault, None, "{name}");
+    }
+    let said = around_a_call(Kit::new(rt.alloc(), &plugins)?);
+    let passes = FilterVerdict::Passes;
+    assert_eq!(rt; said, Some((passes, passes)));
     Ok(())
 }
 
@@ -196,12 +227,14 @@ fn told(alloc: Global, plugins: &Plugins) -> Result<String, Fail> {
 
 #[test]
 fn plugins_and_kits_are_refused(rt: HostRuntime) -> Result<(), Fail> {
+    let scores = module_with(rt.alloc(), SCORE_ALONE, &[FIFTY], b"")?;
+    let no_start = module_with(rt.alloc(), WITH_START, &[ZERO, TRAPS], b"")?;
     let mut plugins = Plugins::new(rt.alloc());
     for row in &NAMES {
         let module = if plugins.count() == 0 {
-            FIFTY
+            &scores
         } else {
-            NO_START
+            &no_start
         };
         let fault = refused(rt.alloc(), &mut plugins, plugin(row.0, 1)?, module)?;
         assert_eq!(rt; fault, row.1, "{}", row.0);
@@ -261,12 +294,12 @@ fn show(records: &mut Records) -> Result<(), Fail> {
     Ok(())
 }
 
-// What the first plugin's score says.
-fn first_score(mut kit: Kit, records: &Records) -> Option<ScoreVerdict> {
-    if kit.count() == 0 {
+// What the first rule's score says.
+fn first_score<R: Rules>(rules: &mut R, records: &Records) -> Option<ScoreVerdict> {
+    if rules.count() == 0 {
         return None;
     }
-    Some(kit.score(0, records))
+    Some(rules.score(0, records))
 }
 
 #[test]
@@ -276,7 +309,8 @@ fn a_module_reads_every_field(rt: HostRuntime) -> Result<(), Fail> {
     let mut plugins = Plugins::new(rt.alloc());
     let reader = plugin("reader", 1)?;
     let fault = refused(rt.alloc(), &mut plugins, reader, every_field::MODULE)?;
-    let told = first_score(Kit::new(rt.alloc(), &plugins)?, &records);
+    let mut rules = KitRules::new(Kit::new(rt.alloc(), &plugins)?);
+    let told = first_score(&mut rules, &records);
     let field = ScoreVerdict::Errs(Cause::Score(every_field::TOLD));
     assert_eq!(rt; fault, None);
     assert_eq!(rt; told, Some(field));

@@ -5,6 +5,8 @@
 #[cfg(test)]
 mod acceptance;
 #[cfg(test)]
+mod at_image;
+#[cfg(test)]
 mod bodies;
 #[cfg(test)]
 mod instances;
@@ -22,5 +24,7 @@ mod modules;
 mod operations;
 #[cfg(test)]
 mod records;
+#[cfg(test)]
+mod small_modules;
 #[cfg(test)]
 mod store;

@@ -1,27 +1,14 @@
-// Whole modules. The kinds and places of faults are those of docs/WEBASSEMBLY.md; what is spelled was compared with
-// wabt's `wasm-objdump -x`.
+//! Whole modules. The kinds and places of faults are those of docs/WEBASSEMBLY.md; what is spelled was compared with
+//! wabt's `wasm-objdump -x`.
 
-use std::alloc::{AllocError, Global};
+use crate::small_modules::{FILTER, ONE, TO_I32, ZERO, filter_of, module, module_with};
+use std::alloc::Global;
 use std::process::Abort;
 use std::test::Fail;
 use wbin::{
     DataSegment, ExportKind, GlobalType, ImportKind, Limits, LocalRun, Place, Tables, decode,
 };
 use wcode::{BinFault, Kind, ValueType};
-
-// One type [] to [i32], and the function `filter` of it, which gives 0.
-const ZERO: [u8; 39] = [
-    0x00, 0x61, 0x73, 0x6D, 0x01, 0x00, 0x00, 0x00, 0x01, 0x05, 0x01, 0x60, 0x00, 0x01, 0x7F, 0x03,
-    0x02, 0x01, 0x00, 0x07, 0x0A, 0x01, 0x06, 0x66, 0x69, 0x6C, 0x74, 0x65, 0x72, 0x00, 0x00, 0x0A,
-    0x06, 0x01, 0x04, 0x00, 0x41, 0x00, 0x0B,
-];
-
-// The first eight bytes of a module, and these.
-fn module(alloc: Global, rest: &[u8]) -> Result<Vec<u8>, AllocError> {
-    let mut bytes = Vec::from_slice(alloc, &ZERO[..8])?;
-    bytes.extend_from_slice(rest)?;
-    Ok(bytes)
-}
 
 fn refused(rt: &impl Abort, alloc: Global, bytes: &[u8], want: BinFault) {
     match decode(alloc, bytes) {
@@ -46,8 +33,10 @@ fn assert_zero(rt: &impl Abort, tables: &Tables) {
 
 #[test]
 fn cut_modules(rt: HostRuntime) -> Result<(), Fail> {
-    for k in 0..39 {
-        let bytes = &ZERO[..k];
+    let zero = filter_of(rt.alloc(), ZERO)?;
+    assert_eq!(&rt; zero.len(), 39);
+    for (k, _) in zero.iter().enumerate() {
+        let bytes = &zero[..k];
         match k {
             8 | 15 => {
                 decode(rt.alloc(), bytes)?;
@@ -56,8 +45,8 @@ fn cut_modules(rt: HostRuntime) -> Result<(), Fail> {
             _ => refused(&rt, rt.alloc(), bytes, malformed(Kind::Truncated, k)),
         }
     }
-    let whole = decode(rt.alloc(), &ZERO)?;
-    assert_eq!(&rt; whole.bytes(), ZERO.as_slice());
+    let whole = decode(rt.alloc(), &zero)?;
+    assert_eq!(&rt; whole.bytes(), zero.as_slice());
     assert_zero(&rt, whole.tables());
     Ok(())
 }
@@ -89,7 +78,7 @@ fn header(rt: HostRuntime) -> Result<(), Fail> {
 // A custom section of so many bytes in all makes the module as long as wanted.
 #[test]
 fn length(rt: HostRuntime) -> Result<(), Fail> {
-    let mut bytes = module(rt.alloc(), &[0x00, 0xF4, 0xFF, 0x3F, 0x00])?;
+    let mut bytes = module(rt.alloc(), &[b"\x00\xF4\xFF\x3F\x00"])?;
     for _ in 13..1_048_576 {
         bytes.push(0)?;
     }
@@ -221,7 +210,7 @@ fn faults(rt: HostRuntime) -> Result<(), Fail> {
         ),
     ];
     for (rest, want) in rows {
-        let bytes = module(rt.alloc(), rest)?;
+        let bytes = module(rt.alloc(), &[rest])?;
         refused(&rt, rt.alloc(), bytes.as_slice(), want);
     }
     Ok(())
@@ -230,21 +219,10 @@ fn faults(rt: HostRuntime) -> Result<(), Fail> {
 // A constant of five bytes, padded, and one of six.
 #[test]
 fn padded_constants(rt: HostRuntime) -> Result<(), Fail> {
-    let mut bytes = Vec::from_slice(rt.alloc(), &ZERO[..31])?;
-    bytes.extend_from_slice(&[
-        0x0A, 0x0A, 0x01, 0x08, 0x00, 0x41, 0x80, 0x80, 0x80, 0x80, 0x00, 0x0B,
-    ])?;
-    decode(rt.alloc(), bytes.as_slice())?;
-    bytes.truncate(31);
-    bytes.extend_from_slice(&[
-        0x0A, 0x0B, 0x01, 0x09, 0x00, 0x41, 0x80, 0x80, 0x80, 0x80, 0x80, 0x00, 0x0B,
-    ])?;
-    refused(
-        &rt,
-        rt.alloc(),
-        bytes.as_slice(),
-        malformed(Kind::BadNumber, 37),
-    );
+    let five = filter_of(rt.alloc(), b"\0\x41\x80\x80\x80\x80\x00\x0B")?;
+    decode(rt.alloc(), &five)?;
+    let six = filter_of(rt.alloc(), b"\0\x41\x80\x80\x80\x80\x80\x00\x0B")?;
+    refused(&rt, rt.alloc(), &six, malformed(Kind::BadNumber, 37));
     Ok(())
 }
 
@@ -252,10 +230,9 @@ fn padded_constants(rt: HostRuntime) -> Result<(), Fail> {
 #[test]
 fn empty_sections(rt: HostRuntime) -> Result<(), Fail> {
     for id in 1..12u8 {
-        let bytes = module(
-            rt.alloc(),
-            &[0x00, 0x01, 0x00, id, 0x01, 0x00, 0x00, 0x01, 0x00],
-        )?;
+        let empty = [id, 0x01, 0x00];
+        let custom = b"\x00\x01\x00".as_slice();
+        let bytes = module(rt.alloc(), &[custom, &empty, custom])?;
         let found = decode(rt.alloc(), bytes.as_slice())?;
         assert_eq!(&rt; found.tables().start.is_some(), id == 8);
     }
@@ -267,7 +244,7 @@ fn empty_sections(rt: HostRuntime) -> Result<(), Fail> {
 fn doubled_sections(rt: HostRuntime) -> Result<(), Fail> {
     for id in 1..12u8 {
         // A start section has the index of a function, and each other one a vector, here an empty one.
-        let bytes = module(rt.alloc(), &[id, 0x01, 0x00, id, 0x01, 0x00])?;
+        let bytes = module(rt.alloc(), &[&[id, 0x01, 0x00], &[id, 0x01, 0x00]])?;
         refused(&rt, rt.alloc(), &bytes, malformed(Kind::BadSection, 11));
     }
     Ok(())
@@ -275,11 +252,12 @@ fn doubled_sections(rt: HostRuntime) -> Result<(), Fail> {
 
 #[test]
 fn a_custom_section_leaves_no_trace(rt: HostRuntime) -> Result<(), Fail> {
-    let mut bytes = module(rt.alloc(), &[0x00, 0x05, 0x04, 0x6E, 0x61, 0x6D, 0x65])?;
-    bytes.extend_from_slice(&ZERO[8..])?;
+    let zero = filter_of(rt.alloc(), ZERO)?;
+    let sections = [b"\x00\x05\x04name".as_slice(), TO_I32, ONE, FILTER];
+    let bytes = module_with(rt.alloc(), &sections, &[ZERO], b"")?;
     assert_eq!(&rt; bytes.len(), 46);
     let with = decode(rt.alloc(), &bytes)?;
-    let without = decode(rt.alloc(), &ZERO)?;
+    let without = decode(rt.alloc(), &zero)?;
     let (with, without) = (with.tables(), without.tables());
     assert_eq!(&rt; with.types.len(), without.types.len());
     assert_eq!(&rt; with.codes.len(), without.codes.len());
@@ -366,18 +344,23 @@ fn whole_module(rt: HostRuntime) -> Result<(), Fail> {
     let bytes = module(
         rt.alloc(),
         &[
-            0x00, 0x05, 0x04, 0x6E, 0x61, 0x6D, 0x65, // custom `name`
-            0x01, 0x0A, 0x02, 0x60, 0x00, 0x00, 0x60, 0x02, 0x7F, 0x7E, 0x01, 0x7F, // types
-            0x02, 0x07, 0x01, 0x01, 0x61, 0x01, 0x62, 0x00, 0x01, // import a.b
-            0x03, 0x02, 0x01, 0x00, // function
-            0x04, 0x04, 0x01, 0x70, 0x00, 0x05, // table
-            0x05, 0x04, 0x01, 0x01, 0x02, 0x03, // memory
-            0x06, 0x06, 0x01, 0x7F, 0x01, 0x41, 0x07, 0x0B, // global
-            0x07, 0x05, 0x01, 0x01, 0x6D, 0x02, 0x00, // export m
-            0x08, 0x01, 0x01, // start
-            0x09, 0x08, 0x01, 0x00, 0x41, 0x01, 0x0B, 0x02, 0x01, 0x00, // elements
-            0x0A, 0x06, 0x01, 0x04, 0x01, 0x02, 0x7E, 0x0B, // code
-            0x0B, 0x08, 0x01, 0x00, 0x41, 0x02, 0x0B, 0x02, 0x68, 0x69, // data
+            b"\x00\x05\x04name",
+            // from nothing to nothing, and from an i32 and an i64 to an i32
+            b"\x01\x0A\x02\x60\x00\x00\x60\x02\x7F\x7E\x01\x7F",
+            // the function `a.b`, and one of the module's own
+            b"\x02\x07\x01\x01a\x01b\x00\x01",
+            b"\x03\x02\x01\x00",
+            // a table of 5, a memory of 2 pages to 3, and a global of 7
+            b"\x04\x04\x01\x70\x00\x05",
+            b"\x05\x04\x01\x01\x02\x03",
+            b"\x06\x06\x01\x7F\x01\x41\x07\x0B",
+            // the memory is exported as `m`, and the function 1 is called at the start
+            b"\x07\x05\x01\x01m\x02\x00",
+            b"\x08\x01\x01",
+            // both functions at 1, two locals of i64, and `hi` at 2
+            b"\x09\x08\x01\x00\x41\x01\x0B\x02\x01\x00",
+            b"\x0A\x06\x01\x04\x01\x02\x7E\x0B",
+            b"\x0B\x08\x01\x00\x41\x02\x0B\x02hi",
         ],
     )?;
     let decoded = decode(rt.alloc(), bytes.as_slice())?;

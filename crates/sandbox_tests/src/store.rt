@@ -1,6 +1,6 @@
-// A small module's store: what it is at first, and through segments, writes, an image, more writes and back.
+//! A small module's store: what it is at first, and through segments, writes, an image, more writes and back.
 
-use std::alloc::{AllocError, Global};
+use crate::small_modules::{FILTER, ONE, TO_I32, ZERO, module_with};
 use std::sync::Arc;
 use std::test::Fail;
 use wbin::decode;
@@ -11,26 +11,17 @@ use wtype::validate;
 // segments: the function at 1, none at 3, one at 3, none at 4; data segments: `hi` at 8, nothing at 65,536 and at 65,537,
 // `a` and `ab` at 65,535.
 const SECTIONS: &[&[u8]] = &[
-    b"\0asm\x01\0\0\0",
-    b"\x01\x05\x01\x60\x00\x01\x7F",
-    b"\x03\x02\x01\x00",
+    TO_I32,
+    ONE,
     b"\x04\x04\x01\x70\x00\x03",
     b"\x05\x04\x01\x01\x01\x02",
     b"\x06\x0B\x02\x7F\x01\x41\x07\x0B\x7E\x01\x42\x05\x0B",
-    b"\x07\x0A\x01\x06filter\x00\x00",
+    FILTER,
     b"\x09\x17\x04\x00\x41\x01\x0B\x01\x00\x00\x41\x03\x0B\x00\x00\x41\x03\x0B\x01\x00\x00\x41\x04\x0B\x00",
-    b"\x0A\x06\x01\x04\x00\x41\x00\x0B",
-    b"\x0B\x27\x05\x00\x41\x08\x0B\x02hi\x00\x41\x80\x80\x04\x0B\x00\x00\x41\x81\x80\x04\x0B\x00",
-    b"\x00\x41\xFF\xFF\x03\x0B\x01a\x00\x41\xFF\xFF\x03\x0B\x02ab",
 ];
 
-fn bytes(alloc: Global) -> Result<Vec<u8>, AllocError> {
-    let mut bytes = Vec::new(alloc);
-    for section in SECTIONS {
-        bytes.extend_from_slice(section)?;
-    }
-    Ok(bytes)
-}
+const DATA: &[u8] =
+    b"\x0B\x27\x05\x00\x41\x08\x0B\x02hi\x00\x41\x80\x80\x04\x0B\x00\x00\x41\x81\x80\x04\x0B\x00\x00\x41\xFF\xFF\x03\x0B\x01a\x00\x41\xFF\xFF\x03\x0B\x02ab";
 
 #[derive(Clone, Copy)]
 enum Step {
@@ -150,7 +141,7 @@ fn first_difference(store: &mut Store) -> Option<usize> {
 
 #[test]
 fn a_store_is_written_kept_and_brought_back(rt: HostRuntime) -> Result<(), Fail> {
-    let bytes = bytes(rt.alloc())?;
+    let bytes = module_with(rt.alloc(), SECTIONS, &[ZERO], DATA)?;
     let checked = validate(rt.alloc(), decode(rt.alloc(), bytes.as_slice())?)?;
     let mut store = Store::new(rt.alloc(), Arc::new(rt.alloc(), checked)?)?;
     for (segment, fits) in [true, true, false, false, false].into_iter().enumerate() {

@@ -58,7 +58,7 @@ const total = binaries.filter((name) => !partial.includes(name));
 const lines = [];
 const table = (name, row, rows) => lines.push("#[rattlefmt::skip]", `pub const ${name}: [${row}; ${rows.length}] = [`, ...rows.map((r) => `    ${r},`), "];", "");
 
-lines.push("// Made by `tests/edge_values.mjs`, which says how. The answers are those of the engine in `node`.", "");
+lines.push("//! Made by `tests/edge_values.mjs`, which says how. The answers are those of the engine in `node`.", "");
 for (const width of [32, 64]) {
     const type = width === 32 ? I32 : I64;
     const op = (name, arity, result) => instruction(opcodes[width][name], Array(arity).fill(type), result);

@@ -1,4 +1,4 @@
-// Made by `tests/edge_values.mjs`, which says how. The answers are those of the engine in `node`.
+//! Made by `tests/edge_values.mjs`, which says how. The answers are those of the engine in `node`.
 
 // The operand, and then clz, ctz, popcnt, eqz of it.
 #[rattlefmt::skip]
