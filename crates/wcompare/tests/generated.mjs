@@ -481,7 +481,7 @@ while (rows.length < MODULES) {
     const head = [...little_endian(module.bytes.length, 2), trap, ...little_endian(value, 4), ...little_endian(digest, 8)];
     rows.push(`    ${head.map(escaped).join("")}${byte_text(module.bytes)}\\`);
 }
-console.log(`// Made by \`tests/generated.mjs\`, which says how. The answers are those of the engine in \`node\`.
+console.log(`//! Made by \`tests/generated.mjs\`, which says how. The answers are those of the engine in \`node\`.
 
 /// ${MODULES} modules, a line each: how many bytes it has, in two bytes with the lower first; the number of the trap that its
 /// \`filter\` ends by, or 0; the value, in four bytes; what \`score\` tells then of the store, in eight; and the module.

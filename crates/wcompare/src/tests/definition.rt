@@ -1,4 +1,4 @@
-// A module as the plain evaluator of the definition takes it: its bodies are trees, and its first store is made here.
+//! A module as the plain evaluator of the definition takes it: its bodies are trees, and its first store is made here.
 
 use std::alloc::Global;
 use std::panic::Expect;

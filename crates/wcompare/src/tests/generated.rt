@@ -1,4 +1,4 @@
-// Made by `tests/generated.mjs`, which says how. The answers are those of the engine in `node`.
+//! Made by `tests/generated.mjs`, which says how. The answers are those of the engine in `node`.
 
 /// 200 modules, a line each: how many bytes it has, in two bytes with the lower first; the number of the trap that its
 /// `filter` ends by, or 0; the value, in four bytes; what `score` tells then of the store, in eight; and the module.

@@ -1,5 +1,5 @@
-// Worked calls. Values are those that `node` gives (tests/values.mjs asks it); traps and costs were counted by hand from the
-// tables of docs/WEBASSEMBLY.md.
+//! Worked calls. Values are those that `node` gives (tests/values.mjs asks it); traps and costs were counted by hand from the
+//! tables of docs/WEBASSEMBLY.md.
 
 /// The body of `filter`; the number of the trap, or 0; the value; and the cost.
 pub type Row = (&'static [u8], u8, u64, u64);

@@ -1,4 +1,4 @@
-// A call of a module, made by the machine and by the plain evaluator of the definition.
+//! A call of a module, made by the machine and by the plain evaluator of the definition.
 
 use crate::tests::definition::{first_globals, first_store, setting_of};
 use std::alloc::Global;
@@ -38,8 +38,8 @@ fn told(outcome: Outcome) -> Ended {
     }
 }
 
-// The record of a pod that is handed over; there is none of a node.
-const POD: &[u8] = &[7; 257];
+/// The record of a pod that is handed over; there is none of a node.
+pub const POD: &[u8] = &[7; 257];
 
 #[derive(Clone, Copy)]
 struct PodAlone<'a>(&'a [u8]);
@@ -55,20 +55,25 @@ impl Host for PodAlone<'_> {
 }
 
 // The same for the definition; a start function is given none.
-fn record_for<R: Abort>(rt: &R, alloc: Global, export: Export) -> Option<Vec<u8>> {
+fn record_for<R: Abort>(rt: &R, alloc: Global, export: Export, pod: &[u8]) -> Option<Vec<u8>> {
     match export {
         Export::Start => None,
-        _ => Some(Vec::from_slice(alloc, POD).expect(rt, MEMORY)),
+        _ => Some(Vec::from_slice(alloc, pod).expect(rt, MEMORY)),
+    }
+}
+
+// A call that the machine makes, with this record of a pod.
+fn invoked_with(machine: &mut Machine, export: Export, pod: &[u8], fuel: u64) -> Ended {
+    if machine.has(export) {
+        told(machine.invoke(export, &PodAlone(pod), fuel))
+    } else {
+        (NOTHING, 0, 0)
     }
 }
 
 /// A call that the machine makes.
 pub fn invoked(machine: &mut Machine, export: Export, fuel: u64) -> Ended {
-    if machine.has(export) {
-        told(machine.invoke(export, &PodAlone(POD), fuel))
-    } else {
-        (NOTHING, 0, 0)
-    }
+    invoked_with(machine, export, POD, fuel)
 }
 
 /// Writes the element segment, if it is in bounds.
@@ -111,6 +116,7 @@ pub struct Sides {
     globals: Vec<Value>,
     export: Export,
     function: u32,
+    pod: &'static [u8],
 }
 
 // The next joins a digest.
@@ -135,13 +141,15 @@ fn digest_of(store: &Store) -> u64 {
 }
 
 impl Sides {
-    /// Both for calls of this export of the module that bytes spell, whose store has the module's segments or none of them.
+    /// Both for calls of this export of the module that bytes spell, whose store has the module's segments or none of them, with
+    /// this record of a pod.
     pub fn new<R: Abort>(
         rt: &R,
         alloc: Global,
         bytes: &[u8],
         export: Export,
         segments: bool,
+        pod: &'static [u8],
     ) -> Sides {
         let checked = checked(rt, alloc, bytes);
         let module = checked.module();
@@ -151,7 +159,7 @@ impl Sides {
             Export::Start => module.tables().start,
         };
         let function = function.expect(rt, "there is such a function");
-        let setting = setting_of(rt, alloc, module, record_for(rt, alloc, export));
+        let setting = setting_of(rt, alloc, module, record_for(rt, alloc, export, pod));
         let store = first_store(rt, alloc, module, segments);
         let globals = first_globals(rt, alloc, module);
         let mut machine = machine_of(rt, alloc, checked);
@@ -168,19 +176,18 @@ impl Sides {
             globals,
             export,
             function,
+            pod,
         }
     }
 
-    /// How the machine's call ends from the image, and what `score` then tells of the store.
-    pub fn by_machine(&mut self, fuel: u64) -> (Ended, u64) {
+    /// How the machine's call ends from the image.
+    pub fn ends_by_machine(&mut self, fuel: u64) -> Ended {
         self.machine.reset();
-        let ended = invoked(&mut self.machine, self.export, fuel);
-        let (_, digest, _) = invoked(&mut self.machine, Export::Score, SCORE_FUEL);
-        (ended, digest)
+        invoked_with(&mut self.machine, self.export, self.pod, fuel)
     }
 
     /// The same by the definition, from the first store. Calls don't write the table.
-    pub fn by_definition<R: Abort>(&mut self, rt: &R, fuel: u64) -> (Ended, u64) {
+    pub fn ends_by_definition<R: Abort>(&mut self, rt: &R, fuel: u64) -> Ended {
         self.store.memory.reset();
         self.store.globals = Vec::from_slice(self.alloc, self.globals.as_slice()).expect(
             rt, MEMORY,
@@ -193,10 +200,22 @@ impl Sides {
             fuel,
             AMPLE,
         );
-        let ended = match outcome.expect(rt, MEMORY) {
+        match outcome.expect(rt, MEMORY) {
             Some(outcome) => told(outcome),
             None => (NOTHING, 0, 0),
-        };
+        }
+    }
+
+    /// How the machine's call ends, and what `score` then tells of the store.
+    pub fn by_machine(&mut self, fuel: u64) -> (Ended, u64) {
+        let ended = self.ends_by_machine(fuel);
+        let (_, digest, _) = invoked(&mut self.machine, Export::Score, SCORE_FUEL);
+        (ended, digest)
+    }
+
+    /// The same by the definition.
+    pub fn by_definition<R: Abort>(&mut self, rt: &R, fuel: u64) -> (Ended, u64) {
+        let ended = self.ends_by_definition(rt, fuel);
         (ended, digest_of(&self.store))
     }
 }

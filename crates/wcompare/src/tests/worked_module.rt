@@ -1,4 +1,5 @@
-// The module that worked calls are made in, in its bytes (WebAssembly Core 1.0, 5.5). Only the body of `filter` differs.
+//! The module that worked calls are made in, in its bytes (WebAssembly Core 1.0, 5.5). Only the body of `filter` differs.
+//! And modules of other sections.
 
 use std::alloc::Global;
 use std::panic::Expect;
@@ -64,18 +65,48 @@ fn size(length: usize) -> [u8; 2] {
     [(length % 128) as u8 + 128, (length / 128 % 128) as u8]
 }
 
+// The bytes of all parts.
+fn joined<R: Abort>(rt: &R, alloc: Global, parts: &[&[u8]]) -> Vec<u8> {
+    let mut bytes = Vec::new(alloc);
+    for part in parts {
+        bytes.extend_from_slice(part).expect(rt, "there is memory");
+    }
+    bytes
+}
+
+/// The module with these sections, these bodies behind them, each with its locals, and what is behind the code.
+pub fn module_of<R: Abort>(
+    rt: &R,
+    alloc: Global,
+    sections: &[&[u8]],
+    bodies: &[&[u8]],
+    behind: &[u8],
+) -> Vec<u8> {
+    let mut code = Vec::new(alloc);
+    for body in bodies {
+        code.extend_from_slice(&size(body.len()))
+            .expect(rt, "there is memory");
+        code.extend_from_slice(body).expect(rt, "there is memory");
+    }
+    let front = joined(rt, alloc, sections);
+    let all = size(code.len().saturating_add(1));
+    let count = [bodies.len().min(127) as u8];
+    joined(
+        rt,
+        alloc,
+        &[HEADER, &front, CODE, &all, &count, &code, behind],
+    )
+}
+
 /// The module in which `filter` has this body, an i32 as its local 0 and an i64 as its local 1.
 pub fn module_around<R: Abort>(rt: &R, alloc: Global, body: &[u8]) -> Vec<u8> {
     let own = LOCALS.len().saturating_add(body.len());
     let others = 3 + SCORE.len() + AFTER.len() + DOWN.len() + AT_START.len();
     let all = size(own.saturating_add(others));
     let filter = size(own);
-    let mut bytes = Vec::new(alloc);
-    for part in [
+    let parts: [&[u8]; 21] = [
         HEADER, TYPES, IMPORTS, FUNCTIONS, TABLE, MEMORY, GLOBAL, EXPORTS, START, ELEMENTS, CODE,
         &all, COUNT, &filter, LOCALS, body, SCORE, AFTER, DOWN, AT_START, DATA,
-    ] {
-        bytes.extend_from_slice(part).expect(rt, "there is memory");
-    }
-    bytes
+    ];
+    joined(rt, alloc, &parts)
 }
