@@ -1,18 +1,21 @@
 """Times a program `wsched run` by scripts that generate.py makes, and prints a table.
 
-    measure.py PROGRAM FOLDER [ROUNDS]
+    measure.py PROGRAM FOLDER [ROUNDS [OTHER]]
 
-FOLDER has the plugins one_label.wasm and loop.wasm, and room for scripts.
+FOLDER has the plugins one_label.wasm and loop.wasm, and room for scripts. OTHER is another build of the program, whose cycles by
+one worker are compared with PROGRAM's.
 
 A span is a number of cycles that are handed to the program at once, when it has answered everything before; it answers once it
 has done them all. So a span is the reading of its lines, the cycles, and the writing of their answers, and nothing else. It is
 timed in the processor time of the program's thread, and by the clock where there are several. Spans are short, and the least of
 many is told, so that one of them runs undisturbed beside other work.
 """
+import contextlib
 import os
 import resource
 import subprocess
 import sys
+import threading
 import time
 
 import generate
@@ -157,18 +160,59 @@ def one_run(program, folder, rounds):
     row("a cycle among the last 1,000", f"{thousands[-1]}")
 
 
+def at_once(program, words, runs, cycles):
+    """How long a cycle takes in each of so many runs at once, by the clock."""
+    with contextlib.ExitStack() as stack:
+        all_runs = [
+            stack.enter_context(Run(program, words, generate.script(NODES, 0, cycles, 0))) for _ in range(runs)
+        ]
+        threads = [threading.Thread(target=run.ask, args=([CYCLE] * cycles,)) for run in all_runs]
+        start = time.perf_counter()
+        for thread in threads:
+            thread.start()
+        for thread in threads:
+            thread.join()
+        return (time.perf_counter() - start) / cycles
+
+
 def workers(program, folder, rounds):
-    """A plugin of 10,000 fuel a node, with one worker and with more."""
+    """A plugin of 10,000 fuel a node, with one worker and with more, and beside four runs of one worker each."""
     plugin = f"loop:1:100000:{folder}/loop.wasm"
-    least = {}
+    least, apart = {}, Times()
     for _ in range(rounds):
         for count in (1, 2, 4):
             with Run(program, ["--workers", str(count), plugin], generate.script(NODES, 0, 20, 0)) as run:
                 took = min(run.span(1)[0] for _ in range(20))
             least[count] = min(took, least.get(count, took))
+        apart.add(at_once(program, [plugin], 4, 20))
     for count, took in least.items():
         more = f", {least[1] / took:.2f} times as fast as one" if count > 1 else ""
-        row(f"a cycle with a plugin of 10,000 fuel a node, by the clock, workers: {count}", f"{took * 1e3:.1f} ms{more}", "3 times" if count == 4 else "")
+        row(f"a cycle with a plugin of 10,000 fuel a node, by the clock, workers: {count}", f"{took * 1e3:.1f} ms{more}")
+    row("a cycle of four such runs at once, each of one worker", f"{apart.least() * 1e3:.1f} ms, {4 * least[1] / apart.least():.2f} times one run's work")
+    row("the work of four workers to that of four runs at once", f"{apart.least() / (4 * least[4]):.2f}", "0.9")
+
+
+def few_nodes(program, _folder, rounds):
+    """Cycles without plugins by one worker and by four."""
+    one, four = Times(), Times()
+    for _ in range(rounds):
+        for times, words in ((one, []), (four, ["--workers", "4"])):
+            with Run(program, words, generate.script(NODES, 0, 5_000, 0)) as run:
+                for _ in range(50):
+                    times.add(run.span(100)[0] / 100)
+    row("a cycle over 1,000 nodes without plugins by one worker, by the clock", f"{one}")
+    row("the same by four workers", f"{four}", f"{one.least() * 1e6 + 5:.1f} µs")
+
+
+def beside(program, other, rounds):
+    """Cycles without plugins by one worker of two builds of the program, in turn."""
+    this, that = Times(), Times()
+    for _ in range(rounds):
+        spans(this, program, [], 0, 5_000, 100)
+        spans(that, other, [], 0, 5_000, 100)
+    row("a cycle over 1,000 nodes without plugins by one worker", f"{this}")
+    row("the same by the other build", f"{that}")
+    row("the first to the second", f"{this.least() / that.least():.2f}, median {this.median() / that.median():.2f}", "1.0")
 
 
 def verdicts(program, folder, rounds):
@@ -187,7 +231,9 @@ def main():
     program, folder = sys.argv[1:3]
     rounds = int(sys.argv[3]) if len(sys.argv) > 3 else 5
     print("| What | Figure | Target |\n|---|---|---|")
-    for figure in (decisions, one_run, workers, verdicts):
+    if len(sys.argv) > 4:
+        beside(program, sys.argv[4], rounds)
+    for figure in (decisions, one_run, workers, few_nodes, verdicts):
         figure(program, folder, rounds)
         print(f"load of the machine: {', '.join(f'{load:.1f}' for load in os.getloadavg())}", file=sys.stderr)
 
