@@ -1,5 +1,6 @@
 pub mod Fault
 pub mod Name
+pub mod Effect
 pub mod Amount
 pub mod Request
 pub mod Grammar

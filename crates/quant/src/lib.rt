@@ -1,5 +1,5 @@
 //! The quantities, names, numbers and objects of the scheduler: what a node offers, what a pod
-//! asks, and how both are spelled. Nothing here allocates.
+//! asks, and how both are spelled. Only the first owner of a row (`SharedNode::new`, `SharedPod::new`) takes memory.
 #![tactic(auto)]
 
 mod amount;
@@ -19,8 +19,9 @@ pub use event::{Event, SharedNode, SharedPod};
 pub use fault::QuantFault;
 pub use laws::limits_are_these;
 pub use limits::{
-    LATEST_MOMENT, MAX_CONTAINERS, MAX_CPU, MAX_INIT_CONTAINERS, MAX_LABELS, MAX_MEM, MAX_NAME,
-    MAX_NODES, MAX_PLACED, MAX_QUEUED, MAX_TAINTS, MAX_TICKET, MAX_TOLERATIONS, MAX_VERSION,
+    LATEST_MOMENT, MAX_CONTAINERS, MAX_CPU, MAX_FUEL, MAX_INIT_CONTAINERS, MAX_LABELS, MAX_MEM,
+    MAX_NAME, MAX_NODES, MAX_PLACED, MAX_PLUGINS, MAX_QUEUED, MAX_TAINTS, MAX_TICKET,
+    MAX_TOLERATIONS, MAX_VERSION, MAX_WEIGHT, MAX_WORKERS,
 };
 pub use name::{Name, Text};
 pub use objects::{Label, Node, Pod};

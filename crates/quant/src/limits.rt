@@ -37,6 +37,18 @@ pub const MAX_PLACED: usize = 150_000;
 /// The most pods in the queue, those in flight and assumed included.
 pub const MAX_QUEUED: usize = 10_000;
 
+/// The most plugins of a site.
+pub const MAX_PLUGINS: usize = 16;
+
+/// The most that a plugin's score counts. The least is 1.
+pub const MAX_WEIGHT: u8 = 10;
+
+/// The most fuel of a plugin's call. The least is 1.
+pub const MAX_FUEL: u64 = 1_000_000_000;
+
+/// The most workers of a run. The least is 1.
+pub const MAX_WORKERS: usize = 64;
+
 /// The greatest version of a watch event. The least is 1.
 pub const MAX_VERSION: u64 = 1_000_000_000_000_000_000;
 

@@ -1,5 +1,5 @@
-//! Nodes and pods. A row is immutable once made and is some kilobytes large, so it travels as an
-//! `Arc<Node>` or an `Arc<Pod>` and is never copied by content.
+//! Nodes and pods. A row is immutable once made and is some kilobytes large, so it travels by its
+//! owners, a `SharedNode` or a `SharedPod`, and is never copied by content.
 use crate::amount::{Request, Res};
 use crate::limits::{MAX_LABELS, MAX_TAINTS, MAX_TOLERATIONS};
 use crate::name::{Name, Text};

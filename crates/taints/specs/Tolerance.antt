@@ -9,15 +9,9 @@ use Rattle.quant.specs.declared.taint.Effect.{Effect}
 use Rattle.quant.specs.declared.taint.Effect.TheVariants.{NoSchedule, PreferNoSchedule, NoExecute}
 use Rattle.quant.specs.declared.taint.Operator.{Operator}
 use Rattle.quant.specs.declared.taint.Operator.TheVariants.{Equal, Exists}
+use Rattle.quant.specs.Effect.{same_effect}
 use Rattle.taints.specs.declared.tolerance.Rejection.{Rejection}
 use Rattle.taints.specs.declared.tolerance.Rejection.TheVariants.{Marked, Tainted}
-
--- two effects are the same
-abbrev pub same_effect : Effect → Effect → Bool
-same_effect NoSchedule NoSchedule = true
-same_effect PreferNoSchedule PreferNoSchedule = true
-same_effect NoExecute NoExecute = true
-same_effect _ _ = false
 
 -- `Exists` takes every value
 abbrev pub takes_every_value : Operator → Bool
