@@ -3,3 +3,4 @@ pub mod RowLemmas
 pub mod TableLemmas
 pub mod SumLemmas
 pub mod TotalLemmas
+pub mod FinishLemmas

@@ -6,6 +6,7 @@ use Rattle.std.specs.FinMap as fin
 use Rattle.std.proofs.lemmas.Bool.{eqb-true, eqb-false}
 use Rattle.std.proofs.lemmas.List.{length-map}
 use Rattle.std.proofs.lemmas.List.Sums.{sum_by-cons}
+use Rattle.quant.specs.declared.amount.Moment.{Moment}
 use Rattle.quant.specs.declared.amount.Res.{Res}
 use Rattle.quant.specs.declared.limits.TheConstants.{MAX_PLACED}
 use Rattle.quant.specs.declared.amount.Request.{Request}
@@ -294,9 +295,9 @@ pub assumed_le : (m : Places) → assumed m ≤ fin.len m
 assumed_le m = omega (arith, assumed_few (fin.values m), values_len m)
 
 -- a finished place counts as before
-pub assumed_finished : (status : Status) → assumed_in (finished_status status) ≡ assumed_in status
-assumed_finished (Assumed ticket finished) = refl
-assumed_finished Bound = refl
+pub assumed_finished : (at : Moment) (status : Status) → assumed_in (finished_status at status) ≡ assumed_in status
+assumed_finished at (Assumed ticket finished) = refl
+assumed_finished at Bound = refl
 
 -- what the places on a node use is at most what the greatest number of pods can use
 pub most_used : (m : Places) (total : Res) (node : List ℕ) → total ≡ used m node → fin.len m ≤ MAX_PLACED → IsWithin total (most_of MAX_PLACED)

@@ -6,3 +6,5 @@ pub mod Totals
 pub mod Rows
 pub mod Codes
 pub mod Step
+pub mod Expiry
+pub mod Finishes

@@ -1,7 +1,8 @@
 -- What each step does to a book, and what is answered.
-use Rattle.std.specs.Prelude.{◌≡◌, ◌+◌, List, [], ◌∷◌, Bool, true, false, not, ◌&&◌, ◌||◌, ◌==◌, nat_le, Option, None, Some, is_ok, if◌then◌else◌, Result, MatchResult}
+use Rattle.std.specs.Prelude.{◌≡◌, ◌+◌, List, [], ◌∷◌, Bool, true, false, not, ◌&&◌, ◌||◌, ◌==◌, nat_le, Option, None, Some, is_some, is_ok, if◌then◌else◌, Result, MatchResult}
 use Rattle.std.specs.FinMap.{insert, remove, get, contains_key}
 use Rattle.quant.specs.declared.event.Event.TheVariants.{NodeSet, NodeGone, PodPending, PodBound, PodGone}
+use Rattle.quant.specs.declared.amount.Moment.{Moment}
 use Rattle.quant.specs.declared.amount.Request.{Request}
 use Rattle.quant.specs.declared.limits.TheConstants.{MAX_TICKET}
 use Rattle.quant.specs.declared.name.Name.{Name}
@@ -86,7 +87,7 @@ has_ticket given Bound = false
 
 -- the place is assumed, and its bind was reported done
 abbrev pub is_finished : Status → Bool
-is_finished (Assumed ticket finished) = finished
+is_finished (Assumed ticket finished) = is_some finished
 is_finished Bound = false
 
 -- there is a place, and its status passes a test
@@ -125,7 +126,7 @@ refusal c (Assume uid node entry) =
     ∷ (not (fits_now c node entry), NoRoom)
     ∷ (is_full_for c.places c.limits.placed uid || are_tickets_gone c, Full)
     ∷ [])
-refusal c (BindDone uid ticket queued) = refusal_by_ticket c uid ticket queued
+refusal c (BindDone uid ticket at queued) = refusal_by_ticket c uid ticket queued
 refusal c (Forget uid ticket queued) = refusal_by_ticket c uid ticket queued
 
 -- ---- the effects
@@ -148,17 +149,17 @@ abbrev pub with_choice : Cluster → Name → Name → Entry → Cluster
 with_choice c uid node Missing = c
 with_choice c uid node Elsewhere = c
 with_choice c uid node (Held request) =
-    with_place (record c { ticket = c.ticket + 1 }) uid node request (Assumed (next_ticket c) false)
+    with_place (record c { ticket = c.ticket + 1 }) uid node request (Assumed (next_ticket c) None)
 
--- the status once its bind is reported done
-abbrev pub finished_status : Status → Status
-finished_status (Assumed ticket finished) = Assumed ticket true
-finished_status Bound = Bound
+-- the status once its bind is reported done, at this moment
+abbrev pub finished_status : Moment → Status → Status
+finished_status at (Assumed ticket finished) = Assumed ticket (Some at)
+finished_status at Bound = Bound
 
--- with the pod's place marked as finished, if it has one
-abbrev pub with_finished : Cluster → Name → Option Place → Cluster
-with_finished c uid None = c
-with_finished c uid (Some place) = with_place c uid place.node place.request (finished_status place.status)
+-- with the pod's place marked as finished at this moment, if it has one
+abbrev pub with_finished : Cluster → Name → Moment → Option Place → Cluster
+with_finished c uid at None = c
+with_finished c uid at (Some place) = with_place c uid place.node place.request (finished_status at place.status)
 
 -- what an accepted step makes of the book
 abbrev pub effect : Cluster → ClusterStep → Cluster
@@ -168,7 +169,7 @@ effect c (Event (PodPending version pod) queued queue_full) = record c { version
 effect c (Event (PodBound version uid node request) queued queue_full) = with_place (record c { version = version.0 }) uid node request Bound
 effect c (Event (PodGone version uid) queued queue_full) = without_place (record c { version = version.0 }) uid
 effect c (Assume uid node entry) = with_choice c uid node entry
-effect c (BindDone uid ticket queued) = with_finished c uid (get c.places uid)
+effect c (BindDone uid ticket at queued) = with_finished c uid at (get c.places uid)
 effect c (Forget uid ticket queued) = without_place c uid
 
 -- what an accepted step answers
@@ -179,7 +180,7 @@ answer c (Event (PodPending version pod) queued queue_full) = Queue pod
 answer c (Event (PodBound version uid node request) queued queue_full) = Done
 answer c (Event (PodGone version uid) queued queue_full) = Done
 answer c (Assume uid node entry) = Given (next_ticket c)
-answer c (BindDone uid ticket queued) = Done
+answer c (BindDone uid ticket at queued) = Done
 answer c (Forget uid ticket queued) = Done
 
 -- ---- a step

@@ -1,5 +1,5 @@
 //! The book: the nodes, the places, the version of the last event and the last ticket.
-ghost use Rattle.std.specs.Prelude.{◌≡◌, IfOk, nat_le, Bool, not, ◌∷◌, [], Ok, Err, if◌then◌else◌};
+ghost use Rattle.std.specs.Prelude.{◌≡◌, IfOk, IfSome, IfNone, nat_le, Bool, not, ◌∷◌, [], Ok, Err, if◌then◌else◌};
 ghost use Rattle.std.specs.Result.{result_err};
 ghost use Rattle.std.specs.FinMap as fin;
 
@@ -11,7 +11,9 @@ use crate::places::Places;
 use crate::refusal::Refusal;
 use crate::step::{ClusterStep, Entry, Reply};
 use fit::fits;
-use quant::{Event, MAX_TICKET, Name, Request, Res, SharedNode, SharedPod, Ticket, Version};
+use quant::{
+    Event, MAX_TICKET, Moment, Name, Request, Res, SharedNode, SharedPod, Ticket, Version,
+};
 use std::alloc::Global;
 use std::hash::RandomState;
 use std::marker::Model;
@@ -49,7 +51,8 @@ impl Book {
     ghost use Rattle.book.specs.Cluster.{opening};
     ghost use Rattle.book.specs.Rows.{named};
     ghost use Rattle.book.specs.Used.{used, assumed, bound};
-    ghost use Rattle.book.specs.Step.{after, reply, IsTaken, first_of, is_placed, is_there, fits_row, refusal_by_ticket};
+    ghost use Rattle.book.specs.Step.{after, reply, IsTaken, first_of, is_placed, is_there, fits_row, refusal_by_ticket, without_place};
+    ghost use Rattle.book.specs.Expiry.{IsFirstExpired, NoneExpired};
     ghost use Rattle.book.specs.declared.step.ClusterStep.TheVariants as steps;
 
     /// An empty book, with room for as much as the limits say. It is the one call of a book that takes memory.
@@ -88,8 +91,9 @@ impl Book {
             ClusterStep::BindDone {
                 uid,
                 ticket,
+                at,
                 queued,
-            } => self.finish(&uid, ticket, queued),
+            } => self.finish(&uid, ticket, at, queued),
             ClusterStep::Forget {
                 uid,
                 ticket,
@@ -221,7 +225,7 @@ impl Book {
                 request,
                 status: Status::Assumed {
                     ticket,
-                    finished: false,
+                    finished: None,
                 },
             },
         )?;
@@ -231,7 +235,8 @@ impl Book {
 
     // Whether a pod with this request fits on a node now, by what the places there use.
     fn check_fit(&self, node: &Name, request: Request) -> Result<(), Refusal>
-        ensures { result_err result ≡ first_of ((not (is_there self.now node.now), Refusal.NoNode) ∷ (not (fits_row self.now node.now request (fin.get self.now.nodes node.now)), Refusal.NoRoom) ∷ []) }
+        ensures { result_err result ≡ first_of ((not (is_there self.now node.now), Refusal.NoNode) ∷
+            (not (fits_row self.now node.now request (fin.get self.now.nodes node.now)), Refusal.NoRoom) ∷ []) }
     {
         let row = self.nodes.get(node).ok_or(Refusal::NoNode)?;
         let used = self.places.used(node);
@@ -249,11 +254,17 @@ impl Book {
         }
     }
 
-    fn finish(&mut self, uid: &Name, ticket: Ticket, queued: bool) -> Result<Reply, Refusal>
-        ensures { IsTaken self.old (steps.BindDone uid.now ticket queued) result self.new }
+    fn finish(
+        &mut self,
+        uid: &Name,
+        ticket: Ticket,
+        at: Moment,
+        queued: bool,
+    ) -> Result<Reply, Refusal>
+        ensures { IsTaken self.old (steps.BindDone uid.now ticket at queued) result self.new }
     {
         self.check_ticket(uid, ticket, queued)?;
-        self.places.finish(uid);
+        self.places.finish(uid, at);
         Ok(Reply::Done)
     }
 
@@ -263,6 +274,21 @@ impl Book {
         self.check_ticket(uid, ticket, queued)?;
         self.places.remove(uid);
         Ok(Reply::Done)
+    }
+
+    /// Takes away the expired place with the least uid, and answers that uid: an assumed place expires where its bind
+    /// was reported done `EXPIRY` milliseconds before this moment or earlier. It takes no memory.
+    ///
+    /// Where nothing expires, the time is that of one comparison for each 4,096 places that there is room for. What expires at a
+    /// moment is found and put in order at the first call for it, in time that grows with its number and that number's
+    /// logarithm; each call then takes one place out.
+    pub fn expire(&mut self, now: Moment) -> Option<Name>
+        ensures first { IfSome result (IsFirstExpired self.old.places now) }
+        ensures gone { IfSome result (λ uid. self.new ≡ without_place self.old uid) }
+        ensures none { IfNone result (NoneExpired self.old.places now) }
+        ensures unchanged { IfNone result (self.new ≡ self.old) }
+    {
+        self.places.expire(now)
     }
 
     /// Whether a pod has a place.

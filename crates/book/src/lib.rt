@@ -4,15 +4,17 @@
 #![tactic(auto)]
 
 mod book;
+mod finishes;
 mod limits;
 mod nodes;
+mod overdue;
 mod place;
 mod places;
 mod refusal;
 mod step;
 
 pub use book::Book;
-pub use limits::Limits;
+pub use limits::{EXPIRY, Limits};
 pub use place::{Place, Status};
 pub use refusal::Refusal;
 use std::alloc::AllocError;

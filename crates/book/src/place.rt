@@ -1,9 +1,10 @@
 //! Where a pod is placed.
-ghost use Rattle.std.specs.Prelude.{◌≡◌, not, ◌∷◌, []};
+ghost use Rattle.std.specs.Prelude.{◌≡◌, not, ◌∷◌, [], Some};
 ghost use Rattle.std.specs.Result.{result_err};
 
+use crate::finishes::NEVER;
 use crate::refusal::Refusal;
-use quant::{Name, Request, Ticket};
+use quant::{Moment, Name, Request, Ticket};
 
 /// How sure a place is.
 #[derive(Clone, Copy, Debug, PartialEq, Eq)]
@@ -12,8 +13,8 @@ pub enum Status {
     Assumed {
         /// What names this choice.
         ticket: Ticket,
-        /// Whether the bind has been reported done.
-        finished: bool,
+        /// The moment at which the bind was reported done, if it was.
+        finished: Option<Moment>,
     },
     /// The cluster told the place.
     Bound,
@@ -32,29 +33,47 @@ pub struct Place {
 
 impl Status {
     ghost use Rattle.book.specs.Step.{first_of, is_bound, has_ticket, is_finished, finished_status};
+    ghost use Rattle.book.specs.Finishes.{finish_of};
 
     // An assumed place is what a ticket names, if it is the place's own, until its bind is reported done.
     pub(crate) fn check(self, named: Ticket) -> Result<(), Refusal>
-        ensures { result_err result ≡ first_of ((is_bound self, Refusal.Confirmed) ∷ (not (has_ticket named self), Refusal.StaleTicket) ∷ (is_finished self, Refusal.Confirmed) ∷ []) }
+        ensures { result_err result ≡ first_of ((is_bound self, Refusal.Confirmed) ∷
+            (not (has_ticket named self), Refusal.StaleTicket) ∷ (is_finished self, Refusal.Confirmed) ∷ []) }
     {
         match self {
             Status::Bound => Err(Refusal::Confirmed),
             Status::Assumed { ticket, .. } if ticket != named => Err(Refusal::StaleTicket),
-            Status::Assumed { finished: true, .. } => Err(Refusal::Confirmed),
+            Status::Assumed {
+                finished: Some(_),
+                ..
+            } => Err(Refusal::Confirmed),
             Status::Assumed { .. } => Ok(()),
         }
     }
 
-    // The status once its bind is reported done.
-    pub(crate) fn finished(self) -> Self
-        ensures { result ≡ finished_status self }
+    // The status once its bind is reported done, at this moment.
+    pub(crate) fn finished(self, at: Moment) -> Self
+        ensures { result ≡ finished_status at self }
     {
         match self {
             Status::Assumed { ticket, .. } => Status::Assumed {
                 ticket,
-                finished: true,
+                finished: Some(at),
             },
             Status::Bound => Status::Bound,
+        }
+    }
+
+    // The millisecond at which the bind was reported done, or one at which nothing ever expires.
+    pub(crate) fn finish(self) -> u64
+        ensures { result ≡ finish_of self }
+    {
+        match self {
+            Status::Assumed {
+                finished: Some(at),
+                ..
+            } => at.0,
+            _ => NEVER,
         }
     }
 }

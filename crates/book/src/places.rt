@@ -1,5 +1,5 @@
 //! Where pods are placed, with what the pods on each node use together.
-ghost use Rattle.std.specs.Prelude.{◌≡◌, ℕ, ◌+◌, ◌<◌, ◌≤◌, IfOk, IfErr, OnOk, OnErr, IsSome, true, false, List, Some, length};
+ghost use Rattle.std.specs.Prelude.{◌≡◌, ℕ, ◌+◌, ◌<◌, ◌≤◌, IfOk, IfErr, IfSome, IfNone, OnOk, OnErr, IsSome, true, false, List, Some, length};
 ghost use Rattle.std.specs.Option.{option_copied};
 ghost use Rattle.std.specs.FinMap as fin;
 ghost use Rattle.name_table.specs.Slots.{map_of};
@@ -9,10 +9,13 @@ ghost use Rattle.book.specs.Totals.{total_at, plus, adds, one_pod, most_of, IsWi
 ghost use Rattle.quant.specs.declared.limits.TheConstants.{MAX_PLACED};
 
 use crate::NoMemory;
+use crate::finishes::{Finishes, NEVER};
+use crate::limits::EXPIRY;
+use crate::overdue::Overdue;
 use crate::place::{Place, Status};
 use crate::refusal::Refusal;
 use name_table::NameTable;
-use quant::{Bytes, Cpu, MAX_PLACED, Name, Request, Res};
+use quant::{Bytes, Cpu, MAX_PLACED, Moment, Name, Request, Res};
 use std::alloc::Global;
 use std::hash::RandomState;
 use std::marker::Model;
@@ -26,6 +29,9 @@ pub(crate) struct Places {
     by_uid: NameTable<Place>,
     totals: NameTable<Res>,
     assumed: usize,
+    // When the bind of the place in each slot was reported done.
+    finishes: Finishes,
+    overdue: Overdue,
 }
 
 impl Model for Places {
@@ -41,16 +47,17 @@ impl Model for Places {
 
     ghost use Rattle.std.specs.Prelude.{length};
     ghost use Rattle.name_table.specs.Slots.{map_of};
-    ghost use Rattle.book.specs.Totals.{IsCounted};
+    ghost use Rattle.book.specs.Finishes.{IsKept};
 
     ghost view = { λ t. record { map = map_of t.by_uid; room = length t.by_uid } };
 
-    ghost invariant = { λ t. IsCounted (map_of t.by_uid) (length t.by_uid) (map_of t.totals) (length t.totals) t.assumed };
+    ghost invariant = { λ t. IsKept t.by_uid t.totals t.assumed t.finishes t.overdue };
 }
 
 impl Places {
     ghost use Rattle.book.specs.declared.place.Place.{Place};
     ghost use Rattle.book.specs.Step.{finished_status};
+    ghost use Rattle.book.specs.Expiry.{IsFirstExpired, NoneExpired};
 
     /// No places, with room for as many.
     pub(crate) fn new(alloc: Global, keys: RandomState, room: usize) -> Result<Self, NoMemory>
@@ -59,10 +66,14 @@ impl Places {
     {
         let by_uid = NameTable::new(alloc, keys, room)?;
         let totals = NameTable::new(alloc, keys, room)?;
+        let finishes = Finishes::new(alloc, room)?;
+        let overdue = Overdue::new(alloc, room)?;
         Ok(Places {
             by_uid,
             totals,
             assumed: 0,
+            finishes,
+            overdue,
         })
     }
 
@@ -116,6 +127,7 @@ impl Places {
         ensures why { IfErr result (λ why. why ≡ Refusal.Full) }
         ensures unchanged { OnErr result (self.new ≡ self.old) }
     {
+        let finish = place.status.finish();
         match self.by_uid.find(&uid) {
             Some(slot) => {
                 let old = self.by_uid.value_at(slot);
@@ -124,6 +136,8 @@ impl Places {
                 add(&mut self.totals, &place.node, &place.request);
                 self.assumed += assumed_count(&place.status);
                 self.by_uid.replace_at(slot, place);
+                self.finishes.set(slot, finish);
+                self.overdue.limit = None;
             }
             None => {
                 if self.by_uid.is_full() {
@@ -131,7 +145,9 @@ impl Places {
                 }
                 add(&mut self.totals, &place.node, &place.request);
                 self.assumed += assumed_count(&place.status);
-                self.by_uid.insert(uid, place);
+                let slot = self.by_uid.insert(uid, place);
+                self.finishes.set(slot, finish);
+                self.overdue.limit = None;
             }
         }
         Ok(())
@@ -143,19 +159,22 @@ impl Places {
         ensures gone { self.new ≡ record self.old { map = fin.remove self.old.map uid.now } }
         ensures kept { result ≡ false → self.new ≡ self.old }
     {
-        let Some(old) = self.by_uid.remove(uid) else {
+        let Some(slot) = self.by_uid.find(uid) else {
             return false;
         };
+        let old = self.by_uid.remove_at(slot).value;
+        self.finishes.set(slot, NEVER);
         take(&mut self.totals, &old.node, &old.request);
         self.assumed -= assumed_count(&old.status);
         true
     }
 
-    /// Marks a pod's place as finished, if it is assumed.
-    pub(crate) fn finish(&mut self, uid: &Name)
+    /// Marks a pod's place as finished at this moment, if it is assumed.
+    pub(crate) fn finish(&mut self, uid: &Name, at: Moment)
         requires { IsSome (fin.get self.old.map uid.now) }
         ensures room { self.new.room ≡ self.old.room }
-        ensures finished { (place : Place) → fin.get self.old.map uid.now ≡ Some place → self.new ≡ record self.old { map = fin.insert self.old.map uid.now (record place { status = finished_status place.status }) } }
+        ensures finished { (place : Place) → fin.get self.old.map uid.now ≡ Some place
+            → self.new ≡ record self.old { map = fin.insert self.old.map uid.now (record place { status = finished_status at place.status }) } }
     {
         let Some(slot) = self.by_uid.find(uid) else {
             return;
@@ -164,9 +183,31 @@ impl Places {
         let finished = Place {
             node: place.node.copied(),
             request: place.request,
-            status: place.status.finished(),
+            status: place.status.finished(at),
         };
+        self.finishes.set(slot, finished.status.finish());
         self.by_uid.replace_at(slot, finished);
+        self.overdue.limit = None;
+    }
+
+    /// Takes the expired place with the least uid away, and answers that uid.
+    ///
+    /// The first call for a moment finds what expires, passing over all blocks of slots that have none, and puts it in order. The
+    /// next ones for that moment take it from there, until a place is put or finished.
+    pub(crate) fn expire(&mut self, now: Moment) -> Option<Name>
+        ensures first { IfSome result (IsFirstExpired self.old.map now) }
+        ensures gone { IfSome result (λ uid. self.new ≡ record self.old { map = fin.remove self.old.map uid }) }
+        ensures none { IfNone result (NoneExpired self.old.map now) }
+        ensures unchanged { IfNone result (self.new ≡ self.old) }
+    {
+        if now.0 < EXPIRY {
+            return None;
+        }
+        let limit = now.0 - EXPIRY;
+        self.overdue.gather(&self.by_uid, &self.finishes, limit);
+        let uid = self.overdue.first(&self.by_uid, limit)?;
+        self.remove(&uid);
+        Some(uid)
     }
 }
 

@@ -1,6 +1,6 @@
 //! What happens to a cluster, and what is answered.
 use crate::refusal::Refusal;
-use quant::{Event, Name, Request, SharedPod, Ticket};
+use quant::{Event, Moment, Name, Request, SharedPod, Ticket};
 
 /// A step that touches the version, the nodes, the places or the tickets, with what its tests need
 /// of the queue.
@@ -30,6 +30,8 @@ pub enum ClusterStep {
         uid: Name,
         /// What names the choice of its place.
         ticket: Ticket,
+        /// When that was reported.
+        at: Moment,
         /// Whether the queue has an entry of the pod.
         queued: bool,
     },

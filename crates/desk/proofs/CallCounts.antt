@@ -9,11 +9,11 @@ use Rattle.book.specs.Step as book_step
 use Rattle.book.specs.declared.refusal.Refusal.{Refusal}
 use Rattle.book.specs.declared.step.ClusterStep.{ClusterStep}
 use Rattle.book.specs.declared.step.ClusterStep.TheVariants as cluster
-use Rattle.queue.specs.Queue.{QueueState, has_entry, after_add, after_remove, after_forget, after_fail, after_tick}
+use Rattle.queue.specs.Queue.{QueueState, has_entry, after_add, after_remove, after_forget, after_fail}
 use Rattle.desk.specs.declared.step.Step.{Step}
 use Rattle.desk.specs.declared.step.Step.TheVariants.{Event, Pop, Assume, BindDone, Forget, Fail, Tick, Count}
 use Rattle.desk.specs.declared.step.Reply.TheVariants as replies
-use Rattle.desk.specs.Machine.{State, Outcome, opening, both, unless, step, after, told, of_node, of_pod, moved, moved_if_placed, entry_at, pass_number, refusal_to_fail, refusal_to_tick}
+use Rattle.desk.specs.Machine.{State, Outcome, opening, both, unless, step, after, told, of_node, of_pod, moved, moved_if_placed, entry_at, pass_number, refusal_to_fail, refusal_to_tick, ticked_to}
 use Rattle.desk.specs.Caller.{Core}
 use Rattle.desk.specs.History.{Call, AreHanded, AreOthers, Leaves, calls_of, state_after}
 
@@ -34,10 +34,10 @@ calls_kept s pass (Event (PodBound version uid node request)) = both_calls s (of
 calls_kept s pass (Event (PodGone version uid)) = both_calls s (of_pod s uid (PodGone version uid)) (moved_if_placed s uid (after_remove s.queue uid))
 calls_kept s pass Pop = refl
 calls_kept s pass (Assume uid node) = both_calls s (cluster.Assume uid node (entry_at s pass uid)) s.queue
-calls_kept s pass (BindDone uid ticket) = both_calls s (cluster.BindDone uid ticket (has_entry s.queue uid)) s.queue
+calls_kept s pass (BindDone uid ticket) = both_calls s (cluster.BindDone uid ticket s.clock (has_entry s.queue uid)) s.queue
 calls_kept s pass (Forget uid ticket) = both_calls s (cluster.Forget uid ticket (has_entry s.queue uid)) (moved s (after_forget s.queue uid s.clock))
 calls_kept s pass (Fail uid how) = unless_calls (refusal_to_fail s pass uid) s (record { state = record s { queue = after_fail s.queue uid (pass_number pass) how s.clock }; reply = replies.Done }) refl
-calls_kept s pass (Tick now) = unless_calls (refusal_to_tick s now) s (record { state = record s { clock = now; queue = after_tick s.queue now }; reply = replies.Done }) refl
+calls_kept s pass (Tick now) = unless_calls (refusal_to_tick s now) s (record { state = ticked_to s now; reply = replies.Done }) refl
 calls_kept s pass Count = refl
 
 -- ---- the counts of a history

@@ -1,21 +1,22 @@
 -- In a calm history no node has more used than it has.
-use Rattle.std.proofs.Common.{◌≡◌, ℕ, ◌+◌, ◌≤◌, Bool, true, false, cond, not, ◌||◌, ◌==◌, nat_le, if◌then◌else◌, List, [], ◌∷◌, ◌++◌, map, Option, None, Some, unwrap_or, Result, Ok, Err, is_ok, refl, sym, ap, subst, ◌∙◌, arith}
+use Rattle.std.proofs.Common.{◌≡◌, ℕ, ◌+◌, ◌≤◌, Bool, true, false, cond, not, ◌||◌, ◌&&◌, ◌==◌, nat_le, if◌then◌else◌, List, [], ◌∷◌, ◌++◌, map, Option, None, Some, unwrap_or, Result, Ok, Err, is_ok, refl, sym, ap, subst, ◌∙◌, arith}
 use Rattle.std.specs.Bool.{IsTrue}
-use Rattle.std.specs.List.{All, AllByRecursion}
+use Rattle.std.specs.List.{All, AllByRecursion, list_any}
 use Rattle.std.proofs.lemmas.Bool.{eqb-true, leb-true}
 use Rattle.std.proofs.lemmas.List.Elements.{All-from_recursion, recursion_from_All}
 use Rattle.std.specs.Option.{option_or}
 use Rattle.std.specs.Str.{bytes_eq}
-use Rattle.std.specs.Cmp.Lexicographic.{bytes_decides}
-use Rattle.std.specs.Ordering.{is_eq}
+use Rattle.std.specs.Cmp.Lexicographic.{nat_list_cmp_total, bytes_decides}
+use Rattle.std.specs.Ordering.{is_eq, eq_by_cmp}
 use Rattle.std.specs.FinMap.Entries.{below_all}
 use Rattle.std.specs.FinMap as fin
 use Rattle.quant.specs.declared.event.Event.TheVariants.{NodeSet, NodeGone, PodPending, PodBound, PodGone}
+use Rattle.quant.specs.declared.amount.Moment.{Moment}
 use Rattle.quant.specs.declared.amount.Res.{Res}
 use Rattle.quant.specs.declared.amount.Request.{Request}
 use Rattle.quant.specs.declared.name.Name.{Name}
 use Rattle.quant.specs.declared.objects.Node.{Node}
-use Rattle.queue.specs.Queue.{has_entry, after_add, after_fail, after_forget, after_remove, after_tick}
+use Rattle.queue.specs.Queue.{has_entry, after_add, after_fail, after_forget, after_remove}
 use Rattle.desk.specs.declared.step.Reply.TheVariants as replies
 use Rattle.fit.specs.Fit.{fit_of, has_room}
 use Rattle.fit.specs.declared.room.Shortage.{Shortage}
@@ -29,23 +30,25 @@ use Rattle.book.specs.declared.refusal.Refusal.TheVariants as refusals
 use Rattle.book.specs.declared.step.ClusterStep.TheVariants as cluster
 use Rattle.book.specs.declared.step.Entry.{Entry}
 use Rattle.book.specs.Cluster.{name_cmp, Places}
+use Rattle.book.specs.Expiry.{is_expired, unexpired}
 use Rattle.book.specs.Step as book_step
 use Rattle.book.specs.Step.{with_choice, with_finished, next_ticket, finished_status, is_gone, is_queued, is_placed, is_held, is_there, fits_now, are_tickets_gone}
 use Rattle.book.specs.Tables.{is_full_for}
 use Rattle.book.specs.Totals.{IsWithin}
 use Rattle.book.specs.Used.{share, used, used_by, nothing}
 use Rattle.book.proofs.Put.{both_true, less_of}
-use Rattle.book.proofs.RowLemmas.{true_of}
+use Rattle.book.proofs.RowLemmas.{true_of, same_name}
 use Rattle.book.proofs.TableLemmas.{same_test}
 use Rattle.book.proofs.SumLemmas.{of_option, entries_empty, remove_absent, sum_insert, sum_remove}
 use Rattle.desk.specs.declared.step.Step.{Step}
 use Rattle.desk.specs.declared.step.Step.TheVariants.{Event, Pop, Assume, BindDone, Forget, Fail, Tick, Count}
-use Rattle.desk.specs.Machine.{State, Outcome, opening, unless, step, reply, snapshot, of_node, of_pod, moved, moved_if_placed, entry_at, pass_number, refusal_to_fail, refusal_to_tick}
+use Rattle.desk.specs.Machine.{State, Outcome, opening, unless, step, reply, snapshot, of_node, of_pod, moved, moved_if_placed, entry_at, pass_number, refusal_to_fail, refusal_to_tick, ticked_to}
 use Rattle.desk.specs.History.{Call, AreAnswered, state_after, Leaves, is_accepted, last_said, accepted, row_in, row_of, place_of}
 use Rattle.desk.specs.Caller.{Core}
 use Rattle.desk.specs.Calm.{IsCalm, IsCalmStep, HasRoom}
 use Rattle.desk.proofs.Histories.{state_more, append_nil}
 use Rattle.desk.proofs.Deciding.{first_five, not_false}
+use Rattle.desk.proofs.Expiring.{tied, key_of, get_unexpired}
 use Rattle.desk.proofs.Steps.{done_by}
 use Rattle.desk.proofs.Readings.{row_is, place_is}
 use Rattle.desk.proofs.Fair.{together, said_more, accepted_says, named_says, answered_part, answered_next, held_and_fits, fits_on}
@@ -150,6 +153,55 @@ module _ (m : Places) (k n : Name) where
         pods = omega (arith, sum_remove m k (λ place. (share n place).pods) old is, h.pods);
       }
 
+-- places without those of some names whose test passes
+abbrev without : (Name → Bool) → List Name → Places → Places
+without test [] m = m
+without test (k ∷ ks) m = cond (test k) (fin.remove (without test ks m) k) (without test ks m)
+
+-- nothing either way
+none_twice : (b : Bool) (o : Option Place) → cond (b && false) None o ≡ o
+none_twice true o = refl
+none_twice false o = refl
+
+get_without : (test : Name → Bool) (ks : List Name) (m : Places) (q : Name) → fin.get (without test ks m) q ≡ cond (list_any (eq_by_cmp name_cmp q) ks && test q) None (fin.get m q)
+get_without test [] m q = refl
+get_without test (k ∷ ks) m q = by (test k) refl (eq_by_cmp name_cmp q k) refl (get_without test ks m q)
+  where
+    among : Bool
+    among = list_any (eq_by_cmp name_cmp q) ks
+
+    by : (t : Bool) → test k ≡ t → (b : Bool) → eq_by_cmp name_cmp q k ≡ b → fin.get (without test ks m) q ≡ cond (among && test q) None (fin.get m q)
+        → fin.get (cond t (fin.remove (without test ks m) k) (without test ks m)) q ≡ cond ((b || among) && test q) None (fin.get m q)
+    by true goes true same rest =
+        fin.get-remove nat_list_cmp_total (without test ks m) k q ∙ ap (λ b. cond b None (fin.get (without test ks m) q)) same
+        ∙ ap (λ b. cond b None (fin.get m q)) (sym (ap test (tied q k same) ∙ goes))
+    by true goes false other rest = fin.get-remove nat_list_cmp_total (without test ks m) k q ∙ ap (λ b. cond b None (fin.get (without test ks m) q)) other ∙ rest
+    by false stays true same rest =
+        let no : test q ≡ false = ap test (tied q k same) ∙ stays in
+        rest ∙ ap (λ b. cond (among && b) None (fin.get m q)) no ∙ none_twice among (fin.get m q) ∙ ap (λ b. cond b None (fin.get m q)) (sym no)
+    by false stays false other rest = rest
+
+-- what isn't there uses no more
+without_less : (test : Name → Bool) (ks : List Name) (m : Places) (n : Name) (most : Res) → IsWithin (used m n) most → IsWithin (used (without test ks m) n) most
+without_less test [] m n most h = h
+without_less test (k ∷ ks) m n most h = by (test k) (without_less test ks m n most h)
+  where
+    by : (t : Bool) → IsWithin (used (without test ks m) n) most → IsWithin (used (cond t (fin.remove (without test ks m) k) (without test ks m)) n) most
+    by true rest = used_less (without test ks m) k n most rest
+    by false rest = rest
+
+-- the places that don't expire use no more than all
+unexpired_less : (m : Places) (now : Moment) (n : Name) (most : Res) → IsWithin (used m n) most → IsWithin (used (unexpired m now) n) most
+unexpired_less m now n most h =
+    subst (λ ps. IsWithin (used ps n) most)
+    (fin.same_map nat_list_cmp_total same_name (without (is_expired m now) (fin.keys m) m) (unexpired m now) (λ q.
+    get_without (is_expired m now) (fin.keys m) m q ∙ by q (is_expired m now q) refl ∙ sym (get_unexpired m now q)))
+    (without_less (is_expired m now) (fin.keys m) m n most h)
+  where
+    by : (q : Name) (b : Bool) → is_expired m now q ≡ b → cond (list_any (eq_by_cmp name_cmp q) (fin.keys m) && is_expired m now q) None (fin.get m q) ≡ cond (is_expired m now q) None (fin.get m q)
+    by q true is = ap (λ b. cond (b && is_expired m now q) None (fin.get m q)) (key_of m now q is)
+    by q false is = ap (λ b. cond (list_any (eq_by_cmp name_cmp q) (fin.keys m) && b) None (fin.get m q)) is ∙ none_twice (list_any (eq_by_cmp name_cmp q) (fin.keys m)) (fin.get m q) ∙ ap (λ b. cond b None (fin.get m q)) (sym is)
+
 room_left : (allocatable before asked : ℕ) → has_room allocatable before asked ≡ true → (most new : ℕ) → allocatable ≤ most → before ≤ most → new ≤ before + asked → new ≤ most
 room_left allocatable before asked h most new a b c = by (asked == 0) refl h
   where
@@ -227,14 +279,14 @@ module _ (s : State) (before : List Call) (bounded : IsBounded before s.cluster.
       let held = held_and_fits c node entry (not_false (is_held entry) passed.0) (not_false (fits_now c node entry) passed.2) in
       let fits = fits_on c node held.0 (fin.get c.nodes node) held.2 in
       subst (λ (x : Entry). IsWithin (used (with_choice c uid node x).places n) most) (sym held.1)
-      (used_fitting c.places uid n node held.0 (Assumed (next_ticket c) false) fits.0 fits.2 most
+      (used_fitting c.places uid n node held.0 (Assumed (next_ticket c) None) fits.0 fits.2 most
       (λ is. last_covered before n fits.0 (row_said n fits.0 (subst (λ q. fin.get c.nodes q ≡ Some fits.0) is fits.1)) most covers)
       (bounded n most covers))
 
-  finished_bounded : (uid : Name) (o : Option Place) → fin.get s.cluster.places uid ≡ o → IsBounded before (with_finished s.cluster uid o).places
+  finished_bounded : (uid : Name) (o : Option Place) → fin.get s.cluster.places uid ≡ o → IsBounded before (with_finished s.cluster uid s.clock o).places
   finished_bounded uid None is n most covers = bounded n most covers
   finished_bounded uid (Some place) is n most covers =
-      used_same s.cluster.places uid n place (record { node = place.node; request = place.request; status = finished_status place.status }) is refl refl most (bounded n most covers)
+      used_same s.cluster.places uid n place (record { node = place.node; request = place.request; status = finished_status s.clock place.status }) is refl refl most (bounded n most covers)
 
   step_bounded : (pass : ℕ) (e : Step) → (IsTrue (is_accepted (reply s pass e)) → IsCalmStep before e) → IsBounded before (step s pass e).state.cluster.places
   step_bounded pass (Event (NodeSet version node)) calm = unless_bounded (book_step.refusal s.cluster (of_node s (NodeSet version node))) (done_by s (of_node s (NodeSet version node)) (moved s s.queue)) (λ none. bounded)
@@ -250,12 +302,13 @@ module _ (s : State) (before : List Call) (bounded : IsBounded before s.cluster.
       (λ none n most covers. used_less s.cluster.places uid n most (bounded n most covers))
   step_bounded pass Pop calm = bounded
   step_bounded pass (Assume uid node) calm = unless_bounded (book_step.refusal s.cluster (cluster.Assume uid node (entry_at s pass uid))) (done_by s (cluster.Assume uid node (entry_at s pass uid)) s.queue) (chosen_bounded pass uid node)
-  step_bounded pass (BindDone uid ticket) calm = unless_bounded (book_step.refusal s.cluster (cluster.BindDone uid ticket (has_entry s.queue uid))) (done_by s (cluster.BindDone uid ticket (has_entry s.queue uid)) s.queue)
+  step_bounded pass (BindDone uid ticket) calm = unless_bounded (book_step.refusal s.cluster (cluster.BindDone uid ticket s.clock (has_entry s.queue uid))) (done_by s (cluster.BindDone uid ticket s.clock (has_entry s.queue uid)) s.queue)
       (λ none. finished_bounded uid (fin.get s.cluster.places uid) refl)
   step_bounded pass (Forget uid ticket) calm = unless_bounded (book_step.refusal s.cluster (cluster.Forget uid ticket (has_entry s.queue uid))) (done_by s (cluster.Forget uid ticket (has_entry s.queue uid)) (moved s (after_forget s.queue uid s.clock)))
       (λ none n most covers. used_less s.cluster.places uid n most (bounded n most covers))
   step_bounded pass (Fail uid how) calm = unless_bounded (refusal_to_fail s pass uid) (record { state = record s { queue = after_fail s.queue uid (pass_number pass) how s.clock }; reply = replies.Done }) (λ none. bounded)
-  step_bounded pass (Tick now) calm = unless_bounded (refusal_to_tick s now) (record { state = record s { clock = now; queue = after_tick s.queue now }; reply = replies.Done }) (λ none. bounded)
+  step_bounded pass (Tick now) calm = unless_bounded (refusal_to_tick s now) (record { state = ticked_to s now; reply = replies.Done })
+      (λ none n most covers. unexpired_less s.cluster.places now n most (bounded n most covers))
   step_bounded pass Count calm = bounded
 
 none_used : (n : Name) → used (fin.empty {X = Place} {R = name_cmp}) n ≡ nothing

@@ -1,5 +1,5 @@
 -- What a pass holds is the pod that its last pop of that uid gave.
-use Rattle.std.proofs.Common.{◌≡◌, ℕ, Bool, true, false, cond, eqb, if◌then◌else◌, Option, None, Some, refl, sym, ap, subst, ◌∙◌}
+use Rattle.std.proofs.Common.{◌≡◌, ℕ, Bool, true, false, cond, ◌&&◌, eqb, if◌then◌else◌, Option, None, Some, refl, sym, ap, subst, ◌∙◌}
 use Rattle.std.specs.Prelude.{nat_le, MatchOption, ◌+◌}
 use Rattle.std.specs.Option.{option_or, option_map}
 use Rattle.std.specs.Str.{bytes_eq}
@@ -13,12 +13,14 @@ use Rattle.queue.specs.declared.state.Failure.TheVariants as failure
 use Rattle.queue.specs.declared.state.State.{State as QueueStanding}
 use Rattle.queue.specs.declared.state.State.TheVariants.{Active, Backoff, Unschedulable, InFlight}
 use Rattle.queue.specs.declared.refusal.Refusal.{Refusal as QueueRefusal}
-use Rattle.queue.specs.Entry.{Entry, new_entry, is_in_flight_for, failed, sent_back, popped, ticked, moved_on, state_after_tick, state_after_move, state_after_failure, was_moved, backed_off}
+use Rattle.queue.specs.Entry.{Entry, new_entry, is_in_flight, is_in_flight_for, failed, sent_back, popped, ticked, moved_on, state_after_tick, state_after_move, state_after_failure, was_moved, backed_off}
 use Rattle.queue.specs.Order.{Item}
 use Rattle.queue.specs.Queue.{QueueState, entry_of, has_entry, all_changed, with_entry, with_change, changed_at, with_popped, unless_refused, refusal_to_add, refusal_to_fail as why_not_fail, refusal_to_forget, next_of, after_add, after_pop, after_fail, after_forget, after_tick, after_move, after_remove}
 use Rattle.queue.specs.Calls.{IsNext, NoneActive}
 use Rattle.queue.proofs.Next.{pops_the_first}
 use Rattle.queue.proofs.Runs.{get-with, get-without, get-all}
+use Rattle.book.specs.Cluster.{Places}
+use Rattle.book.specs.Expiry.{is_expired, any_expired}
 use Rattle.book.specs.Step as book_step
 use Rattle.book.specs.Step.{is_placed}
 use Rattle.book.specs.declared.refusal.Refusal.{Refusal}
@@ -28,8 +30,9 @@ use Rattle.desk.specs.declared.step.Step.{Step}
 use Rattle.desk.specs.declared.step.Step.TheVariants.{Event, Pop, Assume, BindDone, Forget, Fail, Tick, Count}
 use Rattle.desk.specs.declared.step.Reply.{Reply}
 use Rattle.desk.specs.declared.step.Reply.TheVariants as replies
-use Rattle.desk.specs.Machine.{State, Outcome, step, both, unless, of_node, of_pod, moved, moved_if_placed, entry_at, pass_number, popped as popped_reply, refusal_to_fail, refusal_to_tick}
+use Rattle.desk.specs.Machine.{State, Outcome, step, both, unless, of_node, of_pod, moved, moved_if_placed, entry_at, pass_number, popped as popped_reply, refusal_to_fail, refusal_to_tick, sent_back_if_expired, after_expiry, ticked_to}
 use Rattle.desk.specs.History.{if_named, popped_in}
+use Rattle.desk.proofs.Expiring.{entry_after_expiry}
 use Rattle.desk.proofs.Pods.{pod_of, pod_at, turned}
 use Rattle.desk.proofs.Steps.{Agrees, done_by}
 
@@ -99,6 +102,13 @@ module _ (q : QueueState) (p : ℕ) (uid : Name) where
   pub fewer_ticked : (now : Moment) → Fewer (held_at (after_tick q now) p uid) (held_at q p uid)
   unfolding after_tick
   fewer_ticked now = same_fewer (held_at (all_changed q (ticked now)) p uid) (held_at q p uid) (same_all (ticked now) (λ e. refl) (λ e. same_after_tick (pass_number p) now e.state))
+
+  pub fewer_expired : (places : Places) (now : Moment) → Fewer (held_at (after_expiry q places now) p uid) (held_at q p uid)
+  fewer_expired places now known h = subst (λ o. Agrees (held_of (pass_number p) o) known) (sym (entry_after_expiry q places now uid)) (by (entry_of q uid) h)
+    where
+      by : (o : Option Entry) → Agrees (held_of (pass_number p) o) known → Agrees (held_of (pass_number p) (option_map (sent_back_if_expired places now uid) o)) known
+      by None g = g
+      by (Some e) g = elim (is_expired places now uid && is_in_flight e.state) as (λ b. Agrees (held_of (pass_number p) (Some (if b then sent_back now e else e))) known) [ true ↦ tt | false ↦ g ]
 
   pub fewer_failed : (u : Name) (pass : PassNumber) (how : Failure) (now : Moment) → Fewer (held_at (after_fail q u pass how now) p uid) (held_at q p uid)
   unfolding after_fail
@@ -172,9 +182,16 @@ module _ (s : State) (p : ℕ) (q : Name) where
       by false known h = fewer_removed s.queue p q uid known h
   held_step own pass Pop = pop_held own pass
   held_step own pass (Assume uid node) = both_held pass (cluster.Assume uid node (entry_at s pass uid)) s.queue (λ known h. h)
-  held_step own pass (BindDone uid ticket) = both_held pass (cluster.BindDone uid ticket (has_entry s.queue uid)) s.queue (λ known h. h)
+  held_step own pass (BindDone uid ticket) = both_held pass (cluster.BindDone uid ticket s.clock (has_entry s.queue uid)) s.queue (λ known h. h)
   held_step own pass (Forget uid ticket) = both_held pass (cluster.Forget uid ticket (has_entry s.queue uid)) (moved s (after_forget s.queue uid s.clock))
       (λ known h. fewer_moved (after_forget s.queue uid s.clock) p q s.clock known (fewer_forgotten s.queue p q uid s.clock known h))
   held_step own pass (Fail uid how) = unless_held pass (refusal_to_fail s pass uid) (record { state = record s { queue = after_fail s.queue uid (pass_number pass) how s.clock }; reply = replies.Done }) (fewer_failed s.queue p q uid (pass_number pass) how s.clock)
-  held_step own pass (Tick now) = unless_held pass (refusal_to_tick s now) (record { state = record s { clock = now; queue = after_tick s.queue now }; reply = replies.Done }) (fewer_ticked s.queue p q now)
+  held_step own pass (Tick now) = unless_held pass (refusal_to_tick s now) (record { state = ticked_to s now; reply = replies.Done }) (fewer_to (any_expired s.cluster.places now))
+    where
+      expired : QueueState
+      expired = after_expiry s.queue s.cluster.places now
+
+      fewer_to : (b : Bool) → Fewer (held_at (after_tick (if b then after_move expired now else expired) now) p q) (held_at s.queue p q)
+      fewer_to true known h = fewer_ticked (after_move expired now) p q now known (fewer_moved expired p q now known (fewer_expired s.queue p q s.cluster.places now known h))
+      fewer_to false known h = fewer_ticked expired p q now known (fewer_expired s.queue p q s.cluster.places now known h)
   held_step own pass Count = λ known h. h

@@ -5,6 +5,7 @@ use Rattle.std.proofs.lemmas.Bool.{eqb-true, eq-eqb}
 use Rattle.std.proofs.lemmas.List.{map-append, map-id}
 use Rattle.std.proofs.lemmas.List.FromFn.{map-range_with_len_more}
 use Rattle.quant.specs.declared.event.Event.TheVariants.{NodeSet, NodeGone, PodPending, PodBound, PodGone}
+use Rattle.quant.specs.declared.amount.Moment.{Moment}
 use Rattle.quant.specs.declared.name.Name.{Name}
 use Rattle.book.specs.Cluster.{Cluster}
 use Rattle.book.specs.Step as book_step
@@ -14,13 +15,13 @@ use Rattle.book.specs.declared.refusal.Refusal.{Refusal}
 use Rattle.book.specs.declared.step.Entry.TheVariants.{Missing, Elsewhere, Held}
 use Rattle.book.specs.declared.step.ClusterStep.{ClusterStep}
 use Rattle.book.specs.declared.step.ClusterStep.TheVariants as cluster
-use Rattle.queue.specs.Queue.{QueueState, has_entry, after_add, after_remove, after_forget, after_fail, after_tick}
+use Rattle.queue.specs.Queue.{QueueState, has_entry, after_add, after_remove, after_forget, after_fail}
 use Rattle.desk.specs.declared.step.Step.{Step}
 use Rattle.desk.specs.declared.step.Step.TheVariants.{Event, Pop, Assume, BindDone, Forget, Fail, Tick, Count}
 use Rattle.desk.specs.declared.step.Reply.{Reply}
 use Rattle.desk.specs.Caller.{Caller, Core, with_state}
 use Rattle.desk.specs.declared.step.Reply.TheVariants as replies
-use Rattle.desk.specs.Machine.{State, Outcome, opening, both, unless, reply, after, told, of_node, of_pod, moved, moved_if_placed, entry_at, pass_number, refusal_to_fail, refusal_to_tick}
+use Rattle.desk.specs.Machine.{State, Outcome, opening, both, unless, reply, after, told, of_node, of_pod, moved, moved_if_placed, entry_at, pass_number, refusal_to_fail, refusal_to_tick, ticked_to}
 use Rattle.desk.specs.History.{Call, AreAnswered, state_after, numbers_of, one_to, calls_of, Legal, Leaves, HasCallsOf, call}
 
 -- an empty list at the end changes nothing
@@ -97,11 +98,11 @@ effect_limits c (cluster.Event (PodGone version uid) queued full) = refl
 effect_limits c (cluster.Assume uid node Missing) = refl
 effect_limits c (cluster.Assume uid node Elsewhere) = refl
 effect_limits c (cluster.Assume uid node (Held request)) = refl
-effect_limits c (cluster.BindDone uid ticket queued) = finished_limits c uid (Rattle.std.specs.FinMap.get c.places uid)
+effect_limits c (cluster.BindDone uid ticket at queued) = finished_limits c uid at (Rattle.std.specs.FinMap.get c.places uid)
   where
-    finished_limits : (c : Cluster) (uid : Name) (o : Option Place) → (book_step.with_finished c uid o).limits ≡ c.limits
-    finished_limits c uid None = refl
-    finished_limits c uid (Some place) = refl
+    finished_limits : (c : Cluster) (uid : Name) (at : Moment) (o : Option Place) → (book_step.with_finished c uid at o).limits ≡ c.limits
+    finished_limits c uid at None = refl
+    finished_limits c uid at (Some place) = refl
 effect_limits c (cluster.Forget uid ticket queued) = refl
 
 -- what is refused or done keeps the limits, where what is done does
@@ -121,10 +122,10 @@ limits_after s pass (Event (PodBound version uid node request)) = both_limits s 
 limits_after s pass (Event (PodGone version uid)) = both_limits s (of_pod s uid (PodGone version uid)) (moved_if_placed s uid (after_remove s.queue uid))
 limits_after s pass Pop = refl
 limits_after s pass (Assume uid node) = both_limits s (cluster.Assume uid node (entry_at s pass uid)) s.queue
-limits_after s pass (BindDone uid ticket) = both_limits s (cluster.BindDone uid ticket (has_entry s.queue uid)) s.queue
+limits_after s pass (BindDone uid ticket) = both_limits s (cluster.BindDone uid ticket s.clock (has_entry s.queue uid)) s.queue
 limits_after s pass (Forget uid ticket) = both_limits s (cluster.Forget uid ticket (has_entry s.queue uid)) (moved s (after_forget s.queue uid s.clock))
 limits_after s pass (Fail uid how) = unless_limits (refusal_to_fail s pass uid) s (record { state = record s { queue = after_fail s.queue uid (pass_number pass) how s.clock }; reply = replies.Done }) refl
-limits_after s pass (Tick now) = unless_limits (refusal_to_tick s now) s (record { state = record s { clock = now; queue = after_tick s.queue now }; reply = replies.Done }) refl
+limits_after s pass (Tick now) = unless_limits (refusal_to_tick s now) s (record { state = ticked_to s now; reply = replies.Done }) refl
 limits_after s pass Count = refl
 
 -- ---- the whole of one more call

@@ -1,6 +1,7 @@
 pub mod Histories
 pub mod Rows
 pub mod Deciding
+pub mod Expiring
 pub mod Pods
 pub mod Steps
 pub mod Readings

@@ -1,5 +1,5 @@
 -- What the queue's calls do to the pods that its entries have.
-use Rattle.std.proofs.Common.{◌≡◌, Bool, true, false, cond, Option, None, Some, refl, sym, ap, subst, ◌∙◌}
+use Rattle.std.proofs.Common.{◌≡◌, Bool, true, false, cond, ◌&&◌, if◌then◌else◌, Option, None, Some, refl, sym, ap, subst, ◌∙◌}
 use Rattle.std.specs.Option.{option_map}
 use Rattle.quant.specs.declared.amount.Moment.{Moment}
 use Rattle.quant.specs.declared.name.Name.{Name}
@@ -7,7 +7,7 @@ use Rattle.quant.specs.declared.objects.Pod.{Pod}
 use Rattle.queue.specs.declared.state.PassNumber.{PassNumber}
 use Rattle.queue.specs.declared.state.Failure.{Failure}
 use Rattle.queue.specs.declared.refusal.Refusal.{Refusal}
-use Rattle.queue.specs.Entry.{Entry, new_entry, failed, sent_back, popped, ticked, moved_on}
+use Rattle.queue.specs.Entry.{Entry, new_entry, is_in_flight, failed, sent_back, popped, ticked, moved_on}
 use Rattle.queue.specs.Order.{Item}
 use Rattle.queue.specs.Queue.{QueueState, entry_of, has_entry, is_full_queue, all_changed, with_entry, with_change, changed_at, with_popped, unless_refused, refusal_to_add, refusal_to_fail, refusal_to_forget, next_of, after_add, after_fail, after_forget, after_tick, after_move, after_remove}
 use Rattle.queue.specs.Calls.{IsNext, NoneActive}
@@ -17,8 +17,11 @@ use Rattle.queue.proofs.Runs.{get-with, get-without, get-all}
 use Rattle.std.specs.Ordering.{eq_by_cmp}
 use Rattle.std.specs.Cmp.Lexicographic.{bytes_decides}
 use Rattle.std.specs.Str.{bytes_eq}
-use Rattle.book.specs.Cluster.{name_cmp}
+use Rattle.book.specs.Cluster.{name_cmp, Places}
+use Rattle.book.specs.Expiry.{is_expired}
 use Rattle.book.proofs.TableLemmas.{same_test, test_turned}
+use Rattle.desk.specs.Machine.{after_expiry, sent_back_if_expired}
+use Rattle.desk.proofs.Expiring.{entry_after_expiry}
 
 -- the pod of an entry, if there is one
 abbrev pub pod_of : Option Entry → Option Pod
@@ -79,6 +82,13 @@ module _ (q : QueueState) (uid : Name) where
   pub pod_ticked : (now : Moment) → pod_at (after_tick q now) uid ≡ pod_at q uid
   unfolding after_tick
   pod_ticked now = pod_all (ticked now) (λ e. refl)
+
+  pub pod_expired : (places : Places) (now : Moment) → pod_at (after_expiry q places now) uid ≡ pod_at q uid
+  pod_expired places now = ap pod_of (entry_after_expiry q places now uid) ∙ by (entry_of q uid)
+    where
+      by : (o : Option Entry) → pod_of (option_map (sent_back_if_expired places now uid) o) ≡ pod_of o
+      by None = refl
+      by (Some e) = elim (is_expired places now uid && is_in_flight e.state) as (λ b. Some (if b then sent_back now e else e).pod ≡ Some e.pod) [ true ↦ refl | false ↦ refl ]
 
   pub pod_failed : (u : Name) (pass : PassNumber) (how : Failure) (now : Moment) → pod_at (after_fail q u pass how now) uid ≡ pod_at q uid
   unfolding after_fail

@@ -7,6 +7,7 @@ use Rattle.std.specs.Map.{lookup}
 use Rattle.std.specs.Cmp.Lexicographic.{nat_list_cmp_total, bytes_decides}
 use Rattle.std.specs.FinMap as fin
 use Rattle.quant.specs.declared.event.Event.TheVariants.{NodeSet, NodeGone, PodPending, PodBound, PodGone}
+use Rattle.quant.specs.declared.amount.Moment.{Moment}
 use Rattle.quant.specs.declared.amount.Request.{Request}
 use Rattle.quant.specs.declared.name.Name.{Name}
 use Rattle.quant.specs.declared.objects.Pod.{Pod}
@@ -24,10 +25,10 @@ use Rattle.desk.specs.declared.step.Reply.{Reply}
 use Rattle.desk.specs.declared.step.Reply.TheVariants.{Done, Ticket as Given}
 use Rattle.desk.specs.Machine.{State, opening, step, reply, after, snapshot}
 use Rattle.desk.specs.Caller.{Core}
-use Rattle.desk.specs.History.{Call, AreAnswered, state_after, Legal, Leaves, is_accepted, last_said, accepted, if_named, row_in, row_of, pending_in, pending_of, put_in, put_of, Put, finish_in, is_finished_in, place_by, place_of, node_in, pod_in, found_at, rows_of, places_of, snap}
+use Rattle.desk.specs.History.{Call, AreAnswered, state_after, Legal, Leaves, is_accepted, last_said, last_said_at, accepted, clock_in, clock_after, clock_of, if_named, row_in, row_of, pending_in, pending_of, put_in, put_of, Put, finish_in, finished_of, place_by, unless_expired, place_of, node_in, pod_in, found_at, rows_of, places_of, snap}
 use Rattle.desk.specs.History.Put.{Chosen, Told, Nowhere}
 use Rattle.desk.proofs.Pods.{pod_of, pod_at}
-use Rattle.desk.proofs.Steps.{OneOf, Known, Agrees, Asked, AskedBy, put_at, put_by, mark_at, one_of}
+use Rattle.desk.proofs.Steps.{OneOf, Known, Agrees, Asked, AskedBy, put_by, mark_by, is_nowhere, IsPut, one_of}
 use Rattle.desk.proofs.Rows.{shows}
 
 -- the last of two that says anything, or else what was known
@@ -52,21 +53,28 @@ module _ (q : Name) where
       ∙ ap (unwrap_or (last_said (accepted (row_in q)) l)) (call_of s q c all.0).node
       ∙ sym (or_else (last_said (accepted (row_in q)) l) (accepted (row_in q) c) (fin.get s.cluster.nodes q))
 
-  -- where its pod was put
-  put_is : (s : State) (l : List Call) → AreAnswered s l → put_at (fin.get (state_after s l).cluster.places q) ≡ unwrap_or (put_of l q) (put_at (fin.get s.cluster.places q))
-  put_is s [] all = refl
-  put_is s (c ∷ l) all =
-      put_is (after s c.pass c.step) l all.1
-      ∙ ap (unwrap_or (put_of l q)) (call_of s q c all.0).put
-      ∙ sym (or_else (put_of l q) (put_in q c.step c.reply) (put_at (fin.get s.cluster.places q)))
+  -- the clock
+  clock_is : (s : State) (l : List Call) → AreAnswered s l → (state_after s l).clock ≡ unwrap_or (last_said (accepted clock_in) l) s.clock
+  clock_is s [] all = refl
+  clock_is s (c ∷ l) all =
+      clock_is (after s c.pass c.step) l all.1
+      ∙ ap (unwrap_or (last_said (accepted clock_in) l)) (call_of s q c all.0).clock
+      ∙ sym (or_else (last_said (accepted clock_in) l) (accepted clock_in c) s.clock)
 
-  -- whether its bind was reported done
-  mark_is : (s : State) (l : List Call) → AreAnswered s l → mark_at (fin.get (state_after s l).cluster.places q) ≡ unwrap_or (last_said (accepted (finish_in q)) l) (mark_at (fin.get s.cluster.places q))
-  mark_is s [] all = refl
-  mark_is s (c ∷ l) all =
-      mark_is (after s c.pass c.step) l all.1
-      ∙ ap (unwrap_or (last_said (accepted (finish_in q)) l)) (call_of s q c all.0).mark
-      ∙ sym (or_else (last_said (accepted (finish_in q)) l) (accepted (finish_in q) c) (mark_at (fin.get s.cluster.places q)))
+  -- where its pod was put, and when its bind was reported done
+  put_is : (s : State) (l : List Call) (put : Put) (mark : Option Moment) → AreAnswered s l → IsPut (fin.get s.cluster.places q) put mark s.clock
+      → IsPut (fin.get (state_after s l).cluster.places q) (unwrap_or (put_of l q) put) (unwrap_or (last_said_at (λ clock. accepted (finish_in q clock)) s.clock l) mark) (state_after s l).clock
+  put_is s [] put mark all h = h
+  put_is s (c ∷ l) put mark all h =
+      let one = call_of s q c all.0 in
+      let rest = put_is (after s c.pass c.step) l (unwrap_or (put_in q c.step c.reply) put) (unwrap_or (accepted (finish_in q s.clock) c) mark) all.1 (one.place put mark h) in
+      let says = λ (clock : Moment). last_said_at (λ at. accepted (finish_in q at)) clock l in
+      subst (λ (p : Put). IsPut (fin.get (state_after s (c ∷ l)).cluster.places q) p (unwrap_or (last_said_at (λ clock. accepted (finish_in q clock)) s.clock (c ∷ l)) mark) (state_after s (c ∷ l)).clock)
+      (sym (or_else (put_of l q) (put_in q c.step c.reply) put))
+      (subst (λ (m : Option Moment). IsPut (fin.get (state_after s (c ∷ l)).cluster.places q) (unwrap_or (put_of l q) (unwrap_or (put_in q c.step c.reply) put)) m (state_after s (c ∷ l)).clock)
+      (ap (λ (clock : Moment). unwrap_or (says clock) (unwrap_or (accepted (finish_in q s.clock) c) mark)) one.clock
+      ∙ sym (or_else (says (clock_after s.clock c)) (accepted (finish_in q s.clock) c) mark))
+      rest)
 
   -- and the pod that waits or was chosen for is the one that last came
   known_is : (s : State) (l : List Call) (known : Option Pod) → AreAnswered s l → Known (pod_at s.queue q) (fin.get s.cluster.places q) known
@@ -76,12 +84,13 @@ module _ (q : Name) where
       subst (λ o. Known (pod_at (state_after s (c ∷ l)).queue q) (fin.get (state_after s (c ∷ l)).cluster.places q) o) (or_both (pending_of l q) (accepted (pending_in q) c) known)
       (known_is (after s c.pass c.step) l (option_or (accepted (pending_in q) c) known) all.1 ((call_of s q c all.0).known known h))
 
--- a name that was put nowhere was never put, or put nowhere last
-nowhere : (o : Option Put) (pod : Option Pod) (b : Bool) → Nowhere ≡ unwrap_or o Nowhere → place_by o pod b ≡ None
-nowhere None pod b e = refl
-nowhere (Some (Chosen node ticket)) pod b e = absurd (cc)
-nowhere (Some (Told node request)) pod b e = absurd (cc)
-nowhere (Some Nowhere) pod b e = refl
+-- a name that was put nowhere was never put, or put nowhere last, or its place has expired
+nowhere : (o : Option Put) (pod : Option Pod) (mark : Option Moment) (clock : Moment) → is_nowhere (unwrap_or o Nowhere) mark clock ≡ true → unless_expired clock (place_by o pod mark) ≡ None
+nowhere None pod mark clock h = refl
+nowhere (Some (Chosen node ticket)) None mark clock h = refl
+nowhere (Some (Chosen node ticket)) (Some pod) mark clock h = ap (λ b. if b then None else Some (record { node = node; request = pod.request; status = Assumed ticket mark })) h
+nowhere (Some (Told node request)) pod mark clock h = absurd (cc)
+nowhere (Some Nowhere) pod mark clock h = refl
 
 -- one that was put somewhere was put so last
 somewhere : (o : Option Put) (put : Put) → put ≡ unwrap_or o Nowhere → ((put ≡ Nowhere) → ⊥) → o ≡ Some put
@@ -95,8 +104,8 @@ told_somewhere : (node : Name) (request : Request) → Told node request ≡ Now
 told_somewhere node request e = absurd (cc)
 
 -- the place that the three readings tell
-by_status : (node : Name) (request : Request) (status : Status) (put : Option Put) (pod : Option Pod) (finished : Bool)
-    → put_by node request status ≡ unwrap_or put Nowhere → mark_at (Some (record { node = node; request = request; status = status })) ≡ finished → AskedBy status request pod
+by_status : (node : Name) (request : Request) (status : Status) (put : Option Put) (pod : Option Pod) (finished : Option Moment)
+    → put_by node request status ≡ unwrap_or put Nowhere → mark_by status ≡ finished → AskedBy status request pod
     → Some (record { node = node; request = request; status = status }) ≡ place_by put pod finished
 by_status node request (Assumed ticket marked) put pod finished e mark asked =
     let was : put ≡ Some (Chosen node ticket) = somewhere put (Chosen node ticket) e (chosen_somewhere node ticket) in
@@ -105,9 +114,12 @@ by_status node request Bound put pod finished e mark asked =
     let was : put ≡ Some (Told node request) = somewhere put (Told node request) e (told_somewhere node request) in
     rw was refl
 
-by_place : (o : Option Place) (put : Option Put) (pod : Option Pod) (finished : Bool) → put_at o ≡ unwrap_or put Nowhere → mark_at o ≡ finished → (waits : Option Pod) → Known waits o pod → o ≡ place_by put pod finished
-by_place None put pod finished e mark waits h = sym (nowhere put pod finished e)
-by_place (Some place) put pod finished e mark waits h = by_status place.node place.request place.status put pod finished e mark h.asked
+by_place : (o : Option Place) (put : Option Put) (pod : Option Pod) (finished : Option Moment) (clock : Moment) → IsPut o (unwrap_or put Nowhere) finished clock → (waits : Option Pod) → Known waits o pod
+    → o ≡ unless_expired clock (place_by put pod finished)
+by_place None put pod finished clock is waits h = sym (nowhere put pod finished clock is)
+by_place (Some place) put pod finished clock is waits h =
+    let stays : Some place ≡ unless_expired clock (Some place) = ap (λ b. if b then None else Some place) (sym is.2) in
+    stays ∙ ap (unless_expired clock) (by_status place.node place.request place.status put pod finished (sym is.0) (sym is.1) h.asked)
 
 -- nothing said is nothing known
 pub or_none : {X : Type 0} (o : Option X) → option_or o None ≡ o
@@ -126,10 +138,11 @@ module _ (limits : Limits) (l : List Call) (all : AreAnswered (opening limits) l
 
   -- the place that a history leaves
   pub place_is : fin.get (state_after (opening limits) l).cluster.places q ≡ place_of l q
-  place_is = by_place (fin.get (state_after (opening limits) l).cluster.places q) (put_of l q) (pending_of l q) (is_finished_in l q)
-      (put_is q (opening limits) l all ∙ ap (λ (o : Option Place). unwrap_or (put_of l q) (put_at o)) (fin.get-empty name_cmp q))
-      (mark_is q (opening limits) l all ∙ ap (λ (o : Option Place). unwrap_or (last_said (accepted (finish_in q)) l) (mark_at o)) (fin.get-empty name_cmp q))
+  place_is =
+      by_place (fin.get (state_after (opening limits) l).cluster.places q) (put_of l q) (pending_of l q) (finished_of l q) (state_after (opening limits) l).clock
+      (put_is q (opening limits) l Nowhere None all (subst (λ o. IsPut o Nowhere None (record { 0 = 0 })) (sym (fin.get-empty name_cmp q)) refl))
       (pod_at (state_after (opening limits) l).queue q) pods_known
+      ∙ ap (λ (clock : Moment). unless_expired clock (place_by (put_of l q) (pending_of l q) (finished_of l q))) (clock_is q (opening limits) l all)
 
 -- ---- names
 
@@ -258,7 +271,7 @@ module _ (limits : Limits) (passes : ℕ) (l : List Call) (legal : Legal limits 
   places_told = fin.same_map nat_list_cmp_total same_name _ _ (λ q.
       place_is limits l legal.history.answered q
       ∙ sym (at_names (place_of l) (filter_map (λ c. pod_in c.step) l) q (λ h.
-      ap (λ o. place_by o (pending_of l q) (is_finished_in l q)) (nothing_said (λ c. put_in q c.step c.reply) pod_in q (λ c. put_silent q c.step c.reply) l h))))
+      ap (λ o. unless_expired (clock_of l) (place_by o (pending_of l q) (finished_of l q))) (nothing_said (λ c. put_in q c.step c.reply) pod_in q (λ c. put_silent q c.step c.reply) l h))))
 
 -- the snapshot of the state that a history leaves is that of the history
 pub snapshot_told : (d : Core) (l : List Call) → Leaves l d → snapshot d.state.cluster ≡ snap l

@@ -11,7 +11,7 @@ use Rattle.queue.specs.Queue.{QueueState, next_of, after_add, after_remove, afte
 use Rattle.desk.specs.declared.step.Step.{Step}
 use Rattle.desk.specs.declared.step.Step.TheVariants.{Event, Pop, Assume, BindDone, Forget, Fail, Tick, Count}
 use Rattle.desk.specs.declared.step.Reply.TheVariants as replies
-use Rattle.desk.specs.Machine.{State, Outcome, both, unless, told, reply, of_node, of_pod, moved, moved_if_placed, entry_at, pass_number, refusal_to_fail, refusal_to_tick}
+use Rattle.desk.specs.Machine.{State, Outcome, both, unless, told, reply, of_node, of_pod, moved, moved_if_placed, entry_at, pass_number, refusal_to_fail, refusal_to_tick, ticked_to}
 use Rattle.desk.specs.BareReply.{bare_reply, reply_with, handed_by}
 
 -- what the book answers hands nothing out
@@ -45,8 +45,8 @@ said_whole s pass Pop = by (next_of s.queue)
     by None = refl
     by (Some item) = refl
 said_whole s pass (Assume uid node) = both_whole s (Rattle.book.specs.declared.step.ClusterStep.TheVariants.Assume uid node (entry_at s pass uid)) s.queue
-said_whole s pass (BindDone uid ticket) = both_whole s (Rattle.book.specs.declared.step.ClusterStep.TheVariants.BindDone uid ticket (Rattle.queue.specs.Queue.has_entry s.queue uid)) s.queue
+said_whole s pass (BindDone uid ticket) = both_whole s (Rattle.book.specs.declared.step.ClusterStep.TheVariants.BindDone uid ticket s.clock (Rattle.queue.specs.Queue.has_entry s.queue uid)) s.queue
 said_whole s pass (Forget uid ticket) = both_whole s (Rattle.book.specs.declared.step.ClusterStep.TheVariants.Forget uid ticket (Rattle.queue.specs.Queue.has_entry s.queue uid)) (moved s (after_forget s.queue uid s.clock))
 said_whole s pass (Fail uid how) = unless_whole (refusal_to_fail s pass uid) s (record s { queue = after_fail s.queue uid (pass_number pass) how s.clock })
-said_whole s pass (Tick now) = unless_whole (refusal_to_tick s now) s (record s { clock = now; queue = after_tick s.queue now })
+said_whole s pass (Tick now) = unless_whole (refusal_to_tick s now) s (ticked_to s now)
 said_whole s pass Count = refl

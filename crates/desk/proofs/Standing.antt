@@ -34,7 +34,8 @@ use Rattle.book.specs.declared.step.Entry.{Entry}
 use Rattle.book.specs.declared.step.Entry.TheVariants.{Missing, Elsewhere, Held}
 use Rattle.book.specs.declared.step.ClusterStep.{ClusterStep}
 use Rattle.book.specs.declared.step.ClusterStep.TheVariants as cluster
-use Rattle.book.specs.Cluster.{name_cmp}
+use Rattle.book.specs.Cluster.{name_cmp, Places}
+use Rattle.book.specs.Expiry.{has_expired, is_expired, any_expired, unexpired}
 use Rattle.book.specs.Step as book_step
 use Rattle.book.specs.Step.{is_old, is_gone, is_placed, is_bound, is_finished, has_ticket, stands, finished_status, with_choice, with_finished, next_ticket, first_of}
 use Rattle.desk.specs.declared.step.Step.{Step}
@@ -42,11 +43,12 @@ use Rattle.desk.specs.declared.step.Step.TheVariants.{Event, Pop, Assume, BindDo
 use Rattle.desk.specs.declared.step.Reply.{Reply}
 use Rattle.desk.specs.declared.step.Reply.TheVariants as replies
 use Rattle.desk.specs.declared.step.Reply.TheVariants.{Refused}
-use Rattle.desk.specs.Machine.{State, Outcome, opening, unless, both, step, reply, entry_for, entry_at, pass_number, of_node, of_pod, moved, moved_if_placed, popped, refusal_to_fail, refusal_to_tick}
+use Rattle.desk.specs.Machine.{State, Outcome, opening, unless, both, step, reply, entry_for, entry_at, pass_number, of_node, of_pod, moved, moved_if_placed, popped, refusal_to_fail, refusal_to_tick, after_expiry, moved_if_expired, ticked_to}
 use Rattle.desk.specs.History.{Call, AreAnswered, state_after, last_said, if_named}
 use Rattle.desk.specs.Laws.{EntryOrPlace, EntryGoesWithPlace, pop_in, unanswered_by, holder, holder_of, waiting_for}
 use Rattle.desk.proofs.Histories.{state_more, append_nil}
 use Rattle.desk.proofs.Deciding.{first_three, or_false, not_false}
+use Rattle.desk.proofs.Expiring.{get_unexpired, entry_after_expiry}
 use Rattle.desk.proofs.Pods.{turned, same_of}
 use Rattle.desk.proofs.Held.{IsOwn}
 use Rattle.desk.proofs.Steps.{done_by, read_insert, read_remove, same_both, absent, unheld, bound_at, chosen_at, finished_at}
@@ -141,6 +143,20 @@ module _ (q : QueueState) (uid : Name) where
   unfolding after_tick
   flight_ticked now = flight_all (ticked now) (λ e. same_after_tick now e.state)
 
+  -- a pod whose place expires is no longer in flight
+  flight_expired : (places : Places) (now : Moment) → flight_at (after_expiry q places now) uid ≡ cond (is_expired places now uid) (landed (flight_at q uid)) (flight_at q uid)
+  flight_expired places now = ap flight_of (entry_after_expiry q places now uid) ∙ by (is_expired places now uid) (entry_of q uid)
+    where
+      sent : (e : QueueEntry) (b : Bool) → is_in_flight e.state ≡ b → Some (holder (if b then sent_back now e else e).state) ≡ Some None
+      sent e true up = refl
+      sent e false down = ap Some (grounded e.state down)
+
+      by : (b : Bool) (o : Option QueueEntry) → flight_of (option_map (λ (e : QueueEntry). if b && is_in_flight e.state then sent_back now e else e) o) ≡ cond b (landed (flight_of o)) (flight_of o)
+      by true None = refl
+      by true (Some e) = sent e (is_in_flight e.state) refl
+      by false None = refl
+      by false (Some e) = refl
+
   flight_removed : (u : Name) → flight_at (after_remove q u) uid ≡ cond (bytes_eq u uid) None (flight_at q uid)
   flight_removed u =
       ap flight_of (get-without q u uid ∙ ap (λ b. cond b None (entry_of q uid)) (turned uid u))
@@ -196,9 +212,9 @@ module _ (q : QueueState) (uid : Name) where
 abbrev pub hold_of : Option Place → Option Bool
 hold_of o = option_map (λ (place : Place). is_bound place.status) o
 
-same_hold : (status : Status) → is_bound (finished_status status) ≡ is_bound status
-same_hold (Assumed ticket finished) = refl
-same_hold Bound = refl
+same_hold : (at : Moment) (status : Status) → is_bound (finished_status at status) ≡ is_bound status
+same_hold at (Assumed ticket finished) = refl
+same_hold at Bound = refl
 
 -- ---- the two together
 
@@ -362,14 +378,14 @@ module _ (s : State) (q : Name) where
       (sym (same_both b flight_now)) (read_insert hold_of s.cluster.places uid q (chosen_at s node request)) refl
       (λ is h. let up = held request refl in ((up.0, ap (flight_at s.queue) (sym (same_of uid q is)) ∙ up.1), refl))
 
-  finished_keeps : (pass : ℕ) (uid : Name) (ticket : Ticket) (o : Option Place) → fin.get s.cluster.places uid ≡ o → KeepsBy pass (BindDone uid ticket) (record s { cluster = with_finished s.cluster uid o }) replies.Done
+  finished_keeps : (pass : ℕ) (uid : Name) (ticket : Ticket) (o : Option Place) → fin.get s.cluster.places uid ≡ o → KeepsBy pass (BindDone uid ticket) (record s { cluster = with_finished s.cluster uid s.clock o }) replies.Done
   finished_keeps pass uid ticket None is = same_keeps flight_now hold_now flight_now hold_now None refl refl refl
   finished_keeps pass uid ticket (Some place) is =
-      same_keeps flight_now hold_now flight_now (hold_of (fin.get (fin.insert s.cluster.places uid (finished_at place)) q)) None refl
-      (read_insert hold_of s.cluster.places uid q (finished_at place) ∙ here (bytes_eq uid q) refl) refl
+      same_keeps flight_now hold_now flight_now (hold_of (fin.get (fin.insert s.cluster.places uid (finished_at s place)) q)) None refl
+      (read_insert hold_of s.cluster.places uid q (finished_at s place) ∙ here (bytes_eq uid q) refl) refl
     where
-      here : (b : Bool) → bytes_eq uid q ≡ b → cond b (hold_of (Some (finished_at place))) hold_now ≡ hold_now
-      here true same = ap Some (same_hold place.status) ∙ sym (ap hold_of (ap (fin.get s.cluster.places) (sym (same_of uid q same)) ∙ is))
+      here : (b : Bool) → bytes_eq uid q ≡ b → cond b (hold_of (Some (finished_at s place))) hold_now ≡ hold_now
+      here true same = ap Some (same_hold s.clock place.status) ∙ sym (ap hold_of (ap (fin.get s.cluster.places) (sym (same_of uid q same)) ∙ is))
       here false other = refl
 
   -- a place that a ticket names is there
@@ -393,6 +409,34 @@ module _ (s : State) (q : Name) where
       down None = refl
       down (Some b) = refl
 
+  -- a place that is there
+  placed_now : (now : Moment) (o : Option Place) → stands (has_expired now) o ≡ true → is_some (hold_of o) ≡ true
+  placed_now now None h = absurd (cc)
+  placed_now now (Some place) h = refl
+
+  hold_if : (b : Bool) (o : Option Place) → hold_of (cond b None o) ≡ cond b None (hold_of o)
+  hold_if true o = refl
+  hold_if false o = refl
+
+  tick_keeps : (pass : ℕ) (now : Moment) → KeepsBy pass (Tick now) (ticked_to s now) replies.Done
+  tick_keeps pass now =
+      let b = is_expired s.cluster.places now q in
+      keeps_at b flight_now hold_now (landed flight_now) None (flight_at (ticked_to s now).queue q) (hold_of (fin.get (unexpired s.cluster.places now) q)) None None
+      (flight_ticked (moved_if_expired s now expired) q now ∙ either (any_expired s.cluster.places now) ∙ flight_expired s.queue q s.cluster.places now)
+      (ap hold_of (get_unexpired s.cluster.places now q) ∙ hold_if b (fin.get s.cluster.places q)) (sym (same_both b None))
+      (λ is h. (tt, down flight_now ∙ sym (placed_waits flight_now hold_now (placed_now now (fin.get s.cluster.places q) is))))
+    where
+      expired : QueueState
+      expired = after_expiry s.queue s.cluster.places now
+
+      either : (b : Bool) → flight_at (if b then after_move expired now else expired) q ≡ flight_at expired q
+      either true = flight_moved expired q now
+      either false = refl
+
+      down : (o : Flight) → waits_by (landed o) None ≡ None
+      down None = refl
+      down (Some b) = refl
+
   fail_keeps : (uid : Name) (how : Failure) (pass : ℕ) → KeepsBy pass (Fail uid how) (step s pass (Fail uid how)).state (step s pass (Fail uid how)).reply
   fail_keeps uid how pass = unless_keeps pass (Fail uid how) (refusal_to_fail s pass uid) (record { state = record s { queue = after_fail s.queue uid (pass_number pass) how s.clock }; reply = replies.Done }) (λ none.
       let passed = first_three (not (has_entry s.queue uid) && not (is_placed s.cluster uid)) (is_placed s.cluster uid) (not (holds_in_flight s.queue (pass_number pass) uid)) refusals.Gone refusals.Placed refusals.NotInFlight [] none in
@@ -411,11 +455,10 @@ module _ (s : State) (q : Name) where
   step_keeps own pass (Event (PodGone version uid)) = gone_keeps version uid pass
   step_keeps own pass Pop = pop_keeps own pass
   step_keeps own pass (Assume uid node) = both_keeps pass (Assume uid node) (cluster.Assume uid node (entry_at s pass uid)) s.queue (chosen_keeps pass uid node (entry_at s pass uid) (held_flies (pass_number pass) (entry_of s.queue uid)))
-  step_keeps own pass (BindDone uid ticket) = both_keeps pass (BindDone uid ticket) (cluster.BindDone uid ticket (has_entry s.queue uid)) s.queue (λ none. finished_keeps pass uid ticket (fin.get s.cluster.places uid) refl)
+  step_keeps own pass (BindDone uid ticket) = both_keeps pass (BindDone uid ticket) (cluster.BindDone uid ticket s.clock (has_entry s.queue uid)) s.queue (λ none. finished_keeps pass uid ticket (fin.get s.cluster.places uid) refl)
   step_keeps own pass (Forget uid ticket) = forget_keeps uid ticket pass
   step_keeps own pass (Fail uid how) = fail_keeps uid how pass
-  step_keeps own pass (Tick now) = unless_keeps pass (Tick now) (refusal_to_tick s now) (record { state = record s { clock = now; queue = after_tick s.queue now }; reply = replies.Done }) (λ none.
-      same_keeps flight_now hold_now (flight_at (after_tick s.queue now) q) hold_now None (flight_ticked s.queue q now) refl refl)
+  step_keeps own pass (Tick now) = unless_keeps pass (Tick now) (refusal_to_tick s now) (record { state = ticked_to s now; reply = replies.Done }) (λ none. tick_keeps pass now)
   step_keeps own pass Count = same_keeps flight_now hold_now flight_now hold_now None refl refl refl
 
 -- ---- whole histories

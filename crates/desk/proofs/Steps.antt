@@ -1,6 +1,8 @@
 -- What one answered call does to what is known of one name.
-use Rattle.std.proofs.Common.{◌≡◌, ℕ, Bool, true, false, cond, not, ◌||◌, [], ◌∷◌, if◌then◌else◌, Option, None, Some, is_some, unwrap_or, refl, sym, ap, subst, ◌∙◌}
+use Rattle.std.proofs.Common.{◌≡◌, ℕ, ◌+◌, ◌≤◌, Bool, true, false, cond, not, ◌||◌, [], ◌∷◌, if◌then◌else◌, nat_lt, Option, None, Some, is_some, unwrap_or, refl, sym, ap, subst, ◌∙◌, arith}
 use Rattle.std.specs.Prelude.{⊤}
+use Rattle.std.proofs.lemmas.Bool.{leb-true, le-leb, lt-leb}
+use Rattle.std.proofs.lemmas.Bool.Decides.{nat_tests}
 use Rattle.std.specs.Option.{option_or}
 use Rattle.std.specs.Str.{bytes_eq}
 use Rattle.std.specs.Cmp.Lexicographic.{nat_list_cmp_total}
@@ -16,7 +18,7 @@ use Rattle.quant.specs.declared.version.Version.{Version}
 use Rattle.queue.specs.declared.state.PassNumber.{PassNumber}
 use Rattle.queue.specs.Entry.{Entry as QueueEntry, is_in_flight_for}
 use Rattle.queue.specs.Order.{Item}
-use Rattle.queue.specs.Queue.{QueueState, entry_of, has_entry, is_full_queue, next_of, with_popped, after_add, after_pop, after_fail, after_forget, after_tick, after_remove}
+use Rattle.queue.specs.Queue.{QueueState, entry_of, has_entry, is_full_queue, next_of, with_popped, after_add, after_pop, after_fail, after_forget, after_move, after_remove}
 use Rattle.book.specs.declared.place.Place.{Place}
 use Rattle.book.specs.declared.place.Status.{Status}
 use Rattle.book.specs.declared.place.Status.TheVariants.{Assumed, Bound}
@@ -30,6 +32,8 @@ use Rattle.book.specs.declared.step.ClusterStep.{ClusterStep}
 use Rattle.book.specs.declared.step.ClusterStep.TheVariants as cluster
 use Rattle.book.specs.Cluster.{name_cmp}
 use Rattle.book.specs.Tables.{is_full_for}
+use Rattle.book.specs.Expiry.{is_overdue, has_expired, any_expired}
+use Rattle.book.specs.declared.limits.TheConstants.{EXPIRY}
 use Rattle.book.specs.Step as book_step
 use Rattle.book.specs.Step.{is_placed, is_old, is_gone, is_bound, is_finished, has_ticket, stands, finished_status, with_finished, with_choice, next_ticket, first_of}
 use Rattle.desk.specs.declared.step.Step.{Step}
@@ -37,24 +41,33 @@ use Rattle.desk.specs.declared.step.Step.TheVariants.{Event, Pop, Assume, BindDo
 use Rattle.desk.specs.declared.step.Reply.{Reply}
 use Rattle.desk.specs.declared.step.Reply.TheVariants as replies
 use Rattle.desk.specs.declared.step.Reply.TheVariants.{Refused}
-use Rattle.desk.specs.Machine.{State, Outcome, step, both, unless, told, of_node, of_pod, moved, moved_if_placed, entry_at, entry_for, pass_number, popped, refusal_to_fail, refusal_to_tick}
-use Rattle.desk.specs.History.{is_accepted, if_named, row_in, pending_in, finish_in, put_in, Put}
+use Rattle.desk.specs.Machine.{State, Outcome, step, both, unless, told, of_node, of_pod, moved, moved_if_placed, entry_at, entry_for, pass_number, popped, refusal_to_fail, refusal_to_tick, after_expiry, moved_if_expired, ticked_to}
+use Rattle.desk.specs.History.{is_accepted, if_named, row_in, pending_in, finish_in, clock_in, put_in, Put}
 use Rattle.desk.specs.History.Put.{Chosen, Told, Nowhere}
-use Rattle.desk.proofs.Pods.{pod_of, pod_at, turned, same_of, pod_moved, pod_ticked, pod_failed, pod_forgotten, pod_removed, pod_added, pod_popped}
+use Rattle.desk.proofs.Pods.{pod_of, pod_at, turned, same_of, pod_moved, pod_ticked, pod_expired, pod_failed, pod_forgotten, pod_removed, pod_added, pod_popped}
 use Rattle.desk.proofs.Deciding.{first_three, or_false, not_false}
+use Rattle.desk.proofs.Expiring.{get_unexpired}
 
 -- where a place puts its pod
 abbrev pub put_by : Name → Request → Status → Put
 put_by node request (Assumed ticket finished) = Chosen node ticket
 put_by node request Bound = Told node request
 
-abbrev pub put_at : Option Place → Put
-put_at None = Nowhere
-put_at (Some place) = put_by place.node place.request place.status
+-- when a place's bind was reported done, if it was
+abbrev pub mark_by : Status → Option Moment
+mark_by (Assumed ticket finished) = finished
+mark_by Bound = None
 
--- whether a place's bind was reported done
-abbrev pub mark_at : Option Place → Bool
-mark_at o = stands is_finished o
+-- whether a pod that was put so last, and whose bind was reported done then, has no place at this moment
+abbrev pub is_nowhere : Put → Option Moment → Moment → Bool
+is_nowhere (Chosen node ticket) mark clock = is_overdue clock mark
+is_nowhere (Told node request) mark clock = false
+is_nowhere Nowhere mark clock = true
+
+-- a place, or none, as it is at this moment where the pod was put so last and its bind was reported done then
+abbrev pub IsPut : Option Place → Put → Option Moment → Moment → Type 0
+IsPut None put mark clock = is_nowhere put mark clock ≡ true
+IsPut (Some place) put mark clock = (put ≡ put_by place.node place.request place.status) × (mark ≡ mark_by place.status) × (has_expired clock place.status ≡ false)
 
 -- a pod that waits is the known one
 abbrev pub Agrees : Option Pod → Option Pod → Type 0
@@ -82,8 +95,9 @@ if_accepted r o = if is_accepted r then o else None
 -- what is so of one name after a step that was answered so
 pub record OneOf (s : State) (q : Name) (e : Step) (new : State) (r : Reply) : Type 0 where
   pub node : fin.get new.cluster.nodes q ≡ unwrap_or (if_accepted r (row_in q e)) (fin.get s.cluster.nodes q)
-  pub put : put_at (fin.get new.cluster.places q) ≡ unwrap_or (put_in q e r) (put_at (fin.get s.cluster.places q))
-  pub mark : mark_at (fin.get new.cluster.places q) ≡ unwrap_or (if_accepted r (finish_in q e)) (mark_at (fin.get s.cluster.places q))
+  pub place : (put : Put) (mark : Option Moment) → IsPut (fin.get s.cluster.places q) put mark s.clock
+      → IsPut (fin.get new.cluster.places q) (unwrap_or (put_in q e r) put) (unwrap_or (if_accepted r (finish_in q s.clock e)) mark) new.clock
+  pub clock : new.clock ≡ unwrap_or (if_accepted r (clock_in e)) s.clock
   pub known : (known : Option Pod) → Known (pod_at s.queue q) (fin.get s.cluster.places q) known → Known (pod_at new.queue q) (fin.get new.cluster.places q) (option_or (if_accepted r (pending_in q e)) known)
 
 -- ---- maps
@@ -125,8 +139,8 @@ put_refused q Count why = refl
 refused_of : (s : State) (q : Name) (e : Step) (why : Refusal) → OneOf s q e s (Refused why)
 refused_of s q e why = record {
   node = refl;
-  put = sym (ap (λ o. unwrap_or o (put_at (fin.get s.cluster.places q))) (put_refused q e why));
-  mark = refl;
+  place = λ put mark h. subst (λ o. IsPut (fin.get s.cluster.places q) (unwrap_or o put) mark s.clock) (sym (put_refused q e why)) h;
+  clock = refl;
   known = λ known h. h;
 }
 
@@ -179,24 +193,64 @@ bound_at node request = record { node = node; request = request; status = Bound 
 
 -- a place that was chosen now
 abbrev pub chosen_at : State → Name → Request → Place
-chosen_at s node request = record { node = node; request = request; status = Assumed (next_ticket s.cluster) false }
+chosen_at s node request = record { node = node; request = request; status = Assumed (next_ticket s.cluster) None }
 
--- the same place, with its bind reported done
-abbrev pub finished_at : Place → Place
-finished_at place = record { node = place.node; request = place.request; status = finished_status place.status }
+-- the same place, with its bind reported done now
+abbrev pub finished_at : State → Place → Place
+finished_at s place = record { node = place.node; request = place.request; status = finished_status s.clock place.status }
 
 -- that changes its mark alone
-same_put : (node : Name) (request : Request) (status : Status) → put_by node request (finished_status status) ≡ put_by node request status
-same_put node request (Assumed ticket finished) = refl
-same_put node request Bound = refl
+same_put : (at : Moment) (node : Name) (request : Request) (status : Status) → put_by node request (finished_status at status) ≡ put_by node request status
+same_put at node request (Assumed ticket finished) = refl
+same_put at node request Bound = refl
 
-marked : (status : Status) → is_bound status ≡ false → is_finished (finished_status status) ≡ true
-marked (Assumed ticket finished) h = refl
-marked Bound h = absurd (cc)
+marked : (at : Moment) (status : Status) → is_bound status ≡ false → mark_by (finished_status at status) ≡ Some at
+marked at (Assumed ticket finished) h = refl
+marked at Bound h = absurd (cc)
 
-same_asked : (status : Status) (request : Request) (known : Option Pod) → AskedBy status request known → AskedBy (finished_status status) request known
-same_asked (Assumed ticket finished) request known h = h
-same_asked Bound request known h = h
+-- a bind that is reported done now hasn't expired
+fresh : (at : Moment) (status : Status) → has_expired at (finished_status at status) ≡ false
+fresh at (Assumed ticket finished) = lt-leb (at.0 + EXPIRY) at.0 (omega arith)
+fresh at Bound = refl
+
+-- what has expired has so at any later moment
+later_overdue : (clock now : Moment) (mark : Option Moment) → clock.0 ≤ now.0 → is_overdue clock mark ≡ true → is_overdue now mark ≡ true
+later_overdue clock now None later h = absurd (cc)
+later_overdue clock now (Some at) later h = le-leb (at.0 + EXPIRY) now.0 (omega (arith, later, leb-true (at.0 + EXPIRY) clock.0 h))
+
+later_nowhere : (clock now : Moment) (put : Put) (mark : Option Moment) → clock.0 ≤ now.0 → is_nowhere put mark clock ≡ true → is_nowhere put mark now ≡ true
+later_nowhere clock now (Chosen node ticket) mark later h = later_overdue clock now mark later h
+later_nowhere clock now (Told node request) mark later h = h
+later_nowhere clock now Nowhere mark later h = h
+
+-- a place that expires is one whose pod was put there, and is nowhere then
+expired_put : (now : Moment) (node : Name) (request : Request) (status : Status) (put : Put) (mark : Option Moment) → put ≡ put_by node request status → mark ≡ mark_by status → has_expired now status ≡ true → is_nowhere put mark now ≡ true
+expired_put now node request (Assumed ticket finished) put mark e f h = (λ i. is_nowhere (e i) (f i) now) ∙ h
+expired_put now node request Bound put mark e f h = absurd (cc)
+
+-- at a later moment the place is as it was put, if it hasn't expired
+later_put : (clock now : Moment) → clock.0 ≤ now.0 → (o : Option Place) (put : Put) (mark : Option Moment) → IsPut o put mark clock → IsPut (cond (stands (has_expired now) o) None o) put mark now
+later_put clock now later None put mark h = later_nowhere clock now put mark later h
+later_put clock now later (Some place) put mark h = by (has_expired now place.status) refl
+  where
+    by : (b : Bool) → has_expired now place.status ≡ b → IsPut (cond b None (Some place)) put mark now
+    by true is = expired_put now place.node place.request place.status put mark h.0 h.1 is
+    by false is = (h.0, h.1, is)
+
+-- where all that changes is one name's place, which its step puts
+put_here : (b : Bool) (place there new : Option Place) (put own : Put) (mark given : Option Moment) (clock : Moment) → new ≡ cond b there place → IsPut there own given clock → IsPut place put mark clock
+    → IsPut new (unwrap_or (if b then Some own else None) put) (unwrap_or (if b then Some given else None) mark) clock
+put_here true place there new put own mark given clock e is h = subst (λ o. IsPut o own given clock) (sym e) is
+put_here false place there new put own mark given clock e is h = subst (λ o. IsPut o put mark clock) (sym e) h
+
+-- the one test of a step that passes
+one_test : (b : Bool) (why : Refusal) → first_of ((b, why) ∷ []) ≡ None → b ≡ false
+one_test true why h = absurd (cc)
+one_test false why h = refl
+
+same_asked : (at : Moment) (status : Status) (request : Request) (known : Option Pod) → AskedBy status request known → AskedBy (finished_status at status) request known
+same_asked at (Assumed ticket finished) request known h = h
+same_asked at Bound request known h = h
 
 -- what a pass holds is a pod of an entry
 held_pod : (pass : PassNumber) (o : Option QueueEntry) (request : Request) → entry_for pass o ≡ Held request → (pod : Pod) × (pod_of o ≡ Some pod) × (request ≡ pod.request)
@@ -215,16 +269,16 @@ module _ (s : State) (q : Name) where
   node_set : (version : Version) (node : Node) (pass : ℕ) → OneOf s q (Event (NodeSet version node)) (step s pass (Event (NodeSet version node))).state (step s pass (Event (NodeSet version node))).reply
   node_set version node pass = both_of s q (Event (NodeSet version node)) (of_node s (NodeSet version node)) (moved s s.queue) (λ none. record {
     node = read_insert (λ o. o) s.cluster.nodes node.name q node ∙ said_here node.name q (Some node) (fin.get s.cluster.nodes q);
-    put = refl;
-    mark = refl;
+    place = λ put mark h. h;
+    clock = refl;
     known = λ known h. same_known (pod_at s.queue q) (pod_at (moved s s.queue) q) place_now known (pod_moved s.queue q s.clock) h;
   })
 
   node_gone : (version : Version) (name : Name) (pass : ℕ) → OneOf s q (Event (NodeGone version name)) (step s pass (Event (NodeGone version name))).state (step s pass (Event (NodeGone version name))).reply
   node_gone version name pass = both_of s q (Event (NodeGone version name)) (of_node s (NodeGone version name)) s.queue (λ none. record {
     node = read_remove (λ o. o) s.cluster.nodes name q ∙ said_here name q None (fin.get s.cluster.nodes q);
-    put = refl;
-    mark = refl;
+    place = λ put mark h. h;
+    clock = refl;
     known = λ known h. h;
   })
 
@@ -235,8 +289,8 @@ module _ (s : State) (q : Name) where
       let unplaced : fin.get s.cluster.places pod.uid ≡ None = absent (fin.get s.cluster.places pod.uid) apart.0 in
       record {
         node = refl;
-        put = refl;
-        mark = refl;
+        place = λ put mark h. h;
+        clock = refl;
         known = λ known h. at_name (bytes_eq pod.uid q) (pod_at s.queue q) (Some pod) place_now place_now (pod_at (after_add s.queue pod s.clock) q) place_now (if_named pod.uid q pod) known
             (pod_added s.queue q pod s.clock apart.1 passed.2) (sym (same_both (bytes_eq pod.uid q) place_now))
             (λ is. record {
@@ -249,8 +303,9 @@ module _ (s : State) (q : Name) where
   pod_bound : (version : Version) (uid node : Name) (request : Request) (pass : ℕ) → OneOf s q (Event (PodBound version uid node request)) (step s pass (Event (PodBound version uid node request))).state (step s pass (Event (PodBound version uid node request))).reply
   pod_bound version uid node request pass = both_of s q (Event (PodBound version uid node request)) (of_pod s uid (PodBound version uid node request)) (after_remove s.queue uid) (λ none. record {
     node = refl;
-    put = read_insert put_at s.cluster.places uid q (bound_at node request) ∙ said_here uid q (Told node request) (put_at place_now);
-    mark = read_insert mark_at s.cluster.places uid q (bound_at node request) ∙ said_here uid q false (mark_at place_now);
+    place = λ put mark h. put_here (bytes_eq uid q) place_now (Some (bound_at node request)) (fin.get (fin.insert s.cluster.places uid (bound_at node request)) q) put (Told node request) mark None s.clock
+        (read_insert (λ o. o) s.cluster.places uid q (bound_at node request)) (refl, refl, refl) h;
+    clock = refl;
     known = λ known h. at_name (bytes_eq uid q) (pod_at s.queue q) None place_now (Some (bound_at node request)) (pod_at (after_remove s.queue uid) q) (fin.get (fin.insert s.cluster.places uid (bound_at node request)) q) None known
         (pod_removed s.queue q uid) (read_insert (λ o. o) s.cluster.places uid q (bound_at node request))
         (λ is. record { entry = tt; asked = tt }) (λ isnt. refl) h;
@@ -259,8 +314,8 @@ module _ (s : State) (q : Name) where
   pod_gone : (version : Version) (uid : Name) (pass : ℕ) → OneOf s q (Event (PodGone version uid)) (step s pass (Event (PodGone version uid))).state (step s pass (Event (PodGone version uid))).reply
   pod_gone version uid pass = both_of s q (Event (PodGone version uid)) (of_pod s uid (PodGone version uid)) (moved_if_placed s uid (after_remove s.queue uid)) (λ none. record {
     node = refl;
-    put = read_remove put_at s.cluster.places uid q ∙ said_here uid q Nowhere (put_at place_now);
-    mark = read_remove mark_at s.cluster.places uid q ∙ said_here uid q false (mark_at place_now);
+    place = λ put mark h. put_here (bytes_eq uid q) place_now None (fin.get (fin.remove s.cluster.places uid) q) put Nowhere mark None s.clock (read_remove (λ o. o) s.cluster.places uid q) refl h;
+    clock = refl;
     known = λ known h. at_name (bytes_eq uid q) (pod_at s.queue q) None place_now None (pod_at (moved_if_placed s uid (after_remove s.queue uid)) q) (fin.get (fin.remove s.cluster.places uid) q) None known
         (pods_if (is_placed s.cluster uid) ∙ pod_removed s.queue q uid) (read_remove (λ o. o) s.cluster.places uid q)
         (λ is. nothing_known known) (λ isnt. refl) h;
@@ -275,11 +330,11 @@ module _ (s : State) (q : Name) where
   pop pass = by (next_of s.queue) refl
     where
       by : (o : Option Item) → next_of s.queue ≡ o → OneOf s q Pop (record s { queue = with_popped s.queue (pass_number pass) o }) (popped o)
-      by None is = record { node = refl; put = refl; mark = refl; known = λ known h. h }
+      by None is = record { node = refl; place = λ put mark h. h; clock = refl; known = λ known h. h }
       by (Some item) is = record {
         node = refl;
-        put = refl;
-        mark = refl;
+        place = λ put mark h. h;
+        clock = refl;
         known = λ known h. same_known (pod_at s.queue q) (pod_at (with_popped s.queue (pass_number pass) (Some item)) q) place_now known (pod_popped s.queue q (pass_number pass) (Some item) is) h;
       }
 
@@ -301,8 +356,9 @@ module _ (s : State) (q : Name) where
       let of = held request refl in
       record {
         node = refl;
-        put = read_insert put_at s.cluster.places uid q (chosen_at s node request) ∙ said_here uid q (Chosen node (next_ticket s.cluster)) (put_at place_now);
-        mark = read_insert mark_at s.cluster.places uid q (chosen_at s node request) ∙ said_here uid q false (mark_at place_now);
+        place = λ put mark h. put_here (bytes_eq uid q) place_now (Some (chosen_at s node request)) (fin.get (fin.insert s.cluster.places uid (chosen_at s node request)) q) put (Chosen node (next_ticket s.cluster)) mark None s.clock
+            (read_insert (λ o. o) s.cluster.places uid q (chosen_at s node request)) (refl, refl, refl) h;
+        clock = refl;
         known = λ known h. at_name (bytes_eq uid q) (pod_at s.queue q) (pod_at s.queue q) place_now (Some (chosen_at s node request)) (pod_at s.queue q) (fin.get (fin.insert s.cluster.places uid (chosen_at s node request)) q) None known
             (sym (same_both (bytes_eq uid q) (pod_at s.queue q))) (read_insert (λ o. o) s.cluster.places uid q (chosen_at s node request))
             (λ is.
@@ -317,7 +373,7 @@ module _ (s : State) (q : Name) where
   -- a bind is reported done of a place, which a ticket names
   finish : (uid : Name) (ticket : Ticket) (o : Option Place) (gone : Bool) → fin.get s.cluster.places uid ≡ o
       → first_of ((gone, refusals.Gone) ∷ (stands is_bound o, refusals.Confirmed) ∷ (not (stands (has_ticket ticket) o), refusals.StaleTicket) ∷ (stands is_finished o, refusals.Confirmed) ∷ []) ≡ None
-      → OneOf s q (BindDone uid ticket) (record s { cluster = with_finished s.cluster uid o }) replies.Done
+      → OneOf s q (BindDone uid ticket) (record s { cluster = with_finished s.cluster uid s.clock o }) replies.Done
   finish uid ticket None gone is none =
       let stale : true ≡ false = (first_three gone false true refusals.Gone refusals.Confirmed refusals.StaleTicket ((false, refusals.Confirmed) ∷ []) none).2 in
       absurd (cc)
@@ -325,23 +381,26 @@ module _ (s : State) (q : Name) where
       let loose = (first_three gone (is_bound place.status) (not (has_ticket ticket place.status)) refusals.Gone refusals.Confirmed refusals.StaleTicket ((is_finished place.status, refusals.Confirmed) ∷ []) none).1 in
       record {
         node = refl;
-        put = read_insert put_at s.cluster.places uid q (finished_at place) ∙ same_there (bytes_eq uid q) refl;
-        mark = read_insert mark_at s.cluster.places uid q (finished_at place) ∙ ap (λ b. cond (bytes_eq uid q) b (mark_at place_now)) (marked place.status loose) ∙ said_here uid q true (mark_at place_now);
-        known = λ known h. at_name (bytes_eq uid q) (pod_at s.queue q) (pod_at s.queue q) place_now (Some (finished_at place)) (pod_at s.queue q) (fin.get (fin.insert s.cluster.places uid (finished_at place)) q) None known
-            (sym (same_both (bytes_eq uid q) (pod_at s.queue q))) (read_insert (λ o. o) s.cluster.places uid q (finished_at place))
-            (λ here. record { entry = h.entry; asked = same_asked place.status place.request known (subst (λ o. Asked o known) (placed here) h.asked) })
+        place = λ put mark h. subst (λ o. IsPut o put (unwrap_or (if_named uid q (Some s.clock)) mark) s.clock) (sym (read_insert (λ o. o) s.cluster.places uid q (finished_at s place))) (same_there loose (bytes_eq uid q) refl put mark h);
+        clock = refl;
+        known = λ known h. at_name (bytes_eq uid q) (pod_at s.queue q) (pod_at s.queue q) place_now (Some (finished_at s place)) (pod_at s.queue q) (fin.get (fin.insert s.cluster.places uid (finished_at s place)) q) None known
+            (sym (same_both (bytes_eq uid q) (pod_at s.queue q))) (read_insert (λ o. o) s.cluster.places uid q (finished_at s place))
+            (λ here. record { entry = h.entry; asked = same_asked s.clock place.status place.request known (subst (λ o. Asked o known) (placed here) h.asked) })
             (λ isnt. refl) h;
       }
     where
       placed : bytes_eq uid q ≡ true → fin.get s.cluster.places q ≡ Some place
       placed here = ap (fin.get s.cluster.places) (sym (same_of uid q here)) ∙ is
 
-      same_there : (b : Bool) → bytes_eq uid q ≡ b → cond b (put_at (Some (finished_at place))) (put_at place_now) ≡ put_at place_now
-      same_there true here = same_put place.node place.request place.status ∙ sym (ap put_at (placed here))
-      same_there false isnt = refl
+      same_there : is_bound place.status ≡ false → (b : Bool) → bytes_eq uid q ≡ b → (put : Put) (mark : Option Moment) → IsPut place_now put mark s.clock
+          → IsPut (cond b (Some (finished_at s place)) place_now) put (unwrap_or (if b then Some (Some s.clock) else None) mark) s.clock
+      same_there loose true here put mark h =
+          let was = subst (λ o. IsPut o put mark s.clock) (placed here) h in
+          (was.0 ∙ sym (same_put s.clock place.node place.request place.status), sym (marked s.clock place.status loose), fresh s.clock place.status)
+      same_there loose false isnt put mark h = h
 
   bind_done : (uid : Name) (ticket : Ticket) (pass : ℕ) → OneOf s q (BindDone uid ticket) (step s pass (BindDone uid ticket)).state (step s pass (BindDone uid ticket)).reply
-  bind_done uid ticket pass = both_of s q (BindDone uid ticket) (cluster.BindDone uid ticket (has_entry s.queue uid)) s.queue
+  bind_done uid ticket pass = both_of s q (BindDone uid ticket) (cluster.BindDone uid ticket s.clock (has_entry s.queue uid)) s.queue
       (finish uid ticket (fin.get s.cluster.places uid) (is_gone s.cluster uid (has_entry s.queue uid)) refl)
 
   forget : (uid : Name) (ticket : Ticket) (pass : ℕ) → OneOf s q (Forget uid ticket) (step s pass (Forget uid ticket)).state (step s pass (Forget uid ticket)).reply
@@ -349,8 +408,8 @@ module _ (s : State) (q : Name) where
       let pods : pod_at (moved s (after_forget s.queue uid s.clock)) q ≡ pod_at s.queue q = pod_moved (after_forget s.queue uid s.clock) q s.clock ∙ pod_forgotten s.queue q uid s.clock in
       record {
         node = refl;
-        put = read_remove put_at s.cluster.places uid q ∙ said_here uid q Nowhere (put_at place_now);
-        mark = read_remove mark_at s.cluster.places uid q ∙ said_here uid q false (mark_at place_now);
+        place = λ put mark h. put_here (bytes_eq uid q) place_now None (fin.get (fin.remove s.cluster.places uid) q) put Nowhere mark None s.clock (read_remove (λ o. o) s.cluster.places uid q) refl h;
+        clock = refl;
         known = λ known h. at_name (bytes_eq uid q) (pod_at s.queue q) (pod_at s.queue q) place_now None (pod_at (moved s (after_forget s.queue uid s.clock)) q) (fin.get (fin.remove s.cluster.places uid) q) None known
             (pods ∙ sym (same_both (bytes_eq uid q) (pod_at s.queue q))) (read_remove (λ o. o) s.cluster.places uid q)
             (λ is. record { entry = h.entry; asked = tt }) (λ isnt. refl) h;
@@ -359,18 +418,38 @@ module _ (s : State) (q : Name) where
   fail : (uid : Name) (how : Failure) (pass : ℕ) → OneOf s q (Fail uid how) (step s pass (Fail uid how)).state (step s pass (Fail uid how)).reply
   fail uid how pass = unless_of s q (Fail uid how) (refusal_to_fail s pass uid) (record { state = record s { queue = after_fail s.queue uid (pass_number pass) how s.clock }; reply = replies.Done }) (λ none. record {
     node = refl;
-    put = refl;
-    mark = refl;
+    place = λ put mark h. h;
+    clock = refl;
     known = λ known h. same_known (pod_at s.queue q) (pod_at (after_fail s.queue uid (pass_number pass) how s.clock) q) place_now known (pod_failed s.queue q uid (pass_number pass) how s.clock) h;
   })
 
   tick : (now : Moment) (pass : ℕ) → OneOf s q (Tick now) (step s pass (Tick now)).state (step s pass (Tick now)).reply
-  tick now pass = unless_of s q (Tick now) (refusal_to_tick s now) (record { state = record s { clock = now; queue = after_tick s.queue now }; reply = replies.Done }) (λ none. record {
-    node = refl;
-    put = refl;
-    mark = refl;
-    known = λ known h. same_known (pod_at s.queue q) (pod_at (after_tick s.queue now) q) place_now known (pod_ticked s.queue q now) h;
-  })
+  tick now pass = unless_of s q (Tick now) (refusal_to_tick s now) (record { state = ticked_to s now; reply = replies.Done }) (λ none.
+      let stays = get_unexpired s.cluster.places now q in
+      record {
+        node = refl;
+        place = λ put mark h. subst (λ o. IsPut o put mark now) (sym stays) (later_put s.clock now (later none) place_now put mark h);
+        clock = refl;
+        known = λ known h. subst (λ p. Known (pod_at (ticked_to s now).queue q) p known) (sym stays)
+            (same_known (pod_at s.queue q) (pod_at (ticked_to s now).queue q) (cond (stands (has_expired now) place_now) None place_now) known pods (left_known (stands (has_expired now) place_now) known h));
+      })
+    where
+      later : refusal_to_tick s now ≡ None → s.clock.0 ≤ now.0
+      later none = grind (arith, nat_tests, one_test (nat_lt now.0 s.clock.0) refusals.ClockBack none)
+
+      expired : QueueState
+      expired = after_expiry s.queue s.cluster.places now
+
+      pods_if : (b : Bool) → pod_at (if b then after_move expired now else expired) q ≡ pod_at expired q
+      pods_if true = pod_moved expired q now
+      pods_if false = refl
+
+      pods : pod_at (ticked_to s now).queue q ≡ pod_at s.queue q
+      pods = pod_ticked (moved_if_expired s now expired) q now ∙ pods_if (any_expired s.cluster.places now) ∙ pod_expired s.queue q s.cluster.places now
+
+      left_known : (b : Bool) (known : Option Pod) → Known (pod_at s.queue q) place_now known → Known (pod_at s.queue q) (cond b None place_now) known
+      left_known true known h = record { entry = h.entry; asked = tt }
+      left_known false known h = h
 
   -- whatever the step
   pub one_of : (pass : ℕ) (e : Step) → OneOf s q e (step s pass e).state (step s pass e).reply
@@ -385,4 +464,4 @@ module _ (s : State) (q : Name) where
   one_of pass (Forget uid ticket) = forget uid ticket pass
   one_of pass (Fail uid how) = fail uid how pass
   one_of pass (Tick now) = tick now pass
-  one_of pass Count = record { node = refl; put = refl; mark = refl; known = λ known h. h }
+  one_of pass Count = record { node = refl; place = λ put mark h. h; clock = refl; known = λ known h. h }

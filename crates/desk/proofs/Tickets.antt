@@ -7,7 +7,7 @@ use Rattle.quant.specs.declared.event.Event.TheVariants.{NodeSet, NodeGone, PodP
 use Rattle.quant.specs.declared.name.Name.{Name}
 use Rattle.quant.specs.declared.version.Ticket.{Ticket}
 use Rattle.queue.specs.Order.{Item}
-use Rattle.queue.specs.Queue.{QueueState, has_entry, next_of, after_add, after_fail, after_forget, after_remove, after_tick}
+use Rattle.queue.specs.Queue.{QueueState, has_entry, next_of, after_add, after_fail, after_forget, after_remove}
 use Rattle.book.specs.declared.place.Place.{Place}
 use Rattle.book.specs.declared.refusal.Refusal.{Refusal}
 use Rattle.book.specs.declared.step.Entry.{Entry}
@@ -20,7 +20,7 @@ use Rattle.desk.specs.declared.step.Step.{Step}
 use Rattle.desk.specs.declared.step.Step.TheVariants.{Event, Pop, Assume, BindDone, Forget, Fail, Tick, Count}
 use Rattle.desk.specs.declared.step.Reply.{Reply}
 use Rattle.desk.specs.declared.step.Reply.TheVariants as replies
-use Rattle.desk.specs.Machine.{State, Outcome, opening, unless, both, step, reply, after, of_node, of_pod, moved, moved_if_placed, entry_at, pass_number, popped, refusal_to_fail, refusal_to_tick}
+use Rattle.desk.specs.Machine.{State, Outcome, opening, unless, both, step, reply, after, of_node, of_pod, moved, moved_if_placed, entry_at, pass_number, popped, refusal_to_fail, refusal_to_tick, ticked_to}
 use Rattle.desk.specs.History.{Call, AreAnswered, state_after}
 use Rattle.desk.specs.Laws.{ticket_in, tickets_of, TicketsOnce, TicketsInOrder}
 use Rattle.desk.proofs.Steps.{done_by, unheld}
@@ -56,7 +56,7 @@ module _ (s : State) where
   chosen_follows uid node Elsewhere none = absurd (unheld s uid uid node Elsewhere refl none)
   chosen_follows uid node (Held request) none = (refl, refl)
 
-  finished_ticket : (uid : Name) (o : Option Place) → FollowsBy last (with_finished s.cluster uid o).ticket replies.Done
+  finished_ticket : (uid : Name) (o : Option Place) → FollowsBy last (with_finished s.cluster uid s.clock o).ticket replies.Done
   finished_ticket uid None = kept last replies.Done refl
   finished_ticket uid (Some place) = kept last replies.Done refl
 
@@ -73,10 +73,10 @@ module _ (s : State) where
   follows pass (Event (PodGone version uid)) = both_follows (of_pod s uid (PodGone version uid)) (moved_if_placed s uid (after_remove s.queue uid)) (λ none. kept last replies.Done refl)
   follows pass Pop = kept last (popped (next_of s.queue)) (popped_none (next_of s.queue))
   follows pass (Assume uid node) = both_follows (cluster.Assume uid node (entry_at s pass uid)) s.queue (chosen_follows uid node (entry_at s pass uid))
-  follows pass (BindDone uid ticket) = both_follows (cluster.BindDone uid ticket (has_entry s.queue uid)) s.queue (λ none. finished_ticket uid (fin.get s.cluster.places uid))
+  follows pass (BindDone uid ticket) = both_follows (cluster.BindDone uid ticket s.clock (has_entry s.queue uid)) s.queue (λ none. finished_ticket uid (fin.get s.cluster.places uid))
   follows pass (Forget uid ticket) = both_follows (cluster.Forget uid ticket (has_entry s.queue uid)) (moved s (after_forget s.queue uid s.clock)) (λ none. kept last replies.Done refl)
   follows pass (Fail uid how) = unless_follows (refusal_to_fail s pass uid) (record { state = record s { queue = after_fail s.queue uid (pass_number pass) how s.clock }; reply = replies.Done }) (λ none. kept last replies.Done refl)
-  follows pass (Tick now) = unless_follows (refusal_to_tick s now) (record { state = record s { clock = now; queue = after_tick s.queue now }; reply = replies.Done }) (λ none. kept last replies.Done refl)
+  follows pass (Tick now) = unless_follows (refusal_to_tick s now) (record { state = ticked_to s now; reply = replies.Done }) (λ none. kept last replies.Done refl)
   follows pass Count = kept last (step s pass Count).reply refl
 
 -- the last ticket never goes back

@@ -5,6 +5,7 @@ use Rattle.std.specs.Option.{option_or, option_map}
 use Rattle.std.specs.Str.{bytes_eq}
 use Rattle.std.specs.FinMap.{FinMap, from_entries, entries}
 use Rattle.quant.specs.declared.event.Event.TheVariants.{NodeSet, NodeGone, PodPending, PodBound, PodGone}
+use Rattle.quant.specs.declared.amount.Moment.{Moment}
 use Rattle.quant.specs.declared.amount.Request.{Request}
 use Rattle.quant.specs.declared.name.Name.{Name}
 use Rattle.quant.specs.declared.objects.Node.{Node}
@@ -16,6 +17,8 @@ use Rattle.book.specs.declared.place.Place.{Place}
 use Rattle.book.specs.declared.place.Status.TheVariants.{Assumed, Bound}
 use Rattle.book.specs.Cluster.{name_cmp, Nodes, Places}
 use Rattle.book.specs.Used.{used}
+use Rattle.book.specs.Step.{stands}
+use Rattle.book.specs.Expiry.{has_expired}
 use Rattle.desk.specs.declared.step.Step.{Step}
 use Rattle.desk.specs.declared.step.Step.TheVariants.{Event, Pop, Assume, BindDone, Forget, Fail, Tick, Count}
 use Rattle.desk.specs.declared.step.Reply.{Reply}
@@ -112,6 +115,30 @@ last_said says (c ∷ l) = option_or (last_said says l) (says c)
 abbrev pub accepted : {X : Type 0} → (Step → Option X) → Call → Option X
 accepted says c = if is_accepted c.reply then says c.step else None
 
+-- the moment to which a step takes the clock
+abbrev pub clock_in : Step → Option Moment
+clock_in (Event event) = None
+clock_in Pop = None
+clock_in (Assume uid node) = None
+clock_in (BindDone uid ticket) = None
+clock_in (Forget uid ticket) = None
+clock_in (Fail uid how) = None
+clock_in (Tick now) = Some now
+clock_in Count = None
+
+-- the clock after a call: the moment of the last accepted tick
+abbrev pub clock_after : Moment → Call → Moment
+clock_after clock c = unwrap_or (accepted clock_in c) clock
+
+-- the clock after calls: the moment of the last accepted tick, and 0 where there is none
+abbrev pub clock_of : List Call → Moment
+clock_of l = unwrap_or (last_said (accepted clock_in) l) (record { 0 = 0 })
+
+-- what the last call says that says anything, each told where the clock stands before it
+abbrev pub last_said_at : {X : Type 0} → (Moment → Call → Option X) → Moment → List Call → Option X
+last_said_at says clock [] = None
+last_said_at says clock (c ∷ l) = option_or (last_said_at says (clock_after clock c) l) (says clock c)
+
 -- what is said, where this is the name
 abbrev pub if_named : {X : Type 0} → Name → Name → X → Option X
 if_named name wanted x = if bytes_eq name wanted then Some x else None
@@ -172,35 +199,39 @@ put_in uid other answer = None
 abbrev pub put_of : List Call → Name → Option Put
 put_of l uid = last_said (λ c. put_in uid c.step c.reply) l
 
--- whether a step reports a pod's bind as done, or puts the pod anew
-abbrev pub finish_in : Name → Step → Option Bool
-finish_in uid (Event (NodeSet version node)) = None
-finish_in uid (Event (NodeGone version node)) = None
-finish_in uid (Event (PodPending version pod)) = None
-finish_in uid (Event (PodBound version other node request)) = if_named other uid false
-finish_in uid (Event (PodGone version other)) = if_named other uid false
-finish_in uid Pop = None
-finish_in uid (Assume other node) = if_named other uid false
-finish_in uid (BindDone other ticket) = if_named other uid true
-finish_in uid (Forget other ticket) = if_named other uid false
-finish_in uid (Fail other how) = None
-finish_in uid (Tick now) = None
-finish_in uid Count = None
+-- whether a step reports a pod's bind as done, and then when, or puts the pod anew
+abbrev pub finish_in : Name → Moment → Step → Option (Option Moment)
+finish_in uid clock (Event (NodeSet version node)) = None
+finish_in uid clock (Event (NodeGone version node)) = None
+finish_in uid clock (Event (PodPending version pod)) = None
+finish_in uid clock (Event (PodBound version other node request)) = if_named other uid None
+finish_in uid clock (Event (PodGone version other)) = if_named other uid None
+finish_in uid clock Pop = None
+finish_in uid clock (Assume other node) = if_named other uid None
+finish_in uid clock (BindDone other ticket) = if_named other uid (Some clock)
+finish_in uid clock (Forget other ticket) = if_named other uid None
+finish_in uid clock (Fail other how) = None
+finish_in uid clock (Tick now) = None
+finish_in uid clock Count = None
 
--- whether a pod's bind was reported done since it was last put
-abbrev pub is_finished_in : List Call → Name → Bool
-is_finished_in l uid = unwrap_or (last_said (accepted (finish_in uid)) l) false
+-- when a pod's bind was reported done, if it was since the pod was last put. The clock stands at 0 at first
+abbrev pub finished_of : List Call → Name → Option Moment
+finished_of l uid = unwrap_or (last_said_at (λ clock. accepted (finish_in uid clock)) (record { 0 = 0 }) l) None
 
--- the place that a pod has which was put so, last came to wait as this pod, and whose bind was reported done or not
-abbrev pub place_by : Option Put → Option Pod → Bool → Option Place
+-- the place that a pod has which was put so, last came to wait as this pod, and whose bind was reported done then or not
+abbrev pub place_by : Option Put → Option Pod → Option Moment → Option Place
 place_by (Some (Chosen node ticket)) (Some pod) finished = Some (record { node = node; request = pod.request; status = Assumed ticket finished })
 place_by (Some (Told node request)) pod finished = Some (record { node = node; request = request; status = Bound })
 place_by put pod finished = None
 
+-- a place, if it hasn't expired by this moment
+abbrev pub unless_expired : Moment → Option Place → Option Place
+unless_expired now o = if stands (has_expired now) o then None else o
+
 -- the place of a pod, by the last accepted step that puts it. An assumed one has the request of the pod's last
--- accepted PodPending
+-- accepted PodPending, and goes with the accepted tick that comes to the moment at which it expires
 abbrev pub place_of : List Call → Name → Option Place
-place_of l uid = place_by (put_of l uid) (pending_of l uid) (is_finished_in l uid)
+place_of l uid = unless_expired (clock_of l) (place_by (put_of l uid) (pending_of l uid) (finished_of l uid))
 
 -- the node that a step names
 abbrev pub node_in : Step → Option Name

@@ -18,18 +18,19 @@
 --   Tick        ClockBack (the moment is below the clock)
 --   Count       none
 use Rattle.std.specs.Prelude.{ℕ, ◌+◌, ◌-◌, List, [], ◌∷◌, false, not, ◌&&◌, nat_lt, if◌then◌else◌, Option, None, Some, replicate, slice_index, slice_set, map}
-use Rattle.std.specs.FinMap.{entries}
+use Rattle.std.specs.FinMap.{entries, from_entries}
 use Rattle.quant.specs.declared.amount.Moment.{Moment}
 use Rattle.quant.specs.declared.name.Name.{Name}
 use Rattle.quant.specs.declared.event.Event.{Event as Watched}
 use Rattle.quant.specs.declared.event.Event.TheVariants.{NodeSet, NodeGone, PodPending, PodBound, PodGone}
 use Rattle.queue.specs.declared.state.PassNumber.{PassNumber}
-use Rattle.queue.specs.Entry.{Entry as QueueEntry, is_in_flight_for}
+use Rattle.queue.specs.Entry.{Entry as QueueEntry, is_in_flight, is_in_flight_for, sent_back}
 use Rattle.queue.specs.Order.{Item}
 use Rattle.queue.specs.Queue.{QueueState, no_entries, entry_of, has_entry, is_full_queue, holds_in_flight, next_of, counts_of, after_add, after_pop, after_fail, after_forget, after_tick, after_move, after_remove}
 use Rattle.book.specs.Cluster as book
 use Rattle.book.specs.Step as book_step
 use Rattle.book.specs.Step.{first_of, is_placed}
+use Rattle.book.specs.Expiry.{is_expired, any_expired, without_expired}
 use Rattle.book.specs.Used.{used, bound, assumed}
 use Rattle.book.specs.declared.limits.Limits.{Limits}
 use Rattle.book.specs.declared.refusal.Refusal.{Refusal}
@@ -143,6 +144,28 @@ refusal_to_fail s pass uid =
 abbrev pub refusal_to_tick : State → Moment → Option Refusal
 refusal_to_tick s now = first_of ((nat_lt now.0 s.clock.0, refusals.ClockBack) ∷ [])
 
+-- an entry in flight backs off from this moment on, where its pod's place expires
+abbrev pub sent_back_if_expired : book.Places → Moment → Name → QueueEntry → QueueEntry
+sent_back_if_expired places now uid entry = if is_expired places now uid && is_in_flight entry.state then sent_back now entry else entry
+
+-- the queue with each entry so
+unfoldable pub after_expiry : QueueState → book.Places → Moment → QueueState
+after_expiry q places now = record q { entries = from_entries (map (λ item. (item.0, sent_back_if_expired places now item.0 item.1)) (entries q.entries)) }
+
+-- there is a move where a place expires
+abbrev pub moved_if_expired : State → Moment → QueueState → QueueState
+moved_if_expired s now queue = if any_expired s.cluster.places now then after_move queue now else queue
+
+-- at this moment: the places that expire go and their pods back off, with one move if there are any; then what has backed off
+-- or waited long enough is active
+abbrev pub ticked_to : State → Moment → State
+ticked_to s now =
+    record s {
+      cluster = without_expired s.cluster now;
+      queue = after_tick (moved_if_expired s now (after_expiry s.queue s.cluster.places now)) now;
+      clock = now;
+    }
+
 -- the numbers that `Count` tells. Each assumed pod is in flight, but is counted as assumed alone
 abbrev pub counts : State → Counts
 counts s =
@@ -176,15 +199,14 @@ step s pass Pop = record { state = record s { queue = after_pop s.queue (pass_nu
 -- the pod is assumed on the node with the next ticket; its entry stays in flight
 step s pass (Assume uid node) = both s (cluster.Assume uid node (entry_at s pass uid)) s.queue
 -- the place is marked as finished
-step s pass (BindDone uid ticket) = both s (cluster.BindDone uid ticket (has_entry s.queue uid)) s.queue
+step s pass (BindDone uid ticket) = both s (cluster.BindDone uid ticket s.clock (has_entry s.queue uid)) s.queue
 -- the place goes, the entry backs off, and there is a move
 step s pass (Forget uid ticket) = both s (cluster.Forget uid ticket (has_entry s.queue uid)) (moved s (after_forget s.queue uid s.clock))
 -- the entry backs off or is unschedulable
 step s pass (Fail uid how) =
     unless (refusal_to_fail s pass uid) s (record { state = record s { queue = after_fail s.queue uid (pass_number pass) how s.clock }; reply = replies.Done })
--- the clock is this moment, and what has backed off or waited long enough is active
-step s pass (Tick now) =
-    unless (refusal_to_tick s now) s (record { state = record s { clock = now; queue = after_tick s.queue now }; reply = replies.Done })
+-- the clock is this moment, what expires is gone, and what has backed off or waited long enough is active
+step s pass (Tick now) = unless (refusal_to_tick s now) s (record { state = ticked_to s now; reply = replies.Done })
 -- nothing changes
 step s pass Count = record { state = s; reply = replies.Counts (counts s) }
 

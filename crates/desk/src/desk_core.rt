@@ -3,6 +3,8 @@ ghost use Rattle.std.specs.Prelude.{◌≡◌, ◌≤◌, ◌<◌, ◌+◌, ℕ,
 ghost use Rattle.std.specs.Bool.{IsTrue};
 ghost use Rattle.desk.specs.Caller.{HasNoCalls};
 ghost use Rattle.desk.specs.BareReply.{bare_reply};
+ghost use Rattle.book.specs.Expiry.{any_expired, without_expired};
+ghost use Rattle.desk.specs.Machine.{after_expiry};
 
 use crate::bare_reply::BareReply;
 use crate::limits::{MAX_CALLS, MAX_PASSES};
@@ -197,7 +199,7 @@ impl Core {
         }
     }
 
-    // An assumed place is marked as finished.
+    // An assumed place is marked as finished now.
     fn finish_bind(&mut self, uid: Name, ticket: Ticket) -> Result<Reply, Refusal>
         ensures { IsDone self.old (step self.old.state 0 (Step.BindDone uid ticket)) result self.new }
     {
@@ -205,6 +207,7 @@ impl Core {
         self.tell_book(ClusterStep::BindDone {
             uid,
             ticket,
+            at: self.clock,
             queued,
         })?;
         Ok(Reply::Done)
@@ -246,7 +249,7 @@ impl Core {
         }
     }
 
-    // Time goes on to this moment.
+    // Time goes on to this moment: what expires goes, with a move if anything does, and what waited long enough is active.
     fn tick(&mut self, now: Moment) -> Result<Reply, Refusal>
         requires { now.0 ≤ LATEST_MOMENT }
         ensures { IsDone self.old (step self.old.state 0 (Step.Tick now)) result self.new }
@@ -255,6 +258,9 @@ impl Core {
             return Err(Refusal::ClockBack);
         }
         self.clock = now;
+        if expire_all(&mut self.book, &mut self.queue, now) {
+            self.queue.move_all(now);
+        }
         self.queue.tick(now);
         Ok(Reply::Done)
     }
@@ -402,6 +408,22 @@ fn has_none_from(calls: &[u64; MAX_PASSES], handed: usize) -> bool
         }
     }
     true
+}
+
+// The places that expire at this moment go, the one with the least uid first, and their pods back off from now on. Whether there
+// were any.
+fn expire_all(book: &mut Book, queue: &mut Queue, now: Moment) -> bool
+    requires { now.0 ≤ LATEST_MOMENT }
+    ensures any { result ≡ any_expired book.old.places now }
+    ensures book { book.new ≡ without_expired book.old now }
+    ensures queue { queue.new ≡ after_expiry queue.old book.old.places now }
+{
+    let mut any = false;
+    while let Some(uid) = book.expire(now) {
+        let _ = queue.forget_back(&uid, now);
+        any = true;
+    }
+    any
 }
 
 // What there is to say of a step that was done or refused.

@@ -42,7 +42,8 @@ impl<J: Naming> Model for UnderLock<J> {
 
     ghost view = { λ l. l.writer.desk.shown.value };
 
-    ghost invariant = { λ l. Stands J.book J.limits l.writer.desk.shown.value × (fold published_after l.writer.desk.shown.value (drop l.writer.behind l.writer.log.items) ≡ l.writer.desk.shown.value) };
+    ghost invariant = { λ l. Stands J.book J.limits l.writer.desk.shown.value
+        × (fold published_after l.writer.desk.shown.value (drop l.writer.behind l.writer.log.items) ≡ l.writer.desk.shown.value) };
 }
 
 // A desk on which nothing was done, twice: what is published, and the copy beside it.
@@ -103,7 +104,8 @@ fn publish_orders<J: Naming, R: Wait>(
     writer: Writer<Published, Order, (), PublishedRule<J>>,
 ) -> Writer<Published, Order, (), PublishedRule<J>>
     requires { Stands J.book J.limits (fold published_after writer.desk.shown.value (drop writer.behind writer.log.items)) }
-    ensures { (result.desk.shown.value ≡ fold published_after writer.desk.shown.value (drop writer.behind writer.log.items)) × (drop result.behind result.log.items ≡ []) }
+    ensures { (result.desk.shown.value ≡ fold published_after writer.desk.shown.value (drop writer.behind writer.log.items))
+        × (drop result.behind result.log.items ≡ []) }
 {
     let mut writer = writer;
     for _ in rt.forever() {
@@ -271,7 +273,8 @@ impl<J: Naming> UnderLock<J> {
         requires first { first.old.caller.number < handed }
         requires second { second.old.caller.number < handed }
         requires handed { handed ≤ MAX_PASSES }
-        ensures { MatchBool result (Met (record { limits = J.limits; handed = handed }) first.old second.old first.new second.new) ((first.new ≡ first.old) × (second.new ≡ second.old)) }
+        ensures { MatchBool result (Met (record { limits = J.limits; handed = handed }) first.old second.old first.new second.new) ((first.new ≡ first.old)
+            × (second.new ≡ second.old)) }
     {
         let published = self.writer.published();
         if !first.may_go_on(published, handed) || !second.may_go_on(published, handed) {

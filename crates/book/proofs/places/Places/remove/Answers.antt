@@ -1,42 +1,62 @@
-use Rattle.std.proofs.Common.{◌-◌, length, ap, sym, ◌∙◌, arith}
+use Rattle.std.proofs.Common.{◌≡◌, ◌-◌, length, Some, None, refl, ap, sym, ◌∙◌, arith}
+use Rattle.std.specs.Option.{option_map}
+use Rattle.std.specs.FinMap as fin
+use Rattle.name_table.specs.declared.entry.Entry.{Entry}
 use Rattle.name_table.specs.Slots.{map_of}
+use Rattle.book.specs.Tables.{Held}
+use Rattle.book.specs.declared.place.Place.{Place}
+use Rattle.book.proofs.FinishLemmas.{slot_timed, timed_set, gathered_any}
 use Rattle.book.proofs.SumLemmas.{remove_absent}
 use Rattle.book.proofs.TableLemmas.{held}
-use Rattle.book.proofs.TotalLemmas.{counted_as, counted_less, old_within, old_alone, assumed_less}
+use Rattle.book.proofs.TotalLemmas.{counted_less, old_within, old_alone, assumed_less}
 use Rattle.book.proofs.places.Places.remove.Goals as goal
 
 -- the pod had no place
-pub invariant_of-self : goal.invariant_of-self
-invariant_of-self c =
-    let none = sym c.remove.ensures.value ∙ c.in_default.is in
-    counted_as (map_of c.self.inside.by_uid) (length c.self.inside.by_uid) _ _ _ c.self.invariant _ _ (c.remove.ensures.map ∙ remove_absent _ _ none) c.remove.ensures.room
+pub returns-in_default-clause-gone : goal.returns-in_default-clause-gone
+returns-in_default-clause-gone c =
+    let none = c.in_default.ensures.value in
+    let same = sym (remove_absent (map_of c.self.inside.by_uid) c.args.uid.now none) in
+    sym c.self.view_is ∙ (λ i. held (same i) (length c.self.inside.by_uid)) ∙ ap {A = Held Place} {B = Held Place} (λ t. record t { map = fin.remove t.map c.args.uid.now }) c.self.view_is
 
-pub returns-in_default-clause-kept : goal.returns-in_default-clause-kept
-returns-in_default-clause-kept c _ =
-    let none = sym c.remove.ensures.value ∙ c.in_default.is in
-    let same = c.remove.ensures.map ∙ remove_absent _ _ none in
-    (λ i. held (same i) (c.remove.ensures.room i)) ∙ c.self.view_is
+-- the slot has a millisecond
+pub set-requires : goal.set-requires
+set-requires c = slot_timed c.self.inside.by_uid c.self.inside.finishes c.in-Some.slot c.self.invariant.timed c.in-Some.ensures.filled
 
 -- the old place is in its node's total
 pub take-requires-clause-within : goal.take-requires-clause-within
 take-requires-clause-within c =
-    let had = sym c.remove.ensures.value ∙ c.in-Some.is in
-    old_within (map_of c.self.inside.by_uid) c.args.uid.now c.in-Some.old had (map_of c.self.inside.totals) (c.self.invariant.each c.in-Some.old.node)
+    let had : fin.get (map_of c.self.inside.by_uid) c.args.uid.now ≡ Some c.remove_at-old.result.value = c.in-Some.ensures.value ∙ ap (option_map (λ (e : Entry Place). e.value)) c.remove_at-old.ensures.entry in
+    old_within (map_of c.self.inside.by_uid) c.args.uid.now c.remove_at-old.result.value had (map_of c.self.inside.totals) (c.self.invariant.counted.each c.remove_at-old.result.value.node)
 
 pub take-requires-clause-last : goal.take-requires-clause-last
 take-requires-clause-last c =
-    let had = sym c.remove.ensures.value ∙ c.in-Some.is in
-    old_alone (map_of c.self.inside.by_uid) c.args.uid.now c.in-Some.old had (map_of c.self.inside.totals) (c.self.invariant.each c.in-Some.old.node)
+    let had : fin.get (map_of c.self.inside.by_uid) c.args.uid.now ≡ Some c.remove_at-old.result.value = c.in-Some.ensures.value ∙ ap (option_map (λ (e : Entry Place). e.value)) c.remove_at-old.ensures.entry in
+    old_alone (map_of c.self.inside.by_uid) c.args.uid.now c.remove_at-old.result.value had (map_of c.self.inside.totals) (c.self.invariant.counted.each c.remove_at-old.result.value.node)
 
 pub overflow_sub-self : goal.overflow_sub-self
 overflow_sub-self c =
-    let had = sym c.remove.ensures.value ∙ c.in-Some.is in
-    omega (arith, assumed_less (map_of c.self.inside.by_uid) c.args.uid.now c.in-Some.old had, c.self.invariant.assumed, c.assumed_count.ensures)
+    let had : fin.get (map_of c.self.inside.by_uid) c.args.uid.now ≡ Some c.remove_at-old.result.value = c.in-Some.ensures.value ∙ ap (option_map (λ (e : Entry Place). e.value)) c.remove_at-old.ensures.entry in
+    omega (arith, assumed_less (map_of c.self.inside.by_uid) c.args.uid.now c.remove_at-old.result.value had, c.self.invariant.counted.assumed, c.assumed_count.ensures)
 
 -- the pod had a place
-pub invariant_of-self-2 : goal.invariant_of-self-2
-invariant_of-self-2 c =
-    let had = sym c.remove.ensures.value ∙ c.in-Some.is in
-    counted_less (map_of c.self.inside.by_uid) (length c.self.inside.by_uid) (map_of c.self.inside.totals) (length c.self.inside.totals) c.self.inside.assumed c.self.invariant
-    _ _ _ _ _ c.remove.ensures.room c.take.ensures.room c.take.ensures.in_use c.args.uid.now
-    c.in-Some.old c.remove.ensures.map had c.take.ensures.each c.take.ensures.pods (ap (λ n. c.self.inside.assumed - n) c.assumed_count.ensures)
+pub invariant_of-self : goal.invariant_of-self
+invariant_of-self c =
+    let had : fin.get (map_of c.self.inside.by_uid) c.args.uid.now ≡ Some c.remove_at-old.result.value = c.in-Some.ensures.value ∙ ap (option_map (λ (e : Entry Place). e.value)) c.remove_at-old.ensures.entry in
+    let named : Some c.remove_at-old.result.name ≡ Some c.args.uid.now = sym (ap (option_map (λ (e : Entry Place). e.name)) c.remove_at-old.ensures.entry) ∙ c.in-Some.ensures.name in
+    let name : c.remove_at-old.result.name ≡ c.args.uid.now = cc in
+    let gone = c.remove_at-old.ensures.map ∙ ap (fin.remove (map_of c.self.inside.by_uid)) name in
+    record {
+      counted = counted_less (map_of c.self.inside.by_uid) (length c.self.inside.by_uid) (map_of c.self.inside.totals) (length c.self.inside.totals) c.self.inside.assumed c.self.invariant.counted
+          _ _ _ _ _ c.remove_at-old.ensures.room c.take.ensures.room c.take.ensures.in_use c.args.uid.now
+          c.remove_at-old.result.value gone had c.take.ensures.each c.take.ensures.pods (ap (λ n. c.self.inside.assumed - n) c.assumed_count.ensures);
+      timed = timed_set c.self.inside.by_uid c.remove_at-old.new.self c.self.inside.finishes c.set.new.self c.in-Some.slot _ None c.self.invariant.timed c.remove_at-old.ensures.slots c.set.ensures refl;
+      room = omega (arith, c.self.invariant.room, c.remove_at-old.ensures.room);
+      gathered = gathered_any (map_of c.self.inside.by_uid) _ c.self.inside.overdue.limit c.self.inside.overdue.names.items c.self.inside.overdue.given c.args.uid.now c.self.invariant.gathered gone;
+    }
+
+pub returns-clause-gone : goal.returns-clause-gone
+returns-clause-gone c =
+    let named : Some c.remove_at-old.result.name ≡ Some c.args.uid.now = sym (ap (option_map (λ (e : Entry Place). e.name)) c.remove_at-old.ensures.entry) ∙ c.in-Some.ensures.name in
+    let name : c.remove_at-old.result.name ≡ c.args.uid.now = cc in
+    let gone = c.remove_at-old.ensures.map ∙ ap (fin.remove (map_of c.self.inside.by_uid)) name in
+    (λ i. held (gone i) (c.remove_at-old.ensures.room i)) ∙ ap {A = Held Place} {B = Held Place} (λ t. record t { map = fin.remove t.map c.args.uid.now }) c.self.view_is
