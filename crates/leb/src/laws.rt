@@ -1,4 +1,4 @@
-// What holds of the grammar of numbers. A law's function does nothing: its contract is the law.
+//! What holds of the grammar of numbers. A law's function does nothing: its contract is the law.
 
 ghost use Rattle.std.specs.Prelude.{◌≡◌, ℕ, ℤ, List};
 ghost use Rattle.leb.specs.Number.{Sign, Spells};

@@ -1,4 +1,4 @@
-// The bodies of functions (WebAssembly Core 1.0, 5.5.13).
+//! The bodies of functions (WebAssembly Core 1.0, 5.5.13).
 #![tactic(auto, unfolding(crate::specs::Reading::Reads, crate::specs::Codes::ReadsCode))]
 
 ghost use Rattle.std.specs.Prelude.{◌≡◌, ◌≢◌, ℕ, ◌+◌, ◌<◌, ◌≤◌, List, [], length, take, drop, map, IfOk};
@@ -11,9 +11,9 @@ ghost use Rattle.wbin.specs.Codes.{ReadsCode};
 ghost use Rattle.wbin.specs.Unique.{code_once};
 ghost use Rattle.wbin.specs.Kept.{code_kept};
 
-use crate::entry::{Entry, Many, malformed, read_sized};
 use crate::module::{FunctionCode, LocalRun, Place};
-use crate::part::Part;
+use crate::placed::Part;
+use crate::placeless::{Entry, Many, malformed, read_sized};
 use std::alloc::Global;
 use wcode::{BinFault, Kind, skip_expr};
 

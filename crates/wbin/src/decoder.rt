@@ -1,4 +1,4 @@
-// A module from bytes (WebAssembly Core 1.0, 5.5.15).
+//! A module from bytes (WebAssembly Core 1.0, 5.5.15).
 #![tactic(auto, unfolding(crate::specs::Reading::Reads, crate::specs::Decoded::ReadsWhole, crate::specs::Decoded::AssemblesTo))]
 
 ghost use Rattle.std.specs.Prelude.{◌≡◌, ◌≢◌, ℕ, ◌<◌, ◌≤◌, List, [], ◌∷◌, ◌++◌, All, length, take, drop, map, find, ◌==◌, Option, Some, None, IfOk, IfErr, OnErr};
@@ -10,12 +10,12 @@ ghost use Rattle.wbin.specs.Ids.{id_of};
 ghost use Rattle.wbin.specs.Outline.{section_of, Within};
 ghost use Rattle.wbin.specs.Decoded.{ReadsWhole, AssemblesTo};
 
-use crate::entry::{malformed, truncated};
 use crate::module::{
     DataSegment, ElementSegment, Export, FunctionCode, FunctionType, GlobalVariable, Import,
     Limits, Module, Tables,
 };
-use crate::part::{Part, Plain, Vector};
+use crate::placed::{Part, Plain, Vector};
+use crate::placeless::{malformed, truncated};
 use crate::section::{SectionId, Stretch, fenced, find_sections};
 use crate::types::TableType;
 use std::alloc::Global;

@@ -1,4 +1,4 @@
-// What holds of the grammar of modules. A law's function does nothing: its contract is the law.
+//! What holds of the grammar of modules. A law's function does nothing: its contract is the law.
 
 ghost use Rattle.std.specs.Prelude.{◌≡◌, ℕ, List, Some};
 ghost use Rattle.std.specs.List.{slice_get};

@@ -5,12 +5,12 @@
 
 mod code;
 mod decoder;
-mod entry;
 mod laws;
 mod module;
-mod part;
-mod parts;
+mod placed;
+mod placeless;
 mod section;
+mod section_entries;
 mod types;
 
 pub use decoder::{LONGEST, decode};

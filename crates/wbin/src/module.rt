@@ -1,4 +1,4 @@
-// The parts of a module (WebAssembly Core 1.0, 2.5).
+//! The parts of a module (WebAssembly Core 1.0, 2.5).
 
 ghost use Rattle.std.specs.Prelude.{◌≡◌};
 ghost use Rattle.wbin.specs.Placed.{Stands};

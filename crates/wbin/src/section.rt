@@ -1,4 +1,4 @@
-// Where the sections of a module stand (WebAssembly Core 1.0, 5.5.2).
+//! Where the sections of a module stand (WebAssembly Core 1.0, 5.5.2).
 #![tactic(auto, unfolding(crate::specs::Reading::Reads, crate::specs::Outline::ReadsStretch))]
 
 ghost use Rattle.std.specs.Prelude.{◌≡◌, ◌≢◌, ℕ, ◌+◌, ◌-◌, ◌<◌, ◌≤◌, ◌⊎◌, ◌↔◌, List, [], length, take, drop, map, IsTrue, IfOk, IfErr, OnErr};
@@ -8,7 +8,7 @@ ghost use Rattle.wbin.specs.Outline.{Within, ReadsStretch, Outlines};
 ghost use Rattle.wbin.specs.Ids.{id_of};
 ghost use Rattle.wbin.specs.Reading.{Nothing};
 
-use crate::entry::{malformed, read_bytes, read_name, truncated};
+use crate::placeless::{malformed, read_bytes, read_name, truncated};
 use std::alloc::{AllocError, Global};
 use wcode::{BinFault, Kind};
 

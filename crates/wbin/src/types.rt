@@ -1,4 +1,4 @@
-// Types from bytes (WebAssembly Core 1.0, 5.3).
+//! Types from bytes (WebAssembly Core 1.0, 5.3).
 #![tactic(auto, unfolding(crate::specs::Reading::Reads))]
 
 ghost use Rattle.std.specs.Prelude.{◌≡◌, ◌≢◌, ℕ, ◌+◌, ◌<◌, ◌≤◌, Bool, List, [], ◌∷◌, length, take, drop, map, Option, MatchOption};
@@ -12,8 +12,8 @@ ghost use Rattle.wbin.specs.Grammar.{Byte, value_type_byte, SpellsValueType, Spe
 ghost use Rattle.wbin.specs.Reading.{Nothing, Once, Reads};
 ghost use Rattle.wbin.specs.Unique.{value_type_once, results_once, function_type_once, limits_once, table_type_once, mutable_once, global_type_once, import_kind_once, export_kind_once};
 
-use crate::entry::{Both, Entry, Many, byte_at, expect_byte, malformed, read_index};
 use crate::module::{ExportKind, FunctionType, GlobalType, ImportKind, Limits};
+use crate::placeless::{Both, Entry, Many, byte_at, expect_byte, malformed, read_index};
 use std::alloc::Global;
 use wcode::{BinFault, Kind, ValueType};
 

@@ -1,4 +1,4 @@
-// A list of instructions from bytes, up to its `end`.
+//! A list of instructions from bytes, up to its `end`.
 
 ghost use Rattle.std.specs.Prelude.{◌≡◌, ◌≢◌, ℕ, ◌+◌, ◌-◌, ◌<◌, ◌≤◌, List, [], ◌∷◌, ◌++◌, length, drop, IsTrue, IfOk, IfErr};
 ghost use Rattle.wcode.specs.declared.fault.BinFault.TheVariants.{NoMemory};

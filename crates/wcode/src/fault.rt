@@ -1,4 +1,4 @@
-// Why bytes are refused.
+//! Why bytes are refused.
 
 ghost use Rattle.std.specs.Prelude.{◌≡◌, codes};
 ghost use Rattle.wcode.specs.Fault.{whole, kind_number, kind_name, number_of, name_of};

@@ -1,4 +1,4 @@
-// Instructions, one by one and as a tree (WebAssembly Core 1.0, 2.4).
+//! Instructions, one by one and as a tree (WebAssembly Core 1.0, 2.4).
 
 use crate::operator::{BinOp, CvtOp, LoadOp, RelOp, StoreOp, TestOp, UnOp};
 use crate::value::{BlockType, Value, ValueType};

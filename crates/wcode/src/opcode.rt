@@ -1,4 +1,4 @@
-// What each opcode stands for (WebAssembly Core 1.0, 5.4).
+//! What each opcode stands for (WebAssembly Core 1.0, 5.4; sign extension: Core 2.0, 5.4.7).
 
 ghost use Rattle.std.specs.Prelude.{◌≡◌, ℕ, List};
 ghost use Rattle.wcode.specs.Grammar.{opens};
@@ -307,11 +307,11 @@ static FORMS: [Form; 256] = [
     Form::Float,
     Form::Float,
     // 0xC0
-    Form::Bad,
-    Form::Bad,
-    Form::Bad,
-    Form::Bad,
-    Form::Bad,
+    Form::Plain(Plain::Convert(CvtOp::Extend8S(ValueType::I32))),
+    Form::Plain(Plain::Convert(CvtOp::Extend16S(ValueType::I32))),
+    Form::Plain(Plain::Convert(CvtOp::Extend8S(ValueType::I64))),
+    Form::Plain(Plain::Convert(CvtOp::Extend16S(ValueType::I64))),
+    Form::Plain(Plain::Convert(CvtOp::Extend32S)),
     Form::Bad,
     Form::Bad,
     Form::Bad,

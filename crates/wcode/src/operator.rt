@@ -1,4 +1,4 @@
-// The operators that instructions name (WebAssembly Core 1.0, 2.4.1 and 2.4.4).
+//! The operators that instructions name (WebAssembly Core 1.0, 2.4.1 and 2.4.4), and sign extension (Core 2.0, 2.4.1).
 
 ghost use Rattle.std.specs.Prelude.{◌≡◌};
 ghost use Rattle.wcode.specs.Operators.{load_type, load_bytes, store_type, store_bytes};
@@ -54,12 +54,16 @@ pub enum RelOp {
     GeU,
 }
 
-/// A conversion between the two types.
+/// A conversion between the two types, or within a type: its lowest 8, 16 or 32 bits, widened by copies of their top bit.
 #[derive(Clone, Copy, PartialEq, Eq, Debug)]
 pub enum CvtOp {
     WrapI64,
     ExtendI32S,
     ExtendI32U,
+    Extend8S(ValueType),
+    Extend16S(ValueType),
+    /// An i64 from its lowest 32 bits.
+    Extend32S,
 }
 
 /// How the bytes of a narrow load are widened: by copies of their top bit, or by zeros.

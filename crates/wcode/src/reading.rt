@@ -1,4 +1,4 @@
-// One instruction from bytes, without the bodies in it.
+//! One instruction from bytes, without the bodies in it.
 
 ghost use Rattle.std.specs.Prelude.{◌≡◌, ℕ, ◌+◌, ◌<◌, ◌≤◌, List, length, drop, IfOk, OnErr};
 ghost use Rattle.wcode.specs.declared.opcode.Form.TheVariants as forms;

@@ -1,4 +1,4 @@
-// An expression in bytes, passed without a tree of its instructions.
+//! An expression in bytes, passed without a tree of its instructions.
 
 ghost use Rattle.std.specs.Prelude.{◌≡◌, ◌≢◌, ℕ, ◌+◌, ◌-◌, ◌<◌, ◌≤◌, List, [], ◌∷◌, ◌++◌, length, drop, slice_set, vec_len, IfOk, IfErr};
 ghost use Rattle.wcode.specs.declared.fault.BinFault.TheVariants.{NoMemory};

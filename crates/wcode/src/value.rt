@@ -1,4 +1,4 @@
-// The types of values and blocks, and values (WebAssembly Core 1.0, 2.3.1, 2.3.2 and 4.2.1).
+//! The types of values and blocks, and values (WebAssembly Core 1.0, 2.3.1, 2.3.2 and 4.2.1).
 
 ghost use Rattle.std.specs.Prelude.{◌≡◌};
 ghost use Rattle.wcode.specs.Operators.{type_of, type_bytes};

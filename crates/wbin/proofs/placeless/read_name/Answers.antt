@@ -1,0 +1,10 @@
+use Rattle.std.proofs.Common.{drop, ◌∙◌, sym}
+use Rattle.wbin.specs.Reading.{Reads}
+use Rattle.wbin.proofs.Sized.{name_none, not_utf8}
+use Rattle.wbin.proofs.placeless.read_name.Goals as goal
+
+pub returns-else-is_ok-clause-read : goal.returns-else-is_ok-clause-read
+unfolding Reads
+returns-else-is_ok-clause-read c =
+    let a = c.in_ok-name in λ m. name_none (drop c.args.at c.args.bytes.now) a.name.now (drop a.next c.args.bytes.now) a.ensures.read.1
+    (not_utf8 _ _ a.name.now c.from_utf8.result (sym c.is_ok.ensures.value ∙ c.if-is_ok.false) c.from_utf8.ensures.cases)

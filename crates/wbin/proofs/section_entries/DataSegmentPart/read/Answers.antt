@@ -1,0 +1,9 @@
+use Rattle.std.proofs.lemmas.Result.{err_from_is_err_and}
+use Rattle.wbin.specs.Reading.{Reads}
+use Rattle.wbin.proofs.section_entries.DataSegmentPart.read.Goals as goal
+
+pub returns-in_err-found-clause-read : goal.returns-in_err-found-clause-read
+unfolding Reads
+returns-in_err-found-clause-read c =
+    let p = err_from_is_err_and c.from_residual.result c.from_residual.ensures.1 in
+    rw (p.1, p.2) (λ m x rest h. c.in_err-found.ensures.read m (x.memory, (x.offset, x.bytes)) rest (h.0, h.2, (h.1, h.3, h.4)))
