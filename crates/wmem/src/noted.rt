@@ -25,7 +25,9 @@ impl Model for NotedPages {
 
     ghost view = { λ n. record { flags = n.is_noted.items; order = n.order.items; room = vec_capacity n.order } };
 
-    ghost invariant = { λ n. IsListed (record { flags = n.is_noted.items; order = n.order.items; room = vec_capacity n.order }) × (length n.is_noted.items ≤ vec_capacity n.order) × (vec_capacity n.order ≤ vec_capacity n.is_noted) };
+    ghost invariant = { λ n. IsListed (record { flags = n.is_noted.items; order = n.order.items; room = vec_capacity n.order })
+        × (length n.is_noted.items ≤ vec_capacity n.order)
+        × (vec_capacity n.order ≤ vec_capacity n.is_noted) };
 }
 
 impl NotedPages {

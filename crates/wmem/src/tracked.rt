@@ -37,7 +37,8 @@ impl Model for Tracked {
 
     ghost view = { λ t. record { bytes = t.bytes.items; image = t.image.items; noted = t.noted } };
 
-    ghost invariant = { λ t. IsTracked (record { bytes = t.bytes.items; image = t.image.items; noted = t.noted }) × (stretch * t.noted.room ≤ vec_capacity t.bytes) × (stretch * t.noted.room ≤ vec_capacity t.image) };
+    ghost invariant = { λ t. IsTracked (record { bytes = t.bytes.items; image = t.image.items; noted = t.noted })
+        × (stretch * t.noted.room ≤ vec_capacity t.bytes) × (stretch * t.noted.room ≤ vec_capacity t.image) };
 }
 
 impl Tracked {

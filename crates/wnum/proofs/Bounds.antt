@@ -11,7 +11,7 @@ use mir.Syntax.{Width, w8, w16, w32, w64, w128}
 use mir.Val.{bits, hbits}
 use Rattle.wnum.specs.Representation.{signed}
 use Rattle.wnum.specs.Integer.{iadd, isub, imul, idiv_u, idiv_s, irem_u, irem_s, iand, ior, ixor, ishl, ishr_u, ishr_s, irotl, irotr, iclz, ictz, ipopcnt, ieqz, ieq, ine, ilt_u, igt_u, ile_u, ige_u, ilt_s, igt_s, ile_s, ige_s}
-use Rattle.wnum.specs.Conversion.{wrap, extend_u, extend_s}
+use Rattle.wnum.specs.Conversion.{wrap, extend_u, extend_s, iextend_s}
 use Rattle.wnum.proofs.Arithmetic.{idiv_u_is, idiv_u_by_zero, irem_u_is, irem_u_by_zero}
 use Rattle.wnum.proofs.Bitwise.{iand_is, ior_is, ixor_is}
 use Rattle.wnum.proofs.Counts.{iclz_is, ictz_is, ipopcnt_is}
@@ -197,3 +197,7 @@ extend_s_lt v w i wider p =
     let narrow : SFits v (to_z v i) = sfits_to_z (record { fits = p }) in
     let wide : SFits w (to_z v i) = sfits_widen (le→leb (hbits v) (hbits w) wider) narrow in
     rw (extend_s_is v w i p) (Fits-of_z wide).fits
+
+pub iextend_s_lt : (v w : Width) (i : ℕ) → hbits v ≤ hbits w → iextend_s (bits v) (bits w) i < 2 ^ bits w
+unfolding iextend_s
+iextend_s_lt v w i wider = extend_s_lt v w (wrap (bits w) (bits v) i) wider (wrap_lt w v i)

@@ -1,16 +1,16 @@
 -- What the functions of `int32`, `int64` and `convert` rest on, at their widths: each operation as std's contracts give it.
-use Rattle.std.proofs.Common.{◌≡◌, ◌≢◌, ℕ, ◌%◌, ◌^◌, ◌<◌, ℤ, Ok, Err, int_div, int_rem, lit<, to_z, of_z, w32, w64}
+use Rattle.std.proofs.Common.{◌≡◌, ◌≢◌, ℕ, ◌%◌, ◌^◌, ◌<◌, ℤ, Ok, Err, int_div, int_rem, lit<, to_z, of_z, w8, w16, w32, w64}
 use Rattle.std.proofs.lemmas.Int.{to_z-of_z}
 use Rattle.std.specs.Int.{from_bool, rotate_left, rotate_right}
 use lib.Signed.{mag, lt_z, le_z, shr_z}
 use Rattle.wnum.specs.Integer.{idiv_s, irem_s, ishr_s, irotl, irotr, ilt_s, igt_s, ile_s, ige_s}
-use Rattle.wnum.specs.Conversion.{extend_s}
+use Rattle.wnum.specs.Conversion.{extend_s, iextend_s}
 use Rattle.wnum.specs.declared.trap.Trap.TheVariants.{IntegerOverflow}
 use Rattle.wnum.proofs.Arithmetic.{iadd_is, isub_is, imul_is, idiv_u_is, idiv_u_by_zero, irem_u_is, irem_u_by_zero, ieqz_is, ieq_is, ine_is, ilt_u_is, igt_u_is, ile_u_is, ige_u_is, wrap_is, extend_u_is}
 use Rattle.wnum.proofs.Shifts.{ishl_is, ishr_u_is, irotl_is, irotr_is}
 use Rattle.wnum.proofs.Bitwise.{iand_is, ior_is, ixor_is}
 use Rattle.wnum.proofs.Counts.{iclz_is, ictz_is, ipopcnt_is}
-use Rattle.wnum.proofs.Signs.{ishr_s_is, ilt_s_is, igt_s_is, ile_s_is, ige_s_is, extend_s_is}
+use Rattle.wnum.proofs.Signs.{ishr_s_is, ilt_s_is, igt_s_is, ile_s_is, ige_s_is, extend_s_is, iextend_s_is}
 use Rattle.wnum.proofs.Quotients.{idiv_s_traps, idiv_s_code, idiv_s_by_zero, irem_s_is, irem_s_by_zero}
 
 pub ruleset unsigned_operations = (iadd_is, isub_is, imul_is, idiv_u_is, idiv_u_by_zero, irem_u_is, irem_u_by_zero, ieqz_is, ieq_is, ine_is, ilt_u_is, igt_u_is, ile_u_is, ige_u_is, ishl_is, ishr_u_is, iand_is, ior_is, ixor_is, iclz_is, ictz_is, ipopcnt_is)
@@ -58,7 +58,14 @@ idiv_s_other_32 a b p q h d = idiv_s_code w32 a b p q h (λ f e. d e)
 pub idiv_s_by_other_32 : (a b : ℕ) → a < 2 ^ 32 → b < 2 ^ 32 → b ≢ 0 → b ≢ 4294967295 → idiv_s 32 a b ≡ Ok (of_z w32 (to_z w32 (of_z w32 (int_div (to_z w32 a) (to_z w32 b)))))
 idiv_s_by_other_32 a b p q h d = idiv_s_code w32 a b p q h (λ f e. d f)
 
-pub ruleset operations_32 = (unsigned_operations, back_32, irotl_32, irotr_32, ishr_s_32, ilt_s_32, igt_s_32, ile_s_32, ige_s_32, irem_s_32, irem_s_by_zero, idiv_s_least_32, idiv_s_other_32, idiv_s_by_other_32, idiv_s_by_zero)
+-- sign extension from 8 and 16 bits
+pub iextend_s_8_32 : (a : ℕ) → iextend_s 8 32 a ≡ of_z w32 (to_z w8 (a % 256))
+iextend_s_8_32 a = iextend_s_is w8 w32 a
+
+pub iextend_s_16_32 : (a : ℕ) → iextend_s 16 32 a ≡ of_z w32 (to_z w16 (a % 65536))
+iextend_s_16_32 a = iextend_s_is w16 w32 a
+
+pub ruleset operations_32 = (unsigned_operations, back_32, irotl_32, irotr_32, ishr_s_32, ilt_s_32, igt_s_32, ile_s_32, ige_s_32, irem_s_32, irem_s_by_zero, idiv_s_least_32, idiv_s_other_32, idiv_s_by_other_32, idiv_s_by_zero, iextend_s_8_32, iextend_s_16_32)
 
 -- ---- i64
 
@@ -103,7 +110,17 @@ idiv_s_other_64 a b p q h d = idiv_s_code w64 a b p q h (λ f e. d e)
 pub idiv_s_by_other_64 : (a b : ℕ) → a < 2 ^ 64 → b < 2 ^ 64 → b ≢ 0 → b ≢ 18446744073709551615 → idiv_s 64 a b ≡ Ok (of_z w64 (to_z w64 (of_z w64 (int_div (to_z w64 a) (to_z w64 b)))))
 idiv_s_by_other_64 a b p q h d = idiv_s_code w64 a b p q h (λ f e. d f)
 
-pub ruleset operations_64 = (unsigned_operations, back_64, irotl_64, irotr_64, ishr_s_64, ilt_s_64, igt_s_64, ile_s_64, ige_s_64, irem_s_64, irem_s_by_zero, idiv_s_least_64, idiv_s_other_64, idiv_s_by_other_64, idiv_s_by_zero)
+-- sign extension from 8, 16 and 32 bits
+pub iextend_s_8_64 : (a : ℕ) → iextend_s 8 64 a ≡ of_z w64 (to_z w8 (a % 256))
+iextend_s_8_64 a = iextend_s_is w8 w64 a
+
+pub iextend_s_16_64 : (a : ℕ) → iextend_s 16 64 a ≡ of_z w64 (to_z w16 (a % 65536))
+iextend_s_16_64 a = iextend_s_is w16 w64 a
+
+pub iextend_s_32_64 : (a : ℕ) → iextend_s 32 64 a ≡ of_z w64 (to_z w32 (a % 4294967296))
+iextend_s_32_64 a = iextend_s_is w32 w64 a
+
+pub ruleset operations_64 = (unsigned_operations, back_64, irotl_64, irotr_64, ishr_s_64, ilt_s_64, igt_s_64, ile_s_64, ige_s_64, irem_s_64, irem_s_by_zero, idiv_s_least_64, idiv_s_other_64, idiv_s_by_other_64, idiv_s_by_zero, iextend_s_8_64, iextend_s_16_64, iextend_s_32_64)
 
 -- ---- conversions
 

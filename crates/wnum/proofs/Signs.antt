@@ -13,7 +13,7 @@ use mir.Syntax.{Width, w8, w16, w32, w64, w128}
 use mir.Val.{bits, hbits, to_z, of_z}
 use Rattle.wnum.specs.Representation.{signed, from_signed}
 use Rattle.wnum.specs.Integer.{ilt_s, igt_s, ile_s, ige_s, ishr_s, top_bit}
-use Rattle.wnum.specs.Conversion.{extend_s}
+use Rattle.wnum.specs.Conversion.{wrap, extend_s, iextend_s}
 use Rattle.wnum.proofs.Shifts.{shifted_right}
 
 -- a type has one bit more than its non-negative half
@@ -72,6 +72,11 @@ ige_s_is w a b p q = ap₂ (λ (x y : ℤ). from_bool (le_z y x)) (signed_is w a
 pub extend_s_is : (v w : Width) (a : ℕ) → a < 2 ^ bits v → extend_s (bits v) (bits w) a ≡ of_z w (to_z v a)
 unfolding extend_s
 extend_s_is v w a h = ap (from_signed (bits w)) (signed_is v a h) ∙ from_signed_is w (to_z v a)
+
+-- the signed number of the lowest bits, in all of them
+pub iextend_s_is : (v w : Width) (a : ℕ) → iextend_s (bits v) (bits w) a ≡ of_z w (to_z v (a % 2 ^ bits v))
+unfolding iextend_s wrap
+iextend_s_is v w a = extend_s_is v w (a % 2 ^ bits v) (mod-lt a (pow_pos (bits v)))
 
 -- what is read from the upper half
 pub to_z_upper : (w : Width) (a : ℕ) → 2 ^ hbits w ≤ a → to_z w a ≡ negsuc (2 ^ bits w - suc a)

@@ -1,8 +1,9 @@
-//! The operations on i32 (WebAssembly Core 1.0, 4.3.2).
+//! The operations on i32 (WebAssembly Core 1.0, 4.3.2), and its sign extension (Core 2.0, 4.3.2).
 #![tactic(auto, using(crate::proofs::Operations::operations_32))]
 
 ghost use Rattle.std.specs.Prelude.{◌≡◌};
 ghost use Rattle.wnum.specs.Integer.{iadd, isub, imul, idiv_u, idiv_s, irem_u, irem_s, iand, ior, ixor, ishl, ishr_u, ishr_s, irotl, irotr, iclz, ictz, ipopcnt, ieqz, ieq, ine, ilt_u, igt_u, ile_u, ige_u, ilt_s, igt_s, ile_s, ige_s};
+ghost use Rattle.wnum.specs.Conversion.{iextend_s};
 
 use crate::trap::Trap;
 
@@ -147,6 +148,22 @@ pub fn rotr(value: u32, count: u32) -> u32
     ensures { result ≡ irotr 32 value count }
 {
     value.rotate_right(count % 32)
+}
+
+/// `i32.extend8_s`: the lowest 8 bits, above them copies of the highest of these.
+pub fn extend8_s(value: u32) -> u32
+    ensures { result ≡ iextend_s 8 32 value }
+{
+    let low_8 = (value % (1 << 8)) as u8;
+    i32::from(low_8.cast_signed()).cast_unsigned()
+}
+
+/// `i32.extend16_s`: the lowest 16 bits, above them copies of the highest of these.
+pub fn extend16_s(value: u32) -> u32
+    ensures { result ≡ iextend_s 16 32 value }
+{
+    let low_16 = (value % (1 << 16)) as u16;
+    i32::from(low_16.cast_signed()).cast_unsigned()
 }
 
 /// `i32.eqz`: 1 at 0, else 0. As it does, the relations below answer 1 where they hold, and 0 where they don't.

@@ -1,8 +1,9 @@
-//! The operations on i64 (WebAssembly Core 1.0, 4.3.2).
+//! The operations on i64 (WebAssembly Core 1.0, 4.3.2), and its sign extension (Core 2.0, 4.3.2).
 #![tactic(auto, using(crate::proofs::Operations::operations_64))]
 
 ghost use Rattle.std.specs.Prelude.{◌≡◌};
 ghost use Rattle.wnum.specs.Integer.{iadd, isub, imul, idiv_u, idiv_s, irem_u, irem_s, iand, ior, ixor, ishl, ishr_u, ishr_s, irotl, irotr, iclz, ictz, ipopcnt, ieqz, ieq, ine, ilt_u, igt_u, ile_u, ige_u, ilt_s, igt_s, ile_s, ige_s};
+ghost use Rattle.wnum.specs.Conversion.{iextend_s};
 
 use crate::trap::Trap;
 
@@ -147,6 +148,30 @@ pub fn rotr(value: u64, count: u64) -> u64
     ensures { result ≡ irotr 64 value count }
 {
     value.rotate_right((count % 64) as u32)
+}
+
+/// `i64.extend8_s`: the lowest 8 bits, above them copies of the highest of these.
+pub fn extend8_s(value: u64) -> u64
+    ensures { result ≡ iextend_s 8 64 value }
+{
+    let low_8 = (value % (1 << 8)) as u8;
+    i64::from(low_8.cast_signed()).cast_unsigned()
+}
+
+/// `i64.extend16_s`: the lowest 16 bits, above them copies of the highest of these.
+pub fn extend16_s(value: u64) -> u64
+    ensures { result ≡ iextend_s 16 64 value }
+{
+    let low_16 = (value % (1 << 16)) as u16;
+    i64::from(low_16.cast_signed()).cast_unsigned()
+}
+
+/// `i64.extend32_s`: the lowest 32 bits, above them copies of the highest of these.
+pub fn extend32_s(value: u64) -> u64
+    ensures { result ≡ iextend_s 32 64 value }
+{
+    let low_32 = (value % (1 << 32)) as u32;
+    i64::from(low_32.cast_signed()).cast_unsigned()
 }
 
 /// `i64.eqz`: 1 at 0, else 0. As it does, the relations below answer 1 where they hold, and 0 where they don't.
