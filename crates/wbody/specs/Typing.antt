@@ -7,7 +7,7 @@ use Rattle.wcode.specs.declared.value.BlockType.{BlockType}
 use Rattle.wcode.specs.declared.value.Value.{Value}
 use Rattle.wcode.specs.declared.value.Value.TheVariants as values
 use Rattle.wcode.specs.declared.operator.CvtOp.{CvtOp}
-use Rattle.wcode.specs.declared.operator.CvtOp.TheVariants.{WrapI64, ExtendI32S, ExtendI32U}
+use Rattle.wcode.specs.declared.operator.CvtOp.TheVariants.{WrapI64, ExtendI32S, ExtendI32U, Extend8S, Extend16S, Extend32S}
 use Rattle.wcode.specs.declared.instruction.MemArg.{MemArg}
 use Rattle.wcode.specs.declared.instruction.Plain.{Plain}
 use Rattle.wcode.specs.declared.instruction.Plain.TheVariants as plains
@@ -57,6 +57,9 @@ abbrev pub convert_type : CvtOp → PlainType
 convert_type WrapI64 = takes_gives (I64 ∷ []) (I32 ∷ [])
 convert_type ExtendI32S = takes_gives (I32 ∷ []) (I64 ∷ [])
 convert_type ExtendI32U = takes_gives (I32 ∷ []) (I64 ∷ [])
+convert_type (Extend8S t) = takes_gives (t ∷ []) (t ∷ [])
+convert_type (Extend16S t) = takes_gives (t ∷ []) (t ∷ [])
+convert_type Extend32S = takes_gives (I64 ∷ []) (I64 ∷ [])
 
 -- the number of a constant is one of its type (2.2.3)
 abbrev pub is_in_range : Value → Bool

@@ -1,8 +1,8 @@
-// What each plain instruction does to the operands.
+//! What each plain instruction does to the operands.
 
 ghost use Rattle.std.specs.Prelude.{◌≡◌};
 ghost use Rattle.wbody.specs.Context.{Context};
-ghost use Rattle.wbody.specs.Typing.{plain_type};
+ghost use Rattle.wbody.specs.Typing.{plain_type, convert_type};
 ghost use Rattle.wbody.specs.Effect.{effect_type};
 ghost use Rattle.wbody.specs.Scope.{IsScope, labels_of, NamesLocal, NamesGlobal, NamesMemory, NamesLabel, NamesCall};
 
@@ -20,8 +20,7 @@ pub fn effect_of<'a>(scope: &Scope<'a>, levels: &[Level], plain: Plain) -> Effec
         Plain::Binary(t, _) => moves(Some(t), alone(t), Some(t)),
         Plain::Test(t, _) => moves(Some(t), &[], Some(ValueType::I32)),
         Plain::Relation(t, _) => moves(Some(t), alone(t), Some(ValueType::I32)),
-        Plain::Convert(CvtOp::WrapI64) => moves(Some(ValueType::I64), &[], Some(ValueType::I32)),
-        Plain::Convert(_) => moves(Some(ValueType::I32), &[], Some(ValueType::I64)),
+        Plain::Convert(op) => convert_effect(op),
         Plain::Drop => Effect::Drops,
         Plain::Select => Effect::Selects,
         Plain::LocalGet(_) | Plain::LocalSet(_) | Plain::LocalTee(_) => local_effect(scope, plain),
@@ -33,6 +32,20 @@ pub fn effect_of<'a>(scope: &Scope<'a>, levels: &[Level], plain: Plain) -> Effec
         Plain::Unreachable => Effect::Ends { types: &[] },
         Plain::Br(_) | Plain::BrIf(_) | Plain::Return => branch_effect(scope, levels, plain),
         Plain::Call(_) | Plain::CallIndirect(_) => call_effect(scope, plain),
+    }
+}
+
+// A conversion.
+fn convert_effect<'a>(op: CvtOp) -> Effect<'a>
+    ensures { effect_type result ≡ convert_type op }
+{
+    match op {
+        CvtOp::WrapI64 => moves(Some(ValueType::I64), &[], Some(ValueType::I32)),
+        CvtOp::ExtendI32S | CvtOp::ExtendI32U => {
+            moves(Some(ValueType::I32), &[], Some(ValueType::I64))
+        }
+        CvtOp::Extend8S(t) | CvtOp::Extend16S(t) => moves(Some(t), &[], Some(t)),
+        CvtOp::Extend32S => moves(Some(ValueType::I64), &[], Some(ValueType::I64)),
     }
 }
 

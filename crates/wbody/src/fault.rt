@@ -1,4 +1,4 @@
-// Why a module is refused.
+//! Why a module is refused.
 
 ghost use Rattle.std.specs.Prelude.{◌≡◌, codes};
 ghost use Rattle.wbody.specs.Fault.{number_of, name_of};

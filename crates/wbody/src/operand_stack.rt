@@ -1,4 +1,4 @@
-// The operands of a body as far as they are known, where its typing stands.
+//! The operands of a body as far as they are known, where its typing stands.
 
 ghost use Rattle.std.specs.Prelude.{false, true, ◌≡◌, ◌≤◌, ◌<◌, ◌+◌, [], ◌∷◌, Some, None, IfOk, OnOk, OnErr, MatchOption, MatchResult, vec_len, length, reverse, take, drop, max};
 ghost use Rattle.wbody.specs.Context.{results_of};
@@ -220,7 +220,8 @@ impl OperandStack {
     // Behind a block of this type, to the block that began at this height: there are just the results.
     pub fn close(&mut self, block_type: BlockType, floor: usize, reached: bool) -> Result<(), Stop>
         requires { floor ≤ self.old.floor }
-        ensures ok { OnOk result (closed block_type (record { operands = reverse (drop floor (below_of self.old)); reached = reached }) (stack_of self.old) ≡ Some (stack_of self.new)) }
+        ensures ok { OnOk result (closed block_type (record { operands = reverse (drop floor (below_of self.old)); reached = reached })
+            (stack_of self.old) ≡ Some (stack_of self.new)) }
         ensures err { result ≡ Err Stop.Untyped → fits (stack_of self.old) (results_of block_type) ≡ false }
         ensures floor { OnOk result (self.new.floor ≡ floor) }
         ensures below { OnOk result (below_of self.new ≡ take floor (below_of self.old)) }

@@ -1,4 +1,4 @@
-// What the instructions of a body can refer to.
+//! What the instructions of a body can refer to.
 
 ghost use Rattle.std.specs.Prelude.{◌≡◌, ℕ, ◌+◌, ◌^◌, ◌<◌, ◌≤◌, [], ◌∷◌, ◌++◌, map, option_map, option_and_then, slice_get, length, nat_le, Some, None, IfOk};
 ghost use Rattle.wcode.specs.Operators.{load_bytes, store_bytes};
@@ -198,7 +198,8 @@ impl<'a> Scope<'a> {
 
     // The type of a function of the module itself, by its place among those.
     fn own(&self, place: usize) -> Option<&'a FunctionType>
-        ensures { (c : Context) → IsScope self.now c → option_and_then (λ t. t) (slice_get (map (λ s. slice_get c.types s) self.now.signatures.now) place) ≡ type_found result }
+        ensures { (c : Context) → IsScope self.now c
+            → option_and_then (λ t. t) (slice_get (map (λ s. slice_get c.types s) self.now.signatures.now) place) ≡ type_found result }
     {
         match self.signatures.get(place) {
             Some(signature) => self.listed(*signature),

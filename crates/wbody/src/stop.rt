@@ -1,4 +1,4 @@
-// Why the typing of a body stops.
+//! Why the typing of a body stops.
 
 ghost use Rattle.std.specs.Prelude.{◌≡◌};
 

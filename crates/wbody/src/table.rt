@@ -1,4 +1,4 @@
-// What a branch by an index does to the operands.
+//! What a branch by an index does to the operands.
 
 ghost use Rattle.std.specs.Prelude.{◌≡◌, ℕ, ◌≤◌, List, ◌∷◌, length, drop, reverse, slice_get, Some, MatchBool};
 ghost use Rattle.wcode.specs.declared.value.ValueType.TheVariants as types;
@@ -16,7 +16,8 @@ use wcode::{ValueType, read_label};
 
 // A branch to the label carries this.
 fn carries(scope: &Scope<'_>, levels: &[Level], label: u32, wanted: Option<ValueType>) -> bool
-    ensures { MatchBool result (slice_get (labels_of levels.now scope.now.result) label ≡ Some (at_most_one wanted)) (slice_get (labels_of levels.now scope.now.result) label ≡ Some (at_most_one wanted) → ⊥) }
+    ensures { MatchBool result (slice_get (labels_of levels.now scope.now.result) label ≡ Some (at_most_one wanted))
+        (slice_get (labels_of levels.now scope.now.result) label ≡ Some (at_most_one wanted) → ⊥) }
 {
     match scope.label(levels, label) {
         Some(found) => found == wanted,
@@ -34,7 +35,9 @@ fn all_carry(
     wanted: Option<ValueType>,
 ) -> bool
     requires { (at ≤ length bytes.now) × (labels rest : List ℕ) × (count ≡ length labels) × SpellsIndices (drop at bytes.now) labels rest }
-    ensures { (labels rest : List ℕ) → count ≡ length labels → SpellsIndices (drop at bytes.now) labels rest → MatchBool result (AllCarry (labels_of levels.now scope.now.result) (at_most_one wanted) labels) (AllCarry (labels_of levels.now scope.now.result) (at_most_one wanted) labels → ⊥) }
+    ensures { (labels rest : List ℕ) → count ≡ length labels → SpellsIndices (drop at bytes.now) labels rest
+        → MatchBool result (AllCarry (labels_of levels.now scope.now.result) (at_most_one wanted) labels)
+        (AllCarry (labels_of levels.now scope.now.result) (at_most_one wanted) labels → ⊥) }
 {
     let mut place = at;
     for _i in 0..count {
@@ -68,7 +71,8 @@ pub fn table_effect(
     labels_at: usize,
 ) -> Effect<'static>
     requires { (w : Word) × Shows bytes.now (ops.BrTable count labels_at) w }
-    ensures { (c : Context) (labels : List ℕ) (default : ℕ) → Shows bytes.now (ops.BrTable count labels_at) (table labels default) → c.labels ≡ labels_of levels.now scope.now.result → effect_type result ≡ table_type c labels default }
+    ensures { (c : Context) (labels : List ℕ) (default : ℕ) → Shows bytes.now (ops.BrTable count labels_at) (table labels default)
+        → c.labels ≡ labels_of levels.now scope.now.result → effect_type result ≡ table_type c labels default }
 {
     let (first, next) = read_label(bytes, labels_at);
     let Some(carried) = scope.label(levels, first) else {

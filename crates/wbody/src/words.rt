@@ -1,4 +1,4 @@
-// How the typing of a body goes over one word of its bytes.
+//! How the typing of a body goes over one word of its bytes.
 
 ghost use Rattle.wbody.specs.declared.scope.Scope.{Scope as TheScope};
 ghost use Rattle.std.specs.Prelude.{◌≡◌, ◌≤◌, [], ◌∷◌, ◌++◌, List, MatchBool, OnOk};
@@ -137,7 +137,8 @@ pub fn pass_else(stack: &mut OperandStack, levels: &mut SmallVec<Level, 16>) -> 
 
 // It is an `if` without `else` that is to leave a result.
 fn lacks_else(level: Level) -> bool
-    ensures { MatchBool result ((t : TheType) × (level.kind ≡ opened.First) × (level.block_type ≡ blocks.Result t)) (level.kind ≡ opened.First → level.block_type ≡ blocks.Empty) }
+    ensures { MatchBool result ((t : TheType) × (level.kind ≡ opened.First) × (level.block_type ≡ blocks.Result t)) (level.kind ≡ opened.First
+        → level.block_type ≡ blocks.Empty) }
 {
     match level.kind {
         Opened::First => match level.block_type {

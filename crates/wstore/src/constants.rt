@@ -1,4 +1,4 @@
-// The numbers of constant expressions: first values of globals, and offsets of segments.
+//! The numbers of constant expressions: first values of globals, and offsets of segments.
 
 ghost use Rattle.std.specs.Prelude.{◌≡◌};
 ghost use Rattle.wbin.specs.Syntax.{expression_in};

@@ -1,4 +1,4 @@
-// What a module's memory, globals and table are at first.
+//! What a module's memory, globals and table are at first.
 
 ghost use Rattle.std.specs.Prelude.{◌≡◌, ◌≤◌, All, map, IfOk};
 ghost use Rattle.std.specs.List.{AllByRecursion};

@@ -1,4 +1,4 @@
-// Places of one kind, with an image that they can be brought back to.
+//! Places of one kind, with an image that they can be brought back to.
 
 ghost use Rattle.std.specs.Prelude.{◌≡◌, ◌+◌, ◌<◌, ◌≤◌, Some, length, map, slice_get, slice_set, IfOk};
 ghost use Rattle.wstore.specs.Segments.{overwritten};

@@ -1,4 +1,4 @@
-// A module's segments: where they begin, and what they write.
+//! A module's segments: where they begin, and what they write.
 
 ghost use Rattle.std.specs.Prelude.{◌≡◌, ◌+◌, ◌<◌, ◌≤◌, ◌↔◌, Some, length, slice_get, IsTrue};
 ghost use Rattle.wbin.specs.Syntax.{ElementSyntax, DataSyntax, module_of};

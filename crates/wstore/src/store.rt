@@ -221,7 +221,8 @@ impl Store {
     pub fn put_elements(&mut self, segment: usize)
         requires there { segment < length (syntax_of self.old).element_segments }
         requires in_bounds { (s : ElementSyntax) → slice_get (syntax_of self.old).element_segments segment ≡ Some s → ElementsFit s self.old.current }
-        ensures { (s : ElementSyntax) → slice_get (syntax_of self.old).element_segments segment ≡ Some s → self.new ≡ with_current self.old (with_elements s self.old.current) }
+        ensures { (s : ElementSyntax) → slice_get (syntax_of self.old).element_segments segment ≡ Some s
+            → self.new ≡ with_current self.old (with_elements s self.old.current) }
     {
         let (at, functions) = elements_of(self.checked.module(), segment);
         put_functions(&mut self.table, at, functions);

@@ -1,4 +1,4 @@
-// The bodies of a module, one after the other.
+//! The bodies of a module, one after the other.
 
 ghost use Rattle.std.specs.Prelude.{◌≡◌, ℕ, Option, Some, IfOk, IfErr, vec_len};
 ghost use Rattle.wbin.specs.Syntax.{module_of};

@@ -1,4 +1,4 @@
-// The exports that are called.
+//! The exports that are called.
 
 ghost use Rattle.std.specs.Prelude.{◌≡◌, MatchOption};
 ghost use Rattle.wbin.specs.Syntax.{module_of};
@@ -19,7 +19,9 @@ pub struct Called {
 /// The functions that are called, where the exports are right.
 pub fn find_called(decoded: &Module) -> Option<Called>
     requires { ImportsRight (module_of decoded.now) }
-    ensures { MatchOption result (ExportsRight (module_of decoded.now) → ⊥) (λ called. ExportsRight (module_of decoded.now) × (called.filter ≡ index_named filter_name (module_of decoded.now)) × (called.score ≡ index_named score_name (module_of decoded.now))) }
+    ensures { MatchOption result (ExportsRight (module_of decoded.now)
+        → ⊥) (λ called. ExportsRight (module_of decoded.now) × (called.filter ≡ index_named filter_name (module_of decoded.now))
+        × (called.score ≡ index_named score_name (module_of decoded.now))) }
 {
     let exports = decoded.tables().exports.as_slice();
     let filter = find_export(exports, b"filter".as_slice());

@@ -1,4 +1,4 @@
-// A module that was found acceptable, and the test that finds it so.
+//! A module that was found acceptable, and the test that finds it so.
 
 ghost use Rattle.std.specs.Prelude.{◌≡◌, IfOk, IfErr};
 ghost use Rattle.wbin.specs.Syntax.{module_of};
@@ -38,7 +38,9 @@ impl Model for Checked {
 
     ghost view = { λ c. record { content = c.module; notes = c.notes.items } };
 
-    ghost invariant = { λ c. Accepted (module_of c.module) × NotesAgree c.module c.notes.items × (c.called.filter ≡ index_named filter_name (module_of c.module)) × (c.called.score ≡ index_named score_name (module_of c.module)) };
+    ghost invariant = { λ c. Accepted (module_of c.module) × NotesAgree c.module c.notes.items
+        × (c.called.filter ≡ index_named filter_name (module_of c.module))
+        × (c.called.score ≡ index_named score_name (module_of c.module)) };
 }
 
 impl Checked {

@@ -1,4 +1,4 @@
-// Expressions that are constants: the first values of globals, and the offsets of segments.
+//! Expressions that are constants: the first values of globals, and the offsets of segments.
 
 ghost use Rattle.std.specs.Prelude.{◌≡◌, ◌<◌, ◌^◌, MatchBool};
 ghost use Rattle.wbin.specs.Syntax.{expression_in};

@@ -1,4 +1,4 @@
-// The exports of a module: what they name, their names, and those that are called.
+//! The exports of a module: what they name, their names, and those that are called.
 
 ghost use Rattle.std.specs.Prelude.{◌≡◌, ℕ, [], Some, IfOk, IfSome, IsTrue, MatchBool, map, nat_lt, option_map};
 ghost use Rattle.std.specs.List.{AllByRecursion};
@@ -14,7 +14,8 @@ use wcode::ValueType;
 // The export names something.
 fn is_there(decoded: &Module, export: &Export) -> bool
     requires { ImportsRight (module_of decoded.now) }
-    ensures { MatchBool result (NamesSomething (module_of decoded.now) export.now.kind export.now.index) (NamesSomething (module_of decoded.now) export.now.kind export.now.index → ⊥) }
+    ensures { MatchBool result (NamesSomething (module_of decoded.now) export.now.kind export.now.index)
+        (NamesSomething (module_of decoded.now) export.now.kind export.now.index → ⊥) }
 {
     let tables = decoded.tables();
     let place = export.index as usize;
@@ -29,7 +30,8 @@ fn is_there(decoded: &Module, export: &Export) -> bool
 // Each of these does.
 pub fn are_there(decoded: &Module, exports: &[Export]) -> bool
     requires { ImportsRight (module_of decoded.now) }
-    ensures { MatchBool result (AllByRecursion (λ e. NamesSomething (module_of decoded.now) e.kind e.index) exports.now) (AllByRecursion (λ e. NamesSomething (module_of decoded.now) e.kind e.index) exports.now → ⊥) }
+    ensures { MatchBool result (AllByRecursion (λ e. NamesSomething (module_of decoded.now) e.kind e.index) exports.now)
+        (AllByRecursion (λ e. NamesSomething (module_of decoded.now) e.kind e.index) exports.now → ⊥) }
 {
     for export in exports {
         if !is_there(decoded, export) {
@@ -67,7 +69,8 @@ pub fn find_export<'a>(exports: &'a [Export], name: &[u8]) -> Option<&'a Export>
 // The export is a function that takes nothing and gives this.
 fn is_called(decoded: &Module, export: &Export, wanted: ValueType) -> bool
     requires { ImportsRight (module_of decoded.now) }
-    ensures { MatchBool result (IsFunctionOf (module_of decoded.now) (gives wanted) (export_of export.now)) (IsFunctionOf (module_of decoded.now) (gives wanted) (export_of export.now) → ⊥) }
+    ensures { MatchBool result (IsFunctionOf (module_of decoded.now) (gives wanted) (export_of export.now))
+        (IsFunctionOf (module_of decoded.now) (gives wanted) (export_of export.now) → ⊥) }
 {
     match export.kind {
         ExportKind::Function => takes_nothing(decoded, export.index, Some(wanted)),
@@ -78,7 +81,8 @@ fn is_called(decoded: &Module, export: &Export, wanted: ValueType) -> bool
 // Where there is such an export, it is a function that takes nothing and gives this.
 pub fn is_right(decoded: &Module, export: Option<&Export>, wanted: ValueType) -> bool
     requires { ImportsRight (module_of decoded.now) }
-    ensures { MatchBool result (IfSome (option_map (λ e. export_of e.now) export.entry) (IsFunctionOf (module_of decoded.now) (gives wanted))) (IfSome (option_map (λ e. export_of e.now) export.entry) (IsFunctionOf (module_of decoded.now) (gives wanted)) → ⊥) }
+    ensures { MatchBool result (IfSome (option_map (λ e. export_of e.now) export.entry) (IsFunctionOf (module_of decoded.now) (gives wanted)))
+        (IfSome (option_map (λ e. export_of e.now) export.entry) (IsFunctionOf (module_of decoded.now) (gives wanted)) → ⊥) }
 {
     match export {
         None => true,

@@ -1,4 +1,4 @@
-// The types of functions by their indices, the imported ones first.
+//! The types of functions by their indices, the imported ones first.
 
 ghost use Rattle.std.specs.Prelude.{◌≡◌, ◌+◌, ◌<◌, [], length, option_map, slice_get, nat_lt, MatchBool};
 ghost use Rattle.std.specs.Option.{option_and_then};
@@ -45,7 +45,8 @@ pub fn listed(decoded: &Module, index: u32) -> Option<&FunctionType>
 
 // It takes nothing, and gives this.
 fn only_gives(found: &FunctionType, gives: Option<ValueType>) -> bool
-    ensures { MatchBool result (signature_of found.now ≡ record { parameters = []; result = gives }) (signature_of found.now ≡ record { parameters = []; result = gives } → ⊥) }
+    ensures { MatchBool result (signature_of found.now ≡ record { parameters = []; result = gives })
+        (signature_of found.now ≡ record { parameters = []; result = gives } → ⊥) }
 {
     found.parameters.is_empty() && found.result == gives
 }
@@ -64,7 +65,8 @@ pub fn type_of_function(decoded: &Module, index: u32) -> Option<&FunctionType>
 // The function takes nothing, and gives this.
 pub fn takes_nothing(decoded: &Module, index: u32, gives: Option<ValueType>) -> bool
     requires { ImportsRight (module_of decoded.now) }
-    ensures { MatchBool result (HasType (module_of decoded.now) (record { parameters = []; result = gives }) index) (HasType (module_of decoded.now) (record { parameters = []; result = gives }) index → ⊥) }
+    ensures { MatchBool result (HasType (module_of decoded.now) (record { parameters = []; result = gives }) index)
+        (HasType (module_of decoded.now) (record { parameters = []; result = gives }) index → ⊥) }
 {
     let Some(listed_at) = type_index(decoded, index) else {
         return false;

@@ -1,4 +1,4 @@
-// The imports that a module may have: the two functions of the host.
+//! The imports that a module may have: the two functions of the host.
 
 ghost use Rattle.std.specs.Prelude.{◌≡◌, ◌⊎◌, [], ◌∷◌, MatchBool};
 ghost use Rattle.std.specs.List.{AllByRecursion};
@@ -10,7 +10,9 @@ use wcode::ValueType;
 
 // The names are those of one of the two functions.
 fn is_named(import: &Import) -> bool
-    ensures { MatchBool result ((import.now.module.items ≡ host_name) × ((import.now.name.items ≡ pod_name) ⊎ (import.now.name.items ≡ node_name))) ((import.now.module.items ≡ host_name) × ((import.now.name.items ≡ pod_name) ⊎ (import.now.name.items ≡ node_name)) → ⊥) }
+    ensures { MatchBool result ((import.now.module.items ≡ host_name)
+        × ((import.now.name.items ≡ pod_name) ⊎ (import.now.name.items ≡ node_name))) ((import.now.module.items ≡ host_name)
+        × ((import.now.name.items ≡ pod_name) ⊎ (import.now.name.items ≡ node_name)) → ⊥) }
 {
     import.module.as_slice() == b"sched".as_slice()
         && (import.name.as_slice() == b"pod".as_slice()
@@ -50,7 +52,8 @@ fn is_allowed(decoded: &Module, import: &Import) -> bool
 
 // Each of these imports is one of the two functions.
 fn are_allowed(decoded: &Module, imports: &[Import]) -> bool
-    ensures { MatchBool result (AllByRecursion (λ i. ImportAllowed (module_of decoded.now) (import_of i)) imports.now) (AllByRecursion (λ i. ImportAllowed (module_of decoded.now) (import_of i)) imports.now → ⊥) }
+    ensures { MatchBool result (AllByRecursion (λ i. ImportAllowed (module_of decoded.now) (import_of i)) imports.now)
+        (AllByRecursion (λ i. ImportAllowed (module_of decoded.now) (import_of i)) imports.now → ⊥) }
 {
     for import in imports {
         if !is_allowed(decoded, import) {

@@ -1,4 +1,4 @@
-// The sizes of tables and memories.
+//! The sizes of tables and memories.
 
 ghost use Rattle.std.specs.Prelude.{◌≡◌, ◌≤◌, MatchBool};
 ghost use Rattle.std.specs.List.{AllByRecursion};

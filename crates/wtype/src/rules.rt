@@ -1,4 +1,4 @@
-// The rules of a module but for its bodies (WebAssembly Core 1.0, 3.4.10).
+//! The rules of a module but for its bodies (WebAssembly Core 1.0, 3.4.10).
 
 ghost use Rattle.std.specs.Prelude.{◌≡◌, ◌<◌, ◌≤◌, IfOk, IfSome, IsSome, MatchBool, length, slice_get};
 ghost use Rattle.std.specs.List.{AllByRecursion};
@@ -31,7 +31,8 @@ fn are_types(types: &[FunctionType], signatures: &[u32]) -> bool
 
 // The function's types are there.
 fn types_there(decoded: &Module) -> bool
-    ensures { MatchBool result (AllByRecursion (λ f. IsSome (slice_get (module_of decoded.now).types f.signature)) (module_of decoded.now).functions) (AllByRecursion (λ f. IsSome (slice_get (module_of decoded.now).types f.signature)) (module_of decoded.now).functions → ⊥) }
+    ensures { MatchBool result (AllByRecursion (λ f. IsSome (slice_get (module_of decoded.now).types f.signature)) (module_of decoded.now).functions)
+        (AllByRecursion (λ f. IsSome (slice_get (module_of decoded.now).types f.signature)) (module_of decoded.now).functions → ⊥) }
 {
     let tables = decoded.tables();
     are_types(tables.types.as_slice(), tables.signatures.as_slice())
@@ -39,7 +40,9 @@ fn types_there(decoded: &Module) -> bool
 
 // There is one table at most, and its sizes are right.
 fn tables_kept(decoded: &Module) -> bool
-    ensures { MatchBool result ((length (module_of decoded.now).tables ≤ 1) × AllByRecursion (LimitsRight table_range) (module_of decoded.now).tables) ((length (module_of decoded.now).tables ≤ 1) × AllByRecursion (LimitsRight table_range) (module_of decoded.now).tables → ⊥) }
+    ensures { MatchBool result ((length (module_of decoded.now).tables ≤ 1)
+        × AllByRecursion (LimitsRight table_range) (module_of decoded.now).tables) ((length (module_of decoded.now).tables ≤ 1)
+        × AllByRecursion (LimitsRight table_range) (module_of decoded.now).tables → ⊥) }
 {
     let tables = decoded.tables().tables.as_slice();
     tables.len() <= 1 && are_right(tables, TABLE_RANGE)
@@ -47,7 +50,9 @@ fn tables_kept(decoded: &Module) -> bool
 
 // There is one memory at most, and its sizes are right.
 fn memories_kept(decoded: &Module) -> bool
-    ensures { MatchBool result ((length (module_of decoded.now).memories ≤ 1) × AllByRecursion (LimitsRight memory_range) (module_of decoded.now).memories) ((length (module_of decoded.now).memories ≤ 1) × AllByRecursion (LimitsRight memory_range) (module_of decoded.now).memories → ⊥) }
+    ensures { MatchBool result ((length (module_of decoded.now).memories ≤ 1)
+        × AllByRecursion (LimitsRight memory_range) (module_of decoded.now).memories) ((length (module_of decoded.now).memories ≤ 1)
+        × AllByRecursion (LimitsRight memory_range) (module_of decoded.now).memories → ⊥) }
 {
     let memories = decoded.tables().memories.as_slice();
     memories.len() <= 1 && are_right(memories, MEMORY_RANGE)
@@ -63,7 +68,8 @@ fn globals_kept(decoded: &Module) -> bool
 // What is called at the start takes nothing and gives nothing.
 fn start_kept(decoded: &Module) -> bool
     requires { ImportsRight (module_of decoded.now) }
-    ensures { MatchBool result (IfSome (module_of decoded.now).start (HasType (module_of decoded.now) start_type)) (IfSome (module_of decoded.now).start (HasType (module_of decoded.now) start_type) → ⊥) }
+    ensures { MatchBool result (IfSome (module_of decoded.now).start (HasType (module_of decoded.now) start_type))
+        (IfSome (module_of decoded.now).start (HasType (module_of decoded.now) start_type) → ⊥) }
 {
     match decoded.tables().start {
         None => true,
@@ -74,14 +80,16 @@ fn start_kept(decoded: &Module) -> bool
 // The segments of the table.
 fn elements_kept(decoded: &Module) -> bool
     requires { ImportsRight (module_of decoded.now) }
-    ensures { MatchBool result (AllByRecursion (ElementTyped (module_of decoded.now)) (module_of decoded.now).element_segments) (AllByRecursion (ElementTyped (module_of decoded.now)) (module_of decoded.now).element_segments → ⊥) }
+    ensures { MatchBool result (AllByRecursion (ElementTyped (module_of decoded.now)) (module_of decoded.now).element_segments)
+        (AllByRecursion (ElementTyped (module_of decoded.now)) (module_of decoded.now).element_segments → ⊥) }
 {
     elements_typed(decoded, decoded.tables().element_segments.as_slice())
 }
 
 // The segments of the memory.
 fn datas_kept(decoded: &Module) -> bool
-    ensures { MatchBool result (AllByRecursion (DataTyped (module_of decoded.now)) (module_of decoded.now).data_segments) (AllByRecursion (DataTyped (module_of decoded.now)) (module_of decoded.now).data_segments → ⊥) }
+    ensures { MatchBool result (AllByRecursion (DataTyped (module_of decoded.now)) (module_of decoded.now).data_segments)
+        (AllByRecursion (DataTyped (module_of decoded.now)) (module_of decoded.now).data_segments → ⊥) }
 {
     datas_typed(decoded, decoded.tables().data_segments.as_slice())
 }

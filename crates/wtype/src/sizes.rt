@@ -1,4 +1,4 @@
-// How large the parts of a module are.
+//! How large the parts of a module are.
 
 ghost use Rattle.std.specs.Prelude.{◌≡◌, ◌+◌, ◌<◌, ◌≤◌, Some, length, slice_get, vec_len, MatchBool, MatchOption};
 ghost use Rattle.std.specs.List.{AllByRecursion};
@@ -51,7 +51,10 @@ fn fits(parameters: usize, runs: &[LocalRun], greatest: usize) -> bool
 // The function at this place has no more parameters, locals and operands than there may be.
 fn function_small(decoded: &Module, place: usize, greatest: usize) -> bool
     requires { place < vec_len decoded.now.tables.codes }
-    ensures { (f : FunctionSyntax) (type : Signature) → slice_get (module_of decoded.now).functions place ≡ Some f → slice_get (module_of decoded.now).types f.signature ≡ Some type → MatchBool result (length type.parameters + length f.locals + greatest ≤ most_slots) (length type.parameters + length f.locals + greatest ≤ most_slots → ⊥) }
+    ensures { (f : FunctionSyntax) (type : Signature) → slice_get (module_of decoded.now).functions place ≡ Some f
+        → slice_get (module_of decoded.now).types f.signature ≡ Some type
+        → MatchBool result (length type.parameters + length f.locals + greatest ≤ most_slots)
+        (length type.parameters + length f.locals + greatest ≤ most_slots → ⊥) }
 {
     let tables = decoded.tables();
     match listed(decoded, tables.signatures[place]) {
@@ -68,7 +71,8 @@ fn function_small(decoded: &Module, place: usize, greatest: usize) -> bool
 fn functions_small(decoded: &Module, notes: &[Notes]) -> bool
     requires agree { NotesAgree decoded.now notes.now }
     requires many { length notes.now ≡ vec_len decoded.now.tables.codes }
-    ensures { MatchBool result (AllByRecursion (FunctionSmall (module_of decoded.now)) (module_of decoded.now).functions) (AllByRecursion (FunctionSmall (module_of decoded.now)) (module_of decoded.now).functions → ⊥) }
+    ensures { MatchBool result (AllByRecursion (FunctionSmall (module_of decoded.now)) (module_of decoded.now).functions)
+        (AllByRecursion (FunctionSmall (module_of decoded.now)) (module_of decoded.now).functions → ⊥) }
 {
     'functions: for place in 0..notes.len() {
         if !function_small(decoded, place, notes[place].greatest_height) {
