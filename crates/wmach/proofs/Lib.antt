@@ -75,3 +75,4 @@ pub mod Recorded
 pub mod Widening
 pub mod Invocations
 pub mod Keeping
+pub mod SameTypes

@@ -29,7 +29,8 @@ use Rattle.wmach.specs.Numeric.{unary_gives, binary_gives, test_gives, relation_
 use Rattle.wmach.specs.Fits.{types_of}
 use Rattle.wmach.specs.Plain.{reduce_plain}
 use Rattle.wmach.specs.InPlace.{place_of, context_in, labels_in}
-use Rattle.wmach.specs.Machine.{word_of, frame_words, belows, On, Spent, Trapped}
+use Rattle.wmach.specs.Machine.{frame_words, belows, On, Spent, Trapped}
+use Rattle.wstore.specs.Values.{word_of}
 use Rattle.wmach.proofs.SlotLemmas.{frame_push, snoc_same}
 use Rattle.wmach.proofs.MachineSteps.{went}
 use Rattle.wmach.proofs.OverWords.{stands_as}
@@ -90,6 +91,9 @@ convert_is : (c : Context) (op : CvtOp) → plain_type c (plains.Convert op) ≡
 convert_is c conversion.WrapI64 = refl
 convert_is c conversion.ExtendI32S = refl
 convert_is c conversion.ExtendI32U = refl
+convert_is c (conversion.Extend8S t) = refl
+convert_is c (conversion.Extend16S t) = refl
+convert_is c conversion.Extend32S = refl
 
 module _ (setting : Setting) (bytes : List ℕ) (checked : CheckedModule) (start : Configuration) (spent : ℕ) (a : Activation) (waiting : List Activation) (slots : List ℕ) (store : Store) (o : On setting bytes checked start spent a waiting slots store) where
   -- An instruction that takes one value of this type, and gives these.

@@ -24,7 +24,8 @@ use Rattle.wmach.specs.Plain.{reduce_plain}
 use Rattle.wbody.specs.Heights.{height_by}
 use Rattle.wmach.specs.OpenLabels.{Open, nest}
 use Rattle.wmach.specs.InPlace.{Whole, Stands, context_in, floor_in}
-use Rattle.wmach.specs.Machine.{word_of, frame_words, belows, On, Spent, Trapped}
+use Rattle.wmach.specs.Machine.{frame_words, belows, On, Spent, Trapped}
+use Rattle.wstore.specs.Values.{word_of}
 use Rattle.wmach.proofs.AllOf.{all-set}
 use Rattle.wmach.proofs.Values.{all_at}
 use Rattle.wmach.proofs.Sound.{found, holds}

@@ -1,7 +1,7 @@
 -- The definitions, computed on small modules.
 use Rattle.std.proofs.Common.{ℕ, List, [], ◌∷◌, Some, None, refl}
 use Rattle.wnum.specs.Integer.{iadd, isub, ishl, idiv_s, idiv_u, irem_s, from_quotient, iclz, ieqz, ilt_s, ilt_u}
-use Rattle.wnum.specs.Conversion.{wrap, extend_s, extend_u}
+use Rattle.wnum.specs.Conversion.{wrap, extend_s, extend_u, iextend_s}
 use Rattle.wnum.specs.Representation.{signed, from_signed, ibits, from_ibits}
 use Rattle.wcode.specs.declared.value.ValueType.{ValueType}
 use Rattle.wcode.specs.declared.value.ValueType.TheVariants.{I32, I64}
@@ -163,6 +163,11 @@ not_less_without_a_sign = row 20 refl
 wrapped : Gives (plain (Const (value.I64 4294967301)) (plain (Convert conversion.WrapI64) done)) 100 (value_at_cost 5 1)
 unfolding wrap
 wrapped = row 20 refl
+
+-- i32.extend8_s of 128
+extended : Gives (i32 128 (plain (Convert (conversion.Extend8S I32)) done)) 100 (value_at_cost 4294967168 1)
+unfolding iextend_s wrap extend_s signed from_signed
+extended = row 20 refl
 
 tested : Gives (i32 0 (plain (Test I32 test.Eqz) done)) 100 (value_at_cost 1 1)
 unfolding ieqz

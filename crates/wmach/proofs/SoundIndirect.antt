@@ -13,7 +13,8 @@ use Rattle.wbody.specs.Typing.{Typed}
 use Rattle.wmach.specs.declared.outcome.Trap.TheVariants.{UndefinedElement, UninitializedElement, SignatureMismatch}
 use Rattle.wmach.specs.Configuration.{Store, Execution, invoke, trap, Reduction, leads_to}
 use Rattle.wmach.specs.Operands.{with_one}
-use Rattle.wmach.specs.Indirect.{same_type, same_types, same_result, same_signature, type_of_function, call_as, call_element, reduce_call_indirect}
+use Rattle.wmach.specs.Indirect.{same_result, same_signature, type_of_function, call_as, call_element, reduce_call_indirect}
+use Rattle.wbody.specs.Pass.{same_type, same_types}
 use Rattle.wmach.specs.Fits.{types_of, TableWithin, StoreTyped}
 use Rattle.wmach.proofs.Values.{one_taken, all_at}
 use Rattle.wmach.proofs.TypedExecution.{inner_context}

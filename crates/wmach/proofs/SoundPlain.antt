@@ -7,7 +7,7 @@ use Rattle.wcode.specs.declared.value.ValueType.TheVariants.{I32}
 use Rattle.wcode.specs.declared.value.BlockType.{BlockType}
 use Rattle.wcode.specs.declared.value.Value.{Value}
 use Rattle.wcode.specs.declared.operator.CvtOp.{CvtOp}
-use Rattle.wcode.specs.declared.operator.CvtOp.TheVariants.{WrapI64, ExtendI32S, ExtendI32U}
+use Rattle.wcode.specs.declared.operator.CvtOp.TheVariants.{WrapI64, ExtendI32S, ExtendI32U, Extend8S, Extend16S, Extend32S}
 use Rattle.wcode.specs.declared.instruction.Plain.{Plain}
 use Rattle.wcode.specs.declared.instruction.Plain.TheVariants as instruction
 use Rattle.wcode.specs.Operators.{type_of, load_type, load_bytes, store_type, store_bytes}
@@ -82,6 +82,15 @@ module _ (setting : Setting) (right : FunctionsRight (setting.module_syntax)) (s
   convert ExtendI32U rest t =
       let k = taken context (converted_from ExtendI32U ∷ []) (converted_to ExtendI32U ∷ []) rest (types_of values) after t in
       sound_convert m store locals labels result after (instructions values (plain (instruction.Convert ExtendI32U) rest)) rest fits values ExtendI32U k.below k.before_is k.others
+  convert (Extend8S s) rest t =
+      let k = taken context (converted_from (Extend8S s) ∷ []) (converted_to (Extend8S s) ∷ []) rest (types_of values) after t in
+      sound_convert m store locals labels result after (instructions values (plain (instruction.Convert (Extend8S s)) rest)) rest fits values (Extend8S s) k.below k.before_is k.others
+  convert (Extend16S s) rest t =
+      let k = taken context (converted_from (Extend16S s) ∷ []) (converted_to (Extend16S s) ∷ []) rest (types_of values) after t in
+      sound_convert m store locals labels result after (instructions values (plain (instruction.Convert (Extend16S s)) rest)) rest fits values (Extend16S s) k.below k.before_is k.others
+  convert Extend32S rest t =
+      let k = taken context (converted_from Extend32S ∷ []) (converted_to Extend32S ∷ []) rest (types_of values) after t in
+      sound_convert m store locals labels result after (instructions values (plain (instruction.Convert Extend32S) rest)) rest fits values Extend32S k.below k.before_is k.others
 
   br : (l : ℕ) (rest : Body) → Goes (instruction.Br l) rest
   br l rest t =

@@ -1,28 +1,15 @@
 -- A call through the table (WebAssembly Core 1.0, 4.4.5, call_indirect).
-use Rattle.std.specs.Prelude.{ℕ, List, [], ◌∷◌, Bool, true, false, ◌&&◌, Option, Some, None, option_and_then, slice_get, if◌then◌else◌}
+use Rattle.std.specs.Prelude.{ℕ, List, Bool, true, false, ◌&&◌, Option, Some, None, option_and_then, slice_get, if◌then◌else◌}
 use Rattle.wcode.specs.declared.value.ValueType.{ValueType}
-use Rattle.wcode.specs.declared.value.ValueType.TheVariants.{I32, I64}
+use Rattle.wcode.specs.declared.value.ValueType.TheVariants.{I32}
 use Rattle.wcode.specs.declared.value.Value.{Value}
 use Rattle.wcode.specs.Syntax.{Body}
 use Rattle.wbin.specs.Syntax.{Signature, ModuleSyntax}
 use Rattle.wbody.specs.Context.{function_types, is_there}
+use Rattle.wbody.specs.Pass.{same_type, same_types}
 use Rattle.wmach.specs.declared.outcome.Trap.TheVariants.{UndefinedElement, UninitializedElement, SignatureMismatch}
 use Rattle.wmach.specs.Configuration.{Store, invoke, trap, Reduction, leads_to}
 use Rattle.wmach.specs.Operands.{with_one}
-
--- one type is the other
-abbrev pub same_type : ValueType → ValueType → Bool
-same_type I32 I32 = true
-same_type I32 I64 = false
-same_type I64 I32 = false
-same_type I64 I64 = true
-
--- the same types in the same order
-abbrev pub same_types : List ValueType → List ValueType → Bool
-same_types [] [] = true
-same_types [] (u ∷ us) = false
-same_types (t ∷ ts) [] = false
-same_types (t ∷ ts) (u ∷ us) = same_type t u && same_types ts us
 
 abbrev pub same_result : Option ValueType → Option ValueType → Bool
 same_result None None = true

@@ -1,7 +1,7 @@
--- The numeric instructions (WebAssembly Core 1.0, 4.4.1), by the operations of 4.3 at the width of their type.
+-- The numeric instructions (WebAssembly Core 1.0, 4.4.1, and sign extension: Core 2.0, 4.4.1), by the operations of 4.3 at the width of their type.
 use Rattle.std.specs.Prelude.{ℕ, List, ◌∷◌, Option, Result, Ok, Err}
 use Rattle.wnum.specs.Integer.{iadd, isub, imul, idiv_s, idiv_u, irem_s, irem_u, iand, ior, ixor, ishl, ishr_s, ishr_u, irotl, irotr, iclz, ictz, ipopcnt, ieqz, ieq, ine, ilt_s, ilt_u, igt_s, igt_u, ile_s, ile_u, ige_s, ige_u}
-use Rattle.wnum.specs.Conversion.{wrap, extend_s, extend_u}
+use Rattle.wnum.specs.Conversion.{wrap, extend_s, extend_u, iextend_s}
 use Rattle.wnum.specs.declared.trap.Trap.{Trap as Undefined}
 use Rattle.wnum.specs.declared.trap.Trap.TheVariants as undefined
 use Rattle.wcode.specs.declared.value.ValueType.{ValueType}
@@ -70,17 +70,27 @@ abbrev pub converted_from : CvtOp → ValueType
 converted_from conversion.WrapI64 = I64
 converted_from conversion.ExtendI32S = I32
 converted_from conversion.ExtendI32U = I32
+converted_from (conversion.Extend8S t) = t
+converted_from (conversion.Extend16S t) = t
+converted_from conversion.Extend32S = I64
 
 -- the type that it gives
 abbrev pub converted_to : CvtOp → ValueType
 converted_to conversion.WrapI64 = I32
 converted_to conversion.ExtendI32S = I64
 converted_to conversion.ExtendI32U = I64
+converted_to (conversion.Extend8S t) = t
+converted_to (conversion.Extend16S t) = t
+converted_to conversion.Extend32S = I64
 
+-- the number that it gives
 abbrev pub conversion_gives : CvtOp → ℕ → ℕ
 conversion_gives conversion.WrapI64 a = wrap 64 32 a
 conversion_gives conversion.ExtendI32S a = extend_s 32 64 a
 conversion_gives conversion.ExtendI32U a = extend_u 32 64 a
+conversion_gives (conversion.Extend8S t) a = iextend_s 8 (width_of t) a
+conversion_gives (conversion.Extend16S t) a = iextend_s 16 (width_of t) a
+conversion_gives conversion.Extend32S a = iextend_s 32 64 a
 
 -- the trap where an operator is undefined
 abbrev pub trap_where : Undefined → Trap

@@ -1,4 +1,4 @@
-// Where the call of a function stands.
+//! Where the call of a function stands.
 
 /// A function that runs, or that waits for one that it called: its place among those of the module, the place in the bytes
 /// where it goes on, how many of its notes stand before that, and the slots where its locals and its operands begin.

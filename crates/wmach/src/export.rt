@@ -1,4 +1,4 @@
-// What of a module can be called.
+//! What of a module can be called.
 
 ghost use Rattle.std.specs.Prelude.{◌≡◌};
 ghost use Rattle.wbin.specs.Syntax.{module_of};

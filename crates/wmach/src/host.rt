@@ -1,4 +1,4 @@
-// What host functions hand over.
+//! What host functions hand over.
 
 ghost use Rattle.std.specs.Prelude.{◌≡◌, ℕ, List, Option, option_map};
 

@@ -1,4 +1,4 @@
-// A call from its beginning to its outcome.
+//! A call from its beginning to its outcome.
 
 ghost use Rattle.std.specs.Prelude.{◌≡◌, ℕ, ◌<◌, ◌≤◌, Option, Some, length, slice_get, vec_capacity};
 ghost use Rattle.wcode.specs.declared.value.Value.{Value as TheValue};
@@ -61,7 +61,8 @@ fn result_of(slots: &[u64], export: Export) -> Option<Value>
 // The outcome of a call that stopped, by what was left of its fuel.
 fn outcome_of(slots: &[u64], export: Export, fuel: u64, how: Stop) -> Outcome
     requires { (r : Run) × (before : TheStore) × (function : ℕ) × (store : StoreState) × IsCallOf r before export function fuel × Stops r how slots.now store }
-    ensures outcome { (r : Run) (before : TheStore) (function : ℕ) (store : StoreState) → IsCallOf r before export function fuel → Stops r how slots.now store → HasOutcome r.setting before function fuel result store.current }
+    ensures outcome { (r : Run) (before : TheStore) (function : ℕ) (store : StoreState) → IsCallOf r before export function fuel
+        → Stops r how slots.now store → HasOutcome r.setting before function fuel result store.current }
     ensures fits { ResultFits (result_type export) result }
 {
     match how {

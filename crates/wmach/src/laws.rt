@@ -1,5 +1,5 @@
-// What holds of every call, whatever machine makes it. These functions do nothing: each promises a law of the definitions by
-// which the contract of a machine's call says how it ends.
+//! What holds of every call, whatever machine makes it. These functions do nothing: each promises a law of the definitions by
+//! which the contract of a machine's call says how it ends.
 
 ghost use Rattle.wmach.specs.Call.{NeverStuck, WhatACallLeaves, CallsEnd, OneOutcome, CostWithinFuel, MoreFuelChangesNothing, FirstStoreFits};
 

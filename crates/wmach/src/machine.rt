@@ -1,4 +1,4 @@
-// The machine: a checked module, its store, and the room for its calls.
+//! The machine: a checked module, its store, and the room for its calls.
 
 ghost use Rattle.std.specs.Prelude.{◌≡◌, ◌<◌, ◌↔◌, Some, length, slice_get, IfOk, IsSome, IsTrue};
 ghost use Rattle.std.specs.Arc.{arc_value};
@@ -170,7 +170,8 @@ impl Machine {
     pub fn put_elements(&mut self, segment: usize)
         requires there { segment < length (module_of self.old.content).element_segments }
         requires in_bounds { (s : ElementSyntax) → slice_get (module_of self.old.content).element_segments segment ≡ Some s → ElementsFit s self.old.store }
-        ensures { (s : ElementSyntax) → slice_get (module_of self.old.content).element_segments segment ≡ Some s → self.new ≡ record self.old { store = with_elements s self.old.store } }
+        ensures { (s : ElementSyntax) → slice_get (module_of self.old.content).element_segments segment ≡ Some s
+            → self.new ≡ record self.old { store = with_elements s self.old.store } }
     {
         self.store.put_elements(segment);
     }
@@ -187,7 +188,8 @@ impl Machine {
     pub fn put_data(&mut self, segment: usize)
         requires there { segment < length (module_of self.old.content).data_segments }
         requires in_bounds { (s : DataSyntax) → slice_get (module_of self.old.content).data_segments segment ≡ Some s → DataFits s self.old.store }
-        ensures { (s : DataSyntax) → slice_get (module_of self.old.content).data_segments segment ≡ Some s → self.new ≡ record self.old { store = with_data s self.old.store } }
+        ensures { (s : DataSyntax) → slice_get (module_of self.old.content).data_segments segment ≡ Some s
+            → self.new ≡ record self.old { store = with_data s self.old.store } }
     {
         self.store.put_data(segment);
     }

@@ -1,4 +1,4 @@
-//! The numeric instructions (WebAssembly Core 1.0, 4.4.1) by the operations of `wnum`: on numbers of 32 and 64 bits, and on slots of
+//! The numeric instructions (WebAssembly Core 1.0 and 2.0, 4.4.1) by the operations of `wnum`: on numbers of 32 and 64 bits, and on slots of
 //! 64 bits, which hold either.
 
 ghost use Rattle.std.specs.Prelude.{◌≡◌, ◌<◌, ◌^◌, IfOk};
@@ -194,5 +194,10 @@ pub(crate) fn convert_word(op: CvtOp, a: u64) -> u64
         CvtOp::WrapI64 => u64::from(conversions::wrap_i64(a)),
         CvtOp::ExtendI32S => conversions::extend_i32_s(a as u32),
         CvtOp::ExtendI32U => conversions::extend_i32_u(a as u32),
+        CvtOp::Extend8S(ValueType::I32) => u64::from(int32::extend8_s(a as u32)),
+        CvtOp::Extend8S(ValueType::I64) => int64::extend8_s(a),
+        CvtOp::Extend16S(ValueType::I32) => u64::from(int32::extend16_s(a as u32)),
+        CvtOp::Extend16S(ValueType::I64) => int64::extend16_s(a),
+        CvtOp::Extend32S => int64::extend32_s(a),
     }
 }

@@ -1,4 +1,4 @@
-// How a call ends.
+//! How a call ends.
 
 ghost use Rattle.std.specs.Prelude.{◌≡◌};
 

@@ -1,4 +1,4 @@
-// Instructions without others inside them that are no branches and no calls (WebAssembly Core 1.0, 4.4.1 to 4.4.4).
+//! Instructions without others inside them that are no branches and no calls (WebAssembly Core 1.0, 4.4.1 to 4.4.4).
 
 ghost use Rattle.std.specs.Prelude.{◌≡◌, List, Ok};
 ghost use Rattle.wcode.specs.declared.instruction.Plain.TheVariants as plains;
@@ -6,7 +6,7 @@ ghost use Rattle.wcode.specs.Grammar.{one};
 ghost use Rattle.wstore.specs.State.{StoreState};
 ghost use Rattle.wmach.specs.declared.activation.Activation.{Activation as Waits};
 ghost use Rattle.std.specs.Prelude.{◌==◌, if◌then◌else◌};
-ghost use Rattle.wmach.specs.Machine.{word_of};
+ghost use Rattle.wstore.specs.Values.{word_of};
 ghost use Rattle.wmach.specs.Running.{Ready, Goes};
 ghost use Rattle.wmach.specs.Access.{load_of as defined_load, stored_width as defined_width};
 

@@ -1,4 +1,4 @@
-// Which records the functions that a module imports hand over.
+//! Which records the functions that a module imports hand over.
 
 ghost use Rattle.std.specs.Prelude.{◌≡◌, ◌<◌, Some, length, slice_get, IfOk};
 ghost use Rattle.wbin.specs.Syntax.{module_of};

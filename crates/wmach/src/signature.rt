@@ -1,8 +1,9 @@
-// Whether types of functions are one (WebAssembly Core 1.0, 2.3.3): they are compared by what they are, not by their indices.
+//! Whether types of functions are one (WebAssembly Core 1.0, 2.3.3): they are compared by what they are, not by their indices.
 
 ghost use Rattle.std.specs.Prelude.{◌≡◌};
 ghost use Rattle.wbin.specs.Syntax.{signature_of};
-ghost use Rattle.wmach.specs.Indirect.{same_type as defined_type, same_types as defined_types, same_result as defined_result, same_signature as defined_signature};
+ghost use Rattle.wbody.specs.Pass.{same_type as defined_type, same_types as defined_types};
+ghost use Rattle.wmach.specs.Indirect.{same_result as defined_result, same_signature as defined_signature};
 
 use wbin::FunctionType;
 use wcode::ValueType;
@@ -21,16 +22,7 @@ fn same_type(a: ValueType, b: ValueType) -> bool
 fn same_types(a: &[ValueType], b: &[ValueType]) -> bool
     ensures { result ≡ defined_types a.now b.now }
 {
-    match a {
-        [] => match b {
-            [] => true,
-            [_, ..] => false,
-        },
-        [t, ts @ ..] => match b {
-            [] => false,
-            [u, us @ ..] => same_type(*t, *u) && same_types(ts, us),
-        },
-    }
+    a == b
 }
 
 fn same_result(a: Option<ValueType>, b: Option<ValueType>) -> bool

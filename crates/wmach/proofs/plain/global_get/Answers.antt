@@ -2,7 +2,7 @@ use Rattle.std.proofs.Common.{◌≡◌, [], ◌∷◌, ◌++◌, take, drop, re
 use Rattle.std.proofs.lemmas.Result.{err_from_is_err_and}
 use Rattle.wmach.proofs.Arms.{pushed, room_above, spent_err, stored_word}
 use Rattle.wmach.proofs.OverGlobals.{global_get_here, here_within}
-use Rattle.wmach.specs.Machine.{word_of}
+use Rattle.wstore.specs.Values.{word_of}
 use Rattle.wmach.specs.Running.{activation_of, bytes_of}
 use Rattle.wmach.proofs.plain.global_get.Goals as goal
 
