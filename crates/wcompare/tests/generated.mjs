@@ -63,9 +63,9 @@ function any_constant(type) {
     return constant(type, BigInt(draw()) * (type === I64 ? BigInt(draw()) : 1n));
 }
 
-// Opcodes, by the type that they take: the first and how many there are (5.4.5).
+// Opcodes, by the type that they take: the first and how many there are (5.4.5; sign extension: Core 2.0, 5.4.7).
 const range = (first, count) => Array.from({ length: count }, (_, i) => first + i);
-const UNARY = { [I32]: range(0x67, 3), [I64]: range(0x79, 3) };
+const UNARY = { [I32]: [...range(0x67, 3), ...range(0xc0, 2)], [I64]: [...range(0x79, 3), ...range(0xc2, 3)] };
 const BINARY = { [I32]: [...range(0x6a, 3), ...range(0x71, 8)], [I64]: [...range(0x7c, 3), ...range(0x83, 8)] };
 const DIVIDING = { [I32]: range(0x6d, 4), [I64]: range(0x7f, 4) };
 const TEST = { [I32]: 0x45, [I64]: 0x50 };

@@ -1,4 +1,4 @@
-// Calls (WebAssembly Core 1.0, 4.4.5, 4.4.7 and 4.4.8): through the table, of the module's own functions, and of the host's.
+//! Calls (WebAssembly Core 1.0, 4.4.5, 4.4.7 and 4.4.8): through the table, of the module's own functions, and of the host's.
 
 ghost use Rattle.std.specs.Prelude.{◌≡◌, ◌+◌, nat_le, ◌<◌, ◌≤◌, ◌++◌, Some, List, IfOk, IfSome, length, map, take, drop, reverse, slice_get, option_map, option_and_then};
 ghost use Rattle.wbin.specs.Syntax.{import_of, signature_of};
@@ -53,7 +53,8 @@ fn listed(program: &Program, index: u32) -> Option<&FunctionType>
 
 // The index of the type of the function at this place.
 fn signature_at(functions: &[Function], place: usize) -> Option<u32>
-    ensures { IfSome result (λ t. (types : List Signature) → slice_get (map (λ f. slice_get types f.signature) (map function_of functions.now)) place ≡ Some (slice_get types t)) }
+    ensures { IfSome result (λ t. (types : List Signature)
+        → slice_get (map (λ f. slice_get types f.signature) (map function_of functions.now)) place ≡ Some (slice_get types t)) }
 {
     match functions {
         [] => None,
@@ -69,7 +70,9 @@ fn signature_at(functions: &[Function], place: usize) -> Option<u32>
 
 // The index of the type of the function at this place among the imported ones and then the others.
 fn type_from(imports: &[Import], functions: &[Function], place: usize) -> Option<u32>
-    ensures { IfSome result (λ t. (types : List Signature) → slice_get (imported_functions types (map import_of imports.now) ++ map (λ f. slice_get types f.signature) (map function_of functions.now)) place ≡ Some (slice_get types t)) }
+    ensures { IfSome result (λ t. (types : List Signature)
+        → slice_get (imported_functions types (map import_of imports.now) ++ map
+        (λ f. slice_get types f.signature) (map function_of functions.now)) place ≡ Some (slice_get types t)) }
 {
     match imports {
         [] => signature_at(functions, place),
@@ -125,7 +128,9 @@ fn call_as(
     function: u32,
     rest: Code,
 ) -> Option<Step>
-    ensures { IfSome result (λ s. (store : machine_store) → defined_call_as (syntax_of program.now) store locals.items below.items (signature_of wanted.now) function (body_of_code rest) ≡ Some (reduction_of store s)) }
+    ensures { IfSome result (λ s. (store : machine_store)
+        → defined_call_as (syntax_of program.now) store locals.items below.items
+        (signature_of wanted.now) function (body_of_code rest) ≡ Some (reduction_of store s)) }
 {
     let found = type_of(program, function)?;
     if same_signature(found, wanted) {
@@ -144,7 +149,9 @@ fn call_element(
     element: Option<Option<u32>>,
     rest: Code,
 ) -> Option<Step>
-    ensures { IfSome result (λ s. (store : machine_store) → defined_call_element (syntax_of program.now) store locals.items below.items (signature_of wanted.now) element (body_of_code rest) ≡ Some (reduction_of store s)) }
+    ensures { IfSome result (λ s. (store : machine_store)
+        → defined_call_element (syntax_of program.now) store locals.items below.items
+        (signature_of wanted.now) element (body_of_code rest) ≡ Some (reduction_of store s)) }
 {
     match element {
         None => Some(cut_off(1, locals, Trap::UndefinedElement)),
@@ -162,7 +169,8 @@ pub fn call_indirect(
     x: u32,
     rest: Code,
 ) -> Option<Step>
-    ensures { IfSome result (λ s. reduce_call_indirect (syntax_of program.now) (store_of store.now) locals.items values.items x (body_of_code rest) ≡ Some (reduction_of (store_of store.now) s)) }
+    ensures { IfSome result (λ s. reduce_call_indirect (syntax_of program.now)
+        (store_of store.now) locals.items values.items x (body_of_code rest) ≡ Some (reduction_of (store_of store.now) s)) }
 {
     let mut values = values;
     if program.tables.is_empty() {
@@ -230,7 +238,8 @@ fn hand_over(
     bytes: Vec<u8>,
     rest: Code,
 ) -> Result<Option<Step>, AllocError>
-    ensures { IfOk result (λ o. IfSome o (λ s. defined_hand_over (syntax_of program.now) (store_of store.now) locals.items below.items address limit bytes.items (body_of_code rest) ≡ Some (reduction_of (store_of store.now) s))) }
+    ensures { IfOk result (λ o. IfSome o (λ s. defined_hand_over (syntax_of program.now)
+        (store_of store.now) locals.items below.items address limit bytes.items (body_of_code rest) ≡ Some (reduction_of (store_of store.now) s))) }
 {
     let mut values = below;
     let size = bytes.len();
@@ -275,7 +284,8 @@ fn import(
     function: u32,
     rest: Code,
 ) -> Result<Option<Step>, AllocError>
-    ensures { IfOk result (λ o. IfSome o (λ s. reduce_import (setting_of setting.now) (store_of store.now) locals.items values.items function (body_of_code rest) ≡ Some (reduction_of (store_of store.now) s))) }
+    ensures { IfOk result (λ o. IfSome o (λ s. reduce_import (setting_of setting.now)
+        (store_of store.now) locals.items values.items function (body_of_code rest) ≡ Some (reduction_of (store_of store.now) s))) }
 {
     let mut values = values;
     let Some(name) = imported_name(setting.program.imports.as_slice(), function as usize) else {
@@ -376,7 +386,8 @@ fn enter(
     t: &FunctionType,
     rest: Code,
 ) -> Result<Option<Step>, AllocError>
-    ensures { IfOk result (λ o. IfSome o (λ s. defined_enter (store_of store.now) locals.items values.items (function_of function.now) (signature_of t.now) (body_of_code rest) ≡ Some (reduction_of (store_of store.now) s))) }
+    ensures { IfOk result (λ o. IfSome o (λ s. defined_enter (store_of store.now) locals.items values.items
+        (function_of function.now) (signature_of t.now) (body_of_code rest) ≡ Some (reduction_of (store_of store.now) s))) }
 {
     let mut below = values;
     let arity = match t.result {
@@ -421,7 +432,10 @@ fn invoke_own(
     place: usize,
     rest: Code,
 ) -> Result<Option<Step>, AllocError>
-    ensures { IfOk result (λ o. IfSome o (λ s. option_and_then (λ f. option_and_then (λ type. defined_enter (store_of store.now) locals.items values.items f type (body_of_code rest)) (slice_get (syntax_of program.now).types f.signature)) (slice_get (syntax_of program.now).functions place) ≡ Some (reduction_of (store_of store.now) s))) }
+    ensures { IfOk result (λ o. IfSome o (λ s. option_and_then
+        (λ f. option_and_then (λ type. defined_enter (store_of store.now) locals.items values.items f type
+        (body_of_code rest)) (slice_get (syntax_of program.now).types f.signature))
+        (slice_get (syntax_of program.now).functions place) ≡ Some (reduction_of (store_of store.now) s))) }
 {
     let Some(own) = owned(program, place) else {
         return Ok(None);
@@ -443,7 +457,8 @@ pub fn invoke(
     function: u32,
     rest: Code,
 ) -> Result<Option<Step>, AllocError>
-    ensures { IfOk result (λ o. IfSome o (λ s. reduce_invoke (setting_of setting.now) frames (store_of store.now) locals.items values.items function (body_of_code rest) ≡ Some (reduction_of (store_of store.now) s))) }
+    ensures { IfOk result (λ o. IfSome o (λ s. reduce_invoke (setting_of setting.now) frames
+        (store_of store.now) locals.items values.items function (body_of_code rest) ≡ Some (reduction_of (store_of store.now) s))) }
 {
     let Some(imported) = count_in(&setting.program) else {
         return Ok(None);

@@ -1,4 +1,4 @@
-// Instructions as the definitions have them: nothing more, or one and what comes after it.
+//! Instructions as the definitions have them: nothing more, or one and what comes after it.
 
 ghost use Rattle.std.specs.Prelude.{◌≡◌, IfOk};
 ghost use Rattle.wmach.specs.Reduction.{followed_by as followed};

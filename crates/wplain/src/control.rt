@@ -1,4 +1,4 @@
-// Labels and branches (WebAssembly Core 1.0, 4.4.5 and 4.4.6).
+//! Labels and branches (WebAssembly Core 1.0, 4.4.5 and 4.4.6).
 
 ghost use Rattle.std.specs.Prelude.{◌≡◌, ◌+◌, ℕ, List, Some, Bool, true, false, Option, IfOk, IfSome};
 ghost use Rattle.std.specs.Option.{is_some};
@@ -45,7 +45,8 @@ pub fn branch(
     rest: Code,
     values: Vec<Value>,
 ) -> Result<Option<Step>, AllocError>
-    ensures { IfOk result (λ o. IfSome o (λ s. (store : Store) → branch_rule store locals.items below.items arity (body_of_code continuation) (body_of_code rest) values.items ≡ Some (reduction_of store s))) }
+    ensures { IfOk result (λ o. IfSome o (λ s. (store : Store)
+        → branch_rule store locals.items below.items arity (body_of_code continuation) (body_of_code rest) values.items ≡ Some (reduction_of store s))) }
 {
     let mut carried = values;
     let mut below = below;
@@ -87,7 +88,8 @@ pub fn return_from(
     rest: Code,
     values: Vec<Value>,
 ) -> Result<Option<Step>, AllocError>
-    ensures { IfOk result (λ o. IfSome o (λ s. (store : Store) → return_rule store outer.items below.items arity (body_of_code rest) values.items ≡ Some (reduction_of store s))) }
+    ensures { IfOk result (λ o. IfSome o (λ s. (store : Store)
+        → return_rule store outer.items below.items arity (body_of_code rest) values.items ≡ Some (reduction_of store s))) }
 {
     let mut carried = values;
     let mut below = below;

@@ -1,4 +1,4 @@
-// A call, one reduction after the other.
+//! A call, one reduction after the other.
 
 ghost use Rattle.std.specs.Prelude.{◌≡◌, ◌≤◌, IfOk, IfSome};
 ghost use Rattle.wmach.specs.Configuration.{Store as machine_store};

@@ -1,4 +1,4 @@
-// What is under way, and one reduction of it.
+//! What is under way, and one reduction of it.
 
 ghost use Rattle.std.specs.Prelude.{◌≡◌, Some};
 ghost use Rattle.wmach.specs.Configuration.{Store, instructions, trap, leads_to};

@@ -1,4 +1,4 @@
-// The memory instructions (WebAssembly Core 1.0, 4.4.4).
+//! The memory instructions (WebAssembly Core 1.0, 4.4.4).
 
 ghost use Rattle.std.specs.Prelude.{◌≡◌, Some, IfOk, IfSome};
 ghost use Rattle.wcode.specs.Operators.{load_type, store_type};
@@ -102,7 +102,8 @@ pub fn load(
     arg: MemArg,
     rest: Code,
 ) -> Result<Option<Step>, AllocError>
-    ensures { IfOk result (λ o. IfSome o (λ s. reduce_load (syntax_of program.now) (store_of store.now) locals.items values.items op arg (body_of_code rest) ≡ Some (reduction_of (store_of store.now) s))) }
+    ensures { IfOk result (λ o. IfSome o (λ s. reduce_load (syntax_of program.now)
+        (store_of store.now) locals.items values.items op arg (body_of_code rest) ≡ Some (reduction_of (store_of store.now) s))) }
 {
     let mut values = values;
     if program.memories.is_empty() {
@@ -133,7 +134,8 @@ pub fn store(
     arg: MemArg,
     rest: Code,
 ) -> Option<Step>
-    ensures { IfSome result (λ s. reduce_store (syntax_of program.now) (store_of store.now) locals.items values.items op arg (body_of_code rest) ≡ Some (reduction_of (store_of store.now) s)) }
+    ensures { IfSome result (λ s. reduce_store (syntax_of program.now) (store_of store.now) locals.items values.items op arg
+        (body_of_code rest) ≡ Some (reduction_of (store_of store.now) s)) }
 {
     let mut values = values;
     if program.memories.is_empty() {
@@ -161,7 +163,8 @@ pub fn size(
     values: Vec<Value>,
     rest: Code,
 ) -> Result<Option<Step>, AllocError>
-    ensures { IfOk result (λ o. IfSome o (λ s. reduce_size (syntax_of program.now) (store_of store.now) locals.items values.items (body_of_code rest) ≡ Some (reduction_of (store_of store.now) s))) }
+    ensures { IfOk result (λ o. IfSome o (λ s. reduce_size (syntax_of program.now)
+        (store_of store.now) locals.items values.items (body_of_code rest) ≡ Some (reduction_of (store_of store.now) s))) }
 {
     let mut values = values;
     if program.memories.is_empty() {
@@ -192,7 +195,8 @@ pub fn grow(
     values: Vec<Value>,
     rest: Code,
 ) -> Result<Option<Step>, AllocError>
-    ensures { IfOk result (λ o. IfSome o (λ s. reduce_grow (syntax_of program.now) (store_of store.now) locals.items values.items (body_of_code rest) ≡ Some (reduction_of (store_of store.now) s))) }
+    ensures { IfOk result (λ o. IfSome o (λ s. reduce_grow (syntax_of program.now)
+        (store_of store.now) locals.items values.items (body_of_code rest) ≡ Some (reduction_of (store_of store.now) s))) }
 {
     let mut values = values;
     if program.memories.is_empty() {

@@ -1,4 +1,4 @@
-// The numeric instructions (WebAssembly Core 1.0, 4.4.1), by the operations of `wnum`.
+//! The numeric instructions (WebAssembly Core 1.0, 4.4.1), by the operations of `wnum`.
 
 ghost use Rattle.std.specs.Prelude.{◌≡◌, ◌∷◌, Ok, Err, IfOk, IfSome};
 ghost use Rattle.wcode.specs.Operators.{type_of};
@@ -140,6 +140,11 @@ fn converted(op: CvtOp, a: Value) -> Option<Value>
         (CvtOp::WrapI64, Value::I64(a)) => Some(Value::I32(conversions::wrap_i64(a))),
         (CvtOp::ExtendI32S, Value::I32(a)) => Some(Value::I64(conversions::extend_i32_s(a))),
         (CvtOp::ExtendI32U, Value::I32(a)) => Some(Value::I64(conversions::extend_i32_u(a))),
+        (CvtOp::Extend8S(ValueType::I32), Value::I32(a)) => Some(Value::I32(int32::extend8_s(a))),
+        (CvtOp::Extend8S(ValueType::I64), Value::I64(a)) => Some(Value::I64(int64::extend8_s(a))),
+        (CvtOp::Extend16S(ValueType::I32), Value::I32(a)) => Some(Value::I32(int32::extend16_s(a))),
+        (CvtOp::Extend16S(ValueType::I64), Value::I64(a)) => Some(Value::I64(int64::extend16_s(a))),
+        (CvtOp::Extend32S, Value::I64(a)) => Some(Value::I64(int64::extend32_s(a))),
         _ => None,
     }
 }

@@ -1,4 +1,4 @@
-// One reduction of an instruction without others inside it (WebAssembly Core 1.0, 4.4.1 to 4.4.5).
+//! One reduction of an instruction without others inside it (WebAssembly Core 1.0, 4.4.1 to 4.4.5).
 
 ghost use Rattle.std.specs.Prelude.{◌≡◌, Some, IfOk, IfSome};
 ghost use Rattle.wmach.specs.Configuration.{Setting as machine_setting, Store as machine_store};
@@ -25,7 +25,8 @@ use wmach::Trap;
 
 // An instruction that works on operands alone, or none of these.
 fn operands(values: &mut Vec<Value>, p: Plain) -> Result<Worked, AllocError>
-    ensures { IfOk result (λ w. (setting : machine_setting) → DoneBy (λ store locals values rest. defined_plain setting store locals values p rest) values.old.items values.new.items w) }
+    ensures { IfOk result (λ w. (setting : machine_setting)
+        → DoneBy (λ store locals values rest. defined_plain setting store locals values p rest) values.old.items values.new.items w) }
 {
     match p {
         Plain::Drop => Ok(drop_one(values)),
@@ -46,7 +47,8 @@ fn on_operands(
     p: Plain,
     rest: Code,
 ) -> Result<Option<Step>, AllocError>
-    ensures { (setting : machine_setting) (store : machine_store) → IfOk result (λ o. IfSome o (λ s. defined_plain setting store locals.items values.items p (body_of_code rest) ≡ Some (reduction_of store s))) }
+    ensures { (setting : machine_setting) (store : machine_store)
+        → IfOk result (λ o. IfSome o (λ s. defined_plain setting store locals.items values.items p (body_of_code rest) ≡ Some (reduction_of store s))) }
 {
     let mut values = values;
     match operands(&mut values, p)? {
@@ -63,7 +65,8 @@ fn constant(
     v: Value,
     rest: Code,
 ) -> Result<Option<Step>, AllocError>
-    ensures { (setting : machine_setting) (store : machine_store) → IfOk result (λ o. IfSome o (λ s. defined_plain setting store locals.items values.items (Const v) (body_of_code rest) ≡ Some (reduction_of store s))) }
+    ensures { (setting : machine_setting) (store : machine_store)
+        → IfOk result (λ o. IfSome o (λ s. defined_plain setting store locals.items values.items (Const v) (body_of_code rest) ≡ Some (reduction_of store s))) }
 {
     let mut values = values;
     push(&mut values, v)?;
@@ -80,7 +83,8 @@ pub fn reduce_plain(
     p: Plain,
     rest: Code,
 ) -> Result<Option<Step>, AllocError>
-    ensures { IfOk result (λ o. IfSome o (λ s. defined_plain (setting_of setting.now) (store_of store.now) locals.items values.items p (body_of_code rest) ≡ Some (reduction_of (store_of store.now) s))) }
+    ensures { IfOk result (λ o. IfSome o (λ s. defined_plain (setting_of setting.now)
+        (store_of store.now) locals.items values.items p (body_of_code rest) ≡ Some (reduction_of (store_of store.now) s))) }
 {
     let program = &setting.program;
     match p {

@@ -1,4 +1,4 @@
-// One reduction of what is under way (WebAssembly Core 1.0, 4.4 and 4.5.4).
+//! One reduction of what is under way (WebAssembly Core 1.0, 4.4 and 4.5.4).
 
 ghost use Rattle.std.specs.Prelude.{◌≡◌, ℕ, [], Option, Some, IfOk, IfSome, MatchBool, length, slice_get, unwrap_or};
 ghost use Rattle.wcode.specs.Syntax.{Body, done, loop};
@@ -42,7 +42,9 @@ fn enter_block(
     inside: Code,
     rest: Code,
 ) -> Result<Step, AllocError>
-    ensures { IfOk result (λ s. (store : machine_store) → leads_to 1 store locals.items (label below.items arity (body_of_code continuation) (instructions [] (body_of_code inside)) (body_of_code rest)) ≡ Some (reduction_of store s)) }
+    ensures { IfOk result (λ s. (store : machine_store)
+        → leads_to 1 store locals.items (label below.items arity (body_of_code continuation)
+        (instructions [] (body_of_code inside)) (body_of_code rest)) ≡ Some (reduction_of store s)) }
 {
     let inside = Execution::Instructions(Vec::new(alloc), inside);
     let inside = Box::new(alloc, inside)?;
@@ -82,7 +84,8 @@ fn reduce_instructions(
     values: Vec<Value>,
     code: Code,
 ) -> Result<Option<Step>, AllocError>
-    ensures { IfOk result (λ o. IfSome o (λ s. defined_instructions (setting_of setting.now) (store_of store.now) locals.items values.items (body_of_code code) ≡ Some (reduction_of (store_of store.now) s))) }
+    ensures { IfOk result (λ o. IfSome o (λ s. defined_instructions (setting_of setting.now)
+        (store_of store.now) locals.items values.items (body_of_code code) ≡ Some (reduction_of (store_of store.now) s))) }
 {
     let mut values = values;
     match code {
@@ -146,7 +149,8 @@ fn leave_label(
     inside: Execution,
     rest: Code,
 ) -> Result<Option<Step>, AllocError>
-    ensures { IfOk result (λ o. IfSome o (λ s. (store : machine_store) (arity : ℕ) (continuation : Body) (on : Option Reduction) → reduce_label store locals.items below.items arity continuation (execution_of inside) (body_of_code rest) on ≡ Some (reduction_of store s))) }
+    ensures { IfOk result (λ o. IfSome o (λ s. (store : machine_store) (arity : ℕ) (continuation : Body) (on : Option Reduction)
+        → reduce_label store locals.items below.items arity continuation (execution_of inside) (body_of_code rest) on ≡ Some (reduction_of store s))) }
 {
     let mut below = below;
     match inside {
@@ -168,7 +172,8 @@ fn leave_frame(
     inside: Execution,
     rest: Code,
 ) -> Result<Option<Step>, AllocError>
-    ensures { IfOk result (λ o. IfSome o (λ s. (store : machine_store) (on : Option Reduction) → reduce_frame store outer.items below.items arity (execution_of inside) (body_of_code rest) on ≡ Some (reduction_of store s))) }
+    ensures { IfOk result (λ o. IfSome o (λ s. (store : machine_store) (on : Option Reduction)
+        → reduce_frame store outer.items below.items arity (execution_of inside) (body_of_code rest) on ≡ Some (reduction_of store s))) }
 {
     let mut below = below;
     match inside {
@@ -194,7 +199,8 @@ fn in_label(
     rest: Code,
     step: Step,
 ) -> Result<Step, AllocError>
-    ensures { IfOk result (λ s. (store : machine_store) → inside_label below.items arity (body_of_code continuation) (body_of_code rest) (reduction_of store step) ≡ reduction_of store s) }
+    ensures { IfOk result (λ s. (store : machine_store)
+        → inside_label below.items arity (body_of_code continuation) (body_of_code rest) (reduction_of store step) ≡ reduction_of store s) }
 {
     let inside = Box::new(alloc, step.execution)?;
     Ok(Step {
@@ -214,7 +220,8 @@ fn in_frame(
     rest: Code,
     step: Step,
 ) -> Result<Step, AllocError>
-    ensures { IfOk result (λ s. (store : machine_store) → inside_frame outer.items below.items arity (body_of_code rest) (reduction_of store step) ≡ reduction_of store s) }
+    ensures { IfOk result (λ s. (store : machine_store)
+        → inside_frame outer.items below.items arity (body_of_code rest) (reduction_of store step) ≡ reduction_of store s) }
 {
     let inside = Box::new(alloc, step.execution)?;
     Ok(Step {
@@ -234,7 +241,8 @@ pub fn reduce(
     locals: Vec<Value>,
     execution: Execution,
 ) -> Result<Option<Step>, AllocError>
-    ensures { IfOk result (λ o. IfSome o (λ s. defined_reduce (setting_of setting.now) frames (store_of store.now) locals.items (execution_of execution) ≡ Some (reduction_of (store_of store.now) s))) }
+    ensures { IfOk result (λ o. IfSome o (λ s. defined_reduce (setting_of setting.now) frames
+        (store_of store.now) locals.items (execution_of execution) ≡ Some (reduction_of (store_of store.now) s))) }
 {
     match execution {
         Execution::Instructions(values, code) => {

@@ -1,4 +1,4 @@
-// What stays as it is while code runs.
+//! What stays as it is while code runs.
 
 use crate::code::Code;
 use wbin::{FunctionType, Import, Limits};

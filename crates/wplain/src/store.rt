@@ -1,4 +1,4 @@
-// What instructions can read and write besides locals.
+//! What instructions can read and write besides locals.
 
 ghost use Rattle.std.specs.Prelude.{◌≡◌, true, length};
 ghost use Rattle.wplain.specs.Seen.{written};

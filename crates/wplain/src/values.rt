@@ -1,4 +1,4 @@
-// Operands: lists of values with the topmost first.
+//! Operands: lists of values with the topmost first.
 
 ghost use Rattle.std.specs.Prelude.{◌≡◌, ◌∷◌, ◌++◌, Some, true, drop, IfOk, IfSome, MatchBool};
 ghost use Rattle.wcode.specs.Operators.{type_of};

@@ -1,4 +1,4 @@
-// The parametric and the variable instructions (WebAssembly Core 1.0, 4.4.2 and 4.4.3), and branches that ask.
+//! The parametric and the variable instructions (WebAssembly Core 1.0, 4.4.2 and 4.4.3), and branches that ask.
 
 ghost use Rattle.std.specs.Prelude.{◌≡◌, Some, IfOk, IfSome};
 ghost use Rattle.wcode.specs.declared.instruction.Plain.TheVariants as instruction;
@@ -51,7 +51,9 @@ pub fn local_get(
     x: u32,
     rest: Code,
 ) -> Result<Option<Step>, AllocError>
-    ensures { (setting : machine_setting) (store : machine_store) → IfOk result (λ o. IfSome o (λ s. defined_plain setting store locals.items values.items (instruction.LocalGet x) (body_of_code rest) ≡ Some (reduction_of store s))) }
+    ensures { (setting : machine_setting) (store : machine_store)
+        → IfOk result (λ o. IfSome o (λ s. defined_plain setting store locals.items values.items
+        (instruction.LocalGet x) (body_of_code rest) ≡ Some (reduction_of store s))) }
 {
     let mut values = values;
     match locals.get(x as usize) {
@@ -66,7 +68,9 @@ pub fn local_get(
 
 // local.set x
 pub fn local_set(locals: Vec<Value>, values: Vec<Value>, x: u32, rest: Code) -> Option<Step>
-    ensures { (setting : machine_setting) (store : machine_store) → IfSome result (λ s. defined_plain setting store locals.items values.items (instruction.LocalSet x) (body_of_code rest) ≡ Some (reduction_of store s)) }
+    ensures { (setting : machine_setting) (store : machine_store)
+        → IfSome result (λ s. defined_plain setting store locals.items values.items
+        (instruction.LocalSet x) (body_of_code rest) ≡ Some (reduction_of store s)) }
 {
     let mut values = values;
     let mut locals = locals;
@@ -88,7 +92,9 @@ pub fn local_tee(
     x: u32,
     rest: Code,
 ) -> Result<Option<Step>, AllocError>
-    ensures { (setting : machine_setting) (store : machine_store) → IfOk result (λ o. IfSome o (λ s. defined_plain setting store locals.items values.items (instruction.LocalTee x) (body_of_code rest) ≡ Some (reduction_of store s))) }
+    ensures { (setting : machine_setting) (store : machine_store)
+        → IfOk result (λ o. IfSome o (λ s. defined_plain setting store locals.items values.items
+        (instruction.LocalTee x) (body_of_code rest) ≡ Some (reduction_of store s))) }
 {
     let mut values = values;
     let Some(v) = pop_any(&mut values) else {
@@ -108,7 +114,8 @@ pub fn global_get(
     x: u32,
     rest: Code,
 ) -> Result<Option<Step>, AllocError>
-    ensures { IfOk result (λ o. IfSome o (λ s. reduce_global_get (store_of store.now) locals.items values.items x (body_of_code rest) ≡ Some (reduction_of (store_of store.now) s))) }
+    ensures { IfOk result (λ o. IfSome o (λ s. reduce_global_get (store_of store.now) locals.items values.items x
+        (body_of_code rest) ≡ Some (reduction_of (store_of store.now) s))) }
 {
     let mut values = values;
     match store.globals.get(x as usize) {
@@ -153,7 +160,9 @@ pub fn br_if(
     l: u32,
     rest: Code,
 ) -> Result<Option<Step>, AllocError>
-    ensures { (setting : machine_setting) (store : machine_store) → IfOk result (λ o. IfSome o (λ s. defined_plain setting store locals.items values.items (instruction.BrIf l) (body_of_code rest) ≡ Some (reduction_of store s))) }
+    ensures { (setting : machine_setting) (store : machine_store)
+        → IfOk result (λ o. IfSome o (λ s. defined_plain setting store locals.items values.items
+        (instruction.BrIf l) (body_of_code rest) ≡ Some (reduction_of store s))) }
 {
     let mut values = values;
     let Some(condition) = pop_i32(&mut values) else {
