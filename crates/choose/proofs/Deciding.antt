@@ -9,7 +9,8 @@ use Rattle.choose.specs.declared.decision.Verdict.{Verdict}
 use Rattle.choose.specs.declared.decision.Verdict.TheVariants.{Rejected, Errs, Passes}
 use Rattle.choose.specs.declared.decision.Reason.{Reason}
 use Rattle.choose.specs.declared.best.Worth.TheVariants.{Error, Total}
-use Rattle.choose.specs.Choice.{Judged, judged, is_before, errs, count_of, most_of, total_of, is_for, counts_of, NoneErrs, NonePasses, LeastErring, IsFirst, IsBest}
+use Rattle.choose.specs.Choice.{Judged, judged, errs, count_of, most_of, total_of, is_for, counts_of, NoneErrs, NonePasses, LeastErring, IsFirst, IsBest}
+use Rattle.quant.specs.Name.{is_before}
 use Rattle.choose.specs.Finding.{worth_of, IsBounded, counts_in}
 
 -- of some numbers none is above the greatest

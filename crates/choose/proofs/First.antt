@@ -13,7 +13,8 @@ use Rattle.desk.specs.Shown.{Shown, shown}
 use Rattle.std.proofs.lemmas.List.{take_more, take_all}
 use Rattle.std.proofs.lemmas.Bool.{ltb-true, ltb-false, eqb-true, eq-eqb}
 use Rattle.std.proofs.lemmas.Bool.Decides.{nat_tests}
-use Rattle.choose.specs.Choice.{Judged, judged, is_before, IsFirst}
+use Rattle.choose.specs.Choice.{Judged, judged, IsFirst}
+use Rattle.quant.specs.Name.{is_before}
 use Rattle.quant.specs.Request.{greatest_by}
 use Rattle.choose.specs.declared.best.Worth.{Worth}
 use Rattle.choose.specs.declared.best.Found.{Found}

@@ -17,7 +17,8 @@ use Rattle.choose.specs.declared.decision.Verdict.{Verdict}
 use Rattle.choose.specs.declared.decision.Verdict.TheVariants.{Errs}
 use Rattle.choose.specs.declared.decision.Decision.{Decision}
 use Rattle.choose.specs.declared.decision.Decision.TheVariants as decision
-use Rattle.choose.specs.Choice.{Judged, judged, is_before, errs, most_of, total_of, NoneErrs, LeastErring, IsFirst, IsChoice, Choice}
+use Rattle.choose.specs.Choice.{Judged, judged, errs, most_of, total_of, NoneErrs, LeastErring, IsFirst, IsChoice, Choice}
+use Rattle.quant.specs.Name.{is_before}
 use Rattle.choose.specs.Finding.{name_at, nobody}
 use Rattle.choose.specs.Laws.{HaveOwnNames}
 use Rattle.choose.proofs.First.{judged_length, judged_name}

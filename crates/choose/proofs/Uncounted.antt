@@ -10,7 +10,8 @@ use Rattle.choose.specs.declared.decision.Counts.{Counts}
 use Rattle.choose.specs.declared.decision.Verdict.TheVariants.{Rejected, Errs}
 use Rattle.choose.specs.declared.decision.Decision.{Decision}
 use Rattle.choose.specs.declared.decision.Decision.TheVariants as decision
-use Rattle.choose.specs.Choice.{Judged, is_before, errs, count_of, most_of, total_of, same_reason, is_for, count_for, IsFirst, IsChoice}
+use Rattle.choose.specs.Choice.{Judged, errs, count_of, most_of, total_of, same_reason, is_for, count_for, IsFirst, IsChoice}
+use Rattle.quant.specs.Name.{is_before}
 use Rattle.choose.specs.Laws.{one_less, uncounted}
 
 -- what holds of all holds without one of them

@@ -1,9 +1,8 @@
 -- The choice among all nodes. It depends on the verdicts on them alone.
 use Rattle.std.specs.Prelude.{◌≡◌, ℕ, ◌+◌, ◌≤◌, Bool, true, false, List, [], ◌∷◌, Option, Some, None, IfSome, count_by}
 use Rattle.std.specs.List.{All, AllZip, Contains}
-use Rattle.std.specs.Ordering.{is_lt, nat_cmp}
-use Rattle.std.specs.Cmp.Lexicographic.{slice_cmp}
 use Rattle.quant.specs.declared.objects.Pod.{Pod}
+use Rattle.quant.specs.Name.{is_before}
 use Rattle.quant.specs.Request.{greatest_by}
 use Rattle.taints.specs.TaintScore.{taint_score}
 use Rattle.desk.specs.Shown.{Shown}
@@ -27,10 +26,6 @@ abbrev pub judged : List Shown → List Verdict → List Judged
 judged [] verdicts = []
 judged (shown ∷ rest) [] = []
 judged (shown ∷ rest) (verdict ∷ verdicts) = record { name = shown.node.name; verdict = verdict } ∷ judged rest verdicts
-
--- a name comes before another by its bytes
-abbrev pub is_before : List ℕ → List ℕ → Bool
-is_before a b = is_lt (slice_cmp nat_cmp a b)
 
 -- a verdict says nothing of a node
 abbrev pub errs : Verdict → Bool

@@ -9,7 +9,8 @@ use Rattle.choose.specs.declared.decision.Reason.TheVariants.{Marked, Taint, Cpu
 use Rattle.choose.specs.declared.decision.Counts.{Counts}
 use Rattle.choose.specs.declared.decision.Verdict.{Verdict}
 use Rattle.choose.specs.declared.decision.Verdict.TheVariants.{Rejected}
-use Rattle.choose.specs.Choice.{Judged, is_before, errs, count_of, total_of, is_for, IsFirst}
+use Rattle.choose.specs.Choice.{Judged, errs, count_of, total_of, is_for, IsFirst}
+use Rattle.quant.specs.Name.{is_before}
 
 -- what a verdict is worth
 abbrev pub worth_of : Worth → Verdict → Option ℕ

@@ -3,7 +3,8 @@ ghost use Rattle.std.specs.Prelude.{◌≡◌, ◌<◌, length, map, IfSome};
 ghost use Rattle.std.specs.List.{All};
 ghost use Rattle.quant.specs.Request.{greatest_by};
 ghost use Rattle.desk.specs.Shown.{shown};
-ghost use Rattle.choose.specs.Choice.{judged, is_before, count_of};
+ghost use Rattle.choose.specs.Choice.{judged, count_of};
+ghost use Rattle.quant.specs.Name.{is_before};
 ghost use Rattle.choose.specs.Finding.{worth_of, IsBounded, name_at, goes_before, after_one_more, StandsFirst};
 
 use crate::decision::Verdict;

@@ -19,13 +19,13 @@ use whost::InstanceFault;
 use wtype::Checked;
 
 /// The most plugins.
-pub const MAX_PLUGINS: usize = 16;
+pub const MAX_PLUGINS: usize = quant::MAX_PLUGINS;
 
 /// The most that a plugin's score counts. The least is 1.
-pub const MAX_WEIGHT: u8 = 10;
+pub const MAX_WEIGHT: u8 = quant::MAX_WEIGHT;
 
 /// The most fuel of a plugin's call. The least is 1.
-pub const MAX_FUEL: u64 = 1_000_000_000;
+pub const MAX_FUEL: u64 = quant::MAX_FUEL;
 
 /// How a plugin is configured.
 #[derive(PartialEq, Eq, Debug, Drop)]

@@ -1,12 +1,7 @@
 -- Labels in rising order of their keys' bytes.
 use Rattle.std.specs.Prelude.{ℕ, Bool, List, [], ◌∷◌, if◌then◌else◌, slice_index_or}
-use Rattle.std.specs.Ordering.{is_lt, nat_cmp}
-use Rattle.std.specs.Cmp.Lexicographic.{slice_cmp}
 use Rattle.quant.specs.declared.objects.Label.{Label}
-
--- a key comes before another: the first byte that differs is lesser, or it is a front of the other
-abbrev pub is_before : List ℕ → List ℕ → Bool
-is_before a b = is_lt (slice_cmp nat_cmp a b)
+use Rattle.quant.specs.Name.{is_before}
 
 -- a label among labels that are in order: behind each whose key comes before its own
 abbrev pub put_in_order : Label → List Label → List Label
