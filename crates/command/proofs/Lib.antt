@@ -1,3 +1,4 @@
 pub mod FoundLemmas
 pub mod NumberLemmas
 pub mod SpecLemmas
+pub mod MisuseLemmas

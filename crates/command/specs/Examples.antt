@@ -1,6 +1,9 @@
 -- What words ask for at worked examples.
 use Rattle.std.specs.Prelude.{◌≡◌, ℕ, ◌^◌, List, [], ◌∷◌, map, codes, Some, None}
 use Rattle.command.specs.Words.{SpecSyntax, check, meaning, run}
+use Rattle.command.specs.declared.misuse.Misuse.TheVariants.{Command, Workers, Plugin, Together}
+use Rattle.command.specs.declared.misuse.Part.TheVariants.{Spec, Name, Weight, Fuel}
+use Rattle.command.specs.Misuse.{misuse_of}
 
 -- a plugin
 abbrev pub plugin : (name : List ℕ) → (weight fuel : ℕ) → (file : List ℕ) → SpecSyntax
@@ -61,3 +64,16 @@ pub record WorkedExamples : Type 0 where
   pub version : meaning (codes "--version" ∷ []) ≡ None
   pub end_of_options : meaning (codes "--" ∷ codes "run" ∷ []) ≡ None
   pub another_command : meaning (codes "storm" ∷ []) ≡ None
+  -- what is wrong with words
+  pub of_nothing : misuse_of [] ≡ Command
+  pub of_help : misuse_of (codes "--help" ∷ []) ≡ Command
+  pub of_a_check : misuse_of (codes "check" ∷ []) ≡ Together
+  pub of_two_names : misuse_of (codes "run" ∷ codes "a:1:1:f" ∷ codes "a:2:2:g" ∷ []) ≡ Together
+  pub of_workers : misuse_of (codes "run" ∷ codes "--workers" ∷ codes "65" ∷ []) ≡ Workers 3
+  pub of_workers_at_once : misuse_of (codes "run" ∷ codes "--workers=0" ∷ []) ≡ Workers 2
+  pub of_workers_missing : misuse_of (codes "run" ∷ codes "--workers" ∷ []) ≡ Workers 2
+  pub of_no_plugin : misuse_of (codes "run" ∷ codes "a:1:1" ∷ []) ≡ Plugin Spec 2
+  pub of_another_option : misuse_of (codes "run" ∷ codes "--help" ∷ []) ≡ Plugin Spec 2
+  pub of_a_name : misuse_of (codes "run" ∷ codes "--workers" ∷ codes "2" ∷ codes "a b:0:0:f" ∷ []) ≡ Plugin Name 4
+  pub of_a_weight : misuse_of (codes "run" ∷ codes "b:1:1:f" ∷ codes "a:11:0:f" ∷ []) ≡ Plugin Weight 3
+  pub of_fuel : misuse_of (codes "run" ∷ codes "a:1:+1:f" ∷ []) ≡ Plugin Fuel 2

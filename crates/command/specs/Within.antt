@@ -1,6 +1,7 @@
 -- The limits within which what the words ask for stays.
-use Rattle.std.specs.Prelude.{◌≡◌, ℕ, ◌≤◌, ◌^◌, ⊤, List, length, Some, slice_get}
+use Rattle.std.specs.Prelude.{◌≡◌, ℕ, ◌≤◌, ⊤, List, length, Some, slice_get}
 use Rattle.std.specs.List.{All}
+use Rattle.quant.specs.declared.limits.TheConstants.{MAX_PLUGINS, MAX_WEIGHT, MAX_FUEL, MAX_WORKERS}
 use Rattle.command.specs.declared.asked.Plan.{Plan}
 use Rattle.command.specs.declared.asked.Spec.{Spec}
 use Rattle.command.specs.declared.asked.Words.{Words}
@@ -9,9 +10,9 @@ use Rattle.command.specs.declared.asked.Words.TheVariants.{Run, Check}
 -- a plugin's weight and fuel are within their limits
 pub record IsWithinLimits (spec : Spec) : Type 0 where
   pub least_weight : 1 ≤ spec.weight
-  pub most_weight : spec.weight ≤ 10
+  pub most_weight : spec.weight ≤ MAX_WEIGHT
   pub least_fuel : 1 ≤ spec.fuel
-  pub most_fuel : spec.fuel ≤ 10 ^ 9
+  pub most_fuel : spec.fuel ≤ MAX_FUEL
 
 -- no two plugins have one name
 abbrev pub HaveDistinctNames : List Spec → Type 0
@@ -21,8 +22,8 @@ HaveDistinctNames specs =
 -- a run is within its limits
 pub record IsPlan (plan : Plan) : Type 0 where
   pub least_workers : 1 ≤ plan.workers
-  pub most_workers : plan.workers ≤ 64
-  pub most_specs : length plan.specs.items ≤ 16
+  pub most_workers : plan.workers ≤ MAX_WORKERS
+  pub most_specs : length plan.specs.items ≤ MAX_PLUGINS
   pub limits : All IsWithinLimits plan.specs.items
   pub names : HaveDistinctNames plan.specs.items
 

@@ -1,5 +1,5 @@
 -- What the program's words ask for: `run [--workers N] [SPEC]...`, where a SPEC is `NAME:WEIGHT:FUEL:FILE`, or `check MODULE`.
-use Rattle.std.specs.Prelude.{ℕ, ◌+◌, ◌^◌, ◌==◌, ◌&&◌, nat_le, not, Bool, true, List, [], ◌∷◌, take, drop, length, map, codes, bytes_eq, Option, Some, None, option_map, option_and_then, unwrap_or, Result, Ok, Err, if◌then◌else◌}
+use Rattle.std.specs.Prelude.{ℕ, ◌+◌, ◌==◌, ◌&&◌, nat_le, not, Bool, true, List, [], ◌∷◌, take, drop, length, map, codes, bytes_eq, Option, Some, None, option_map, option_and_then, unwrap_or, Result, Ok, Err, if◌then◌else◌}
 use Rattle.std.specs.List.{list_any, position}
 use Rattle.std.specs.Str.Parse.{digits_value, without_leading_plus}
 use Rattle.clap.specs.declared.builder.action.ArgAction.TheVariants.{Set, Append}
@@ -7,6 +7,7 @@ use Rattle.clap.specs.Simple.{App, on_top}
 use Rattle.clap.specs.ValueTests.{is_numeral}
 use Rattle.clap.specs.Words.{Row, Rule, Text, all_of, fault_of, first_of, new_app, new_rule, subcommand_of, with_rule, with_subcommand}
 use Rattle.quant.specs.Name.{is_name}
+use Rattle.quant.specs.declared.limits.TheConstants.{MAX_PLUGINS, MAX_WEIGHT, MAX_FUEL, MAX_WORKERS}
 use Rattle.command.specs.declared.asked.Plan.{Plan}
 use Rattle.command.specs.declared.asked.Spec.{Spec}
 use Rattle.command.specs.declared.asked.Words.{Words}
@@ -53,7 +54,7 @@ abbrev pub spec_from : (name weight fuel file : List ℕ) → Option SpecSyntax
 spec_from name weight fuel file =
     if is_name name
     then option_and_then (λ w. option_map (λ f. record { name = name; weight = w; fuel = f; file = file })
-    (number_up_to (10 ^ 9) fuel)) (number_up_to 10 weight)
+    (number_up_to MAX_FUEL fuel)) (number_up_to MAX_WEIGHT weight)
     else None
 
 -- the plugin that a word spells, which is cut at its first three colons
@@ -80,14 +81,14 @@ have_distinct_names (spec ∷ rest) = not (is_named rest spec.name) && have_dist
 -- the plugins that the words spell: at most 16, of which no two have one name
 abbrev pub specs_of : List (List ℕ) → Option (List SpecSyntax)
 specs_of words =
-    if nat_le (length words) 16
+    if nat_le (length words) MAX_PLUGINS
     then option_and_then (λ specs. if have_distinct_names specs then Some specs else None) (each spec_of words)
     else None
 
 -- the number of workers: 1 to 64, with or without a plus before it, and 1 where none is told
 abbrev pub workers_of : Option (List ℕ) → Option ℕ
 workers_of None = Some 1
-workers_of (Some word) = number_up_to 64 (without_leading_plus word)
+workers_of (Some word) = number_up_to MAX_WORKERS (without_leading_plus word)
 
 -- the run that is asked for by what `clap` found behind `run`
 abbrev pub run_found : List Row → Option Asked

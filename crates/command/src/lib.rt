@@ -9,9 +9,11 @@ mod asked;
 mod command_line;
 mod fault;
 mod laws;
+mod misuse;
 mod plugin_words;
 
 pub use asked::{Plan, Spec, Words};
 pub use command_line::{arguments, words};
 pub use fault::WordFault;
 pub use laws::{worked_examples, workers_are_read_as_by_clap};
+pub use misuse::{Misuse, Part, misuse_of};

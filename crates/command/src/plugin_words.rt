@@ -2,34 +2,23 @@
 ghost use Rattle.std.specs.Prelude.{◌≡◌, ◌≤◌, length, map, Some, None, Err, bytes_eq, option_map, IfOk, IfSome};
 ghost use Rattle.std.specs.List.{All, list_any};
 ghost use Rattle.std.specs.Str.Parse.{without_leading_plus};
+ghost use Rattle.quant.specs.declared.limits.TheConstants.{MAX_PLUGINS, MAX_WORKERS};
 ghost use Rattle.command.specs.Words.{cut, each, have_distinct_names, number_up_to, spec_from, spec_of, specs_of, syntax_of, workers_of};
 ghost use Rattle.command.specs.Within.{IsWithinLimits, HaveDistinctNames};
 
 use crate::asked::Spec;
 use crate::fault::WordFault;
-use quant::Name;
+use quant::{MAX_FUEL, MAX_PLUGINS, MAX_WEIGHT, MAX_WORKERS, Name};
 use std::alloc::Global;
-
-/// The most workers of a run. The least is 1.
-const MAX_WORKERS: u64 = 64;
-
-/// The most plugins of a run.
-const MAX_SPECS: usize = 16;
-
-/// The most that a plugin's score counts. The least is 1.
-const MAX_WEIGHT: u64 = 10;
-
-/// The most fuel of a plugin's call. The least is 1.
-const MAX_FUEL: u64 = 1_000_000_000;
 
 /// The number of workers that the word behind `--workers` spells, and 1 where there is none.
 pub fn workers_of(word: Option<&str>) -> Option<usize>
     ensures value { result ≡ workers_of (option_map (λ s. s.now) word.entry) }
     ensures least { IfSome result (λ workers. 1 ≤ workers) }
-    ensures most { IfSome result (λ workers. workers ≤ 64) }
+    ensures most { IfSome result (λ workers. workers ≤ MAX_WORKERS) }
 {
     match word {
-        Some(word) => Some(number_up_to(word, MAX_WORKERS)? as usize),
+        Some(word) => Some(number_up_to(word, MAX_WORKERS as u64)? as usize),
         None => Some(1),
     }
 }
@@ -41,11 +30,11 @@ pub fn workers_of(word: Option<&str>) -> Option<usize>
 pub fn specs_of<'a>(alloc: Global, words: &[&'a str]) -> Result<Vec<Spec<'a>>, WordFault>
     ensures ok { IfOk result (λ specs. specs_of (map (λ s. s.now) words.now) ≡ Some (map syntax_of specs.items)) }
     ensures refused { result ≡ Err WordFault.BadWords → specs_of (map (λ s. s.now) words.now) ≡ None }
-    ensures most { IfOk result (λ specs. length specs.items ≤ 16) }
+    ensures most { IfOk result (λ specs. length specs.items ≤ MAX_PLUGINS) }
     ensures limits { IfOk result (λ specs. All IsWithinLimits specs.items) }
     ensures names { IfOk result (λ specs. HaveDistinctNames specs.items) }
 {
-    if words.len() > MAX_SPECS {
+    if words.len() > MAX_PLUGINS {
         return Err(WordFault::BadWords);
     }
     let specs = each_spec(alloc, words)?;
@@ -104,7 +93,7 @@ fn spec_of(word: &str) -> Option<Spec<'_>>
 }
 
 // What stands before the first colon, and what behind it.
-fn cut(text: &str) -> Option<(&str, &str)>
+pub(crate) fn cut(text: &str) -> Option<(&str, &str)>
     ensures { option_map (λ parts. (parts.0.now, parts.1.now)) result ≡ cut text.now }
 {
     text.split_once(':')
@@ -116,7 +105,7 @@ fn spec_from<'a>(name: &str, weight: &str, fuel: &str, file: &'a str) -> Option<
     ensures limits { IfSome result IsWithinLimits }
 {
     let name = Name::new(name.as_bytes()).ok()?;
-    let weight = digits_up_to(weight, MAX_WEIGHT)? as u8;
+    let weight = digits_up_to(weight, u64::from(MAX_WEIGHT))? as u8;
     let fuel = digits_up_to(fuel, MAX_FUEL)?;
     Some(Spec {
         name,
@@ -127,7 +116,7 @@ fn spec_from<'a>(name: &str, weight: &str, fuel: &str, file: &'a str) -> Option<
 }
 
 // The number from 1 to `most` that a text of digits alone spells.
-fn digits_up_to(text: &str, most: u64) -> Option<u64>
+pub(crate) fn digits_up_to(text: &str, most: u64) -> Option<u64>
     ensures value { result ≡ number_up_to most text.now }
     ensures least { IfSome result (λ number. 1 ≤ number) }
     ensures most { IfSome result (λ number. number ≤ most) }

@@ -11,7 +11,7 @@ use Rattle.engine.specs.declared.fault.RunFault.TheVariants as run_fault
 use Rattle.command.specs.Words.{SpecSyntax}
 use Rattle.command.specs.declared.fault.WordFault.TheVariants as word_fault
 use Rattle.serving.specs.declared.faults.Fault.{Fault}
-use Rattle.serving.specs.declared.faults.Fault.TheVariants.{Words, Plugin, Run}
+use Rattle.serving.specs.declared.faults.Fault.TheVariants.{Words, Misused, Plugin, Run}
 use Rattle.serving.specs.Fault.{status_of}
 use Rattle.serving.specs.Run.{IsSiteRun, TellsFailures, TellsFault}
 use Rattle.serving.specs.Site.{AreSiteKits, IsToldAs, SiteFaulty, SiteFront, SiteRefused, WhyNoPlugin, WhyNoSite, names_of}
@@ -28,6 +28,7 @@ Besides NotBegun source out (Run run_fault.Write) = out.failures_old < out.failu
 Besides NotBegun source out (Run run_fault.NoMemory) = (source.failures_new ≡ source.failures_old) × (out.failures_new ≡ out.failures_old)
 Besides NotBegun source out (Run (run_fault.Line number why)) = (source.failures_new ≡ source.failures_old) × (out.failures_new ≡ out.failures_old)
 Besides NotBegun source out (Plugin name why) = (source.failures_new ≡ source.failures_old) × (out.failures_new ≡ out.failures_old)
+Besides NotBegun source out (Misused why) = (source.failures_new ≡ source.failures_old) × (out.failures_new ≡ out.failures_old)
 Besides NotBegun source out (Words why) = (source.failures_new ≡ source.failures_old) × (out.failures_new ≡ out.failures_old)
 
 module _ (NotBegun : Type 0) (source out err : DeviceUse) (ended : ℕ) where
@@ -47,6 +48,7 @@ module _ (NotBegun : Type 0) (source out err : DeviceUse) (ended : ℕ) where
   told (Words word_fault.BadWords) is tells besides = kept 2 is (λ e. omega (arith, e)) (λ e. omega (arith, e)) (λ e. absurd (omega (arith, e))) besides
   told (Words word_fault.NoMemory) is tells besides =
       kept 3 is (λ e. omega (arith, e)) (λ e. omega (arith, e)) (λ _. inl (rw no_memory_told at tells)) besides
+  told (Misused why) is tells besides = kept 2 is (λ e. omega (arith, e)) (λ e. omega (arith, e)) (λ e. absurd (omega (arith, e))) besides
   told (Plugin name why) is tells besides = kept 1 is (λ e. omega (arith, e)) (λ e. omega (arith, e)) (λ e. absurd (omega (arith, e))) besides
   told (Run (run_fault.Line number why)) is tells besides = kept 1 is (λ e. omega (arith, e)) (λ e. omega (arith, e)) (λ e. absurd (omega (arith, e))) besides
   told (Run run_fault.NoMemory) is tells besides = kept 3 is (λ e. omega (arith, e)) (λ e. omega (arith, e)) (λ _. inl tells) besides
@@ -90,6 +92,7 @@ besides_run NotBegun rules names source out run_fault.Write run none = run.write
 -- why there are no kits of a site is an input's fault, or want of memory
 plugin_status : (name bytes : List ℕ) (fault : Fault) → WhyNoPlugin name bytes fault → (status_of fault ≡ 1) ⊎ (fault ≡ Run run_fault.NoMemory)
 plugin_status name bytes (Words why) why_not = absurd why_not
+plugin_status name bytes (Misused why) why_not = absurd why_not
 plugin_status name bytes (Plugin named why) why_not = inl refl
 plugin_status name bytes (Run run_fault.NoMemory) why_not = inr refl
 plugin_status name bytes (Run (run_fault.Line number why)) why_not = absurd why_not
@@ -111,6 +114,7 @@ besides_no_site : (NotBegun : Type 0) (source out : DeviceUse) (fault : Fault) �
     → source.failures_new ≡ source.failures_old → out.failures_new ≡ out.failures_old → Besides NotBegun source out fault
 besides_no_site NotBegun source out fault (inr memory) reads writes = subst (Besides NotBegun source out) (sym memory) (reads, writes)
 besides_no_site NotBegun source out (Words why) (inl one) reads writes = (reads, writes)
+besides_no_site NotBegun source out (Misused why) (inl one) reads writes = (reads, writes)
 besides_no_site NotBegun source out (Plugin name why) (inl one) reads writes = (reads, writes)
 besides_no_site NotBegun source out (Run (run_fault.Line number why)) (inl one) reads writes = (reads, writes)
 besides_no_site NotBegun source out (Run run_fault.NoMemory) (inl one) reads writes = (reads, writes)

@@ -13,7 +13,12 @@ use Rattle.command.specs.Fault.{number_of, name_of}
 use Rattle.serving.specs.Text.{fault_text}
 use Rattle.serving.specs.Refusal.{refusal_text}
 use Rattle.serving.specs.declared.faults.Fault.{Fault}
-use Rattle.serving.specs.declared.faults.Fault.TheVariants.{Words, Plugin, Run}
+use Rattle.command.specs.declared.fault.WordFault.TheVariants.{BadWords}
+use Rattle.command.specs.declared.misuse.Misuse.{Misuse}
+use Rattle.command.specs.declared.misuse.Misuse.TheVariants as misuse
+use Rattle.command.specs.declared.misuse.Part.{Part}
+use Rattle.command.specs.declared.misuse.Part.TheVariants as part
+use Rattle.serving.specs.declared.faults.Fault.TheVariants.{Words, Misused, Plugin, Run}
 
 -- the field in which a fault stands, where there is one
 abbrev pub field_text : Option Field → List ℕ
@@ -32,9 +37,28 @@ run_text Read = fault_text (run.number_of Read) (run.name_of Read)
 run_text Write = fault_text (run.number_of Write) (run.name_of Write)
 run_text NoPlace = fault_text (run.number_of NoPlace) (run.name_of NoPlace)
 
+-- the parts of a plugin, as the usage names them
+abbrev pub part_name : Part → List ℕ
+part_name part.Spec = codes "SPEC"
+part_name part.Name = codes "NAME"
+part_name part.Weight = codes "WEIGHT"
+part_name part.Fuel = codes "FUEL"
+
+-- what is wrong with words, behind the fault's name
+unfoldable pub misuse_text : Misuse → List ℕ
+misuse_text misuse.Command = codes " COMMAND"
+misuse_text (misuse.Workers number) = codes " N of word " ++ decimal number
+misuse_text (misuse.Plugin part number) = codes " " ++ part_name part ++ codes " of word " ++ decimal number
+misuse_text misuse.Together = []
+
+-- what the words may be
+abbrev pub usage : List ℕ
+usage = codes "; usage: wsched run [--workers N] [NAME:WEIGHT:FUEL:FILE]... or wsched check MODULE"
+
 -- why the program ended early
 abbrev pub text_of : Fault → List ℕ
 text_of (Words fault) = fault_text (number_of fault) (name_of fault)
+text_of (Misused misuse) = fault_text (number_of BadWords) (name_of BadWords) ++ misuse_text misuse ++ usage
 text_of (Plugin name refusal) = codes "plugin " ++ name ++ codes ": " ++ refusal_text refusal
 text_of (Run fault) = run_text fault
 

@@ -1,16 +1,23 @@
 -- What a run of a site's script promises, by its exit status.
-use Rattle.std.specs.Prelude.{◌≡◌, ◌≢◌, ◌⊎◌, ◌<◌, List, ℕ}
+use Rattle.std.specs.Prelude.{◌≡◌, ◌≢◌, ◌⊎◌, ◌<◌, List, ℕ, Result, Ok, Err}
 use Rattle.engine.specs.Device.{DeviceUse}
 use Rattle.engine.specs.declared.fault.RunFault.TheVariants as run_fault
 use Rattle.command.specs.Words.{SpecSyntax}
+use Rattle.command.specs.Misuse.{misuse_of}
+use Rattle.command.specs.declared.fault.WordFault.{WordFault}
 use Rattle.serving.specs.declared.faults.Fault.{Fault}
-use Rattle.serving.specs.declared.faults.Fault.TheVariants.{Run}
+use Rattle.serving.specs.declared.faults.Fault.TheVariants.{Run, Words, Misused}
 use Rattle.serving.specs.Message.{Tells, message_of}
 use Rattle.serving.specs.Site.{SiteDone, SiteFaulty, SiteFront, SiteRefused}
 
 -- a fault's line is written to a stream, or a beginning of it where a write failed meanwhile
 abbrev pub TellsFault : DeviceUse → Fault → Type 0
 TellsFault err fault = Tells err.old err.new err.failures_old err.failures_new (message_of fault)
+
+-- the fault that is told of words that ask for nothing, which could perhaps not be read
+abbrev pub told_of : {V : Type 0} → (V → List (List ℕ)) → Result V WordFault → Fault
+told_of texts (Ok words) = Misused (misuse_of (texts words))
+told_of texts (Err fault) = Words fault
 
 -- A run of a script by the plugins that are configured ended with this status. `AreGiven` says which modules they have.
 pub record IsSiteRun (AreGiven : List (List ℕ) → Type 0) (specs : List SpecSyntax) (source out err : DeviceUse) (ended : ℕ) : Type 0 where

@@ -3,7 +3,7 @@ ghost use Rattle.std.specs.Prelude.{◌≡◌};
 ghost use Rattle.serving.specs.Fault.{status_of};
 
 use crate::refusal::Refusal;
-use command::WordFault;
+use command::{Misuse, WordFault};
 use engine::RunFault;
 use quant::Name;
 use thiserror::Error;
@@ -14,6 +14,9 @@ pub enum Fault {
     /// Its words were refused.
     #[error("{0}")]
     Words(WordFault),
+    /// Its words ask for nothing, and this is wrong with them.
+    #[error("1 BadWords{0}")]
+    Misused(Misuse),
     /// The module of the plugin of this name was refused.
     #[error("plugin {}: refused {}", .0.as_str(), .1)]
     Plugin(Name, Refusal),
@@ -30,7 +33,7 @@ impl Fault {
     {
         match self {
             Fault::Plugin(_, _) | Fault::Run(RunFault::Line(_, _)) => 1,
-            Fault::Words(WordFault::BadWords) => 2,
+            Fault::Words(WordFault::BadWords) | Fault::Misused(_) => 2,
             Fault::Words(WordFault::NoMemory)
             | Fault::Run(RunFault::NoMemory | RunFault::NoPlace) => 3,
             Fault::Run(RunFault::Read | RunFault::Write) => 4,

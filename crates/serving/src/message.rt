@@ -1,13 +1,15 @@
 //! The line by which the program tells a fault.
 ghost use Rattle.std.specs.Prelude.{◌≡◌, ◌+◌, ◌^◌, ◌<◌, ◌≤◌, ◌++◌, codes, length, decimal};
 ghost use Rattle.serving.specs.Fault.{status_of};
+ghost use Rattle.serving.specs.declared.faults.Fault.TheVariants.{Misused};
 ghost use Rattle.serving.specs.Text.{fault_text};
 ghost use Rattle.serving.specs.Refusal.{refusal_text};
-ghost use Rattle.serving.specs.Message.{Tells, line_fault_text, run_text, text_of, message_of};
+ghost use Rattle.serving.specs.Message.{Tells, line_fault_text, run_text, part_name, misuse_text, usage, text_of, message_of};
 
 use crate::faults::Fault;
 use crate::refusal::{Refusal, push_refusal};
 use arrayvec::ArrayVec;
+use command::{Misuse, Part, WordFault};
 use engine::{RunFault, Sink, write_all};
 use itoa::Buffer;
 use manifest::LineFault;
@@ -16,6 +18,10 @@ use quant::Name;
 // Room for the longest line: a number has up to 20 digits, a fault's name up to 20 bytes, a field's
 // key up to 13, and a plugin's name up to 63. Each `push_..` says how much of the room it wants at most.
 const MAX_MESSAGE: usize = 256;
+
+// What the program's words may be.
+const USAGE: &[u8] =
+    b"; usage: wsched run [--workers N] [NAME:WEIGHT:FUEL:FILE]... or wsched check MODULE";
 
 /// A line that is made without memory, so that want of memory can be told.
 pub(crate) type Message = ArrayVec<u8, MAX_MESSAGE>;
@@ -81,6 +87,54 @@ fn push_run_fault(message: &mut Message, fault: RunFault)
     }
 }
 
+// The name of a plugin's part.
+fn part_name(part: Part) -> &'static str
+    ensures name { result.now ≡ part_name part }
+    ensures short { length result.now ≤ 6 }
+{
+    match part {
+        Part::Spec => "SPEC",
+        Part::Name => "NAME",
+        Part::Weight => "WEIGHT",
+        Part::Fuel => "FUEL",
+    }
+}
+
+// Adds what is wrong with words.
+#[tactic(auto, unfolding(crate::specs::Message::misuse_text))]
+fn push_misuse(message: &mut Message, misuse: Misuse)
+    requires { length message.old.items + 40 ≤ 256 }
+    ensures text { message.new.items ≡ message.old.items ++ misuse_text misuse }
+    ensures len { length message.new.items ≤ length message.old.items + 40 }
+{
+    match misuse {
+        Misuse::Command => push(message, b" COMMAND"),
+        Misuse::Workers(number) => {
+            push(message, b" N of word ");
+            push_number(message, number as u64);
+        }
+        Misuse::Plugin(part, number) => {
+            push(message, b" ");
+            push(message, part_name(part).as_bytes());
+            push(message, b" of word ");
+            push_number(message, number as u64);
+        }
+        Misuse::Together => {}
+    }
+}
+
+// Adds that words ask for nothing, what is wrong with them, and what they may be.
+fn push_words_fault(message: &mut Message, misuse: Misuse)
+    requires { length message.old.items + 200 ≤ 256 }
+    ensures text { message.new.items ≡ message.old.items ++ text_of (Misused misuse) }
+    ensures len { length message.new.items ≤ length message.old.items + 200 }
+{
+    let fault = WordFault::BadWords;
+    push_fault(message, fault.number(), fault.name());
+    push_misuse(message, misuse);
+    push(message, USAGE);
+}
+
 // Adds which plugin is refused, and why.
 fn push_plugin_fault(message: &mut Message, name: &Name, refusal: Refusal)
     requires { length message.old.items + 200 ≤ 256 }
@@ -102,6 +156,7 @@ fn fault_message(fault: &Fault) -> Message
     push(&mut message, b"wsched: ");
     match fault {
         Fault::Words(fault) => push_fault(&mut message, fault.number(), fault.name()),
+        Fault::Misused(misuse) => push_words_fault(&mut message, *misuse),
         Fault::Plugin(name, refusal) => push_plugin_fault(&mut message, name, *refusal),
         Fault::Run(fault) => push_run_fault(&mut message, *fault),
     }

@@ -2,10 +2,9 @@
 ghost use Rattle.std.specs.Prelude.{◌≡◌, ◌≢◌, ◌⊎◌, ◌^◌, ◌<◌, ◌≤◌, ℕ, List, Some, None, map, IfErr, IfSome};
 ghost use Rattle.engine.specs.Device.{use_of};
 ghost use Rattle.command.specs.Words.{SpecSyntax, asked_by, run, check};
-ghost use Rattle.command.specs.declared.fault.WordFault.TheVariants as word_fault;
 ghost use Rattle.serving.specs.declared.faults.Fault.TheVariants as faults;
 ghost use Rattle.serving.specs.Fault.{status_of};
-ghost use Rattle.serving.specs.Run.{IsSiteRun, TellsFailures, TellsFault};
+ghost use Rattle.serving.specs.Run.{IsSiteRun, TellsFailures, TellsFault, told_of};
 ghost use Rattle.serving.specs.Site.{AreFromFiles};
 ghost use Rattle.serving.specs.Verdict.{TellsFront, TellsVerdict};
 
@@ -14,7 +13,7 @@ use crate::faults::Fault;
 use crate::folder::Files;
 use crate::message::report;
 use crate::site_run::serve_plan;
-use command::{WordFault, Words, words};
+use command::{WordFault, Words, misuse_of, words};
 use engine::{Sink, Source};
 use std::alloc::Global;
 use std::convert::AsStr;
@@ -52,13 +51,13 @@ pub fn answer<
     ensures status { result ≤ 4 }
 
     // Where words could not be read, that is told. Where they ask for nothing, that is told or memory
-    // was wanting, and nothing is read or written. Bad words are told only where they ask for nothing.
+    // was wanting, and nothing is read or written. Bad words are told only where they ask for nothing, with what is wrong with them.
     ensures unread { IfErr args (λ fault. (result ≡ status_of (faults.Words fault))
         × TellsFault (use_of E.written E.failure_count err.old err.new) (faults.Words fault)) }
     ensures idle { asked_by (λ given. map S.text given.items) args ≡ None
         → ((result ≡ 2) ⊎ (result ≡ 3)) × (files.new ≡ files.old) × (source.new ≡ source.old) × (out.new ≡ out.old) }
     ensures words { result ≡ 2 → (asked_by (λ given. map S.text given.items) args ≡ None)
-        × TellsFault (use_of E.written E.failure_count err.old err.new) (faults.Words word_fault.BadWords) }
+        × TellsFault (use_of E.written E.failure_count err.old err.new) (told_of (λ given. map S.text given.items) args) }
 
     // A check leaves the source as it is.
     ensures of_check { (file : List ℕ) → asked_by (λ given. map S.text given.items) args ≡ Some (check file)
@@ -89,7 +88,8 @@ pub fn answer<
         Ok(args) => match words(alloc, args.as_slice()) {
             Ok(Words::Run(plan)) => serve_plan(rt, alloc, keys, &plan, files, source, out, err),
             Ok(Words::Check(file)) => check_file(alloc, file, files, out, err),
-            Err(fault) => report(Fault::Words(fault), err),
+            Err(WordFault::BadWords) => report(Fault::Misused(misuse_of(args.as_slice())), err),
+            Err(WordFault::NoMemory) => report(Fault::Words(WordFault::NoMemory), err),
         },
         Err(unread) => report(Fault::Words(unread), err),
     }

@@ -2,10 +2,11 @@ use Rattle.std.proofs.Common.{refl}
 use Rattle.clap.proofs.OnLiterals.{clap_on_literals}
 use Rattle.quant.specs.Name.{is_name, is_text}
 use Rattle.command.specs.Words.{cut, meaning, spec_of}
+use Rattle.command.specs.Misuse.{at_equals, misuse_of, wrong_part, wrong_word}
 use Rattle.command.proofs.laws.worked_examples.Goals as goal
 
 pub returns : goal.returns
-unfolding clap_on_literals cut is_name is_text meaning spec_of
+unfolding clap_on_literals at_equals cut is_name is_text meaning misuse_of spec_of wrong_part wrong_word
 returns c = record {
   one_worker = refl;
   most_workers = refl;
@@ -49,4 +50,16 @@ returns c = record {
   version = refl;
   end_of_options = refl;
   another_command = refl;
+  of_nothing = refl;
+  of_help = refl;
+  of_a_check = refl;
+  of_two_names = refl;
+  of_workers = refl;
+  of_workers_at_once = refl;
+  of_workers_missing = refl;
+  of_no_plugin = refl;
+  of_another_option = refl;
+  of_a_name = refl;
+  of_a_weight = refl;
+  of_fuel = refl;
 }

@@ -1,5 +1,6 @@
 use Rattle.std.proofs.Common.{map, refl}
 use Rattle.command.specs.Words.{syntax_of}
+use Rattle.command.specs.declared.fault.WordFault.TheVariants as word_fault
 use Rattle.serving.specs.declared.faults.Fault.TheVariants.{Words}
 use Rattle.serving.proofs.Ends.{told}
 use Rattle.serving.proofs.SiteOutput.{same_specs}
@@ -13,7 +14,8 @@ returns-in-Ok-Run-clause-run g c = λ workers specs asked.
     rw same at c.serve_plan.ensures.run
 
 pub returns-in-Ok-clause-failures : goal.returns-in-Ok-clause-failures
-returns-in-Ok-clause-failures g c = told _ _ _ _ _ (Words c.in-Err-words.fault) c.report.ensures.status c.report.ensures.told (refl, refl)
+returns-in-Ok-clause-failures g c =
+    told _ _ _ _ _ (Words word_fault.NoMemory) c.report-in-Err-NoMemory.ensures.status c.report-in-Err-NoMemory.ensures.told (refl, refl)
 
 pub returns-clause-failures : goal.returns-clause-failures
 returns-clause-failures g c = told _ _ _ _ _ (Words c.in-Err.unread) c.report-in-Err.ensures.status c.report-in-Err.ensures.told (refl, refl)
