@@ -19,7 +19,7 @@ use std::marker::Model;
 use std::thread::Threads;
 
 /// The most kits of a fleet.
-pub const MAX_KITS: usize = 64;
+pub const MAX_KITS: usize = quant::MAX_WORKERS;
 
 /// Kits that judge alike, one a worker, and the room for the verdicts of a decision, which stays between two decisions.
 #[derive(Drop)]

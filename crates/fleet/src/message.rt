@@ -50,7 +50,8 @@ impl<J: Site, K: Rules + Drop> Model for Done<J, K> {
 
     ghost view = { λ d. record { kit = d.kit; asked = arc_value d.order; piece = d.piece; verdicts = d.verdicts.items } };
 
-    ghost invariant = { λ d. AreVerdicts (K.answers d.kit) (arc_value d.order).pod (nodes_of (arc_value d.order).snapshot (arc_value d.order).pieces d.piece 1) d.verdicts.items };
+    ghost invariant = { λ d. AreVerdicts (K.answers d.kit) (arc_value d.order).pod (nodes_of
+        (arc_value d.order).snapshot (arc_value d.order).pieces d.piece 1) d.verdicts.items };
 }
 
 /// Judges a piece with its kit.

@@ -80,7 +80,8 @@ pub fn judge_pieces<R: Threads + Sync, K: Rules + Send, G: Gate + Sync>(
 )
     requires pieces { ArePieces (length work.now.rows.now) work.now.pieces first (length kits.old) (length verdicts.old) }
     requires alike { JudgeAlike K.answers kits.old }
-    ensures are { All (λ kit. AreVerdicts (K.answers kit) work.now.pod.now (map shown (nodes_of work.now.rows.now work.now.pieces first (length kits.old))) verdicts.new) kits.old }
+    ensures are { All (λ kit. AreVerdicts (K.answers kit) work.now.pod.now (map shown
+        (nodes_of work.now.rows.now work.now.pieces first (length kits.old))) verdicts.new) kits.old }
     ensures stay { kits.new ≡ kits.old }
 {
     if verdicts.is_empty() {
@@ -115,8 +116,10 @@ fn judge_both<R: Threads + Sync, K: Rules + Send, G: Gate + Sync>(
     requires pieces_there { ArePieces (length work.now.rows.now) work.now.pieces middle (length kits_there.old) (length there.old) }
     requires alike_here { JudgeAlike K.answers kits_here.old }
     requires alike_there { JudgeAlike K.answers kits_there.old }
-    ensures are_here { All (λ kit. AreVerdicts (K.answers kit) work.now.pod.now (map shown (nodes_of work.now.rows.now work.now.pieces first (length kits_here.old))) here.new) kits_here.old }
-    ensures are_there { All (λ kit. AreVerdicts (K.answers kit) work.now.pod.now (map shown (nodes_of work.now.rows.now work.now.pieces middle (length kits_there.old))) there.new) kits_there.old }
+    ensures are_here { All (λ kit. AreVerdicts (K.answers kit) work.now.pod.now (map shown
+        (nodes_of work.now.rows.now work.now.pieces first (length kits_here.old))) here.new) kits_here.old }
+    ensures are_there { All (λ kit. AreVerdicts (K.answers kit) work.now.pod.now (map shown
+        (nodes_of work.now.rows.now work.now.pieces middle (length kits_there.old))) there.new) kits_there.old }
     ensures stay_here { kits_here.new ≡ kits_here.old }
     ensures stay_there { kits_there.new ≡ kits_there.old }
 {
@@ -126,12 +129,20 @@ fn judge_both<R: Threads + Sync, K: Rules + Send, G: Gate + Sync>(
         return;
     }
     let mut mine = ||
-        requires { IsSync R.row × IsSync G.row × IsSend K.row × ArePieces (length work.now.rows.now) work.now.pieces first (length kits_here.now) (length here.now) × JudgeAlike K.answers kits_here.now }
-        ensures { All (λ kit. AreVerdicts (K.answers kit) work.entry.now.pod.now (map shown (nodes_of work.entry.now.rows.now work.entry.now.pieces first (length kits_here.entry.now))) here.exit.now) kits_here.entry.now × (kits_here.exit.now ≡ kits_here.entry.now) }
+        requires { IsSync R.row × IsSync G.row × IsSend K.row
+            × ArePieces (length work.now.rows.now) work.now.pieces first (length kits_here.now) (length here.now)
+            × JudgeAlike K.answers kits_here.now }
+        ensures { All (λ kit. AreVerdicts (K.answers kit) work.entry.now.pod.now (map shown
+            (nodes_of work.entry.now.rows.now work.entry.now.pieces first (length kits_here.entry.now))) here.exit.now) kits_here.entry.now
+            × (kits_here.exit.now ≡ kits_here.entry.now) }
     { judge_pieces(rt, work, first, kits_here, here) };
     let mut theirs = ||
-        requires { IsSync R.row × IsSync G.row × IsSend K.row × ArePieces (length work.now.rows.now) work.now.pieces middle (length kits_there.now) (length there.now) × JudgeAlike K.answers kits_there.now }
-        ensures { All (λ kit. AreVerdicts (K.answers kit) work.entry.now.pod.now (map shown (nodes_of work.entry.now.rows.now work.entry.now.pieces middle (length kits_there.entry.now))) there.exit.now) kits_there.entry.now × (kits_there.exit.now ≡ kits_there.entry.now) }
+        requires { IsSync R.row × IsSync G.row × IsSend K.row
+            × ArePieces (length work.now.rows.now) work.now.pieces middle (length kits_there.now) (length there.now)
+            × JudgeAlike K.answers kits_there.now }
+        ensures { All (λ kit. AreVerdicts (K.answers kit) work.entry.now.pod.now (map shown
+            (nodes_of work.entry.now.rows.now work.entry.now.pieces middle (length kits_there.entry.now))) there.exit.now) kits_there.entry.now
+            × (kits_there.exit.now ≡ kits_there.entry.now) }
     { judge_pieces(rt, work, middle, kits_there, there) };
     join_mut(rt, &mut theirs, &mut mine);
 }

@@ -12,7 +12,7 @@ mod tests;
 use crate::asked::{Asked, Blank, History, Order, Site};
 use crate::fleet::MAX_KITS;
 use crate::gate::Gate;
-use crate::helper::{Helper, collect, judge_said, send_all};
+use crate::lent_kit::{Helper, collect, judge_said, send_all};
 use choose::{Decision, NoMemory, UNJUDGED, Verdict, decide, judge};
 use desk::Snapshot;
 use plugin::Rules;

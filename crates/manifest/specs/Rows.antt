@@ -12,6 +12,7 @@ use Rattle.quant.specs.declared.taint.Effect.TheVariants.{NoSchedule, PreferNoSc
 use Rattle.quant.specs.declared.taint.Operator.{Operator}
 use Rattle.quant.specs.declared.taint.Operator.TheVariants.{Equal, Exists}
 use Rattle.quant.specs.declared.amount.Request.{Request}
+use Rattle.quant.specs.Effect.{same_effect}
 use Rattle.manifest.specs.declared.field.Field.{Field}
 use Rattle.manifest.specs.declared.fault.LineFault.{LineFault}
 use Rattle.manifest.specs.declared.fault.LineFault.TheVariants.{BadField}
@@ -36,13 +37,6 @@ operator_named bytes =
     if bytes_eq bytes [] || bytes_eq bytes (codes "Equal") then Some Equal
     else if bytes_eq bytes (codes "Exists") then Some Exists
     else None
-
--- two effects are the same
-abbrev pub same_effect : Effect → Effect → Bool
-same_effect NoSchedule NoSchedule = true
-same_effect PreferNoSchedule PreferNoSchedule = true
-same_effect NoExecute NoExecute = true
-same_effect _ _ = false
 
 -- with Equal there is a key, and with Exists there is no value
 abbrev pub lawful : Operator → (key value : List ℕ) → Bool

@@ -1,7 +1,8 @@
 //! The taints of a node, and the effects that they may have.
 ghost use Rattle.std.specs.Prelude.{◌≡◌, ◌&&◌, bytes_eq};
 ghost use Rattle.std.specs.List.{list_any};
-ghost use Rattle.manifest.specs.Rows.{taint, effect_named, same_effect};
+ghost use Rattle.quant.specs.Effect.{same_effect};
+ghost use Rattle.manifest.specs.Rows.{taint, effect_named};
 
 use crate::fault::LineFault;
 use crate::field::Field;

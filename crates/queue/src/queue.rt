@@ -35,7 +35,8 @@ impl Model for Queue {
 
     ghost Value = { QueueState };
 
-    ghost coded = { code_by (ℕ × Entries) (coded× coded_ℕ (table.code (coded_list coded_ℕ) slot.the_row.coded)) (λ q. (q.limit, q.entries)) (λ p. record { limit = p.0; entries = p.1 }) (λ _. refl) };
+    ghost coded = { code_by (ℕ × Entries) (coded× coded_ℕ (table.code (coded_list coded_ℕ) slot.the_row.coded))
+        (λ q. (q.limit, q.entries)) (λ p. record { limit = p.0; entries = p.1 }) (λ _. refl) };
 
     ghost view = { λ q. state_of q.pods };
 

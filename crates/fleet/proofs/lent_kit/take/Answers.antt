@@ -2,7 +2,7 @@ use Rattle.std.proofs.Common.{rules, ◌≡◌, ap, sym, subst}
 use Rattle.std.specs.Arc.{arc_value}
 use Rattle.choose.specs.Choice.{AreVerdicts}
 use Rattle.fleet.specs.Pieces.{nodes_of}
-use Rattle.fleet.proofs.helper.take.Goals as goal
+use Rattle.fleet.proofs.lent_kit.take.Goals as goal
 
 pub returns-clause-are : goal.returns-clause-are
 returns-clause-are g c = λ yes.

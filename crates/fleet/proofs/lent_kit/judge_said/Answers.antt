@@ -2,7 +2,7 @@ use Rattle.std.proofs.Common.{subst}
 use Rattle.choose.specs.Choice.{AreVerdicts}
 use Rattle.fleet.specs.Pieces.{nodes_of}
 use Rattle.fleet.proofs.Collecting.{are_said}
-use Rattle.fleet.proofs.helper.judge_said.Goals as goal
+use Rattle.fleet.proofs.lent_kit.judge_said.Goals as goal
 
 pub returns-clause-are : goal.returns-clause-are
 returns-clause-are g c =

@@ -3,7 +3,7 @@ use Rattle.fleet.specs.Pieces.{places_of, nodes_of}
 use Rattle.fleet.specs.Speaking.{SpeaksFor, AreSaid}
 use Rattle.fleet.proofs.Cutting.{back_pieces, front_within}
 use Rattle.fleet.proofs.Collecting.{said_of_both}
-use Rattle.fleet.proofs.helper.+collect.Goals as goal
+use Rattle.fleet.proofs.lent_kit.+collect.Goals as goal
 
 pub split_at_mut-here-requires : goal.split_at_mut-here-requires
 split_at_mut-here-requires g t c =

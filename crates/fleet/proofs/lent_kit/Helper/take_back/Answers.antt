@@ -1,5 +1,5 @@
 use Rattle.fleet.proofs.Collecting.{are_said}
-use Rattle.fleet.proofs.helper.Helper.take_back.Goals as goal
+use Rattle.fleet.proofs.lent_kit.Helper.take_back.Goals as goal
 
 pub returns-clause-are : goal.returns-clause-are
 returns-clause-are g c = λ yes.
