@@ -83,7 +83,7 @@ fn notes(rt: HostRuntime) -> Result<(), Fail> {
 
 #[test]
 fn bodies(rt: HostRuntime) -> Result<(), Fail> {
-    let rows: [(&[u8], Option<usize>); 26] = [
+    let rows: [(&[u8], Option<usize>); 33] = [
         (b"\x41\x00\x0B", Some(1)),
         (b"\x00\x0B", Some(0)),
         (b"\x6A\x0B", None),
@@ -101,6 +101,14 @@ fn bodies(rt: HostRuntime) -> Result<(), Fail> {
         (b"\x00\x42\x00\x1B\x0B", None),
         (b"\x41\x00\x28\x02\x00\x0B", None),
         (b"\x20\x00\x0B", None),
+        // Signs are extended within a type.
+        (b"\x41\x00\xC0\x0B", Some(1)),
+        (b"\x42\x00\xC3\xA7\x0B", Some(1)),
+        (b"\x42\x00\xC4\xA7\x0B", Some(1)),
+        (b"\x42\x00\xC0\xA7\x0B", None),
+        (b"\x41\x00\xC2\xA7\x0B", None),
+        (b"\x41\x00\xC4\x0B", None),
+        (b"\x42\x00\xC2\x0B", None),
         // Branches by an index among ten labels. Later editions accept the last row.
         (
             b"\x02\x40\x02\x40\x41\x00\x0E\x0A\x00\x01\x00\x01\x00\x01\x00\x01\x00\x01\x00\x0B\x0B\x41\x07\x0B",

@@ -37,7 +37,7 @@ fn every_other_byte(rt: HostRuntime) -> Result<(), Fail> {
         let known = match opcode {
             0x00..=0x05 | 0x0B..=0x11 | 0x1A | 0x1B | 0x20..=0x24 | 0x28 | 0x29 | 0x2C..=0x37 =>
                 true,
-            0x3A..=0x42 | 0x45..=0x5A | 0x67..=0x8A | 0xA7 | 0xAC | 0xAD => true,
+            0x3A..=0x42 | 0x45..=0x5A | 0x67..=0x8A | 0xA7 | 0xAC | 0xAD | 0xC0..=0xC4 => true,
             _ => false,
         };
         let float = match opcode {
@@ -226,7 +226,7 @@ fn faults_of_expressions(rt: HostRuntime) {
         (b"\x01\x05\x0B", at(Kind::BadOpcode, 1)),
         (b"\x02\x40\x05\x0B\x0B", at(Kind::BadOpcode, 2)),
         (b"\x04\x40\x05\x05\x0B\x0B", at(Kind::BadOpcode, 3)),
-        (b"\x02\x40\xC0\x0B\x0B", at(Kind::BadOpcode, 2)),
+        (b"\x02\x40\xC5\x0B\x0B", at(Kind::BadOpcode, 2)),
         (b"\x02\x40\x92\x0B\x0B", BinFault::Float),
         (b"\x41\x80\x80\x80\x80\x80\x00\x0B", at(Kind::BadNumber, 1)),
     ];

@@ -2,8 +2,8 @@
 mod edge_values;
 
 use edge_values::{
-    EXTEND, PARTIAL_32, PARTIAL_64, RELATION_32, RELATION_64, TOTAL_32, TOTAL_64, UNARY_32,
-    UNARY_64, WRAP,
+    EXTEND, EXTEND_32, EXTEND_64, PARTIAL_32, PARTIAL_64, RELATION_32, RELATION_64, TOTAL_32,
+    TOTAL_64, UNARY_32, UNARY_64, WRAP,
 };
 use wnum::{Trap, convert, int32, int64};
 
@@ -248,6 +248,29 @@ fn told_64(outcome: Result<u64, Trap>) -> (u64, u64) {
     }
 }
 
+fn extend_32() -> Option<usize> {
+    for (row, &[a, from_8, from_16]) in EXTEND_32.iter().enumerate() {
+        if [int32::extend8_s(a), int32::extend16_s(a)] != [from_8, from_16] {
+            return Some(row);
+        }
+    }
+    None
+}
+
+fn extend_64() -> Option<usize> {
+    for (row, &[a, from_8, from_16, from_32]) in EXTEND_64.iter().enumerate() {
+        let answers = [
+            int64::extend8_s(a),
+            int64::extend16_s(a),
+            int64::extend32_s(a),
+        ];
+        if answers != [from_8, from_16, from_32] {
+            return Some(row);
+        }
+    }
+    None
+}
+
 fn wrap() -> Option<usize> {
     WRAP.iter()
         .position(|row| convert::wrap_i64(row.0) != row.1)
@@ -268,5 +291,6 @@ fn answers_are_the_engines(rt: HostRuntime) {
     assert_eq!(rt; (total_32(), total_64()), (None, None));
     assert_eq!(rt; (relation_32(), relation_64()), (None, None));
     assert_eq!(rt; (partial_32(), partial_64()), (None, None));
+    assert_eq!(rt; (extend_32(), extend_64()), (None, None));
     assert_eq!(rt; (wrap(), extend()), (None, None));
 }

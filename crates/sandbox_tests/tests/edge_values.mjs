@@ -8,15 +8,16 @@
 const I32 = 0x7f;
 const I64 = 0x7e;
 
-// Opcodes by WebAssembly Core 1.0, 5.4.5. Each list starts at the opcode given.
+// Opcodes by WebAssembly Core 1.0, 5.4.5, and Core 2.0, 5.4.7. Each list starts at the opcode given.
 const numbered = (first, names) => names.map((name, i) => [name, first + i]);
 const relations = ["eq", "ne", "lt_s", "lt_u", "gt_s", "gt_u", "le_s", "le_u", "ge_s", "ge_u"];
 const counts = ["clz", "ctz", "popcnt"];
 const binaries = ["add", "sub", "mul", "div_s", "div_u", "rem_s", "rem_u", "and", "or", "xor", "shl", "shr_s", "shr_u", "rotl", "rotr"];
+const extensions = { 32: ["extend8_s", "extend16_s"], 64: ["extend8_s", "extend16_s", "extend32_s"] };
 const partial = ["div_s", "div_u", "rem_s", "rem_u"];
 const opcodes = {
-    32: Object.fromEntries([["eqz", 0x45], ...numbered(0x46, relations), ...numbered(0x67, counts), ...numbered(0x6a, binaries)]),
-    64: Object.fromEntries([["eqz", 0x50], ...numbered(0x51, relations), ...numbered(0x79, counts), ...numbered(0x7c, binaries)]),
+    32: Object.fromEntries([["eqz", 0x45], ...numbered(0x46, relations), ...numbered(0x67, counts), ...numbered(0x6a, binaries), ...numbered(0xc0, extensions[32])]),
+    64: Object.fromEntries([["eqz", 0x50], ...numbered(0x51, relations), ...numbered(0x79, counts), ...numbered(0x7c, binaries), ...numbered(0xc2, extensions[64])]),
 };
 const WRAP_I64 = 0xa7;
 const EXTEND_I32_S = 0xac;
@@ -54,6 +55,12 @@ const edges = {
     32: [0n, 1n, 2n, 33n, 0x9e3779b9n, 0x7fffffffn, 0x80000000n, 0xffffffffn],
     64: [0n, 1n, 2n, 65n, 0x9e3779b97f4a7c15n, 0x7fffffffffffffffn, 0x8000000000000000n, 0xffffffffffffffffn],
 };
+// Both ends of each half of the lowest 8, 16 and 32 bits, alone and below others.
+const narrow = [0n, 0x7fn, 0x80n, 0xffn, 0x7fffn, 0x8000n, 0xffffn, 0x01234500n, 0x01230000n, 0xfedcba80n, 0xfedc8000n, 0x7fffffffn, 0x80000000n, 0xffffffffn];
+const extended = {
+    32: narrow,
+    64: [...narrow, 0x0123456789abcd00n, 0x123456789abc0000n, 0x0123456700000000n, 0xfedcba9876543280n, 0xfedcba9876548000n, 0xfedcba9880000000n, 0x7fffffffffffffffn, 0xffffffffffffffffn],
+};
 const total = binaries.filter((name) => !partial.includes(name));
 const lines = [];
 const table = (name, row, rows) => lines.push("#[rattlefmt::skip]", `pub const ${name}: [${row}; ${rows.length}] = [`, ...rows.map((r) => `    ${r},`), "];", "");
@@ -77,6 +84,9 @@ for (const width of [32, 64]) {
     lines.push("// The two operands, then", `// ${partial.join(", ")} of them, or 0 where it traps,`, "// and then the number of each one's trap, or 0 where it doesn't.");
     const told = (p) => partial.map((name) => outcome(() => op(name, 2, type)(...p)));
     table(`PARTIAL_${width}`, `[u${width}; 10]`, pairs.map((p) => [told(p), p]).map(([t, p]) => `[${[...p, ...t.map((o) => o[0]), ...t.map((o) => o[1])].join(", ")}]`));
+
+    lines.push(`// The operand, and then ${extensions[width].join(", ")} of it.`);
+    table(`EXTEND_${width}`, `[u${width}; ${extensions[width].length + 1}]`, extended[width].map((a) => `[${[a, ...answers(extensions[width], type, [a])].join(", ")}]`));
 }
 lines.push("// i64 values, and what wrap_i64 makes of them.");
 table("WRAP", "(u64, u32)", [...edges[64], 4294967301n].map((a) => `(${a}, ${instruction(WRAP_I64, [I64], I32)(a)})`));

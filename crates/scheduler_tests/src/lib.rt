@@ -11,6 +11,8 @@ mod binding;
 #[cfg(test)]
 mod choices;
 #[cfg(test)]
+mod expiry;
+#[cfg(test)]
 mod lines;
 #[cfg(test)]
 mod names;

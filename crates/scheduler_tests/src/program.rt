@@ -7,7 +7,7 @@ mod modules;
 mod plugins;
 mod scripts;
 
-use command::WordFault;
+use command::{Misuse, Part, WordFault};
 use engine::RunFault;
 use quant::Name;
 use serving::{Fault, Folder, Input, Output, Refusal, answer};
@@ -229,14 +229,15 @@ fn remove_files(rt: &impl fs::Files, files: &[(&str, &[u8])]) -> io::Result<()> 
 fn a_fault_prints_its_number_and_its_name(rt: HostRuntime) -> Result<(), Fail> {
     let refusal = Refusal::NotReady(InstanceFault::StartExhausted);
     let text = format!(in rt.alloc();
-        "{}, {}, {}",
+        "{}, {}, {}, {}",
         Fault::Words(WordFault::BadWords),
+        Fault::Misused(Misuse::Plugin(Part::Name, 3)),
         Fault::Plugin(Name::new(b"r")?, refusal),
         Fault::Run(RunFault::NoPlace)
     )?;
     assert_eq!(rt;
         text.as_str(),
-        "1 BadWords, plugin r: refused instance 4 StartExhausted, 5 NoPlace"
+        "1 BadWords, 1 BadWords NAME of word 3, plugin r: refused instance 4 StartExhausted, 5 NoPlace"
     );
     Ok(())
 }

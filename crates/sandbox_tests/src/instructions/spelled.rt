@@ -24,7 +24,7 @@ const BR_TABLE_OF_0: Op = Op::BrTable {
 };
 
 /// What bytes spell.
-pub const SPELLED: [(&[u8], Op); 118] = [
+pub const SPELLED: [(&[u8], Op); 123] = [
     // control and variables
     (b"\x00", Op::Plain(Plain::Unreachable)),
     (b"\x01", Op::Plain(Plain::Nop)),
@@ -220,6 +220,11 @@ pub const SPELLED: [(&[u8], Op); 118] = [
     (b"\xA7", Op::Plain(Plain::Convert(CvtOp::WrapI64))),
     (b"\xAC", Op::Plain(Plain::Convert(CvtOp::ExtendI32S))),
     (b"\xAD", Op::Plain(Plain::Convert(CvtOp::ExtendI32U))),
+    (b"\xC0", Op::Plain(Plain::Convert(CvtOp::Extend8S(I32)))),
+    (b"\xC1", Op::Plain(Plain::Convert(CvtOp::Extend16S(I32)))),
+    (b"\xC2", Op::Plain(Plain::Convert(CvtOp::Extend8S(I64)))),
+    (b"\xC3", Op::Plain(Plain::Convert(CvtOp::Extend16S(I64)))),
+    (b"\xC4", Op::Plain(Plain::Convert(CvtOp::Extend32S))),
     // blocks and tables of labels
     (b"\x02\x40", Op::Block(BlockType::Empty)),
     (b"\x02\x7F", Op::Block(BlockType::Result(I32))),

@@ -77,9 +77,16 @@ fn a_file_is_checked(rt: HostRuntime) -> Result<(), Fail> {
             0,
             2,
             "",
-            "wsched: 1 BadWords\n",
+            "wsched: 1 BadWords; usage: wsched run [--workers N] [NAME:WEIGHT:FUEL:FILE]... or wsched check MODULE\n",
         ),
-        ([].as_slice(), PASSES, 0, 2, "", "wsched: 1 BadWords\n"),
+        (
+            [].as_slice(),
+            PASSES,
+            0,
+            2,
+            "",
+            "wsched: 1 BadWords COMMAND; usage: wsched run [--workers N] [NAME:WEIGHT:FUEL:FILE]... or wsched check MODULE\n",
+        ),
     ];
     for (args, module, bad_write, status, out, err) in rows {
         fs::write(&rt, MODULE, module)?;

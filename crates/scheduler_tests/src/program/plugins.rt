@@ -191,15 +191,33 @@ fn a_fault_of_plugins_is_told_before_the_script_is_read(rt: HostRuntime) -> Resu
         (
             ["r:1:1:missing.wasm", "r:1:1:broken.wasm"].as_slice(),
             2,
-            "wsched: 1 BadWords\n",
+            "wsched: 1 BadWords; usage: wsched run [--workers N] [NAME:WEIGHT:FUEL:FILE]... or wsched check MODULE\n",
         ),
-        (["r:0:1:missing.wasm"].as_slice(), 2, "wsched: 1 BadWords\n"),
+        (
+            ["r:0:1:missing.wasm"].as_slice(),
+            2,
+            "wsched: 1 BadWords WEIGHT of word 2; usage: wsched run [--workers N] [NAME:WEIGHT:FUEL:FILE]... or wsched check MODULE\n",
+        ),
         (
             ["r:11:1:missing.wasm"].as_slice(),
             2,
-            "wsched: 1 BadWords\n",
+            "wsched: 1 BadWords WEIGHT of word 2; usage: wsched run [--workers N] [NAME:WEIGHT:FUEL:FILE]... or wsched check MODULE\n",
         ),
-        (["r:1:0:missing.wasm"].as_slice(), 2, "wsched: 1 BadWords\n"),
+        (
+            ["r:1:0:missing.wasm"].as_slice(),
+            2,
+            "wsched: 1 BadWords FUEL of word 2; usage: wsched run [--workers N] [NAME:WEIGHT:FUEL:FILE]... or wsched check MODULE\n",
+        ),
+        (
+            ["r:1:1:broken.wasm", "--workers", "65"].as_slice(),
+            2,
+            "wsched: 1 BadWords N of word 4; usage: wsched run [--workers N] [NAME:WEIGHT:FUEL:FILE]... or wsched check MODULE\n",
+        ),
+        (
+            ["r:1:1:broken.wasm", "--help"].as_slice(),
+            2,
+            "wsched: 1 BadWords SPEC of word 3; usage: wsched run [--workers N] [NAME:WEIGHT:FUEL:FILE]... or wsched check MODULE\n",
+        ),
         (
             ["r:1:1:broken.wasm", "s:1:1:missing.wasm"].as_slice(),
             4,
@@ -230,5 +248,46 @@ fn a_fault_of_plugins_is_told_before_the_script_is_read(rt: HostRuntime) -> Resu
         assert_ends(&rt, rt.alloc(), Some(keys), given, (status, "", err), err)?;
     }
     remove_files(&rt, &REFUSED)?;
+    Ok(())
+}
+
+// The file of the one plugin of a site.
+const ONE_RULE: [(&str, &[u8]); 1] = [("one_rule.wasm", PASSES)];
+
+// The script has 140 bytes, and its end is one read more.
+const READS: u64 = 141;
+
+const PLACED_OUTPUT: &str = "ok\nok\np1 on a total 198 ticket 1\n";
+
+// A byte a call, over a pool of one kit and of two: the read or the write that fails is told, behind a beginning of the output.
+#[test]
+fn each_failed_read_and_write_of_a_site_is_told(rt: HostRuntime) -> Result<(), Fail> {
+    let keys = RandomState::new(&rt)?;
+    write_files(&rt, &ONE_RULE)?;
+    for workers in ["1", "2"] {
+        let args = ["run", "--workers", workers];
+        for n in 1..=READS {
+            let given = Given {
+                args: &args,
+                plugins: &["rule:1:1:one_rule.wasm"],
+                script: PLACED.as_bytes(),
+                most: 1,
+                bad_read: n,
+                bad_write: 0,
+            };
+            let ends = (4, PLACED_OUTPUT, "wsched: 3 Read\n");
+            assert_ends(&rt, rt.alloc(), Some(keys), given, ends, workers)?;
+            if n <= PLACED_OUTPUT.len() as u64 {
+                let given = Given {
+                    bad_read: 0,
+                    bad_write: n,
+                    ..given
+                };
+                let ends = (4, PLACED_OUTPUT, "wsched: 4 Write\n");
+                assert_ends(&rt, rt.alloc(), Some(keys), given, ends, workers)?;
+            }
+        }
+    }
+    remove_files(&rt, &ONE_RULE)?;
     Ok(())
 }

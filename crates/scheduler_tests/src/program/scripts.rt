@@ -189,6 +189,94 @@ ok
 p1 on b total 175 ticket 1
 ";
 
+const EXPIRED: &str =
+    "{\"op\":\"node\",\"v\":1,\"name\":\"a\",\"cpu\":\"4\",\"mem\":\"8Gi\",\"pods\":110}
+{\"op\":\"pod\",\"v\":2,\"uid\":\"p1\",\"containers\":[[\"100m\",\"64Mi\"]]}
+{\"op\":\"cycle\"}
+{\"op\":\"done\",\"uid\":\"p1\",\"ticket\":1}
+{\"op\":\"tick\",\"at\":29999}
+{\"op\":\"dump\"}
+{\"op\":\"tick\",\"at\":30000}
+{\"op\":\"cycle\"}
+{\"op\":\"tick\",\"at\":31000}
+{\"op\":\"cycle\"}
+{\"op\":\"forget\",\"uid\":\"p1\",\"ticket\":1}
+";
+
+const EXPIRED_OUTPUT: &str = "ok
+ok
+p1 on a total 198 ticket 1
+ok
+ok
+node a cpu 100/4000 mem 67108864/8589934592 pods 1/110
+places bound 0 assumed 1
+queue active 0 backoff 0 unschedulable 0 inflight 0
+clock 29999 version 2
+ok
+idle
+ok
+p1 on a total 198 ticket 2
+refused 7 StaleTicket
+";
+
+// The tick that takes away the place of p1 is a move, which wakes p2, while p1 backs off for a second.
+const ROOM_FREED: &str =
+    "{\"op\":\"node\",\"v\":1,\"name\":\"a\",\"cpu\":\"1\",\"mem\":\"8Gi\",\"pods\":110}
+{\"op\":\"pod\",\"v\":2,\"uid\":\"p1\",\"containers\":[[\"600m\",\"0\"]]}
+{\"op\":\"pod\",\"v\":3,\"uid\":\"p2\",\"containers\":[[\"600m\",\"0\"]]}
+{\"op\":\"cycle\"}
+{\"op\":\"cycle\"}
+{\"op\":\"done\",\"uid\":\"p1\",\"ticket\":1}
+{\"op\":\"tick\",\"at\":29999}
+{\"op\":\"cycle\"}
+{\"op\":\"tick\",\"at\":30000}
+{\"op\":\"cycle\"}
+{\"op\":\"cycle\"}
+{\"op\":\"tick\",\"at\":31000}
+{\"op\":\"cycle\"}
+";
+
+const ROOM_FREED_OUTPUT: &str = "ok
+ok
+ok
+p1 on a total 170 ticket 1
+p2 unschedulable marked 0 taint 0 cpu 1 memory 0 pods 0 plugin 0 final 0
+ok
+ok
+idle
+ok
+p2 on a total 170 ticket 2
+idle
+ok
+p1 unschedulable marked 0 taint 0 cpu 1 memory 0 pods 0 plugin 0 final 0
+";
+
+const UNFINISHED: &str =
+    "{\"op\":\"node\",\"v\":1,\"name\":\"a\",\"cpu\":\"4\",\"mem\":\"8Gi\",\"pods\":110}
+{\"op\":\"pod\",\"v\":2,\"uid\":\"p1\",\"containers\":[[\"100m\",\"64Mi\"]]}
+{\"op\":\"cycle\"}
+{\"op\":\"tick\",\"at\":29999}
+{\"op\":\"tick\",\"at\":30000}
+{\"op\":\"dump\"}
+{\"op\":\"cycle\"}
+{\"op\":\"tick\",\"at\":31000}
+{\"op\":\"cycle\"}
+";
+
+const UNFINISHED_OUTPUT: &str = "ok
+ok
+p1 on a total 198 ticket 1
+ok
+ok
+node a cpu 100/4000 mem 67108864/8589934592 pods 1/110
+places bound 0 assumed 1
+queue active 0 backoff 0 unschedulable 0 inflight 0
+clock 30000 version 2
+idle
+ok
+idle
+";
+
 #[test]
 fn scripts_are_answered_alike_by_any_number_of_workers(rt: HostRuntime) -> Result<(), Fail> {
     let keys = RandomState::new(&rt)?;
@@ -223,6 +311,17 @@ fn scripts_are_answered_alike_by_any_number_of_workers(rt: HostRuntime) -> Resul
         ("a place that is told twice", CONFIRMED, CONFIRMED_OUTPUT),
         ("a place that is given up", FORGOTTEN, FORGOTTEN_OUTPUT),
         ("a node that wakes a pod", WOKEN, WOKEN_OUTPUT),
+        ("a place that expires", EXPIRED, EXPIRED_OUTPUT),
+        (
+            "a place that expires and frees room",
+            ROOM_FREED,
+            ROOM_FREED_OUTPUT,
+        ),
+        (
+            "a place whose bind was not told",
+            UNFINISHED,
+            UNFINISHED_OUTPUT,
+        ),
     ];
     for (name, script, out) in rows {
         assert_answers(&rt, rt.alloc(), keys, &[], script, out, name)?;
