@@ -1,4 +1,4 @@
-// Six programs for the benchmark of the machine, one for each value of PROGRAM. Each is a module with one export, `filter`.
+// Eight programs for the benchmark of the machine, one for each value of PROGRAM. Each is a module with one export, `filter`.
 typedef unsigned char u8;
 typedef unsigned int u32;
 typedef unsigned long long u64;
@@ -87,7 +87,7 @@ __attribute__((export_name("filter"))) int filter(void) {
     }
     return (int)numbers[77];
 }
-#else
+#elif PROGRAM == 6
 // words of 64 bits: a hash of words by multiplying and turning them
 static u64 words[4096];
 static inline u64 turn(u64 x, u32 n) { return x << n | x >> (64 - n); }
@@ -101,5 +101,45 @@ __attribute__((export_name("filter"))) int filter(void) {
             if (a > b) b -= a & 0xFFFF;
         }
     return (int)(a ^ b >> 32);
+}
+#elif PROGRAM == 7
+// a switch: a br_table chooses each of eight operations, in an order that data tells
+static u8 order[256];
+static inline u32 turn(u32 x, u32 n) { return x << n | x >> (32 - n); }
+__attribute__((export_name("filter"))) int filter(void) {
+    u32 x = 1, a = 1, b = 2;
+    for (u32 i = 0; i < sizeof order; i++) order[i] = (x = x * 1664525u + 1013904223u) >> 29;
+    for (u32 i = 0; i < 3000000; i++) {
+        switch (order[i % sizeof order]) {
+        case 0: a += b; break;
+        case 1: b ^= a >> 5; break;
+        case 2: a = turn(a, 7); break;
+        case 3: b -= 0x9e3779b9; break;
+        case 4: a *= 5; break;
+        case 5: b = turn(b, 13) + a; break;
+        case 6: a ^= i; break;
+        default: b *= a | 1; break;
+        }
+    }
+    return (int)(a ^ b);
+}
+#else
+// calls through a table: of one of eight functions, in an order that data tells
+static u8 order[256];
+#define STEP(name, expression) __attribute__((noinline)) static u32 name(u32 a, u32 b) { return expression; }
+STEP(sum, a + b)
+STEP(difference, a - b)
+STEP(product, a * (b | 1))
+STEP(exclusive, a ^ b >> 5)
+STEP(both, (a & b) + 1)
+STEP(turned, a << 7 | b >> 25)
+STEP(halved, (a >> 1) + b)
+STEP(mixed, a * 5 + b)
+static u32 (*volatile const steps[8])(u32, u32) = {sum, difference, product, exclusive, both, turned, halved, mixed};
+__attribute__((export_name("filter"))) int filter(void) {
+    u32 x = 1, a = 1;
+    for (u32 i = 0; i < sizeof order; i++) order[i] = (x = x * 1664525u + 1013904223u) >> 29;
+    for (u32 i = 0; i < 2000000; i++) a = steps[order[i % sizeof order]](a, i);
+    return (int)a;
 }
 #endif
