@@ -4,7 +4,7 @@
 
 # Proves and builds the program, and runs it on the first script.
 first-run:
-	cd crates/wsched && rt run -- run < ../../examples/first-run.jsonl
+	examples/first-run
 
 # Runs the same sources on the first script before any proof: it proves nothing, and leaves no program.
 try-run:
