@@ -16,9 +16,9 @@ import queue
 import signal
 import socket
 import subprocess
-import sys
 import threading
 import time
+import types
 
 import urllib3
 from kubernetes import client, config
@@ -33,6 +33,8 @@ LOG = logging.getLogger("second-scheduler")
 AWAY = (ApiException, urllib3.exceptions.HTTPError, OSError)
 # How many cycles are asked for at once, and how many places may wait for their bind: a decision waits for neither.
 CYCLES, UNDER_WAY = 64, 512
+# For how long a replica has the Lease once it has renewed it.
+LEASE_SECONDS = 15
 WHY = {
     "marked": "node(s) were unschedulable",
     "taint": "node(s) had taints that the pod didn't tolerate",
@@ -93,10 +95,15 @@ class Watched:
                 pause = 0.5
                 while version:
                     version = self.watch(version)
-            except AWAY as why:
-                LOG.warning("%s: %s; again in %.1f s", self.kind, str(why).split("\n", maxsplit=1)[0], pause)
+            # (ValueError: an answer that was cut off is no JSON)
+            except (*AWAY, ValueError) as why:
+                LOG.warning("%s: %s; again in %.1f s", self.kind, first_line(why), pause)
                 time.sleep(pause)
                 pause = min(2 * pause, 10)
+            except Exception:  # pylint: disable=broad-except
+                # without this thread nothing more would be heard, and nobody would know
+                LOG.exception("%s: nothing more can be heard", self.kind)
+                os._exit(1)
 
     def list(self):
         items, more = [], None
@@ -111,7 +118,7 @@ class Watched:
 
     def watch(self, version):
         """Gives the version to go on from, or None where only a new list can tell what has happened."""
-        answer = self.call(watch=True, resource_version=version, allow_watch_bookmarks=True, timeout_seconds=300, _preload_content=False, _request_timeout=(5, 330), **self.only)
+        answer = self.call(watch=True, resource_version=version, allow_watch_bookmarks=True, timeout_seconds=120, _preload_content=False, _request_timeout=(5, 150), **self.only)
         try:
             rest = b""
             for some in answer.stream(1 << 16, decode_content=False):
@@ -132,12 +139,13 @@ class Watched:
 
 
 class Pod:
-    """What wsched was told of a pod. `told` is the line without its version, and None where it knows nothing of it."""
+    """What wsched was told of a pod. `told` is the line without its version, and None where it knows nothing of it. `full` is what
+    the watch said last, as long as the pod has no node."""
 
     def __init__(self, full):
         meta = full["metadata"]
         self.namespace, self.name, self.uid = meta["namespace"], meta["name"], meta["uid"]
-        self.told = self.ticket = self.node = self.said = None
+        self.told = self.ticket = self.node = self.said = self.full = None
 
     def __str__(self):
         return f"{self.namespace}/{self.name}"
@@ -209,22 +217,28 @@ class Scheduler:
             line, left_out = rows.bound_line(full)
             pod = self.pods.setdefault(uid, Pod(full))
             self.note(f"pod {pod}", line, left_out)
-            pod.node = line
+            pod.node, pod.full = line, None
             return self.tell_bound(pod)
         if full["spec"].get("schedulerName", "default-scheduler") != self.given.scheduler:
             return None
         pod = self.pods.setdefault(uid, Pod(full))
+        pod.full = full
+        # a pod with a place or under bind is told anew only when its bind has failed, or the watch says where it is
+        if pod.ticket:
+            return None
         line, left_out = rows.waiting_line(full)
         self.note(f"pod {pod}", line, left_out)
-        # a pod with a place or under bind is told anew only when the watch says where it is
-        if pod.told == line or pod.ticket:
+        if pod.told == line:
             return None
-        if pod.told:
-            self.tell({"op": "deleted", "uid": uid}, lambda answer: None)
-            pod.told = None
+        self.untell(pod)
         if line:
             self.tell_waiting(pod, line)
         return None
+
+    def untell(self, pod):
+        if pod.told:
+            self.tell({"op": "deleted", "uid": pod.uid}, lambda answer: None)
+            pod.told = None
 
     def tell_waiting(self, pod, line):
         pod.told = line
@@ -236,23 +250,25 @@ class Scheduler:
 
     def tell_bound(self, pod):
         line = pod.node
-        if line is None or pod.told == line:
-            return
+        if line is None:
+            return self.untell(pod)
+        if pod.told == line:
+            return None
         # what runs on nodes that aren't ours would only fill the tables
         if line["node"] not in self.nodes:
             self.elsewhere[line["node"]].add(pod.uid)
-            if pod.told:
-                self.tell({"op": "deleted", "uid": pod.uid}, lambda answer: None)
-                pod.told = None
-            return
+            return self.untell(pod)
         pod.told, pod.ticket = line, None
         self.tell({**line, "uid": pod.uid}, lambda answer: answer == "ok" or self.give_up(f"pod {pod} isn't counted: {answer}"))
+        return None
 
     def lose_pod(self, uid):
         pod = self.pods.pop(uid, None)
         self.later.pop(uid, None)
-        if pod and pod.told:
-            self.tell({"op": "deleted", "uid": uid}, lambda answer: None)
+        if pod:
+            self.untell(pod)
+            if pod.node and pod.node["node"] in self.elsewhere:
+                self.elsewhere[pod.node["node"]].discard(uid)
 
     def note(self, who, line, left_out):
         if left_out and (who, tuple(left_out)) not in self.noted:
@@ -326,6 +342,9 @@ class Scheduler:
             self.report(pod, "Normal", "Scheduled", f"Successfully assigned {pod} to {node}")
         else:
             pod.ticket = None
+            # (what the watch said of it meanwhile was kept back)
+            if pod.full and self.pods.get(pod.uid) is pod:
+                self.hear_pod("MODIFIED", pod.full)
 
     def report(self, pod, kind, reason, message):
         """Writes an event of the pod, as kube-scheduler does; the same one not again, and none where too many wait."""
@@ -379,12 +398,16 @@ class Scheduler:
                 self.tick()
             self.ask_for_cycles()
             self.take(ticks)
-        # binds under way are waited for, so that their events and answers are told
+        # binds under way are waited for, so that their events and answers are told, and then the events
         end = time.monotonic() + 10
         while self.under_way and time.monotonic() < end:
             self.take(time.monotonic() + 0.1)
-        self.reporters.shutdown(wait=True)
-        LOG.info("ended: %s; wsched's status %s", dict(self.counts), self.wsched.end())
+        events = threading.Thread(target=self.reporters.shutdown, daemon=True)
+        events.start()
+        events.join(max(0.5, end - time.monotonic()))
+        status = self.wsched.end()
+        LOG.info("ended: %s; wsched's status %s", dict(self.counts), status)
+        return status
 
     def give_up(self, why):
         LOG.error("%s", why)
@@ -392,10 +415,12 @@ class Scheduler:
 
 
 class LeaseLock:
-    """A Lease as what the client's leader election locks."""
+    """A Lease as what the client's leader election locks. No call of it raises: an election that ends so would leave a scheduler
+    without a Lease behind."""
 
-    def __init__(self, name, namespace, identity):
-        self.name, self.namespace, self.identity, self.leases, self.read = name, namespace, identity, client.CoordinationV1Api(), None
+    def __init__(self, name, namespace, identity, api):
+        self.name, self.namespace, self.identity, self.leases = name, namespace, identity, client.CoordinationV1Api(api)
+        self.read, self.renewed = None, time.monotonic()
 
     def spec(self, record):
         stamp = lambda text: datetime.datetime.fromisoformat(text).astimezone(datetime.timezone.utc)
@@ -403,9 +428,10 @@ class LeaseLock:
 
     def get(self, name, namespace):
         try:
-            self.read = self.leases.read_namespaced_lease(name, namespace)
-        except ApiException as why:
-            return False, why
+            self.read = self.leases.read_namespaced_lease(name, namespace, _request_timeout=(2, 2))
+        except AWAY as why:
+            # (the election makes a Lease where the code in the body is 404, and waits at any other)
+            return False, types.SimpleNamespace(reason=first_line(why), body=json.dumps({"code": getattr(why, "status", None) or 503}))
         it = self.read.spec
         if not it.holder_identity or not it.renew_time or not it.acquire_time:
             return True, None
@@ -413,21 +439,33 @@ class LeaseLock:
 
     def create(self, name, namespace, election_record):
         lease = client.V1Lease(metadata=client.V1ObjectMeta(name=name, namespace=namespace), spec=self.spec(election_record))
-        return self.tried(lambda: self.leases.create_namespaced_lease(namespace, lease))
+        return self.tried(lambda: self.leases.create_namespaced_lease(namespace, lease, _request_timeout=(2, 2)))
 
     def update(self, name, namespace, updated_record):
         # with the version that was read: of two that take it at once, one is refused
         self.read.spec = self.spec(updated_record)
-        return self.tried(lambda: self.leases.replace_namespaced_lease(name, namespace, self.read))
+        return self.tried(lambda: self.leases.replace_namespaced_lease(name, namespace, self.read, _request_timeout=(2, 2)))
 
-    @staticmethod
-    def tried(call):
+    def release(self):
+        """Gives it back at a clean end, so that another needn't wait until it has run out."""
+        _, record = self.get(self.name, self.namespace)
+        if getattr(record, "holder_identity", None) == self.identity:
+            self.read.spec.holder_identity = ""
+            self.tried(lambda: self.leases.replace_namespaced_lease(self.name, self.namespace, self.read, _request_timeout=(2, 2)))
+
+    def tried(self, call):
+        began = time.monotonic()
         try:
             call()
+            self.renewed = began
             return True
         except AWAY as why:
-            LOG.warning("lease: %s", str(why).split("\n", maxsplit=1)[0])
+            LOG.warning("lease: %s", first_line(why))
             return False
+
+
+def first_line(why):
+    return str(why).split("\n", maxsplit=1)[0]
 
 
 def words():
@@ -463,12 +501,26 @@ def main():
         signal.signal(it, lambda *_: (stop.set(), [each.stopping.set() for each in running]))
 
     def lead():
-        running.append(Scheduler(given, core))
-        if stop.is_set():
-            running[0].stopping.set()
-        running[0].run()
-        if given.lease:
-            os._exit(0)
+        try:
+            if given.lease:
+                threading.Thread(target=guard, daemon=True).start()
+            running.append(Scheduler(given, core))
+            if stop.is_set():
+                running[0].stopping.set()
+            status = running[0].run()
+            if given.lease:
+                lock.release()
+        except Exception:  # pylint: disable=broad-except
+            # the other threads would go on, and keep the lease
+            LOG.exception("ended by a fault of its own")
+            status = 1
+        os._exit(status)
+
+    def guard():
+        # an election that hangs, or a process that was asleep, may be past the time of its lease
+        while time.monotonic() - lock.renewed < LEASE_SECONDS - 1:
+            time.sleep(0.5)
+        lost()
 
     def lost():
         # another may schedule now, so nothing more is bound: whoever started this starts it again
@@ -476,13 +528,12 @@ def main():
         os._exit(1)
 
     if not given.lease:
-        return lead()
+        lead()
     namespace, _, name = given.lease.partition("/")
-    lock = LeaseLock(name, namespace, f"{socket.gethostname()}_{os.getpid()}")
+    lock = LeaseLock(name, namespace, f"{socket.gethostname()}_{os.getpid()}", core.api_client)
     # a follower ends at once
     threading.Thread(target=lambda: (stop.wait(), running or os._exit(0)), daemon=True).start()
-    leaderelection.LeaderElection(electionconfig.Config(lock, 15, 10, 2, lead, lost)).run()
-    return None
+    leaderelection.LeaderElection(electionconfig.Config(lock, LEASE_SECONDS, 10, 2, lead, lost)).run()
 
 
-sys.exit(main())
+main()

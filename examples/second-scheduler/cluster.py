@@ -1,0 +1,204 @@
+"""An API server of a test's own: etcd, kube-apiserver and kube-scheduler on loopback alone, and what a test does with them."""
+import concurrent.futures
+import http.client
+import json
+import os
+import pathlib
+import shutil
+import signal
+import socket
+import ssl
+import subprocess
+import threading
+import time
+
+HOME = pathlib.Path(os.environ.get("CLUSTER_HOME") or pathlib.Path(os.environ.get("XDG_CACHE_HOME") or "~/.cache").expanduser() / "wsched-cluster")
+API, ETCD, ETCD_PEER, SCHEDULER = 26443, 22379, 22380, 20251
+ACCOUNT = "system:serviceaccount:kube-system:wsched"
+# The test's own user, which may do everything, and the account of deploy.yaml, which may do what its roles say.
+TOKENS = f"""admintoken,admin,admin,"system:masters"
+wschedtoken,{ACCOUNT},wsched,"system:serviceaccounts,system:serviceaccounts:kube-system"
+"""
+# What the account of deploy.yaml asks for, and what becomes of it.
+POLICY = {
+    "apiVersion": "audit.k8s.io/v1",
+    "kind": "Policy",
+    "omitStages": ["RequestReceived"],
+    "rules": [{"level": "Metadata", "users": [ACCOUNT]}, {"level": "None"}],
+}
+
+
+class Cluster:
+    def __init__(self, folder, audited=True):
+        self.folder, self.audited, self.own = pathlib.Path(folder), audited, {}
+        for program in ("kube-apiserver", "kube-scheduler"):
+            assert (HOME / "bin" / program).is_file(), f"{HOME}/bin/{program} isn't there: build-cluster makes it"
+        for port in (API, ETCD, ETCD_PEER, SCHEDULER):
+            with socket.socket() as it:
+                assert it.connect_ex(("127.0.0.1", port)), f"port {port} of this machine is taken"
+        self.write("tokens.csv", TOKENS)
+        self.write("policy.json", json.dumps(POLICY))
+        for user, token in (("admin", "admintoken"), ("wsched", "wschedtoken")):
+            self.write(f"{user}.kubeconfig", json.dumps(kubeconfig(token)))
+        settings = {"kubeconfig": str(self.folder / "admin.kubeconfig"), "qps": 5000, "burst": 5000}
+        here = f"127.0.0.1:{SCHEDULER}"
+        self.write("scheduler.json", json.dumps({"apiVersion": "kubescheduler.config.k8s.io/v1beta1", "kind": "KubeSchedulerConfiguration", "percentageOfNodesToScore": 100, "leaderElection": {"leaderElect": False}, "clientConnection": settings, "healthzBindAddress": here, "metricsBindAddress": here}))
+        subprocess.run(["openssl", "genrsa", "-out", str(self.folder / "account.key"), "2048"], check=True, stderr=subprocess.DEVNULL)
+        self.local = threading.local()
+
+    def write(self, name, text):
+        (self.folder / name).write_text(text, encoding="utf-8")
+
+    # Programs. Each is ended by its own process id.
+
+    def run(self, name, *given, **more):
+        with open(self.folder / f"{name}.log", "ab") as log:
+            self.own[name] = subprocess.Popen([str(it) for it in given], stderr=log, **({"stdout": log} | more))
+        return self.own[name]
+
+    def end(self, name, how=signal.SIGTERM, patience=20):
+        child = self.own.pop(name)
+        if child.poll() is None:
+            child.send_signal(how)
+        try:
+            return child.wait(patience)
+        except subprocess.TimeoutExpired:
+            child.kill()
+            child.wait()
+            return None
+
+    def end_all(self):
+        for name in reversed([*self.own]):
+            self.end(name, signal.SIGKILL)
+
+    def start(self):
+        near, peer = f"http://127.0.0.1:{ETCD}", f"http://127.0.0.1:{ETCD_PEER}"
+        urls = [f"--{it}-urls={near}" for it in ("listen-client", "advertise-client")]
+        urls += [f"--{it}-urls={peer}" for it in ("listen-peer", "initial-advertise-peer")]
+        self.run("etcd", "etcd", "--unsafe-no-fsync", "--data-dir", self.folder / "etcd", f"--initial-cluster=default={peer}", *urls)
+        self.start_api()
+
+    def start_api(self):
+        key = self.folder / "account.key"
+        words = {
+            "etcd-servers": f"http://127.0.0.1:{ETCD}",
+            "secure-port": API,
+            "bind-address": "127.0.0.1",
+            "advertise-address": "127.0.0.1",
+            "cert-dir": self.folder / "certs",
+            "token-auth-file": self.folder / "tokens.csv",
+            "authorization-mode": "RBAC",
+            "service-account-key-file": key,
+            "service-account-signing-key-file": key,
+            "service-account-issuer": "https://kubernetes.default.svc",
+            "service-cluster-ip-range": "10.0.0.0/24",
+            # (nobody here makes accounts' secrets, nor takes away the taint of a node that isn't ready yet)
+            "disable-admission-plugins": "ServiceAccount,TaintNodesByCondition",
+        }
+        if self.audited:
+            words |= {"audit-policy-file": self.folder / "policy.json", "audit-log-path": self.folder / "audit.log"}
+        self.run("api", HOME / "bin" / "kube-apiserver", *(f"--{name}={value}" for name, value in words.items()))
+        end = time.monotonic() + 120
+        while True:
+            try:
+                if self.ask("GET", "/healthz", text=True) == "ok" and self.ask("GET", "/api/v1/namespaces/default"):
+                    return
+            except (OSError, http.client.HTTPException, Refused):
+                pass
+            assert time.monotonic() < end and self.own["api"].poll() is None, f"the API server doesn't start: see {self.folder}/api.log"
+            time.sleep(0.2)
+
+    def start_kube_scheduler(self):
+        self.run("kube-scheduler", HOME / "bin" / "kube-scheduler", "--config", self.folder / "scheduler.json", "--bind-address=127.0.0.1", "--secure-port=0")
+
+    def kubectl(self, *words, user="admin"):
+        it = subprocess.run(["kubectl", "--kubeconfig", str(self.folder / f"{user}.kubeconfig"), *words], capture_output=True, text=True, check=False)
+        return it.returncode, it.stdout + it.stderr
+
+    # Requests.
+
+    def ask(self, method, path, body=None, text=False):
+        for again in (True, False):
+            if getattr(self.local, "line", None) is None:
+                self.local.line = http.client.HTTPSConnection("127.0.0.1", API, context=ssl._create_unverified_context(), timeout=60)
+            try:
+                self.local.line.request(method, path, None if body is None else json.dumps(body), {"Authorization": "Bearer admintoken", "Content-Type": "application/json"})
+                answer = self.local.line.getresponse()
+                data = answer.read()
+                break
+            except (OSError, http.client.HTTPException):
+                self.local.line = None
+                if not again:
+                    raise
+        if answer.status >= 300:
+            raise Refused(f"{answer.status} at {method} {path}: {data[:300]}")
+        return data.decode() if text else json.loads(data)
+
+    def ask_all(self, asked):
+        """Many requests, some at a time."""
+        with concurrent.futures.ThreadPoolExecutor(12) as some:
+            for it in [some.submit(self.ask, *one) for one in asked]:
+                it.result()
+
+    def make_nodes(self, nodes):
+        def make(name, node):
+            has = {"cpu": f"{node['cpu']}m", "memory": str(node["memory"]), "pods": str(node["pods"])}
+            spec = {"taints": [{"key": "dedicated", "value": it, "effect": "NoSchedule"} for it in node["taints"]], "unschedulable": node["marked"]}
+            made = self.ask("POST", "/api/v1/nodes", {"apiVersion": "v1", "kind": "Node", "metadata": {"name": name, "labels": node["labels"]}, "spec": spec})
+            made["status"] = {"capacity": has, "allocatable": has, "conditions": [{"type": "Ready", "status": "True"}]}
+            self.ask("PUT", f"/api/v1/nodes/{name}/status", made)
+
+        with concurrent.futures.ThreadPoolExecutor(12) as some:
+            list(some.map(lambda it: make(*it), nodes.items()))
+
+    def make_pods(self, pods):
+        self.ask_all(("POST", "/api/v1/namespaces/default/pods", manifest(name, pod)) for name, pod in pods.items())
+
+    def delete_pods(self, names):
+        # (there is no kubelet that would let them end)
+        self.ask_all(("DELETE", f"/api/v1/namespaces/default/pods/{name}", {"gracePeriodSeconds": 0}) for name in names)
+
+    def clear(self):
+        for what in ("namespaces/default/pods", "namespaces/default/events", "nodes"):
+            self.ask("DELETE", f"/api/v1/{what}", {"gracePeriodSeconds": 0})
+        while self.places():
+            time.sleep(0.1)
+
+    def places(self):
+        """Each pod's node, or None."""
+        return {it["metadata"]["name"]: it["spec"].get("nodeName") for it in self.ask("GET", "/api/v1/namespaces/default/pods?resourceVersion=0")["items"]}
+
+    def events(self):
+        return self.ask("GET", "/api/v1/namespaces/default/events")["items"]
+
+    def audit(self):
+        with open(self.folder / "audit.log", encoding="utf-8") as log:
+            # (the last line of a server that was killed may be a beginning)
+            for line in log:
+                try:
+                    yield json.loads(line)
+                except ValueError:
+                    pass
+
+
+class Refused(Exception):
+    """An answer of the API server that is no good one."""
+
+
+def kubeconfig(token):
+    near = {"server": f"https://127.0.0.1:{API}", "insecure-skip-tls-verify": True}
+    return {"apiVersion": "v1", "kind": "Config", "clusters": [{"name": "c", "cluster": near}], "users": [{"name": "u", "user": {"token": token}}], "contexts": [{"name": "x", "context": {"cluster": "c", "user": "u"}}], "current-context": "x"}
+
+
+def manifest(name, pod):
+    requests = {"cpu": f"{pod['cpu']}m", "memory": str(pod["memory"])}
+    spec = {"schedulerName": pod["scheduler"], "containers": [{"name": "c", "image": "x", "resources": {"requests": requests}}]}
+    spec["tolerations"] = [{"key": "dedicated", "operator": "Equal", "value": it, "effect": "NoSchedule"} for it in pod["tolerates"]]
+    if pod["selects"]:
+        spec["nodeSelector"] = pod["selects"]
+    return {"apiVersion": "v1", "kind": "Pod", "metadata": {"name": name, "labels": pod["labels"]}, "spec": spec}
+
+
+def needed(*programs):
+    for it in programs:
+        assert shutil.which(it), f"{it} isn't in PATH"
