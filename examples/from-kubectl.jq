@@ -59,18 +59,18 @@ def amount($scale; $most):
     | select(. == floor and . <= $most)
   ] | first;
 
-# Each distinct spelling with its amount: a cluster has thousands of amounts and few spellings, and reading one is dear.
-def amounts($scale; $most): map(select(. != null) | tostring) | unique | map({key: ., value: amount($scale; $most)}) | from_entries;
-
-# The same of names: each distinct key of a label is tried once.
-def tried(is_good): unique | map({key: ., value: is_good}) | from_entries;
+# Each distinct spelling with what it comes to: a cluster has thousands of amounts and labels and few spellings, and reading one
+# is dear.
+def table(spellings; what): reduce (spellings | values | tostring) as $it ({}; if has($it) then . else .[$it] = ($it | what) end);
 
 def resources: (.items[] | .status.allocatable?), (.items[].spec | .overhead?, (.initContainers?, .containers? | arrays[] | .resources | .requests?, .limits?));
+def labels: .items[].metadata.labels // {};
+def tolerations: .items[].spec.tolerations // [] | .[];
 ($ARGS.named.scheduler // "default-scheduler") as $scheduler
-| ([resources | .cpu?, "0"] | amounts(3; power(2; 30))) as $cpu_of
-| ([resources | .memory?, "0"] | amounts(0; power(2; 44))) as $memory_of
-| ([.items[].metadata.labels // {} | keys_unsorted[]] | tried(is_name)) as $is_key
-| ([.items[].metadata.labels // {} | .[]] | tried(is_text)) as $is_value
+| table("0", (resources | .cpu?); amount(3; power(2; 30))) as $cpu_of
+| table("0", (resources | .memory?); amount(0; power(2; 44))) as $memory_of
+| table((reduce labels as $some ({}; . + $some) | keys_unsorted[]), .items[].spec.nodeName?; is_name) as $is_name
+| table(labels[], (tolerations | .key, .value); is_text) as $is_text
 
 # Thousandths of a core, bytes, and pods.
 | def cpu: $cpu_of[tostring];
@@ -90,7 +90,7 @@ def spell_memory:
 # The labels that a row can have.
 def labels($who):
   [ .metadata.labels // {} | to_entries | sort_by(.key)[] | [.key, .value]
-    | if $is_key[.[0]] and $is_value[.[1]] then . else left_out(" of \($who): label \(.[0])") end ]
+    | if $is_name[.[0]] and $is_text[.[1]] then . else left_out(" of \($who): label \(.[0])") end ]
   | .[:32], (.[32:][] | left_out(" of \($who): label \(.[0])"));
 
 def node:
@@ -154,7 +154,7 @@ def say($uid): (full_name as $name | select($name != $uid) | "pod \($name) is ca
 
 def bound:
   "pod \(full_name)" as $who
-  | [(.spec.nodeName | select(is_name | not) | "its node \(.)"), unreadable] as $why
+  | [(.spec.nodeName | select($is_name[.] | not) | "its node \(.)"), unreadable] as $why
   | (if $why == [] then wants else null end) as $wants
   | (if $why != [] then $why else [$wants | too_large] end) as $why
   | if $why != [] then left_out(": \($who): \($why | join(", "))") else . end
@@ -197,7 +197,7 @@ def wishes:
 
 def tolerations($who):
   [ .spec.tolerations // [] | .[] | [.key // "", .operator // "Equal", .value // "", .effect // ""]
-    | if (.[0] | is_text) and (.[1] | IN("Exists", "Equal")) and (.[2] | is_text) then .
+    | if (.[0] == "" or $is_text[.[0]]) and (.[1] == "Exists" or .[1] == "Equal") and (.[2] == "" or $is_text[.[2]]) then .
       else left_out(" of \($who): toleration of \(.[0])") end ]
   | .[:16], (.[16:][] | left_out(" of \($who): toleration of \(.[0])"));
 
