@@ -1,6 +1,6 @@
 // A filter: pods labelled data-class=personal run in the region eu-central-1 and nowhere else.
 //
-//   clang --target=wasm32 -mcpu=mvp -O2 -ffreestanding -nostdlib -Wl,--no-entry,--strip-all,--max-memory=65536,-z,stack-size=4096 -o keep_region.wasm keep_region.c
+//   examples/plugins/build keep_region.c
 #include "sched.h"
 
 FILTER

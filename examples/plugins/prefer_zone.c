@@ -1,6 +1,6 @@
 // A score: 50 in the zone that the pod wishes for by its label wished-zone, and up to 50 for room for further pods.
 //
-//   clang --target=wasm32 -mcpu=mvp -O2 -ffreestanding -nostdlib -Wl,--no-entry,--strip-all,--max-memory=65536,-z,stack-size=4096 -o prefer_zone.wasm prefer_zone.c
+//   examples/plugins/build prefer_zone.c
 #include "sched.h"
 
 SCORE

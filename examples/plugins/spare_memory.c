@@ -1,6 +1,6 @@
 // A filter: each node of the zone edge-1 keeps its last gibibyte of memory for pods of priority 1000 and above.
 //
-//   clang --target=wasm32 -mcpu=mvp -O2 -ffreestanding -nostdlib -Wl,--no-entry,--strip-all,--max-memory=65536,-z,stack-size=4096 -o spare_memory.wasm spare_memory.c
+//   examples/plugins/build spare_memory.c
 #include "sched.h"
 
 FILTER
