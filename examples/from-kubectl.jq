@@ -176,8 +176,8 @@ def demands:
   (.spec.nodeSelector // {} | select(. != {}) | "node selector"),
   ( .spec.affinity // {}
     | (.nodeAffinity | select(.requiredDuringSchedulingIgnoredDuringExecution) | "required node affinity"),
-      (.podAffinity | select(.requiredDuringSchedulingIgnoredDuringExecution // [] != []) | "required pod affinity"),
-      (.podAntiAffinity | select(.requiredDuringSchedulingIgnoredDuringExecution // [] != []) | "required pod anti-affinity") ),
+      (.podAffinity | select((.requiredDuringSchedulingIgnoredDuringExecution // []) != []) | "required pod affinity"),
+      (.podAntiAffinity | select((.requiredDuringSchedulingIgnoredDuringExecution // []) != []) | "required pod anti-affinity") ),
   (.spec.topologySpreadConstraints // [] | select(any(.whenUnsatisfiable != "ScheduleAnyway")) | "required topology spread"),
   (.spec.schedulingGates // [] | select(. != []) | "scheduling gates"),
   (.spec.resourceClaims // [] | select(. != []) | "resource claims"),
@@ -190,9 +190,9 @@ def demands:
 # What it can do without.
 def wishes:
   ( .spec.affinity // {}
-    | (.nodeAffinity | select(.preferredDuringSchedulingIgnoredDuringExecution // [] != []) | "preferred node affinity"),
-      (.podAffinity | select(.preferredDuringSchedulingIgnoredDuringExecution // [] != []) | "preferred pod affinity"),
-      (.podAntiAffinity | select(.preferredDuringSchedulingIgnoredDuringExecution // [] != []) | "preferred pod anti-affinity") ),
+    | (.nodeAffinity | select((.preferredDuringSchedulingIgnoredDuringExecution // []) != []) | "preferred node affinity"),
+      (.podAffinity | select((.preferredDuringSchedulingIgnoredDuringExecution // []) != []) | "preferred pod affinity"),
+      (.podAntiAffinity | select((.preferredDuringSchedulingIgnoredDuringExecution // []) != []) | "preferred pod anti-affinity") ),
   (.spec.topologySpreadConstraints // [] | select(any(.whenUnsatisfiable == "ScheduleAnyway")) | "preferred topology spread");
 
 def tolerations($who):
