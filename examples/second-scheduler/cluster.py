@@ -38,6 +38,7 @@ class Cluster:
                 assert it.connect_ex(("127.0.0.1", port)), f"port {port} of this machine is taken"
         self.write("tokens.csv", TOKENS)
         self.write("policy.json", json.dumps(POLICY))
+        self.write("audit.log", "")
         for user, token in (("admin", "admintoken"), ("wsched", "wschedtoken")):
             self.write(f"{user}.kubeconfig", json.dumps(kubeconfig(token)))
         settings = {"kubeconfig": str(self.folder / "admin.kubeconfig"), "qps": 5000, "burst": 5000}

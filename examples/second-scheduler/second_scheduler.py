@@ -31,7 +31,7 @@ import rows
 LOG = logging.getLogger("second-scheduler")
 # What a call to the API server may end with when it is away, or has another opinion.
 AWAY = (ApiException, urllib3.exceptions.HTTPError, OSError)
-# How many cycles are asked for at once, and how many places may wait for their bind: a decision waits for neither.
+# How many cycles are asked for at once at most, and how many places may wait for their bind: a decision waits for neither.
 CYCLES, UNDER_WAY = 64, 512
 # For how long a replica has the Lease once it has renewed it.
 LEASE_SECONDS = 15
@@ -158,7 +158,7 @@ class Scheduler:
         self.wsched = Wsched(words)
         self.pods, self.nodes, self.elsewhere, self.later, self.noted = {}, {}, collections.defaultdict(set), {}, set()
         self.version, self.began, self.listed, self.has_work = 0, time.monotonic(), set(), False
-        self.under_way, self.stopping, self.counts = 0, threading.Event(), collections.Counter()
+        self.cycles, self.under_way, self.stopping, self.counts = CYCLES, 0, threading.Event(), collections.Counter()
         self.binders = concurrent.futures.ThreadPoolExecutor(given.binders, "binder")
         self.reporters, self.reports = concurrent.futures.ThreadPoolExecutor(4, "event"), threading.Semaphore(2000)
         only = {"label_selector": given.nodes} if given.nodes else {}
@@ -277,11 +277,19 @@ class Scheduler:
 
     # Decisions.
 
+    def can_decide(self):
+        return self.has_work and self.under_way < UNDER_WAY and not self.stopping.is_set()
+
     def ask_for_cycles(self):
-        while self.has_work and self.under_way < UNDER_WAY and not self.stopping.is_set():
-            for _ in range(min(CYCLES, UNDER_WAY - self.under_way)):
+        """Asks for cycles for a tenth of a second: as many at once as take about that long, be the rules quick or slow."""
+        began = last = time.monotonic()
+        while self.can_decide() and last - began < 0.1:
+            for _ in range(min(self.cycles, UNDER_WAY - self.under_way)):
                 self.wsched.tell({"op": "cycle"}, self.decided)
             self.wsched.flush()
+            now = time.monotonic()
+            self.cycles = max(1, self.cycles // 2) if now - last > 0.1 else min(CYCLES, 2 * self.cycles)
+            last = now
 
     def decided(self, answer):
         if answer == "idle":
@@ -397,7 +405,8 @@ class Scheduler:
                 ticks = time.monotonic() + 1
                 self.tick()
             self.ask_for_cycles()
-            self.take(ticks)
+            # (with more to decide, only what is there already is taken)
+            self.take(0 if self.can_decide() else ticks)
         # binds under way are waited for, so that their events and answers are told, and then the events
         end = time.monotonic() + 10
         while self.under_way and time.monotonic() < end:
@@ -489,6 +498,8 @@ def main():
     logging.basicConfig(level=logging.DEBUG if given.verbose else logging.INFO, format="%(asctime)s %(message)s", force=True)
     for name in ("urllib3", "kubernetes"):
         logging.getLogger(name).setLevel(logging.ERROR)
+    # (a kubeconfig that verifies nothing says so itself)
+    urllib3.disable_warnings(urllib3.exceptions.InsecureRequestWarning)
     if not given.kubeconfig and os.environ.get("KUBERNETES_SERVICE_HOST"):
         config.load_incluster_config()
     else:
