@@ -160,10 +160,14 @@ class Cluster:
         self.ask_all(("DELETE", f"/api/v1/namespaces/default/pods/{name}", {"gracePeriodSeconds": 0}) for name in names)
 
     def clear(self):
-        for what in ("namespaces/default/pods", "namespaces/default/events", "nodes"):
-            self.ask("DELETE", f"/api/v1/{what}", {"gracePeriodSeconds": 0})
-        while self.places():
-            time.sleep(0.1)
+        self.delete_pods(self.places())
+        for what in ("namespaces/default/events", "nodes"):
+            while self.ask("GET", f"/api/v1/{what}?limit=1")["items"]:
+                try:
+                    self.ask("DELETE", f"/api/v1/{what}")
+                except Refused:
+                    # (on a busy machine it takes longer than a request may)
+                    pass
 
     def places(self):
         """Each pod's node, or None."""

@@ -222,8 +222,11 @@ class Scheduler:
         if full["spec"].get("schedulerName", "default-scheduler") != self.given.scheduler:
             return None
         pod = self.pods.setdefault(uid, Pod(full))
+        # what was said before its bind may come late: no pod loses the node that it has
+        if pod.node:
+            return None
         pod.full = full
-        # a pod with a place or under bind is told anew only when its bind has failed, or the watch says where it is
+        # a pod with a place or under bind is told anew only when its bind has failed, or where it is
         if pod.ticket:
             return None
         line, left_out = rows.waiting_line(full)
@@ -350,9 +353,13 @@ class Scheduler:
             self.report(pod, "Normal", "Scheduled", f"Successfully assigned {pod} to {node}")
         else:
             pod.ticket = None
-            # (what the watch said of it meanwhile was kept back)
-            if pod.full and self.pods.get(pod.uid) is pod:
-                self.hear_pod("MODIFIED", pod.full)
+        # The API server's answer says where the pod is, as its watch will: a watch that is away for longer than a place stays doesn't
+        # make it expire. And what was said of a pod while its bind was under way was kept back.
+        if pod.full and self.pods.get(pod.uid) is pod:
+            full = pod.full
+            if is_bound:
+                full = {**full, "spec": {**full["spec"], "nodeName": node}}
+            self.hear_pod("MODIFIED", full)
 
     def report(self, pod, kind, reason, message):
         """Writes an event of the pod, as kube-scheduler does; the same one not again, and none where too many wait."""
