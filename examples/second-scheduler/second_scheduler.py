@@ -156,7 +156,7 @@ class Scheduler:
         self.given, self.core, self.inbox = given, core, queue.SimpleQueue()
         words = [given.wsched, "run", "--workers", str(given.workers), *given.spec]
         self.wsched = Wsched(words)
-        self.pods, self.nodes, self.elsewhere, self.later, self.noted = {}, {}, collections.defaultdict(set), {}, set()
+        self.pods, self.nodes, self.elsewhere, self.later, self.noted = {}, {}, collections.defaultdict(set), {}, {}
         self.version, self.began, self.listed, self.has_work = 0, time.monotonic(), set(), False
         self.cycles, self.under_way, self.stopping, self.counts = CYCLES, 0, threading.Event(), collections.Counter()
         self.binders = concurrent.futures.ThreadPoolExecutor(given.binders, "binder")
@@ -269,13 +269,14 @@ class Scheduler:
         pod = self.pods.pop(uid, None)
         self.later.pop(uid, None)
         if pod:
+            self.noted.pop(f"pod {pod}", None)
             self.untell(pod)
             if pod.node and pod.node["node"] in self.elsewhere:
                 self.elsewhere[pod.node["node"]].discard(uid)
 
     def note(self, who, line, left_out):
-        if left_out and (who, tuple(left_out)) not in self.noted:
-            self.noted.add((who, tuple(left_out)))
+        if left_out and self.noted.get(who) != left_out:
+            self.noted[who] = left_out
             LOG.info("left out%s %s: %s", " of" if line else ":", who, ", ".join(left_out))
 
     # Decisions.
