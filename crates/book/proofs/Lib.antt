@@ -1,3 +1,4 @@
+pub mod FreeSlots
 pub mod Put
 pub mod RowLemmas
 pub mod TableLemmas

@@ -3,6 +3,8 @@ ghost use Rattle.std.specs.Prelude.{◌≡◌, IfOk, IfSome, IfNone, nat_le, Boo
 ghost use Rattle.std.specs.Result.{result_err};
 ghost use Rattle.std.specs.FinMap as fin;
 
+mod slots;
+
 use crate::NoMemory;
 use crate::limits::Limits;
 use crate::nodes::Nodes;

@@ -8,6 +8,8 @@ ghost use Rattle.book.specs.Used.{used, assumed, bound, assumed_in};
 ghost use Rattle.book.specs.Totals.{total_at, plus, adds, one_pod, most_of, IsWithin, idle_in, pods_in};
 ghost use Rattle.quant.specs.declared.limits.TheConstants.{MAX_PLACED};
 
+mod slots;
+
 use crate::NoMemory;
 use crate::finishes::{Finishes, NEVER};
 use crate::limits::EXPIRY;

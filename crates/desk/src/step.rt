@@ -48,8 +48,10 @@ pub enum Step {
 }
 
 impl Step {
-    // The same step, with one more owner of its row.
-    pub(crate) fn share(&self) -> Result<Step, AllocError>
+    /// The same step, with one more owner of the row or the pod that it tells of.
+    ///
+    /// Errors: `AllocError` where that can have no further owner.
+    pub fn share(&self) -> Result<Step, AllocError>
         ensures { IfOk result (λ step. step ≡ self.now) }
     {
         Ok(match self {

@@ -28,6 +28,8 @@ mod with_kits;
 pub use device::{DeviceFailed, Sink, Source, write_all};
 pub use fault::RunFault;
 pub use laws::{one_output, same_output};
+pub use lines::LineReader;
 pub use one_cycle::{CutShort, Cycled, cycle};
 pub use script::run;
+pub use session::push_dump;
 pub use with_kits::run_with_kits;

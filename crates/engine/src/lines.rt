@@ -17,9 +17,9 @@ const PIECE: usize = 65_536;
 // The most bytes of a line that are kept: one more than a line may have.
 const MAX_KEPT: usize = MAX_LINE + 1;
 
-// What was read of a source and is not yet taken.
+/// What was read of a source and is not yet taken.
 #[derive(Drop)]
-pub(crate) struct LineReader {
+pub struct LineReader {
     buffer: Vec<u8>,
     start: usize,
     end: usize,
@@ -36,8 +36,10 @@ impl Model for LineReader {
 }
 
 impl LineReader {
-    // A reader of which nothing was read.
-    pub(crate) fn new(alloc: Global) -> Result<LineReader, AllocError>
+    /// A reader of which nothing was read.
+    ///
+    /// Errors: `AllocError` where there is no memory for a piece of 64 KiB.
+    pub fn new(alloc: Global) -> Result<LineReader, AllocError>
         ensures { IfOk result (λ reader. reader ≡ []) }
     {
         Ok(LineReader {
@@ -62,9 +64,11 @@ impl LineReader {
         newline_at(&self.buffer[self.start..self.end]).is_some()
     }
 
-    // Takes the next line of a source, of which it keeps the front, and says whether there was one.
-    // `waits` is the output that is not yet written: nothing, where the source is read.
-    pub(crate) fn next_line<R: Source>(
+    /// Takes the next line of a source, of which it keeps the first 65,537 bytes, and says whether there was one. `waits` is the
+    /// output that is not yet written: nothing, where the source is read.
+    ///
+    /// Errors: `Read`, and `NoMemory` where there is none for the line.
+    pub fn next_line<R: Source>(
         &mut self,
         source: &mut R,
         line: &mut Vec<u8>,

@@ -165,6 +165,16 @@ fn push_numbers(out: &mut Vec<u8>, n: Counts) -> Result<(), AllocError>
     push_clock(out, n.clock.0, n.version.0)
 }
 
+/// Adds the lines of a dump: those of the nodes, and those of the desk's numbers.
+///
+/// Errors: `AllocError`. A beginning of them may be added.
+pub fn push_dump(out: &mut Vec<u8>, snapshot: &Snapshot, counts: Counts) -> Result<(), AllocError>
+    ensures { OnOk result (out.new.items ≡ out.old.items ++ (snapshot_lines snapshot.now ++ reply_lines (Reply.Counts counts))) }
+{
+    push_snapshot(out, snapshot)?;
+    push_numbers(out, counts)
+}
+
 // Adds the lines of the nodes, in the order of their names.
 fn push_snapshot(out: &mut Vec<u8>, snapshot: &Snapshot) -> Result<(), AllocError>
     ensures { OnOk result (out.new.items ≡ out.old.items ++ snapshot_lines snapshot.now) }
