@@ -1,0 +1,178 @@
+-- From what the workers of a storm did to what a storm promises.
+use Rattle.std.proofs.Common.{◌≡◌, ◌≢◌, ℕ, ◌+◌, ◌<◌, ◌↔◌, Bool, false, List, [], ◌∷◌, length, slice_index_or, Option, Some, None, Result, Ok, Err, IfOk, IfErr, IfSome, OnErr, ◌⊎◌, inl, inr, refl, sym, ap, subst, ◌∙◌, arith}
+use Rattle.std.specs.Bool.{IsTrue}
+use Rattle.std.specs.List.{All}
+use Rattle.std.specs.Io.KnownBytes.{Appends}
+use Rattle.manifest.specs.declared.fault.LineFault.{LineFault}
+use Rattle.book.specs.Cluster.{Cluster}
+use Rattle.desk.specs.declared.step.Step.{Step}
+use Rattle.desk.specs.declared.step.Counts.{Counts}
+use Rattle.desk.specs.History.{Call}
+use Rattle.desk.specs.Shared.{Pass, Desk, Closed}
+use Rattle.desk.specs.Shown.{Shown}
+use Rattle.plugin.specs.RuleSet.{RuleSet}
+use Rattle.fleet.specs.Team.{rules_of}
+use Rattle.audit.specs.Audit.{ShowsSums}
+use Rattle.engine.specs.declared.fault.RunFault.{RunFault}
+use Rattle.engine.specs.declared.fault.RunFault.TheVariants.{Line, NoMemory, Read, Write, NoPlace}
+use Rattle.engine.specs.Device.{DeviceUse}
+use Rattle.storm.specs.declared.worker.Worker.{Worker}
+use Rattle.storm.specs.Made.{BeginsWith, newcomer}
+use Rattle.storm.specs.Crew.{Each, HasFed, IsDumped, enlisted}
+use Rattle.storm.specs.Stages.{HasReported, HasScheduled, IsIdle}
+use Rattle.storm.specs.Script.{script_steps, first_storm_fault}
+use Rattle.storm.specs.Storm.{IsStorm, IsAudit, Storms, IsStormRun, desk_for, storm_text}
+use Rattle.storm.specs.Ending.{IsWorked, HasEnded}
+use Rattle.storm.proofs.Going.{begins_trans, goes_begins}
+use Rattle.storm.proofs.Closing.{closing, closing_looked, enlisted_length}
+
+-- ---- the dump
+
+-- how many passes there are before the one that counts
+abbrev many : {D B : Type 0} → List D → List B → ℕ
+many deciders binders = 2 + length deciders + length binders
+
+module _ {J D B Kit : Type 0} (answers : Kit → RuleSet) (kits : D → List Kit) (fed : List Step) (deciders : List D) (binders : List B) (counts : Counts) (rows : List Shown) (clerk' : Pass) where
+  -- workers that were just enlisted worked, and were dumped
+  begun : 0 < length deciders → IsWorked {J = J} answers kits (desk_for (length deciders) (length binders)) fed (newcomer (many deciders binders)) (enlisted 0 (tt ∷ tt ∷ [])) (enlisted 2 deciders) (enlisted (2 + length deciders) binders) counts rows clerk'
+      → HasEnded (λ d. rules_of answers (kits d)) deciders (length binders) (desk_for (length deciders) (length binders)) fed counts rows clerk'
+  begun some w =
+      let turned : 0 < length w.cyclers' = subst (λ n. 0 < n) (sym (w.turned.0 ∙ enlisted_length J 2 deciders)) some in
+      let idle = λ (d : Worker J D). w.idle d (w.all_turned 0 d turned) in
+      record {
+        desk_is = refl;
+        storm = closing answers kits fed deciders binders counts rows w.feeders' w.cyclers' w.reporters' clerk' some w.told w.all_told w.turned w.all_turned idle w.reported w.dumped;
+        of = omega (arith, w.dumped.number);
+        knows = subst (BeginsWith clerk'.seen) (sym (closing_looked answers kits fed deciders binders counts rows w.feeders' w.cyclers' w.reporters' clerk' some w.told w.all_told w.turned w.all_turned idle w.reported w.dumped)) w.dumped.knows;
+      }
+
+  -- the same of all that is equal to them
+  pub ended : (desk : Desk) (clerk : Pass) (f : List (Worker J (Unit {0}))) (c : List (Worker J D)) (r : List (Worker J B)) → 0 < length deciders
+      → desk ≡ desk_for (length deciders) (length binders) → clerk ≡ newcomer (many deciders binders) → f ≡ enlisted 0 (tt ∷ tt ∷ []) → c ≡ enlisted 2 deciders → r ≡ enlisted (2 + length deciders) binders
+      → IsWorked {J = J} answers kits desk fed clerk f c r counts rows clerk' → HasEnded (λ d. rules_of answers (kits d)) deciders (length binders) desk fed counts rows clerk'
+  ended desk clerk f c r some desk_is clerk_is f_is c_is r_is w =
+      let w1 = subst (λ x. IsWorked {J = J} answers kits desk fed clerk f c x counts rows clerk') r_is w in
+      let w2 = subst (λ x. IsWorked {J = J} answers kits desk fed clerk f x (enlisted (2 + length deciders) binders) counts rows clerk') c_is w1 in
+      let w3 = subst (λ x. IsWorked {J = J} answers kits desk fed clerk x (enlisted 2 deciders) (enlisted (2 + length deciders) binders) counts rows clerk') f_is w2 in
+      let w4 = subst (λ x. IsWorked {J = J} answers kits desk fed x (enlisted 0 (tt ∷ tt ∷ [])) (enlisted 2 deciders) (enlisted (2 + length deciders) binders) counts rows clerk') clerk_is w3 in
+      let w5 = subst (λ x. IsWorked {J = J} answers kits x fed (newcomer (many deciders binders)) (enlisted 0 (tt ∷ tt ∷ [])) (enlisted 2 deciders) (enlisted (2 + length deciders) binders) counts rows clerk') desk_is w4 in
+      subst (λ x. HasEnded (λ d. rules_of answers (kits d)) deciders (length binders) x fed counts rows clerk') (sym desk_is) (begun some w5)
+
+-- ---- what the workers did
+
+-- workers and a dump, told of lists that are equal to those that they were handed out as
+pub worked : {J D B Kit : Type 0} (answers : Kit → RuleSet) (kits : D → List Kit) (desk : Desk) (fed : List Step) (clerk clerk' : Pass) (counts : Counts) (rows : List Shown)
+    (f f0 f1 : List (Worker J (Unit {0}))) (c c0 c1 : List (Worker J D)) (r r0 r1 : List (Worker J B)) → f0 ≡ f → c0 ≡ c → r0 ≡ r
+    → Each (HasFed fed) f0 f1 → Each (HasScheduled answers kits desk) c0 c1
+    → ((d : Worker J D) → (slice_index_or c1 0 d).failed ≡ false → IsIdle answers kits desk f1 (slice_index_or c0 0 d) (slice_index_or c1 0 d)) → Each HasReported r0 r1
+    → All (λ w. w.failed ≡ false) f1 → All (λ w. w.failed ≡ false) c1 → IsDumped desk clerk f1 c1 r1 counts rows clerk'
+    → IsWorked answers kits desk fed clerk f c r counts rows clerk'
+worked {J} answers kits desk fed clerk clerk' counts rows f f0 f1 c c0 c1 r r0 r1 f_is c_is r_is told turned idle reported all_told all_turned dumped =
+    subst (λ x. IsWorked {J = J} answers kits desk fed clerk x c r counts rows clerk') f_is
+    (subst (λ x. IsWorked {J = J} answers kits desk fed clerk f0 x r counts rows clerk') c_is
+    (subst (λ x. IsWorked {J = J} answers kits desk fed clerk f0 c0 x counts rows clerk') r_is (record {
+      feeders' = f1;
+      cyclers' = c1;
+      reporters' = r1;
+      told = told;
+      turned = turned;
+      idle = idle;
+      reported = reported;
+      all_told = all_told;
+      all_turned = all_turned;
+      dumped = dumped;
+    })))
+
+-- ---- the audit
+
+-- the answer to an audit of the book of a desk that was closed by a pass which knew what was looked at
+audited : (desk : Desk) (clerk last : Pass) (book : Cluster) (looked : List Call) (rows : List Shown) (answer : Bool) → BeginsWith clerk.seen looked → Closed desk clerk last book
+    → (IsTrue answer ↔ ShowsSums rows book.places) → IsAudit desk looked rows answer
+audited desk clerk last book looked rows answer knows closed says = record {
+  closed = closed.list;
+  legal = closed.ahead.legal;
+  looked_first = begins_trans closed.list clerk.seen looked (goes_begins clerk.caller.number clerk.seen closed.list closed.ahead.goes_on) knows;
+  says = subst (λ (b : Cluster). IsTrue answer ↔ ShowsSums rows b.places) closed.book_is says;
+}
+
+pub storms : {D : Type 0} (rules : D → RuleSet) (deciders : List D) (binders : ℕ) (desk : Desk) (fed : List Step) (counts : Counts) (rows : List Shown) (clerk last : Pass) (book : Cluster) (answer : Bool) (sink : DeviceUse)
+    → HasEnded rules deciders binders desk fed counts rows clerk → Closed desk clerk last book → (IsTrue answer ↔ ShowsSums rows book.places) → Appends sink.old sink.new (storm_text rows counts answer)
+    → Storms rules deciders binders fed sink answer
+storms rules deciders binders desk fed counts rows clerk last book answer sink ended closed says wrote =
+    let both : (s : IsStorm rules deciders (desk_for (length deciders) binders) fed rows counts) × IsAudit (desk_for (length deciders) binders) s.looked rows answer =
+    subst (λ (x : Desk). (s : IsStorm rules deciders x fed rows counts) × IsAudit x s.looked rows answer) ended.desk_is
+    (ended.storm, audited desk clerk last book ended.storm.looked rows answer ended.knows closed says) in
+    record { rows = rows; counts = counts; storm = both.0; audit = both.1; wrote = wrote }
+
+-- ---- the run
+
+-- why a storm whose script was read may end early
+abbrev pub IsLate : RunFault → Type 0
+IsLate e = (e ≡ NoMemory) ⊎ ((e ≡ NoPlace) ⊎ (e ≡ Write))
+
+not_line : (e : RunFault) (number : ℕ) (fault : LineFault) → IsLate e → e ≡ Line number fault → ⊥
+not_line e number fault (inl is) other = cc
+not_line e number fault (inr (inl is)) other = cc
+not_line e number fault (inr (inr is)) other = cc
+
+not_read : (e : RunFault) → IsLate e → e ≡ Read → ⊥
+not_read e (inl is) other = cc
+not_read e (inr (inl is)) other = cc
+not_read e (inr (inr is)) other = cc
+
+one_fault : (e e' : RunFault) (r : Result Bool RunFault) → r ≡ Err e → r ≡ Err e' → e ≡ e'
+one_fault e e' r is other = cc
+
+known : {D : Type 0} (rules : D → RuleSet) (deciders : List D) (binders : ℕ) (steps : List Step) (sink : DeviceUse) (answer : Bool) (old new : Option (List ℕ))
+    → IfSome old (λ script. (first_storm_fault script ≡ None) × (steps ≡ script_steps script) × (new ≡ Some [])) → Storms rules deciders binders steps sink answer
+    → IfSome old (λ script. (first_storm_fault script ≡ None) × (new ≡ Some []) × Storms rules deciders binders (script_steps script) sink answer)
+known rules deciders binders steps sink answer None new read storm = tt
+known rules deciders binders steps sink answer (Some script) new read storm =
+    (read.0, read.2, subst (λ s. Storms rules deciders binders s sink answer) read.1 storm)
+
+pub run_of : {D : Type 0} (rules : D → RuleSet) (deciders : List D) (binders : ℕ) (source sink : DeviceUse) (steps : List Step) (result : Result Bool RunFault)
+    → IfSome source.old (λ script. (first_storm_fault script ≡ None) × (steps ≡ script_steps script) × (source.new ≡ Some [])) → source.failures_new ≡ source.failures_old
+    → IfOk result (λ answer. Storms rules deciders binders steps sink answer) → OnErr result (result ≢ Err Write → sink.IsUntouched) → IfErr result IsLate
+    → (result ≡ Err Write → sink.failures_old < sink.failures_new) → (result ≢ Err Write → sink.failures_new ≡ sink.failures_old)
+    → IsStormRun rules deciders binders source sink result
+run_of rules deciders binders source sink steps (Ok answer) read reads storm quiet late write write_told = record {
+  done = known rules deciders binders steps sink answer source.old source.new read storm;
+  line = λ number fault is. cc;
+  quiet = tt;
+  read = λ is. cc;
+  write = write;
+  read_told = λ _. reads;
+  write_told = write_told;
+}
+run_of rules deciders binders source sink steps (Err e) read reads storm quiet late write write_told = record {
+  done = tt;
+  line = λ number fault is. absurd (not_line e number fault late (one_fault e (Line number fault) (Err e) refl is));
+  quiet = quiet;
+  read = λ is. absurd (not_read e late (one_fault e Read (Err e) refl is));
+  write = write;
+  read_told = λ _. reads;
+  write_told = write_told;
+}
+
+-- at a fault that is passed on, what is told of it is as it was
+pub passed_on : {P : Type 0} (r : Result Bool RunFault) (t : Result (Unit {0}) RunFault) (e : RunFault) → r ≡ Err e → t ≡ Err e → (t ≢ Err Write → P) → r ≢ Err Write → P
+passed_on r t e is other says more = says (λ eq. let same : e ≡ Write = cc in more (is ∙ ap Err same))
+
+pub passed_on_err : {P : Type 0} (r : Result Bool RunFault) (t : Result (Unit {0}) RunFault) (e : RunFault) → r ≡ Err e → t ≡ Err e → (t ≢ Err Write → P) → OnErr r (r ≢ Err Write → P)
+passed_on_err (Ok answer) t e is other says = tt
+passed_on_err (Err f) t e is other says = passed_on (Err f) t e is other says
+
+-- a script that was not read whole
+pub run_unread : {D : Type 0} (rules : D → RuleSet) (deciders : List D) (binders : ℕ) (source sink : DeviceUse) (result : Result Bool RunFault) (e : RunFault) → result ≡ Err e
+    → ((number : ℕ) (fault : LineFault) → e ≡ Line number fault → IfSome source.old (λ script. first_storm_fault script ≡ Some (number, fault)))
+    → (e ≡ Read → source.failures_old < source.failures_new) → (e ≢ Read → source.failures_new ≡ source.failures_old) → e ≢ Write
+    → sink.IsUntouched → sink.failures_new ≡ sink.failures_old → IsStormRun rules deciders binders source sink result
+run_unread rules deciders binders source sink result e is line read read_told no_write untouched writes = subst (IsStormRun rules deciders binders source sink) (sym is) (record {
+  done = tt;
+  line = λ number fault eq. line number fault (one_fault e (Line number fault) (Err e) refl eq);
+  quiet = λ _. untouched;
+  read = λ eq. read (one_fault e Read (Err e) refl eq);
+  write = λ eq. absurd (no_write (one_fault e Write (Err e) refl eq));
+  read_told = λ other. read_told (λ eq. other (ap Err eq));
+  write_told = λ _. writes;
+})

@@ -1,0 +1,9 @@
+pub mod Going
+pub mod Cycling
+pub mod Reading
+pub mod Answering
+pub mod Meeting
+pub mod Closing
+pub mod Enlisting
+pub mod Staging
+pub mod Ending

@@ -1,0 +1,20 @@
+use Rattle.std.proofs.Common.{length}
+use Rattle.fleet.specs.Team.{rules_of}
+use Rattle.engine.specs.Device.{use_of}
+use Rattle.engine.proofs.Steps.{limits_same}
+use Rattle.storm.proofs.Ending.{run_of}
+use Rattle.storm.proofs.one_storm.storm.Goals as goal
+
+-- the program's limits are the greatest
+pub storm_on-requires-clause-greatest : goal.storm_on-requires-clause-greatest
+storm_on-requires-clause-greatest g c κs within =
+    let greatest = c.greatest.ensures in
+    limits_same c.greatest.result greatest.nodes greatest.placed greatest.queued
+
+-- the script was read whole
+pub returns : goal.returns
+returns g c =
+    run_of (λ d. rules_of g.D.Kit.Rules.answers (g.D.Decider.kits d)) c.args.deciders.items (length c.args.binders.items)
+    (use_of g.S.Source.remaining g.S.Source.failure_count c.args.source.now c.read_script.new.source) (use_of g.W.Sink.written g.W.Sink.failure_count c.args.sink.now c.storm_on.new.sink)
+    c.in_ok-steps.steps.items c.storm_on.result c.in_ok-steps.ensures.read (c.in_ok-steps.ensures.told (λ eq. cc))
+    (rw c.deref.ensures.value at c.storm_on.ensures.storm) c.storm_on.ensures.quiet c.storm_on.ensures.faults c.storm_on.ensures.write c.storm_on.ensures.write_told

@@ -1,0 +1,23 @@
+use Rattle.std.proofs.Common.{Err, length, ap, refl, ◌∙◌}
+use Rattle.std.proofs.lemmas.Result.{err_from_is_err_and}
+use Rattle.fleet.specs.Team.{rules_of}
+use Rattle.engine.specs.Device.{use_of}
+use Rattle.storm.proofs.Ending.{passed_on, passed_on_err, storms}
+use Rattle.storm.proofs.one_storm.storm_on.Goals as goal
+
+-- where the text could not be written, or not be made
+pub returns-in_err-tell-in-Ok-clause-quiet : goal.returns-in_err-tell-in-Ok-clause-quiet
+returns-in_err-tell-in-Ok-clause-quiet g c =
+    let p = err_from_is_err_and c.from_residual-in_err-tell-in-Ok.result c.from_residual-in_err-tell-in-Ok.ensures.1 in
+    passed_on_err c.from_residual-in_err-tell-in-Ok.result (Err c.in_err-tell-in-Ok.field-0.0) c.in_err-tell-in-Ok.field-0.0 (p.1 ∙ ap Err p.2) refl c.in_err-tell-in-Ok.ensures.quiet
+
+pub returns-in_err-tell-in-Ok-clause-write_told : goal.returns-in_err-tell-in-Ok-clause-write_told
+returns-in_err-tell-in-Ok-clause-write_told g c =
+    let p = err_from_is_err_and c.from_residual-in_err-tell-in-Ok.result c.from_residual-in_err-tell-in-Ok.ensures.1 in
+    passed_on c.from_residual-in_err-tell-in-Ok.result (Err c.in_err-tell-in-Ok.field-0.0) c.in_err-tell-in-Ok.field-0.0 (p.1 ∙ ap Err p.2) refl c.in_err-tell-in-Ok.ensures.write_told
+
+-- the desk was closed and audited, and all was written
+pub returns-in_ok-tell-in-Ok-clause-storm : goal.returns-in_ok-tell-in-Ok-clause-storm
+returns-in_ok-tell-in-Ok-clause-storm g c =
+    storms (λ d. rules_of g.D.Kit.Rules.answers (g.D.Decider.kits d)) c.args.deciders.items (length c.args.binders.items) _ c.args.steps.now _ _ _ _ _ c.audit-is_right.result
+    (use_of g.W.Sink.written g.W.Sink.failure_count c.args.sink.now c.tell.new.sink) c.in-Ok.ensures.ended c.close-book.ensures c.audit-is_right.ensures c.in_ok-tell-in-Ok.ensures.wrote

@@ -1,0 +1,7 @@
+pub mod Script
+pub mod Made
+pub mod Cycles
+pub mod Crew
+pub mod Stages
+pub mod Storm
+pub mod Ending

@@ -1,0 +1,63 @@
+//! What wakes the cycle threads.
+use std::sync::{Condvar, Mutex, Wait};
+
+/// How many feeders a storm has.
+pub(crate) const FEEDERS: usize = 2;
+
+/// How often the bell was rung, and how many feeders have ended.
+#[derive(Clone, Copy, Debug, PartialEq, Eq)]
+pub(crate) struct Heard {
+    rings: u64,
+    ended: usize,
+}
+
+impl Heard {
+    /// Whether all feeders have ended.
+    pub(crate) fn is_last(self) -> bool {
+        self.ended >= FEEDERS
+    }
+}
+
+/// A cycle thread that finds no pod waits for the next ring, and doesn't ask the desk again and again: each Pop is published.
+/// It remembers what it heard before it asks, so that no ring falls between.
+#[derive(Drop)]
+pub(crate) struct Bell {
+    heard: Mutex<Heard>,
+    rung: Condvar,
+}
+
+impl Bell {
+    pub(crate) fn new() -> Bell {
+        Bell {
+            heard: Mutex::new(Heard { rings: 0, ended: 0 }),
+            rung: Condvar::new(),
+        }
+    }
+
+    /// What was heard so far.
+    pub(crate) fn heard<R: Wait>(&self, rt: &R) -> Heard {
+        *self.heard.lock(rt)
+    }
+
+    /// A step was done that may bring a pod.
+    pub(crate) fn ring<R: Wait>(&self, rt: &R) {
+        let mut heard = self.heard.lock(rt);
+        heard.rings = heard.rings.wrapping_add(1);
+        self.rung.notify_all();
+    }
+
+    /// A feeder has ended.
+    pub(crate) fn end<R: Wait>(&self, rt: &R) {
+        let mut heard = self.heard.lock(rt);
+        heard.ended = heard.ended.saturating_add(1);
+        self.rung.notify_all();
+    }
+
+    /// Waits for a ring that wasn't heard yet.
+    pub(crate) fn wait_past<R: Wait>(&self, rt: &R, before: Heard) {
+        let heard = self
+            .rung
+            .wait_while(rt, self.heard.lock(rt), |now| *now == before);
+        drop(heard);
+    }
+}

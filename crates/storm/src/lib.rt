@@ -1,0 +1,22 @@
+//! A storm: feeders, cycles and binders at work on one desk at once, each in a thread of its own, and an audit at the end.
+//!
+//! - `storm` is the whole of it. It reads its script first, which holds what the watch tells, and how time goes on: `script`.
+//! - Each thread has a `Worker`: a pass of the desk, and what it works with. `feed`, `cycles` and `binding` are what they do. A
+//!   `Bell` wakes the cycle threads where a feeder told something new, and tells them when both have ended.
+//! - `stages` is who works beside whom, and who ends when.
+//! - `clerk` is the pass that meets all others at the end, counts and looks. It closes the desk, whose book is audited.
+//!
+//! A thread that meets want of memory ends its work, and the storm then writes nothing.
+#![tactic(auto)]
+
+mod bell;
+mod binding;
+mod clerk;
+mod cycles;
+mod feed;
+mod one_storm;
+mod script;
+mod stages;
+mod worker;
+
+pub use one_storm::storm;

@@ -1,0 +1,261 @@
+//! A storm from its script to its audit.
+ghost use Rattle.std.specs.Prelude.{◌≡◌, ◌≢◌, ◌+◌, ◌<◌, ◌^◌, ◌⊎◌, ◌∷◌, [], Err, IfOk, IfErr, OnOk, OnErr, length, vec_len};
+ghost use Rattle.std.specs.List.{All};
+ghost use Rattle.std.specs.Io.KnownBytes.{Appends};
+ghost use Rattle.desk.specs.Caller.{IsTimely};
+ghost use Rattle.desk.specs.Shared.{IsPassOf};
+ghost use Rattle.fleet.specs.Team.{rules_of};
+ghost use Rattle.engine.specs.Answers.{limits};
+ghost use Rattle.engine.specs.Device.{use_of};
+ghost use Rattle.storm.specs.Made.{newcomer};
+ghost use Rattle.storm.specs.Crew.{ArePassesOf, enlisted};
+ghost use Rattle.storm.specs.Ending.{IsWorked, HasEnded};
+ghost use Rattle.storm.specs.Storm.{Storms, IsStormRun, storm_text};
+
+use crate::bell::{Bell, FEEDERS};
+use crate::clerk::take_dump;
+use crate::script::read_script;
+use crate::stages::{Stage, work};
+use crate::worker::{Worker, all_done, enlist};
+use audit::audit;
+use binder::Binder;
+use crossbeam_channel::unbounded;
+use desk::{Blank, Counts, Desk, Limits, Naming, Pass, Snapshot, Step};
+use engine::{RunFault, Sink, Source, push_dump, write_all};
+use fleet::Decider;
+use std::alloc::{AllocError, Global};
+use std::hash::RandomState;
+use std::marker::Brand;
+use std::sync::Wait;
+use std::thread::Threads;
+
+// All passes of a desk: the feeders', one for each decider, one for each binder, and the last that counts.
+#[derive(Drop)]
+struct Hands<J: Naming, D: Drop> {
+    feeders: Vec<Worker<J, ()>>,
+    cyclers: Vec<Worker<J, D>>,
+    reporters: Vec<Worker<J, Box<dyn Binder + Send>>>,
+    clerk: Pass<J>,
+}
+
+// Hands out all passes.
+fn hand_out<J: Naming, D: Decider + Drop>(
+    alloc: Global,
+    desk: &mut Desk<J>,
+    deciders: Vec<D>,
+    binders: Vec<Box<dyn Binder + Send>>,
+) -> Result<Hands<J, D>, RunFault>
+    requires { desk.old.handed ≡ 0 }
+    ensures feeders { IfOk result (λ hands. hands.feeders.items ≡ enlisted 0 (tt ∷ tt ∷ [])) }
+    ensures cyclers { IfOk result (λ hands. hands.cyclers.items ≡ enlisted 2 deciders.items) }
+    ensures reporters { IfOk result (λ hands. hands.reporters.items ≡ enlisted (2 + length deciders.items) binders.items) }
+    ensures clerk { IfOk result (λ hands. hands.clerk ≡ newcomer (2 + length deciders.items + length binders.items)) }
+    ensures handed { OnOk result (desk.new ≡ record desk.old { handed = 2 + length deciders.items + length binders.items + 1 }) }
+    ensures faults { IfErr result (λ e. (e ≡ RunFault.NoMemory) ⊎ (e ≡ RunFault.NoPlace)) }
+{
+    let mut both = Vec::new(alloc);
+    both.resize(FEEDERS, ())?;
+    let feeders = enlist(alloc, desk, both)?;
+    let cyclers = enlist(alloc, desk, deciders)?;
+    let reporters = enlist(alloc, desk, binders)?;
+    let clerk = desk.pass()?;
+    Ok(Hands {
+        feeders,
+        cyclers,
+        reporters,
+        clerk,
+    })
+}
+
+// Does all work, and takes the dump.
+fn work_and_dump<
+    J: Naming + Send + Sync,
+    R: Threads + Wait + Sync,
+    D: Decider<Kit: Send> + Send + Drop,
+>(
+    rt: &R,
+    alloc: Global,
+    desk: &Desk<J>,
+    steps: &[Step],
+    hands: &mut Hands<J, D>,
+) -> Result<(Counts, Snapshot), RunFault>
+    requires timely { All IsTimely steps.now }
+    requires some { 0 < length hands.old.cyclers.items }
+    requires some_feeder { 0 < length hands.old.feeders.items }
+    requires feeders { ArePassesOf desk.now hands.old.feeders.items }
+    requires cyclers { ArePassesOf desk.now hands.old.cyclers.items }
+    requires reporters { ArePassesOf desk.now hands.old.reporters.items }
+    requires clerk { IsPassOf hands.old.clerk desk.now }
+    ensures worked { IfOk result (λ dump. IsWorked D.Kit.answers D.kits desk.now steps.now hands.old.clerk
+        hands.old.feeders.items hands.old.cyclers.items hands.old.reporters.items dump.0 dump.1 hands.new.clerk) }
+    ensures faults { IfErr result (λ e. e ≡ RunFault.NoMemory) }
+{
+    let (sender, jobs) = unbounded(alloc)?;
+    let bell = Bell::new();
+    let stage = Stage {
+        desk,
+        bell: &bell,
+        steps,
+    };
+    let feeders = hands.feeders.as_mut_slice();
+    let cyclers = hands.cyclers.as_mut_slice();
+    let reporters = hands.reporters.as_mut_slice();
+    work(&stage, rt, &jobs, sender, feeders, cyclers, reporters);
+    if !all_done(feeders) || !all_done(cyclers) || !all_done(reporters) {
+        return Err(RunFault::NoMemory);
+    }
+    let dump = take_dump(rt, desk, &mut hands.clerk, feeders, cyclers, reporters)?;
+    Ok(dump)
+}
+
+// A storm of these steps on a desk of which no pass was handed out. It gives the pass that took the dump.
+fn storm_to_dump<
+    J: Naming + Send + Sync,
+    R: Threads + Wait + Sync,
+    D: Decider<Kit: Send> + Send + Drop,
+>(
+    rt: &R,
+    alloc: Global,
+    desk: &mut Desk<J>,
+    steps: &[Step],
+    deciders: Vec<D>,
+    binders: Vec<Box<dyn Binder + Send>>,
+) -> Result<(Pass<J>, Counts, Snapshot), RunFault>
+    requires new { desk.old ≡ record { limits = limits; handed = 0 } }
+    requires timely { All IsTimely steps.now }
+    requires some { 0 < length deciders.items }
+    ensures ended { IfOk result (λ done. HasEnded (λ d. rules_of D.Kit.answers (D.kits d)) deciders.items (length binders.items) desk.new steps.now
+        done.1 done.2 done.0) }
+    ensures faults { IfErr result (λ e. (e ≡ RunFault.NoMemory) ⊎ (e ≡ RunFault.NoPlace)) }
+{
+    let mut hands = hand_out(alloc, desk, deciders, binders)?;
+    let (counts, shown) = work_and_dump(rt, alloc, desk, steps, &mut hands)?;
+    Ok((hands.clerk, counts, shown))
+}
+
+// What a storm writes: the dump's lines, and the audit's.
+fn text_of(
+    alloc: Global,
+    shown: &Snapshot,
+    counts: Counts,
+    is_right: bool,
+) -> Result<Vec<u8>, AllocError>
+    ensures { IfOk result (λ text. text.items ≡ storm_text shown.now counts is_right) }
+{
+    let mut text = Vec::new(alloc);
+    push_dump(&mut text, shown, counts)?;
+    if is_right {
+        text.extend_from_slice(b"audit ok\n")?;
+    } else {
+        text.extend_from_slice(b"audit failed\n")?;
+    }
+    Ok(text)
+}
+
+// Makes the text of a storm whole, and writes it.
+fn tell<W: Sink>(
+    alloc: Global,
+    shown: &Snapshot,
+    counts: Counts,
+    is_right: bool,
+    sink: &mut W,
+) -> Result<(), RunFault>
+    requires { W.failure_count sink.old < 10 ^ 18 }
+    ensures wrote { OnOk result (Appends (W.written sink.old) (W.written sink.new) (storm_text shown.now counts is_right)) }
+    ensures quiet { OnErr result (result ≢ Err RunFault.Write → sink.new ≡ sink.old) }
+    ensures faults { IfErr result (λ e. (e ≡ RunFault.NoMemory) ⊎ (e ≡ RunFault.Write)) }
+    ensures write { result ≡ Err RunFault.Write → W.failure_count sink.old < W.failure_count sink.new }
+    ensures write_told { result ≢ Err RunFault.Write → W.failure_count sink.new ≡ W.failure_count sink.old }
+{
+    let text = text_of(alloc, shown, counts, is_right)?;
+    if write_all(sink, &text).is_err() {
+        return Err(RunFault::Write);
+    }
+    Ok(())
+}
+
+// A storm of these steps on a new desk, which it ends.
+fn storm_on<
+    J: Naming + Send + Sync,
+    R: Threads + Wait + Sync,
+    D: Decider<Kit: Send> + Send + Drop,
+    W: Sink,
+>(
+    rt: &R,
+    blank: Blank,
+    alloc: Global,
+    keys: RandomState,
+    greatest: Limits,
+    steps: &[Step],
+    deciders: Vec<D>,
+    binders: Vec<Box<dyn Binder + Send>>,
+    sink: &mut W,
+) -> Result<bool, RunFault>
+    requires named { blank.seen.book ≡ J.book }
+    requires limits { greatest ≡ J.limits }
+    requires greatest { greatest ≡ limits }
+    requires timely { All IsTimely steps.now }
+    requires some { 0 < length deciders.items }
+    requires writes { W.failure_count sink.old < 10 ^ 18 }
+    ensures storm { IfOk result (λ answer. Storms (λ d. rules_of D.Kit.answers (D.kits d)) deciders.items (length binders.items) steps.now
+        (use_of W.written W.failure_count sink.old sink.new) answer) }
+    ensures quiet { OnErr result (result ≢ Err RunFault.Write → sink.new ≡ sink.old) }
+    ensures faults { IfErr result (λ e. (e ≡ RunFault.NoMemory) ⊎ ((e ≡ RunFault.NoPlace) ⊎ (e ≡ RunFault.Write))) }
+    ensures write { result ≡ Err RunFault.Write → W.failure_count sink.old < W.failure_count sink.new }
+    ensures write_told { result ≢ Err RunFault.Write → W.failure_count sink.new ≡ W.failure_count sink.old }
+{
+    let mut desk = Desk::<J>::new(blank, alloc, keys, greatest)?;
+    match storm_to_dump(rt, alloc, &mut desk, steps, deciders, binders) {
+        Err(fault) => {
+            desk.discard(rt);
+            Err(fault)
+        }
+        Ok((mut clerk, counts, shown)) => {
+            let book = desk.close(rt, &mut clerk);
+            let is_right = audit(rt, &shown, &book);
+            tell(alloc, &shown, counts, is_right, sink)?;
+            Ok(is_right)
+        }
+    }
+}
+
+/// A storm: its script is read whole, and then told twice by two feeders, while a cycle pass for each decider places pods and
+/// each binder tells the cluster of places, each in a thread of its own. Cycles go on until both feeders have ended and no pod
+/// waits; then the first cycle pass, which has met the feeders', goes on alone until no pod waits once more, and the binders do
+/// what jobs are left. At the end it writes the dump's lines and the audit's: whether what the dump shows as used is the sum of
+/// the places of the closed desk's book. It answers what the audit said.
+///
+/// There are at least one decider and one binder.
+///
+/// Errors, by all of which but `Write` nothing is written: `Line` with the number of the first faulty line of the script and its
+/// fault; `NoMemory`; `Read`; `NoPlace` where there are more deciders and binders than 61. At `Write` a beginning is written.
+pub fn storm<R: Threads + Wait + Sync, D: Decider<Kit: Send> + Send + Drop, S: Source, W: Sink>(
+    rt: &R,
+    alloc: Global,
+    keys: RandomState,
+    source: &mut S,
+    sink: &mut W,
+    deciders: Vec<D>,
+    binders: Vec<Box<dyn Binder + Send>>,
+) -> Result<bool, RunFault>
+    requires reads { S.failure_count source.old < 10 ^ 18 }
+    requires writes { W.failure_count sink.old < 10 ^ 18 }
+    requires finite { S.bytes_left source.old < 2 ^ 64 }
+    requires some_decider { 0 < vec_len deciders }
+    requires some_binder { 0 < vec_len binders }
+    ensures { IsStormRun (λ d. rules_of D.Kit.answers (D.kits d)) deciders.items (length binders.items)
+        (use_of S.remaining S.failure_count source.old source.new) (use_of W.written W.failure_count sink.old sink.new) result }
+{
+    let steps = read_script(alloc, source)?;
+    storm_on::<Brand, R, D, W>(
+        rt,
+        Blank::new(),
+        alloc,
+        keys,
+        Limits::greatest(),
+        &steps,
+        deciders,
+        binders,
+        sink,
+    )
+}

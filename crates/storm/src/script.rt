@@ -1,0 +1,88 @@
+//! The script of a storm: what the watch tells, and how time goes on.
+ghost use Rattle.std.specs.Prelude.{◌≡◌, ◌≢◌, ◌^◌, ◌<◌, ◌++◌, ◌∷◌, Some, None, [], ℕ, Err, IfOk, IfErr, IfSome, OnOk};
+ghost use Rattle.std.specs.List.{All};
+ghost use Rattle.desk.specs.Caller as caller;
+ghost use Rattle.manifest.specs.Line as line;
+ghost use Rattle.manifest.specs.Reading.{Answers};
+ghost use Rattle.manifest.specs.declared.fault.LineFault.{LineFault as Fault};
+ghost use Rattle.storm.specs.Script.{watched, step_by, script_steps, first_storm_fault};
+
+use desk::Step;
+use engine::{LineReader, RunFault, Source};
+use manifest::{Command, Field, LineFault, read_line};
+use std::alloc::{AllocError, Global};
+
+// The step that a command asks for. What the watch doesn't tell is refused.
+fn step_for(command: Command) -> Result<Step, LineFault>
+    requires { line.IsTimely command }
+    ensures step { result ≡ watched command }
+    ensures timely { IfOk result caller.IsTimely }
+{
+    match command {
+        Command::Event(event) => Ok(Step::Event(event)),
+        Command::Tick(now) => Ok(Step::Tick(now)),
+        Command::Cycle => Err(LineFault::BadField(Field::Op)),
+        Command::BindDone { uid: _, ticket: _ } => Err(LineFault::BadField(Field::Op)),
+        Command::Forget { uid: _, ticket: _ } => Err(LineFault::BadField(Field::Op)),
+        Command::Dump => Err(LineFault::BadField(Field::Op)),
+    }
+}
+
+// The step that a line asks for: none, where it is empty.
+#[tactic(auto, unfolding(crate::specs::Script::step_by))]
+fn step_in(alloc: Global, line: &[u8]) -> Result<Option<Step>, LineFault>
+    ensures asked { Answers result (step_by line.now) }
+    ensures timely { IfOk result (λ step. IfSome step caller.IsTimely) }
+{
+    if line.is_empty() {
+        return Ok(None);
+    }
+    let command = read_line(alloc, line)?;
+    let step = step_for(command)?;
+    Ok(Some(step))
+}
+
+// Adds a step.
+fn add(steps: &mut Vec<Step>, step: Step) -> Result<(), AllocError>
+    ensures added { OnOk result (steps.new.items ≡ steps.old.items ++ step ∷ []) }
+{
+    if steps.push(step).is_err() {
+        return Err(AllocError);
+    }
+    Ok(())
+}
+
+/// Reads a script whole: the steps that its lines ask for, in order. A line ends at a newline, which the last one may lack; an
+/// empty line is passed over and counted.
+///
+/// Errors: `Line` with the number of the first faulty line and its fault; `NoMemory`; `Read`.
+pub(crate) fn read_script<R: Source>(alloc: Global, source: &mut R) -> Result<Vec<Step>, RunFault>
+    requires reads { R.failure_count source.old < 10 ^ 18 }
+    requires finite { R.bytes_left source.old < 2 ^ 64 }
+    ensures read { IfOk result (λ steps. IfSome (R.remaining source.old) (λ script. (first_storm_fault script ≡ None)
+        × (steps.items ≡ script_steps script) × (R.remaining source.new ≡ Some []))) }
+    ensures timely { IfOk result (λ steps. All caller.IsTimely steps.items) }
+    ensures line { (number : ℕ) (fault : Fault) → result ≡ Err (RunFault.Line number fault)
+        → IfSome (R.remaining source.old) (λ script. first_storm_fault script ≡ Some (number, fault)) }
+    ensures failed { result ≡ Err RunFault.Read → R.failure_count source.old < R.failure_count source.new }
+    ensures told { result ≢ Err RunFault.Read → R.failure_count source.new ≡ R.failure_count source.old }
+    ensures no_write { result ≢ Err RunFault.Write }
+    ensures placed { result ≢ Err RunFault.NoPlace }
+{
+    let mut reader = LineReader::new(alloc)?;
+    let mut line = Vec::new(alloc);
+    let mut steps = Vec::new(alloc);
+    let mut number = 0u64;
+    'lines: loop {
+        if !reader.next_line(source, &mut line, &[])? {
+            return Ok(steps);
+        }
+        number += 1;
+        match step_in(alloc, &line) {
+            Ok(None) => {}
+            Ok(Some(step)) => add(&mut steps, step)?,
+            Err(LineFault::NoMemory) => return Err(RunFault::NoMemory),
+            Err(fault) => return Err(RunFault::Line(number, fault)),
+        }
+    }
+}
