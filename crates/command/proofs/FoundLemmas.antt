@@ -1,23 +1,41 @@
 -- What is asked for by what `clap` found.
-use Rattle.std.proofs.Common.{◌≡◌, ◌∙◌, ℕ, true, false, List, [], Option, Some, None, map, option_map, codes, cond, refl, sym, ap, Bor}
+use Rattle.std.proofs.Common.{◌≡◌, ◌∙◌, ℕ, Bool, true, false, List, [], Option, Some, None, map, option_map, codes, cond, refl, sym, ap, ap₂, Bor}
 use Rattle.std.specs.Prelude.{unwrap_or}
 use Rattle.std.specs.Str.{bytes_eq}
-use Rattle.clap.specs.Words.{Row, Text, all_of, first_of, subcommand_name_of, subcommand_of, subcommand_rows_of}
+use Rattle.clap.specs.Words.{Row, Text, first_of, subcommand_name_of, subcommand_of, subcommand_rows_of}
 use Rattle.clap.specs.declared.parser.matches.ArgMatches.{ArgMatches}
 use Rattle.clap.specs.declared.parser.matches.ArgMatches.TheViews.{out-ArgMatches}
-use Rattle.command.specs.Words.{SpecSyntax, are_taken, check, command_line, found, meaning, run, run_found, specs_of, workers_of}
+use Rattle.command.specs.declared.count.Count.TheVariants.{Workers, Cycles, Binders}
+use Rattle.command.specs.Words.{SpecSyntax, are_taken, check, command_line, found, is_told, meaning, number_found, run, run_found, specs_found, storm, storm_found}
 
 -- the number of workers and the plugins of a run
-pub run_is : (rows : List Row) (workers : ℕ) (specs : List SpecSyntax) → Some workers ≡ workers_of (first_of (codes "workers") rows)
-    → specs_of (unwrap_or (all_of (codes "SPEC") rows) []) ≡ Some specs → run_found rows ≡ Some (run workers specs)
-run_is rows workers specs first second = rw (← first, second) refl
+pub run_is : (rows : List Row) (workers : ℕ) (specs : List SpecSyntax) → number_found Workers rows ≡ Some workers
+    → specs_found rows ≡ Some specs → run_found rows ≡ Some (run workers specs)
+run_is rows workers specs first second = rw (first, second) refl
 
-pub no_workers : (rows : List Row) → None ≡ workers_of (first_of (codes "workers") rows) → run_found rows ≡ None
-no_workers rows none = rw (← none) refl
+pub no_workers : (rows : List Row) → number_found Workers rows ≡ None → run_found rows ≡ None
+no_workers rows none = rw none refl
 
-pub no_specs : (rows : List Row) (workers : ℕ) → Some workers ≡ workers_of (first_of (codes "workers") rows)
-    → specs_of (unwrap_or (all_of (codes "SPEC") rows) []) ≡ None → run_found rows ≡ None
-no_specs rows workers first none = rw (← first, none) refl
+pub no_specs : (rows : List Row) (workers : ℕ) → number_found Workers rows ≡ Some workers → specs_found rows ≡ None → run_found rows ≡ None
+no_specs rows workers first none = rw (first, none) refl
+
+-- the numbers of threads, the flag and the plugins of a storm
+pub storm_is : (rows : List Row) (cycles binders : ℕ) (is_flaky : Bool) (specs : List SpecSyntax) → number_found Cycles rows ≡ Some cycles
+    → number_found Binders rows ≡ Some binders → is_flaky ≡ is_told (first_of (codes "flaky") rows) → specs_found rows ≡ Some specs
+    → storm_found rows ≡ Some (storm cycles binders is_flaky specs)
+storm_is rows cycles binders is_flaky specs first second flag third =
+    rw (first, second, third) (ap (λ b. Some (storm cycles binders b specs)) (sym flag))
+
+pub no_cycles : (rows : List Row) → number_found Cycles rows ≡ None → storm_found rows ≡ None
+no_cycles rows none = rw none refl
+
+pub no_binders : (rows : List Row) (cycles : ℕ) → number_found Cycles rows ≡ Some cycles → number_found Binders rows ≡ None
+    → storm_found rows ≡ None
+no_binders rows cycles first none = rw (first, none) refl
+
+pub no_storm_specs : (rows : List Row) (cycles binders : ℕ) → number_found Cycles rows ≡ Some cycles → number_found Binders rows ≡ Some binders
+    → specs_found rows ≡ None → storm_found rows ≡ None
+no_storm_specs rows cycles binders first second none = rw (first, second, none) refl
 
 -- the texts that stand there, or none
 pub texts_or_none : (r : Option (Bor (List (Bor (List ℕ))))) (d : Bor (List (Bor (List ℕ)))) → d.now ≡ []
@@ -34,27 +52,26 @@ names_agree name rows (Some b) = refl
 pub name_of_rows : (m : ArgMatches) → subcommand_name_of m ≡ option_map (λ p. p.0) (subcommand_rows_of m)
 name_of_rows m = names_agree _ _ (out-ArgMatches m).subcommand
 
--- a command that is not `run`, by what was found behind it
-pub check_is : (command : Option (Text × List Row)) (name : Text) (rows : List Row) → Some name ≡ option_map (λ p. p.0) command
-    → Some rows ≡ option_map (λ p. p.1) command → bytes_eq name (codes "run") ≡ false
-    → found command ≡ option_map check (first_of (codes "MODULE") rows)
-check_is None name rows first second other = cc
-check_is (Some p) name rows first second other =
+-- a command, by its name and by what was found behind it
+pub found_by : (command : Option (Text × List Row)) (name : Text) (rows : List Row) → Some name ≡ option_map (λ p. p.0) command
+    → Some rows ≡ option_map (λ p. p.1) command → found command ≡ found (Some (name, rows))
+found_by None name rows first second = cc
+found_by (Some p) name rows first second =
     let name_is : p.0 ≡ name = ap (λ o. unwrap_or o name) (sym first) in
     let rows_are : p.1 ≡ rows = ap (λ o. unwrap_or o rows) (sym second) in
-    let is_other : bytes_eq p.0 (codes "run") ≡ false = ap (λ n. bytes_eq n (codes "run")) name_is ∙ other in
-    ap (λ b. cond b (run_found p.1) (option_map check (first_of (codes "MODULE") p.1))) is_other
-    ∙ ap (λ r. option_map check (first_of (codes "MODULE") r)) rows_are
+    ap₂ (λ n r. found (Some (n, r))) name_is rows_are
 
--- and one that is
-pub run_is_found : (command : Option (Text × List Row)) (name : Text) (rows : List Row) → Some name ≡ option_map (λ p. p.0) command
-    → Some rows ≡ option_map (λ p. p.1) command → bytes_eq name (codes "run") ≡ true → found command ≡ run_found rows
-run_is_found None name rows first second is_run = cc
-run_is_found (Some p) name rows first second is_run =
-    let name_is : p.0 ≡ name = ap (λ o. unwrap_or o name) (sym first) in
-    let rows_are : p.1 ≡ rows = ap (λ o. unwrap_or o rows) (sym second) in
-    let is_named : bytes_eq p.0 (codes "run") ≡ true = ap (λ n. bytes_eq n (codes "run")) name_is ∙ is_run in
-    ap (λ b. cond b (run_found p.1) (option_map check (first_of (codes "MODULE") p.1))) is_named ∙ ap run_found rows_are
+-- a run, a storm, and a command that is neither
+pub run_by : (name : Text) (rows : List Row) → bytes_eq name (codes "run") ≡ true → found (Some (name, rows)) ≡ run_found rows
+run_by name rows is_run = rw is_run refl
+
+pub storm_by : (name : Text) (rows : List Row) → bytes_eq name (codes "run") ≡ false → bytes_eq name (codes "storm") ≡ true
+    → found (Some (name, rows)) ≡ storm_found rows
+storm_by name rows no_run is_storm = rw (no_run, is_storm) refl
+
+pub check_by : (name : Text) (rows : List Row) → bytes_eq name (codes "run") ≡ false → bytes_eq name (codes "storm") ≡ false
+    → found (Some (name, rows)) ≡ option_map check (first_of (codes "MODULE") rows)
+check_by name rows no_run no_storm = rw (no_run, no_storm) refl
 
 -- what words ask for that are taken, and that aren't
 pub meaning_taken : (words : List Text) → are_taken words ≡ true → meaning words ≡ found (subcommand_of command_line words)

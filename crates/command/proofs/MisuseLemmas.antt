@@ -9,7 +9,7 @@ use Rattle.command.specs.declared.misuse.Misuse.{Misuse}
 use Rattle.command.specs.declared.misuse.Part.{Part}
 use Rattle.command.specs.declared.misuse.Part.TheVariants.{Spec}
 use Rattle.command.specs.Words.{cut}
-use Rattle.command.specs.Misuse.{at_equals, goes_before_value, misuse_in, part_of, wrong_part, wrong_word}
+use Rattle.command.specs.Misuse.{at_equals, part_of, wrong_part}
 
 -- `split_once` cuts a text at its first `=`
 pub at_equals_is : (text : List ℕ) (r : Option (Bor (List ℕ) × Bor (List ℕ))) → IsSplitOnceResult 61 text r

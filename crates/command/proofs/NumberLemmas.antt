@@ -1,5 +1,5 @@
 -- Which number a word spells.
-use Rattle.std.proofs.Common.{◌≡◌, ◌≤◌, ◌^◌, ◌&&◌, arith, is_some, sym, ℕ, Bool, true, false, List, [], ◌∷◌, length, Some, None, cond, refl, nat_lt}
+use Rattle.std.proofs.Common.{◌≡◌, ◌≤◌, ◌<◌, ◌^◌, ◌&&◌, arith, is_some, sym, ℕ, Bool, true, false, List, [], ◌∷◌, length, Some, None, cond, refl, nat_lt}
 use Rattle.std.specs.Prelude.{nat_le}
 use Rattle.std.specs.List.{list_all}
 use Rattle.std.specs.Char.{digit_value}
@@ -7,7 +7,9 @@ use Rattle.std.specs.Str.Parse.{AllDigits, IsNumeral, digits_value, without_lead
 use Rattle.std.proofs.lemmas.Bool.{lt-ltb, le-leb, leb-true, ltb-true, true≢false}
 use Rattle.clap.specs.ValueTests.{is_numeral, is_unsigned_in}
 use Rattle.clap.proofs.WalkLemmas.{both}
-use Rattle.command.specs.Words.{number_up_to, workers_of}
+use Rattle.command.specs.Count.{most_of, number_for, number_up_to}
+use Rattle.command.specs.declared.count.Count.{Count}
+use Rattle.command.specs.declared.count.Count.TheVariants.{Workers, Cycles, Binders}
 
 digits_pass : (ds : List ℕ) → AllDigits 10 ds → list_all (λ d. nat_lt (digit_value d) 10) ds ≡ true
 digits_pass [] h = refl
@@ -46,7 +48,7 @@ no_number most ds none = go (is_numeral ds && nat_le 1 (digits_value 10 ds) && n
         absurd (none (is_a_numeral ds front.0) (leb-true _ _ front.1) (leb-true _ _ parts.1))
     go false e = refl
 
--- a number of at most 64 fits 64 bits, so that a test of it says nothing more
+-- a number up to a limit that fits 64 bits fits them too, so that a test of it says nothing more
 same_tests : (n : ℕ) (numeral least limit fits : Bool) → (limit ≡ true → fits ≡ true)
     → is_some (cond (numeral && least && limit) (Some n) None) ≡ (numeral && (fits && (least && limit)))
 same_tests n false least limit fits small = refl
@@ -57,9 +59,15 @@ same_tests n true true false false small = refl
 same_tests n true true true true small = refl
 same_tests n true true true false small = absurd (true≢false (sym (small refl)))
 
--- a number of workers is one that `clap` reads as a whole number of that range
-pub read_as_by_clap : (word : List ℕ) → is_some (workers_of (Some word)) ≡ is_unsigned_in 1 64 word
-read_as_by_clap word =
+read_up_to : (most : ℕ) (word : List ℕ) → most < 2 ^ 64
+    → is_some (number_up_to most (without_leading_plus word)) ≡ is_unsigned_in 1 most word
+read_up_to most word small =
     let n = digits_value 10 (without_leading_plus word) in
-    same_tests n (is_numeral (without_leading_plus word)) (nat_le 1 n) (nat_le n 64) (nat_lt n (2 ^ 64))
-    (λ e. lt-ltb n (2 ^ 64) (omega (arith, leb-true n 64 e)))
+    same_tests n (is_numeral (without_leading_plus word)) (nat_le 1 n) (nat_le n most) (nat_lt n (2 ^ 64))
+    (λ e. lt-ltb n (2 ^ 64) (omega (arith, leb-true n most e)))
+
+-- an option's number is one that `clap` reads as a whole number of its range
+pub read_as_by_clap : (count : Count) (word : List ℕ) → is_some (number_for count (Some word)) ≡ is_unsigned_in 1 (most_of count) word
+read_as_by_clap Workers word = read_up_to 64 word (omega arith)
+read_as_by_clap Cycles word = read_up_to 8 word (omega arith)
+read_as_by_clap Binders word = read_up_to 8 word (omega arith)

@@ -1,7 +1,8 @@
 -- What words ask for at worked examples.
-use Rattle.std.specs.Prelude.{◌≡◌, ℕ, ◌^◌, List, [], ◌∷◌, map, codes, Some, None}
-use Rattle.command.specs.Words.{SpecSyntax, check, meaning, run}
-use Rattle.command.specs.declared.misuse.Misuse.TheVariants.{Command, Workers, Plugin, Together}
+use Rattle.std.specs.Prelude.{◌≡◌, ℕ, ◌^◌, true, false, List, [], ◌∷◌, map, codes, Some, None}
+use Rattle.command.specs.Words.{SpecSyntax, check, meaning, run, storm}
+use Rattle.command.specs.declared.count.Count.TheVariants.{Workers, Cycles, Binders}
+use Rattle.command.specs.declared.misuse.Misuse.TheVariants.{Command, Number, Plugin, Together}
 use Rattle.command.specs.declared.misuse.Part.TheVariants.{Spec, Name, Weight, Fuel}
 use Rattle.command.specs.Misuse.{misuse_of}
 
@@ -48,6 +49,22 @@ pub record WorkedExamples : Type 0 where
   pub one_name_twice : meaning (codes "run" ∷ codes "a:1:1:f" ∷ codes "a:2:2:g" ∷ []) ≡ None
   pub most_plugins : meaning (codes "run" ∷ words_of (codes "abcdefghijklmnop")) ≡ Some (run 1 (plugins_of (codes "abcdefghijklmnop")))
   pub too_many_plugins : meaning (codes "run" ∷ words_of (codes "abcdefghijklmnopq")) ≡ None
+  -- a storm
+  pub a_storm : meaning (codes "storm" ∷ []) ≡ Some (storm 2 2 false [])
+  pub most_threads : meaning (codes "storm" ∷ codes "--cycles" ∷ codes "8" ∷ codes "--binders=8" ∷ []) ≡ Some (storm 8 8 false [])
+  pub a_flaky_storm : meaning (codes "storm" ∷ codes "a:1:1:f" ∷ codes "--flaky" ∷ codes "--binders" ∷ codes "+1" ∷ codes "b:2:3:g" ∷ [])
+      ≡ Some (storm 2 1 true (plugin (codes "a") 1 1 (codes "f") ∷ plugin (codes "b") 2 3 (codes "g") ∷ []))
+  pub no_cycles : meaning (codes "storm" ∷ codes "--cycles=0" ∷ []) ≡ None
+  pub too_many_cycles : meaning (codes "storm" ∷ codes "--cycles=9" ∷ []) ≡ None
+  pub too_many_binders : meaning (codes "storm" ∷ codes "--binders" ∷ codes "9" ∷ []) ≡ None
+  pub cycles_twice : meaning (codes "storm" ∷ codes "--cycles=1" ∷ codes "--cycles=1" ∷ []) ≡ None
+  pub flaky_twice : meaning (codes "storm" ∷ codes "--flaky" ∷ codes "--flaky" ∷ []) ≡ None
+  pub flaky_with_a_value : meaning (codes "storm" ∷ codes "--flaky=true" ∷ []) ≡ None
+  pub workers_of_a_storm : meaning (codes "storm" ∷ codes "--workers" ∷ codes "1" ∷ []) ≡ None
+  pub cycles_of_a_run : meaning (codes "run" ∷ codes "--cycles" ∷ codes "1" ∷ []) ≡ None
+  pub a_flaky_run : meaning (codes "run" ∷ codes "--flaky" ∷ []) ≡ None
+  pub help_on_a_storm : meaning (codes "storm" ∷ codes "--help" ∷ []) ≡ None
+  pub one_name_twice_in_a_storm : meaning (codes "storm" ∷ codes "a:1:1:f" ∷ codes "a:2:2:g" ∷ []) ≡ None
   -- a module
   pub a_module : meaning (codes "check" ∷ codes "f" ∷ []) ≡ Some (check (codes "f"))
   pub behind_the_end : meaning (codes "check" ∷ codes "--" ∷ codes "-f" ∷ []) ≡ Some (check (codes "-f"))
@@ -63,17 +80,23 @@ pub record WorkedExamples : Type 0 where
   pub help_on_a_run : meaning (codes "run" ∷ codes "--help" ∷ []) ≡ None
   pub version : meaning (codes "--version" ∷ []) ≡ None
   pub end_of_options : meaning (codes "--" ∷ codes "run" ∷ []) ≡ None
-  pub another_command : meaning (codes "storm" ∷ []) ≡ None
+  pub another_command : meaning (codes "runs" ∷ []) ≡ None
   -- what is wrong with words
   pub of_nothing : misuse_of [] ≡ Command
   pub of_help : misuse_of (codes "--help" ∷ []) ≡ Command
   pub of_a_check : misuse_of (codes "check" ∷ []) ≡ Together
   pub of_two_names : misuse_of (codes "run" ∷ codes "a:1:1:f" ∷ codes "a:2:2:g" ∷ []) ≡ Together
-  pub of_workers : misuse_of (codes "run" ∷ codes "--workers" ∷ codes "65" ∷ []) ≡ Workers 3
-  pub of_workers_at_once : misuse_of (codes "run" ∷ codes "--workers=0" ∷ []) ≡ Workers 2
-  pub of_workers_missing : misuse_of (codes "run" ∷ codes "--workers" ∷ []) ≡ Workers 2
+  pub of_workers : misuse_of (codes "run" ∷ codes "--workers" ∷ codes "65" ∷ []) ≡ Number Workers 3
+  pub of_workers_at_once : misuse_of (codes "run" ∷ codes "--workers=0" ∷ []) ≡ Number Workers 2
+  pub of_workers_missing : misuse_of (codes "run" ∷ codes "--workers" ∷ []) ≡ Number Workers 2
   pub of_no_plugin : misuse_of (codes "run" ∷ codes "a:1:1" ∷ []) ≡ Plugin Spec 2
   pub of_another_option : misuse_of (codes "run" ∷ codes "--help" ∷ []) ≡ Plugin Spec 2
   pub of_a_name : misuse_of (codes "run" ∷ codes "--workers" ∷ codes "2" ∷ codes "a b:0:0:f" ∷ []) ≡ Plugin Name 4
   pub of_a_weight : misuse_of (codes "run" ∷ codes "b:1:1:f" ∷ codes "a:11:0:f" ∷ []) ≡ Plugin Weight 3
   pub of_fuel : misuse_of (codes "run" ∷ codes "a:1:+1:f" ∷ []) ≡ Plugin Fuel 2
+  pub of_cycles : misuse_of (codes "storm" ∷ codes "a:1:1:f" ∷ codes "--cycles" ∷ codes "9" ∷ []) ≡ Number Cycles 4
+  pub of_binders : misuse_of (codes "storm" ∷ codes "--flaky" ∷ codes "--binders=0" ∷ []) ≡ Number Binders 3
+  pub of_binders_missing : misuse_of (codes "storm" ∷ codes "--binders" ∷ []) ≡ Number Binders 2
+  pub of_flaky_twice : misuse_of (codes "storm" ∷ codes "--flaky" ∷ codes "--flaky" ∷ []) ≡ Together
+  pub of_workers_of_a_storm : misuse_of (codes "storm" ∷ codes "--workers=2" ∷ []) ≡ Plugin Spec 2
+  pub of_cycles_of_a_run : misuse_of (codes "run" ∷ codes "--cycles=2" ∷ []) ≡ Plugin Spec 2

@@ -1,4 +1,5 @@
 pub mod Fault
+pub mod Count
 pub mod Words
 pub mod Within
 pub mod Examples

@@ -1,17 +1,22 @@
--- What the program's words ask for: `run [--workers N] [SPEC]...`, where a SPEC is `NAME:WEIGHT:FUEL:FILE`, or `check MODULE`.
-use Rattle.std.specs.Prelude.{ℕ, ◌+◌, ◌==◌, ◌&&◌, nat_le, not, Bool, true, List, [], ◌∷◌, take, drop, length, map, codes, bytes_eq, Option, Some, None, option_map, option_and_then, unwrap_or, Result, Ok, Err, if◌then◌else◌}
+-- What the program's words ask for: `run [--workers N] [SPEC]...`, `storm [--cycles C] [--binders B] [--flaky] [SPEC]...`, where
+-- a SPEC is `NAME:WEIGHT:FUEL:FILE`, or `check MODULE`.
+use Rattle.std.specs.Prelude.{◌≡◌, ℕ, ◌+◌, ◌==◌, ◌&&◌, nat_le, not, Bool, true, false, List, [], ◌∷◌, take, drop, length, map, codes, bytes_eq, Option, Some, None, option_map, option_and_then, unwrap_or, Result, Ok, Err, if◌then◌else◌}
 use Rattle.std.specs.List.{list_any, position}
-use Rattle.std.specs.Str.Parse.{digits_value, without_leading_plus}
-use Rattle.clap.specs.declared.builder.action.ArgAction.TheVariants.{Set, Append}
+use Rattle.clap.specs.declared.builder.action.ArgAction.TheVariants.{Set, SetTrue, Append}
+use Rattle.clap.specs.declared.builder.command.Command.{Command}
+use Rattle.clap.specs.declared.builder.command.Command.TheViews.{out-Command}
 use Rattle.clap.specs.Simple.{App, on_top}
-use Rattle.clap.specs.ValueTests.{is_numeral}
 use Rattle.clap.specs.Words.{Row, Rule, Text, all_of, fault_of, first_of, new_app, new_rule, subcommand_of, with_rule, with_subcommand}
 use Rattle.quant.specs.Name.{is_name}
-use Rattle.quant.specs.declared.limits.TheConstants.{MAX_PLUGINS, MAX_WEIGHT, MAX_FUEL, MAX_WORKERS}
+use Rattle.quant.specs.declared.limits.TheConstants.{MAX_PLUGINS, MAX_WEIGHT, MAX_FUEL}
 use Rattle.command.specs.declared.asked.Plan.{Plan}
+use Rattle.command.specs.declared.asked.StormPlan.{StormPlan}
 use Rattle.command.specs.declared.asked.Spec.{Spec}
 use Rattle.command.specs.declared.asked.Words.{Words}
-use Rattle.command.specs.declared.asked.Words.TheVariants.{Run, Check}
+use Rattle.command.specs.declared.asked.Words.TheVariants.{Run, Storm, Check}
+use Rattle.command.specs.declared.count.Count.{Count}
+use Rattle.command.specs.declared.count.Count.TheVariants.{Workers, Cycles, Binders}
+use Rattle.command.specs.Count.{name_of, number_for, number_up_to}
 
 -- a plugin, as words configure it: its name, how often its score counts, how much fuel its start function and each of its calls
 -- have, and the file that its module is in
@@ -21,9 +26,11 @@ pub record SpecSyntax : Type 0 where
   pub fuel : ℕ
   pub file : List ℕ
 
--- what the program can be asked for: a run by so many workers with these plugins, or to check the module in the file of this name
+-- what the program can be asked for: a run by so many workers with these plugins, a storm of so many threads that run cycles and so
+-- many that bind pods, of which every third bind fails or not, or to check the module in the file of this name
 pub data Asked : Type 0 where
   run : (workers : ℕ) → (specs : List SpecSyntax) → Asked
+  storm : (cycles binders : ℕ) → (is_flaky : Bool) → (specs : List SpecSyntax) → Asked
   check : (file : List ℕ) → Asked
 
 -- the same, as the code has it
@@ -33,17 +40,15 @@ syntax_of spec = record { name = spec.name; weight = spec.weight; fuel = spec.fu
 abbrev pub planned : Plan → Asked
 planned plan = run plan.workers (map syntax_of plan.specs.items)
 
+abbrev pub storm_planned : StormPlan → Asked
+storm_planned plan = storm plan.cycles plan.binders plan.is_flaky (map syntax_of plan.specs.items)
+
 abbrev pub asked_of : Words → Asked
 asked_of (Run plan) = planned plan
+asked_of (Storm plan) = storm_planned plan
 asked_of (Check file) = check file.now
 
 -- ---- a plugin, as a word spells it
-
--- the number that decimal digits write, where it is from 1 to `most`
-abbrev pub number_up_to : (most : ℕ) → (digits : List ℕ) → Option ℕ
-number_up_to most digits =
-    if is_numeral digits && nat_le 1 (digits_value 10 digits) && nat_le (digits_value 10 digits) most
-    then Some (digits_value 10 digits) else None
 
 -- what stands before a text's first colon (58) and what behind it, where it has one
 unfoldable pub cut : List ℕ → Option (List ℕ × List ℕ)
@@ -85,29 +90,52 @@ specs_of words =
     then option_and_then (λ specs. if have_distinct_names specs then Some specs else None) (each spec_of words)
     else None
 
--- the number of workers: 1 to 64, with or without a plus before it, and 1 where none is told
-abbrev pub workers_of : Option (List ℕ) → Option ℕ
-workers_of None = Some 1
-workers_of (Some word) = number_up_to MAX_WORKERS (without_leading_plus word)
+-- the plugins that are asked for by what `clap` found behind a command
+abbrev pub specs_found : List Row → Option (List SpecSyntax)
+specs_found rows = specs_of (unwrap_or (all_of (codes "SPEC") rows) [])
 
--- the run that is asked for by what `clap` found behind `run`
+-- the number that an option asks for, or what it is without the option
+abbrev pub number_found : Count → List Row → Option ℕ
+number_found count rows = number_for count (first_of (name_of count) rows)
+
+-- a flag is told: `clap` keeps this text for one that is, and another for one that isn't
+abbrev pub is_told : Option Text → Bool
+is_told None = false
+is_told (Some text) = bytes_eq text (codes "true")
+
+-- the run that is asked for
 abbrev pub run_found : List Row → Option Asked
-run_found rows =
-    option_and_then (λ workers. option_map (run workers) (specs_of (unwrap_or (all_of (codes "SPEC") rows) [])))
-    (workers_of (first_of (codes "workers") rows))
+run_found rows = option_and_then (λ workers. option_map (run workers) (specs_found rows)) (number_found Workers rows)
+
+-- the storm that is asked for
+abbrev pub storm_found : List Row → Option Asked
+storm_found rows =
+    option_and_then (λ cycles. option_and_then (λ binders. option_map (storm cycles binders (is_told (first_of (codes "flaky") rows)))
+    (specs_found rows)) (number_found Binders rows)) (number_found Cycles rows)
 
 -- what is asked for by the command that `clap` found, and what it found behind it
 abbrev pub found : Option (Text × List Row) → Option Asked
 found None = None
 found (Some command) =
-    if bytes_eq command.0 (codes "run") then run_found command.1 else option_map check (first_of (codes "MODULE") command.1)
+    if bytes_eq command.0 (codes "run") then run_found command.1
+    else if bytes_eq command.0 (codes "storm") then storm_found command.1
+    else option_map check (first_of (codes "MODULE") command.1)
 
 -- ---- the words
 
--- the arguments of `run`: an option, told once at most and with one value, and any number of positionals
-abbrev pub workers_rule : Rule
-workers_rule = record (new_rule (codes "workers")) { long = Some (codes "workers"); action = Some Set }
+-- an option with one value, told once at most
+abbrev pub option_rule : Text → Rule
+option_rule name = record (new_rule name) { long = Some name; action = Some Set }
 
+-- an option without a value, told once at most
+abbrev pub flaky_rule : Rule
+flaky_rule = record (new_rule (codes "flaky")) { long = Some (codes "flaky"); action = Some SetTrue }
+
+-- none of a command's arguments is one of the commands below it too
+abbrev pub IsLocal : Command → Type 0
+IsLocal command = (out-Command command).has_globals ≡ false
+
+-- any number of plugins
 abbrev pub specs_rule : Rule
 specs_rule = record (new_rule (codes "SPEC")) { action = Some Append }
 
@@ -115,9 +143,13 @@ specs_rule = record (new_rule (codes "SPEC")) { action = Some Append }
 abbrev pub file_rule : Rule
 file_rule = record (new_rule (codes "MODULE")) { required = true }
 
--- the two commands
+-- the commands
 abbrev pub run_command : App
-run_command = with_rule (with_rule (new_app (codes "run")) workers_rule) specs_rule
+run_command = with_rule (with_rule (new_app (codes "run")) (option_rule (codes "workers"))) specs_rule
+
+abbrev pub storm_command : App
+storm_command =
+    with_rule (with_rule (with_rule (with_rule (new_app (codes "storm")) (option_rule (codes "cycles"))) (option_rule (codes "binders"))) flaky_rule) specs_rule
 
 abbrev pub check_command : App
 check_command = with_rule (new_app (codes "check")) file_rule
@@ -133,7 +165,7 @@ program = on_top (λ s. record s {
 
 -- the command line as `clap` sees it
 abbrev pub command_line : App
-command_line = with_subcommand (with_subcommand program run_command.top) check_command.top
+command_line = with_subcommand (with_subcommand (with_subcommand program run_command.top) storm_command.top) check_command.top
 
 -- `clap` takes the words for the command line
 abbrev pub are_taken : List (List ℕ) → Bool

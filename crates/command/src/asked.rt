@@ -24,11 +24,26 @@ pub struct Plan<'a> {
     pub specs: Vec<Spec<'a>>,
 }
 
+/// A storm, as the words ask for it.
+#[derive(Debug, PartialEq, Eq, Drop)]
+pub struct StormPlan<'a> {
+    /// How many threads run cycles, 1 to 8.
+    pub cycles: usize,
+    /// How many threads bind pods, 1 to 8.
+    pub binders: usize,
+    /// Whether every third bind of each of these fails.
+    pub is_flaky: bool,
+    /// The plugins in the order of the words, at most 16.
+    pub specs: Vec<Spec<'a>>,
+}
+
 /// What the program is asked to do.
 #[derive(Debug, PartialEq, Eq, Drop)]
 pub enum Words<'a> {
     /// To read a script from standard input, and to write the answers to standard output.
     Run(Plan<'a>),
+    /// To have many threads apply the lines of a script and place its pods at once, and to say whether the state is right then.
+    Storm(StormPlan<'a>),
     /// To say whether the module in the file of this name is accepted.
     Check(&'a str),
 }

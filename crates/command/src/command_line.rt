@@ -1,12 +1,14 @@
 //! What the program's words ask for.
-ghost use Rattle.std.specs.Prelude.{◌≡◌, Some, None, Err, true, false, map, IfOk};
-ghost use Rattle.clap.specs.Words.{app_of, found_of, rows_of, subcommand_of, subcommand_rows_of};
-ghost use Rattle.command.specs.Words.{are_taken, asked_of, command_line, found, meaning, planned, run_found};
-ghost use Rattle.command.specs.Within.{IsPlan, IsWithin};
+ghost use Rattle.std.specs.Prelude.{◌≡◌, ◌≤◌, Some, None, Err, true, false, map, option_map, IfErr, IfOk};
+ghost use Rattle.clap.specs.Words.{app_of, found_of, rows_of, rule_of, subcommand_of, subcommand_rows_of};
+ghost use Rattle.command.specs.Count.{most_of};
+ghost use Rattle.command.specs.Words.{IsLocal, are_taken, asked_of, command_line, found, is_told, meaning, number_found, option_rule, planned, run_command, run_found, specs_found, storm_command, storm_found, storm_planned, syntax_of};
+ghost use Rattle.command.specs.Within.{AreWithinLimits, IsPlan, IsStormPlan, IsWithin};
 
-use crate::asked::{Plan, Words};
+use crate::asked::{Plan, Spec, StormPlan, Words};
+use crate::count::{Count, number_for};
 use crate::fault::WordFault;
-use crate::plugin_words::{specs_of, workers_of};
+use crate::plugin_words::specs_of;
 use clap::error::ErrorKind;
 use clap::{Arg, ArgAction, ArgMatches, Command};
 use std::alloc::{AllocError, Global};
@@ -14,15 +16,47 @@ use std::convert::AsStr;
 use std::rt::Env;
 use std::{env, io};
 
-// The program's command line, as `clap` reads it: one of two commands is wanted.
+// An option with one value.
+fn option<'a>(alloc: Global, name: &'a str) -> Arg<'a>
+    ensures rule { rule_of result ≡ option_rule name.entry.now }
+    ensures local { result.global ≡ false }
+{
+    Arg::new(alloc, name).long(name).action(ArgAction::Set)
+}
+
+// The command `run`.
+fn run_command<'a>(alloc: Global) -> Result<Command<'a>, AllocError>
+    ensures shape { IfOk result (λ command. app_of command ≡ run_command) }
+    ensures local { IfOk result IsLocal }
+{
+    let specs = Arg::new(alloc, "SPEC").action(ArgAction::Append);
+    Command::new(alloc, "run")
+        .arg(option(alloc, "workers"))?
+        .arg(specs)
+}
+
+// The command `storm`.
+fn storm_command<'a>(alloc: Global) -> Result<Command<'a>, AllocError>
+    ensures shape { IfOk result (λ command. app_of command ≡ storm_command) }
+    ensures local { IfOk result IsLocal }
+{
+    let flaky = Arg::new(alloc, "flaky")
+        .long("flaky")
+        .action(ArgAction::SetTrue);
+    let specs = Arg::new(alloc, "SPEC").action(ArgAction::Append);
+    Command::new(alloc, "storm")
+        .arg(option(alloc, "cycles"))?
+        .arg(option(alloc, "binders"))?
+        .arg(flaky)?
+        .arg(specs)
+}
+
+// The program's command line, as `clap` reads it: one of its commands is wanted.
 fn command_line<'a>(alloc: Global) -> Result<Command<'a>, AllocError>
     ensures { IfOk result (λ command. app_of command ≡ command_line) }
 {
-    let workers = Arg::new(alloc, "workers")
-        .long("workers")
-        .action(ArgAction::Set);
-    let specs = Arg::new(alloc, "SPEC").action(ArgAction::Append);
-    let run = Command::new(alloc, "run").arg(workers)?.arg(specs)?;
+    let run = run_command(alloc)?;
+    let storm = storm_command(alloc)?;
     let file = Arg::new(alloc, "MODULE").required(true);
     let check = Command::new(alloc, "check").arg(file)?;
     Command::new(alloc, "wsched")
@@ -31,21 +65,69 @@ fn command_line<'a>(alloc: Global) -> Result<Command<'a>, AllocError>
         .disable_help_subcommand(true)
         .subcommand_required(true)
         .subcommand(run)?
+        .subcommand(storm)?
         .subcommand(check)
 }
 
-// The run that was found behind `run`.
+// The plugins that were found behind a command.
+fn specs_behind<'a>(alloc: Global, matches: &ArgMatches<'a>) -> Result<Vec<Spec<'a>>, WordFault>
+    ensures ok { IfOk result (λ specs. specs_found (rows_of (found_of matches.now)) ≡ Some (map syntax_of specs.items)) }
+    ensures refused { result ≡ Err WordFault.BadWords → specs_found (rows_of (found_of matches.now)) ≡ None }
+    ensures within { IfOk result (λ specs. AreWithinLimits specs.items) }
+{
+    let words = matches.get_raw("SPEC").unwrap_or([].as_slice());
+    specs_of(alloc, words)
+}
+
+// The number that an option behind a command asks for.
+//
+// Errors: `BadWords` where its word spells none.
+fn number_behind(matches: &ArgMatches<'_>, count: Count) -> Result<usize, WordFault>
+    ensures ok { IfOk result (λ number. number_found count (rows_of (found_of matches.now)) ≡ Some number) }
+    ensures refused { IfErr result (λ _. number_found count (rows_of (found_of matches.now)) ≡ None) }
+    ensures least { IfOk result (λ number. 1 ≤ number) }
+    ensures most { IfOk result (λ number. number ≤ most_of count) }
+{
+    match number_for(count, matches.get_str(count.name())) {
+        Some(number) => Ok(number),
+        None => Err(WordFault::BadWords),
+    }
+}
+
+// Whether a flag is told, for which `clap` keeps `true` or `false`.
+fn is_told(word: Option<&str>) -> bool
+    ensures { result ≡ is_told (option_map (λ s. s.now) word.entry) }
+{
+    match word {
+        Some(text) => text == "true",
+        None => false,
+    }
+}
+
+// The run that was found behind a command.
 fn plan_of<'a>(alloc: Global, matches: &ArgMatches<'a>) -> Result<Plan<'a>, WordFault>
     ensures ok { IfOk result (λ plan. run_found (rows_of (found_of matches.now)) ≡ Some (planned plan)) }
     ensures refused { result ≡ Err WordFault.BadWords → run_found (rows_of (found_of matches.now)) ≡ None }
     ensures within { IfOk result IsPlan }
 {
-    let Some(workers) = workers_of(matches.get_str("workers")) else {
-        return Err(WordFault::BadWords);
-    };
-    let words = matches.get_raw("SPEC").unwrap_or([].as_slice());
-    let specs = specs_of(alloc, words)?;
-    Ok(Plan { workers, specs })
+    Ok(Plan {
+        workers: number_behind(matches, Count::Workers)?,
+        specs: specs_behind(alloc, matches)?,
+    })
+}
+
+// The storm that was found behind a command.
+fn storm_of<'a>(alloc: Global, matches: &ArgMatches<'a>) -> Result<StormPlan<'a>, WordFault>
+    ensures ok { IfOk result (λ plan. storm_found (rows_of (found_of matches.now)) ≡ Some (storm_planned plan)) }
+    ensures refused { result ≡ Err WordFault.BadWords → storm_found (rows_of (found_of matches.now)) ≡ None }
+    ensures within { IfOk result IsStormPlan }
+{
+    Ok(StormPlan {
+        cycles: number_behind(matches, Count::Cycles)?,
+        binders: number_behind(matches, Count::Binders)?,
+        is_flaky: is_told(matches.get_str("flaky")),
+        specs: specs_behind(alloc, matches)?,
+    })
 }
 
 // The command that was found.
@@ -59,6 +141,9 @@ fn words_of<'a>(alloc: Global, matches: &ArgMatches<'a>) -> Result<Words<'a>, Wo
     };
     if name == "run" {
         return Ok(Words::Run(plan_of(alloc, behind)?));
+    }
+    if name == "storm" {
+        return Ok(Words::Storm(storm_of(alloc, behind)?));
     }
     match behind.get_str("MODULE") {
         Some(file) => Ok(Words::Check(file)),
@@ -84,9 +169,10 @@ fn found_in<'a, S: AsStr>(alloc: Global, args: &'a [S]) -> Result<ArgMatches<'a>
     }
 }
 
-/// Reads the words that follow the program's name: `run [--workers N] [SPEC]...` or `check MODULE`.
+/// Reads the words that follow the program's name: `run [--workers N] [SPEC]...`,
+/// `storm [--cycles C] [--binders B] [--flaky] [SPEC]...` or `check MODULE`.
 ///
-/// N is a whole number from 1 to 64, and 1 where it isn't told. A SPEC is `NAME:WEIGHT:FUEL:FILE`,
+/// N is a whole number from 1 to 64, and 1 where it isn't told; C and B are from 1 to 8, and 2 where they aren't. A SPEC is `NAME:WEIGHT:FUEL:FILE`,
 /// cut at its first three colons: a name of its own, a weight from 1 to 10 and fuel from 1 to 10^9 in
 /// digits alone, and a file. There are at most 16. A `--` ends the options. No command, and a request
 /// for help or for the version, are bad words.

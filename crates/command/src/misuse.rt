@@ -1,8 +1,9 @@
 //! What is wrong with words that ask for nothing, told to whoever wrote them.
-ghost use Rattle.std.specs.Prelude.{◌≡◌, ◌<◌, length, map, drop, false, option_map};
-ghost use Rattle.command.specs.Misuse.{at_equals, misuse_in, misuse_of, part_of, wrong_part, wrong_plugin, wrong_word, wrong_workers};
+ghost use Rattle.std.specs.Prelude.{◌≡◌, ◌<◌, length, map, drop, None, option_map};
+ghost use Rattle.command.specs.Misuse.{at_end, at_equals, awaited_behind, count_named, is_option, misuse_in, misuse_of, part_of, wrong_count, wrong_part, wrong_plugin, wrong_word};
 
-use crate::plugin_words::{cut, digits_up_to, workers_of};
+use crate::count::{Count, number_for};
+use crate::plugin_words::{cut, digits_up_to};
 use quant::{MAX_FUEL, MAX_WEIGHT, Name};
 use std::convert::AsStr;
 use thiserror::Error;
@@ -30,9 +31,9 @@ pub enum Misuse {
     /// The first word is no command, or there is none.
     #[error(" COMMAND")]
     Command,
-    /// The word of this number is no number of workers, or it asks for one and is the last.
-    #[error(" N of word {0}")]
-    Workers(usize),
+    /// The word of this number is none for this option, or it is the option and the last word.
+    #[error(" {0} of word {1}")]
+    Number(Count, usize),
     /// This part of the word of this number isn't that of a plugin.
     #[error(" {0} of word {1}")]
     Plugin(Part, usize),
@@ -80,14 +81,34 @@ fn at_equals(text: &str) -> Option<(&str, &str)>
     text.split_once('=')
 }
 
-// What is wrong with a number of workers, in the word of this number.
-fn wrong_workers(number: usize, value: &str) -> Option<Misuse>
-    ensures { result ≡ wrong_workers number value.now }
+// The number that an option of a storm, or of a run, asks for.
+fn count_named(is_storm: bool, option: &str) -> Option<Count>
+    ensures { result ≡ count_named is_storm option.now }
 {
-    if workers_of(Some(value)).is_some() {
+    if is_storm {
+        if option == "--cycles" {
+            return Some(Count::Cycles);
+        }
+        return (option == "--binders").then_some(Count::Binders);
+    }
+    (option == "--workers").then_some(Count::Workers)
+}
+
+// Whether a word is an option, whose value is the next word or which has none, or ends the options.
+fn is_option(is_storm: bool, word: &str) -> bool
+    ensures { result ≡ is_option is_storm word.now }
+{
+    count_named(is_storm, word).is_some() || word == "--" || (is_storm && word == "--flaky")
+}
+
+// What is wrong with an option's number, in the word of this number.
+fn wrong_count(number: usize, count: Count, value: &str) -> Option<Misuse>
+    ensures { result ≡ wrong_count number count value.now }
+{
+    if number_for(count, Some(value)).is_some() {
         None
     } else {
-        Some(Misuse::Workers(number))
+        Some(Misuse::Number(count, number))
     }
 }
 
@@ -101,48 +122,60 @@ fn wrong_plugin(number: usize, word: &str) -> Option<Misuse>
     }
 }
 
-// What is wrong with the word of this number behind `run`, which is the option's value or not.
+// What is wrong with the word of this number behind a command, which is the value of an option or not.
 #[tactic(auto, unfolding(crate::specs::Misuse::wrong_word))]
-fn wrong_word(number: usize, is_value: bool, word: &str) -> Option<Misuse>
-    ensures { result ≡ wrong_word number is_value word.now }
+fn wrong_word(is_storm: bool, number: usize, awaited: Option<Count>, word: &str) -> Option<Misuse>
+    ensures { result ≡ wrong_word is_storm number awaited word.now }
 {
-    if is_value {
-        return wrong_workers(number, word);
+    if let Some(count) = awaited {
+        return wrong_count(number, count, word);
     }
-    if word == "--workers" {
-        return None;
-    }
-    if word == "--" {
+    if is_option(is_storm, word) {
         return None;
     }
     let Some((name, value)) = at_equals(word) else {
         return wrong_plugin(number, word);
     };
-    if name == "--workers" {
-        wrong_workers(number, value)
-    } else {
-        wrong_plugin(number, word)
+    match count_named(is_storm, name) {
+        Some(count) => wrong_count(number, count, value),
+        None => wrong_plugin(number, word),
     }
 }
 
-// What is wrong with the words behind `run`, which is the first.
-fn misuse_of_run<S: AsStr>(args: &[S]) -> Misuse
-    requires { 0 < length args.now }
-    ensures { result ≡ misuse_in 2 false (map S.text (drop 1 args.now)) }
+// The option of which the next word is the value.
+fn awaited_behind(is_storm: bool, awaited: Option<Count>, word: &str) -> Option<Count>
+    ensures { result ≡ awaited_behind is_storm awaited word.now }
 {
-    let mut is_value = false;
+    match awaited {
+        Some(_) => None,
+        None => count_named(is_storm, word),
+    }
+}
+
+// What is wrong where each word may stand where it does, the last of which has this number.
+fn at_end(number: usize, awaited: Option<Count>) -> Misuse
+    ensures { result ≡ at_end number awaited }
+{
+    match awaited {
+        Some(count) => Misuse::Number(count, number),
+        None => Misuse::Together,
+    }
+}
+
+// What is wrong with the words behind a command, which is the first.
+fn misuse_behind<S: AsStr>(is_storm: bool, args: &[S]) -> Misuse
+    requires { 0 < length args.now }
+    ensures { result ≡ misuse_in is_storm 2 None (map S.text (drop 1 args.now)) }
+{
+    let mut awaited = None;
     for at in 1..args.len() {
         let word = args[at].as_str();
-        if let Some(misuse) = wrong_word(at + 1, is_value, word) {
+        if let Some(misuse) = wrong_word(is_storm, at + 1, awaited, word) {
             return misuse;
         }
-        is_value = !is_value && word == "--workers";
+        awaited = awaited_behind(is_storm, awaited, word);
     }
-    if is_value {
-        Misuse::Workers(args.len())
-    } else {
-        Misuse::Together
-    }
+    at_end(args.len(), awaited)
 }
 
 /// What is wrong with words that ask for nothing: the first that can't stand where it does.
@@ -156,7 +189,10 @@ pub fn misuse_of<S: AsStr>(args: &[S]) -> Misuse
         return Misuse::Command;
     };
     if command.as_str() == "run" {
-        return misuse_of_run(args);
+        return misuse_behind(false, args);
+    }
+    if command.as_str() == "storm" {
+        return misuse_behind(true, args);
     }
     if command.as_str() == "check" {
         return Misuse::Together;

@@ -1,27 +1,15 @@
-//! A plugin, as a word spells it, and the plugins and the number of workers of a run.
+//! A plugin, as a word spells it, and the plugins that words spell.
 ghost use Rattle.std.specs.Prelude.{◌≡◌, ◌≤◌, length, map, Some, None, Err, bytes_eq, option_map, IfOk, IfSome};
 ghost use Rattle.std.specs.List.{All, list_any};
 ghost use Rattle.std.specs.Str.Parse.{without_leading_plus};
-ghost use Rattle.quant.specs.declared.limits.TheConstants.{MAX_PLUGINS, MAX_WORKERS};
-ghost use Rattle.command.specs.Words.{cut, each, have_distinct_names, number_up_to, spec_from, spec_of, specs_of, syntax_of, workers_of};
-ghost use Rattle.command.specs.Within.{IsWithinLimits, HaveDistinctNames};
+ghost use Rattle.command.specs.Count.{number_up_to};
+ghost use Rattle.command.specs.Words.{cut, each, have_distinct_names, spec_from, spec_of, specs_of, syntax_of};
+ghost use Rattle.command.specs.Within.{AreWithinLimits, IsWithinLimits};
 
 use crate::asked::Spec;
 use crate::fault::WordFault;
-use quant::{MAX_FUEL, MAX_PLUGINS, MAX_WEIGHT, MAX_WORKERS, Name};
+use quant::{MAX_FUEL, MAX_PLUGINS, MAX_WEIGHT, Name};
 use std::alloc::Global;
-
-/// The number of workers that the word behind `--workers` spells, and 1 where there is none.
-pub fn workers_of(word: Option<&str>) -> Option<usize>
-    ensures value { result ≡ workers_of (option_map (λ s. s.now) word.entry) }
-    ensures least { IfSome result (λ workers. 1 ≤ workers) }
-    ensures most { IfSome result (λ workers. workers ≤ MAX_WORKERS) }
-{
-    match word {
-        Some(word) => Some(number_up_to(word, MAX_WORKERS as u64)? as usize),
-        None => Some(1),
-    }
-}
 
 /// The plugins that these words spell, in their order.
 ///
@@ -30,9 +18,7 @@ pub fn workers_of(word: Option<&str>) -> Option<usize>
 pub fn specs_of<'a>(alloc: Global, words: &[&'a str]) -> Result<Vec<Spec<'a>>, WordFault>
     ensures ok { IfOk result (λ specs. specs_of (map (λ s. s.now) words.now) ≡ Some (map syntax_of specs.items)) }
     ensures refused { result ≡ Err WordFault.BadWords → specs_of (map (λ s. s.now) words.now) ≡ None }
-    ensures most { IfOk result (λ specs. length specs.items ≤ MAX_PLUGINS) }
-    ensures limits { IfOk result (λ specs. All IsWithinLimits specs.items) }
-    ensures names { IfOk result (λ specs. HaveDistinctNames specs.items) }
+    ensures within { IfOk result (λ specs. AreWithinLimits specs.items) }
 {
     if words.len() > MAX_PLUGINS {
         return Err(WordFault::BadWords);
@@ -127,8 +113,8 @@ pub(crate) fn digits_up_to(text: &str, most: u64) -> Option<u64>
     number_up_to(text, most)
 }
 
-// The number from 1 to `most` that a text spells: digits, before which a plus may stand.
-fn number_up_to(text: &str, most: u64) -> Option<u64>
+/// The number from 1 to `most` that a text spells: digits, before which a plus may stand.
+pub(crate) fn number_up_to(text: &str, most: u64) -> Option<u64>
     ensures value { result ≡ number_up_to most (without_leading_plus text.now) }
     ensures least { IfSome result (λ number. 1 ≤ number) }
     ensures most { IfSome result (λ number. number ≤ most) }

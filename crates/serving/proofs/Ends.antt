@@ -21,21 +21,21 @@ use Rattle.serving.proofs.SiteOutput.{site_done, site_front, site_line, done_fro
 -- ---- what is told of failures
 
 -- what is so where a fault is told, besides that it is
-abbrev pub Besides : (NotBegun : Type 0) → (source out : DeviceUse) → Fault → Type 0
-Besides NotBegun source out (Run run_fault.NoPlace) = source.IsUntouched × out.IsUntouched × (source.failures_new ≡ source.failures_old) × (out.failures_new ≡ out.failures_old)
-Besides NotBegun source out (Run run_fault.Read) = (NotBegun × source.IsUntouched × out.IsUntouched) ⊎ (source.failures_old < source.failures_new)
-Besides NotBegun source out (Run run_fault.Write) = out.failures_old < out.failures_new
-Besides NotBegun source out (Run run_fault.NoMemory) = (source.failures_new ≡ source.failures_old) × (out.failures_new ≡ out.failures_old)
-Besides NotBegun source out (Run (run_fault.Line number why)) = (source.failures_new ≡ source.failures_old) × (out.failures_new ≡ out.failures_old)
-Besides NotBegun source out (Plugin name why) = (source.failures_new ≡ source.failures_old) × (out.failures_new ≡ out.failures_old)
-Besides NotBegun source out (Misused why) = (source.failures_new ≡ source.failures_old) × (out.failures_new ≡ out.failures_old)
-Besides NotBegun source out (Words why) = (source.failures_new ≡ source.failures_old) × (out.failures_new ≡ out.failures_old)
+abbrev pub Besides : (Unread NotBegun : Type 0) → (source out : DeviceUse) → Fault → Type 0
+Besides Unread NotBegun source out (Run run_fault.NoPlace) = Unread × out.IsUntouched × (source.failures_new ≡ source.failures_old) × (out.failures_new ≡ out.failures_old)
+Besides Unread NotBegun source out (Run run_fault.Read) = (NotBegun × source.IsUntouched × out.IsUntouched) ⊎ (source.failures_old < source.failures_new)
+Besides Unread NotBegun source out (Run run_fault.Write) = out.failures_old < out.failures_new
+Besides Unread NotBegun source out (Run run_fault.NoMemory) = (source.failures_new ≡ source.failures_old) × (out.failures_new ≡ out.failures_old)
+Besides Unread NotBegun source out (Run (run_fault.Line number why)) = (source.failures_new ≡ source.failures_old) × (out.failures_new ≡ out.failures_old)
+Besides Unread NotBegun source out (Plugin name why) = (source.failures_new ≡ source.failures_old) × (out.failures_new ≡ out.failures_old)
+Besides Unread NotBegun source out (Misused why) = (source.failures_new ≡ source.failures_old) × (out.failures_new ≡ out.failures_old)
+Besides Unread NotBegun source out (Words why) = (source.failures_new ≡ source.failures_old) × (out.failures_new ≡ out.failures_old)
 
-module _ (NotBegun : Type 0) (source out err : DeviceUse) (ended : ℕ) where
+module _ (Unread NotBegun : Type 0) (source out err : DeviceUse) (ended : ℕ) where
   -- a fault that leaves the devices' failures as they were is told
   kept : (n : ℕ) → ended ≡ n → n ≢ 0 → n ≢ 4 → (n ≡ 3 → TellsFault err (Run run_fault.NoMemory)
-      ⊎ (TellsFault err (Run run_fault.NoPlace) × source.IsUntouched × out.IsUntouched))
-      → (source.failures_new ≡ source.failures_old) × (out.failures_new ≡ out.failures_old) → TellsFailures NotBegun source out err ended
+      ⊎ (TellsFault err (Run run_fault.NoPlace) × Unread × out.IsUntouched))
+      → (source.failures_new ≡ source.failures_old) × (out.failures_new ≡ out.failures_old) → TellsFailures Unread NotBegun source out err ended
   kept n is some other room same = record {
     quiet = λ e. absurd (some (sym is ∙ e));
     room = λ e. room (sym is ∙ e);
@@ -44,7 +44,7 @@ module _ (NotBegun : Type 0) (source out err : DeviceUse) (ended : ℕ) where
   }
 
   -- a fault is told
-  pub told : (fault : Fault) → ended ≡ status_of fault → TellsFault err fault → Besides NotBegun source out fault → TellsFailures NotBegun source out err ended
+  pub told : (fault : Fault) → ended ≡ status_of fault → TellsFault err fault → Besides Unread NotBegun source out fault → TellsFailures Unread NotBegun source out err ended
   told (Words word_fault.BadWords) is tells besides = kept 2 is (λ e. omega (arith, e)) (λ e. omega (arith, e)) (λ e. absurd (omega (arith, e))) besides
   told (Words word_fault.NoMemory) is tells besides =
       kept 3 is (λ e. omega (arith, e)) (λ e. omega (arith, e)) (λ _. inl (rw no_memory_told at tells)) besides
@@ -68,7 +68,7 @@ module _ (NotBegun : Type 0) (source out err : DeviceUse) (ended : ℕ) where
   }
 
   -- all was done
-  pub nothing_told : ended ≡ 0 → err.IsUntouched → source.failures_new ≡ source.failures_old → out.failures_new ≡ out.failures_old → TellsFailures NotBegun source out err ended
+  pub nothing_told : ended ≡ 0 → err.IsUntouched → source.failures_new ≡ source.failures_old → out.failures_new ≡ out.failures_old → TellsFailures Unread NotBegun source out err ended
   nothing_told is quiet reads writes = record {
     quiet = λ _. quiet;
     room = λ e. absurd (omega (arith, is, e));
@@ -77,15 +77,15 @@ module _ (NotBegun : Type 0) (source out err : DeviceUse) (ended : ℕ) where
   }
 
 -- what is so besides where a run ends early
-pub besides_run : {T : Type 0} (NotBegun : Type 0) (rules : RuleSet) (names : List Name) (source out : DeviceUse) (fault : RunFault)
-    → IsRun {T = T} rules names source out (Err fault) → (fault ≡ run_fault.NoPlace → source.IsUntouched × out.IsUntouched) → Besides NotBegun source out (Run fault)
-besides_run NotBegun rules names source out (run_fault.Line number why) run none = (run.read_told (λ e. cc), run.write_told (λ e. cc))
-besides_run NotBegun rules names source out run_fault.NoMemory run none = (run.read_told (λ e. cc), run.write_told (λ e. cc))
-besides_run NotBegun rules names source out run_fault.NoPlace run none =
+pub besides_run : {T : Type 0} (Unread NotBegun : Type 0) (rules : RuleSet) (names : List Name) (source out : DeviceUse) (fault : RunFault)
+    → IsRun {T = T} rules names source out (Err fault) → (fault ≡ run_fault.NoPlace → Unread × out.IsUntouched) → Besides Unread NotBegun source out (Run fault)
+besides_run Unread NotBegun rules names source out (run_fault.Line number why) run none = (run.read_told (λ e. cc), run.write_told (λ e. cc))
+besides_run Unread NotBegun rules names source out run_fault.NoMemory run none = (run.read_told (λ e. cc), run.write_told (λ e. cc))
+besides_run Unread NotBegun rules names source out run_fault.NoPlace run none =
     let untouched = none refl in
     (untouched.0, untouched.1, run.read_told (λ e. cc), run.write_told (λ e. cc))
-besides_run NotBegun rules names source out run_fault.Read run none = inr (run.read refl)
-besides_run NotBegun rules names source out run_fault.Write run none = run.write refl
+besides_run Unread NotBegun rules names source out run_fault.Read run none = inr (run.read refl)
+besides_run Unread NotBegun rules names source out run_fault.Write run none = run.write refl
 
 -- ---- what is done
 
@@ -100,7 +100,7 @@ plugin_status name bytes (Run run_fault.Read) why_not = absurd why_not
 plugin_status name bytes (Run run_fault.Write) why_not = absurd why_not
 plugin_status name bytes (Run run_fault.NoPlace) why_not = absurd why_not
 
-site_status : (specs : List SpecSyntax) (modules : List (List ℕ)) (fault : Fault) → WhyNoSite specs modules fault → (status_of fault ≡ 1) ⊎ (fault ≡ Run run_fault.NoMemory)
+pub site_status : (specs : List SpecSyntax) (modules : List (List ℕ)) (fault : Fault) → WhyNoSite specs modules fault → (status_of fault ≡ 1) ⊎ (fault ≡ Run run_fault.NoMemory)
 site_status specs modules fault (inl memory) = inr memory
 site_status specs modules fault (inr (inl refused)) = plugin_status refused.spec.name refused.bytes fault refused.why
 site_status specs modules fault (inr (inr refused)) = by refused.none.told
@@ -110,23 +110,23 @@ site_status specs modules fault (inr (inr refused)) = by refused.none.told
     by (inr (is, plugin)) = inl (ap status_of plugin)
 
 -- then the devices' failures are as they were
-besides_no_site : (NotBegun : Type 0) (source out : DeviceUse) (fault : Fault) → (status_of fault ≡ 1) ⊎ (fault ≡ Run run_fault.NoMemory)
-    → source.failures_new ≡ source.failures_old → out.failures_new ≡ out.failures_old → Besides NotBegun source out fault
-besides_no_site NotBegun source out fault (inr memory) reads writes = subst (Besides NotBegun source out) (sym memory) (reads, writes)
-besides_no_site NotBegun source out (Words why) (inl one) reads writes = (reads, writes)
-besides_no_site NotBegun source out (Misused why) (inl one) reads writes = (reads, writes)
-besides_no_site NotBegun source out (Plugin name why) (inl one) reads writes = (reads, writes)
-besides_no_site NotBegun source out (Run (run_fault.Line number why)) (inl one) reads writes = (reads, writes)
-besides_no_site NotBegun source out (Run run_fault.NoMemory) (inl one) reads writes = (reads, writes)
-besides_no_site NotBegun source out (Run run_fault.Read) (inl one) reads writes = absurd (omega (arith, one))
-besides_no_site NotBegun source out (Run run_fault.Write) (inl one) reads writes = absurd (omega (arith, one))
-besides_no_site NotBegun source out (Run run_fault.NoPlace) (inl one) reads writes = absurd (omega (arith, one))
+besides_no_site : (Unread NotBegun : Type 0) (source out : DeviceUse) (fault : Fault) → (status_of fault ≡ 1) ⊎ (fault ≡ Run run_fault.NoMemory)
+    → source.failures_new ≡ source.failures_old → out.failures_new ≡ out.failures_old → Besides Unread NotBegun source out fault
+besides_no_site Unread NotBegun source out fault (inr memory) reads writes = subst (Besides Unread NotBegun source out) (sym memory) (reads, writes)
+besides_no_site Unread NotBegun source out (Words why) (inl one) reads writes = (reads, writes)
+besides_no_site Unread NotBegun source out (Misused why) (inl one) reads writes = (reads, writes)
+besides_no_site Unread NotBegun source out (Plugin name why) (inl one) reads writes = (reads, writes)
+besides_no_site Unread NotBegun source out (Run (run_fault.Line number why)) (inl one) reads writes = (reads, writes)
+besides_no_site Unread NotBegun source out (Run run_fault.NoMemory) (inl one) reads writes = (reads, writes)
+besides_no_site Unread NotBegun source out (Run run_fault.Read) (inl one) reads writes = absurd (omega (arith, one))
+besides_no_site Unread NotBegun source out (Run run_fault.Write) (inl one) reads writes = absurd (omega (arith, one))
+besides_no_site Unread NotBegun source out (Run run_fault.NoPlace) (inl one) reads writes = absurd (omega (arith, one))
 
 -- and why there is none is told
-pub no_site_told : (NotBegun : Type 0) (source out err : DeviceUse) (ended : ℕ) (specs : List SpecSyntax) (modules : List (List ℕ)) (fault : Fault) → WhyNoSite specs modules fault
-    → ended ≡ status_of fault → TellsFault err fault → source.failures_new ≡ source.failures_old → out.failures_new ≡ out.failures_old → TellsFailures NotBegun source out err ended
-no_site_told NotBegun source out err ended specs modules fault why is tells reads writes =
-    told NotBegun source out err ended fault is tells (besides_no_site NotBegun source out fault (site_status specs modules fault why) reads writes)
+pub no_site_told : (Unread NotBegun : Type 0) (source out err : DeviceUse) (ended : ℕ) (specs : List SpecSyntax) (modules : List (List ℕ)) (fault : Fault) → WhyNoSite specs modules fault
+    → ended ≡ status_of fault → TellsFault err fault → source.failures_new ≡ source.failures_old → out.failures_new ≡ out.failures_old → TellsFailures Unread NotBegun source out err ended
+no_site_told Unread NotBegun source out err ended specs modules fault why is tells reads writes =
+    told Unread NotBegun source out err ended fault is tells (besides_no_site Unread NotBegun source out fault (site_status specs modules fault why) reads writes)
 
 module _ (AreGiven : List (List ℕ) → Type 0) (specs : List SpecSyntax) (source out err : DeviceUse) (ended : ℕ) where
   -- nothing was begun
@@ -227,8 +227,8 @@ run_given A B specs source out err ended weaker run = record {
     front (inl untouched) = inl untouched
     front (inr (modules, given, begins)) = inr (modules, weaker modules given, begins)
 
-pub failures_given : (A B : Type 0) (source out err : DeviceUse) (ended : ℕ) → (A → B) → TellsFailures A source out err ended → TellsFailures B source out err ended
-failures_given A B source out err ended weaker failures = record {
+pub failures_given : (Unread A B : Type 0) (source out err : DeviceUse) (ended : ℕ) → (A → B) → TellsFailures Unread A source out err ended → TellsFailures Unread B source out err ended
+failures_given Unread A B source out err ended weaker failures = record {
   quiet = failures.quiet;
   room = failures.room;
   failed = λ e. by (failures.failed e);

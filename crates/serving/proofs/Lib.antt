@@ -7,3 +7,4 @@ pub mod Texts
 pub mod Sites
 pub mod SiteOutput
 pub mod SameSite
+pub mod StormEnds

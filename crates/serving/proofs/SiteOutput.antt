@@ -1,12 +1,12 @@
 -- What is written for a site is written by one of its kits.
-use Rattle.std.proofs.Common.{◌≡◌, ℕ, ◌≤◌, List, [], ◌∷◌, Option, Some, None, IfSome, refl, sym, ap, ◌∙◌, arith}
+use Rattle.std.proofs.Common.{◌≡◌, ℕ, Bool, ◌≤◌, List, [], ◌∷◌, Option, Some, None, IfSome, refl, sym, ap, ◌∙◌, arith}
 use Rattle.std.proofs.lemmas.List.Elements.{All-head}
 use Rattle.quant.specs.declared.name.Name.{Name}
 use Rattle.manifest.specs.declared.fault.LineFault.{LineFault}
 use Rattle.plugin.specs.Kit.{Ready, IsKitOf, rules_of}
 use Rattle.fleet.specs.Team as team
 use Rattle.engine.specs.Output.{first_fault, WritesOutput, WritesFront}
-use Rattle.command.specs.Words.{SpecSyntax, Asked, run, check}
+use Rattle.command.specs.Words.{SpecSyntax, Asked, run, storm, check}
 use Rattle.serving.specs.Site.{AreSiteKits, IsSiteKit, WritesSiteOutput, WritesSiteFront, names_of}
 use Rattle.serving.proofs.Quiet.{output_front}
 
@@ -64,8 +64,22 @@ site_line specs modules workers kits names some are named (Some script) old new 
 abbrev specs_in : Option Asked → List SpecSyntax
 specs_in None = []
 specs_in (Some (run workers specs)) = specs
+specs_in (Some (storm cycles binders is_flaky specs)) = specs
 specs_in (Some (check file)) = []
 
 -- the plugins of a run that words ask for are those of the run that they were read as
 pub same_specs : (asked : Option Asked) (workers other : ℕ) (specs others : List SpecSyntax) → asked ≡ Some (run workers specs) → asked ≡ Some (run other others) → specs ≡ others
 same_specs asked workers other specs others one two = ap specs_in (sym one ∙ two)
+
+-- what a storm has
+abbrev threads_in : Option Asked → ℕ × ℕ
+threads_in None = (0, 0)
+threads_in (Some (run workers specs)) = (0, 0)
+threads_in (Some (storm cycles binders is_flaky specs)) = (cycles, binders)
+threads_in (Some (check file)) = (0, 0)
+
+-- a storm that words ask for is the one that they were read as
+pub same_storm : (asked : Option Asked) (cycles others binders other : ℕ) (flaky one : Bool) (specs these : List SpecSyntax) → asked ≡ Some (storm cycles binders flaky specs)
+    → asked ≡ Some (storm others other one these) → (cycles ≡ others) × (binders ≡ other) × (specs ≡ these)
+same_storm asked cycles others binders other flaky one specs these first second =
+    (ap (λ (a : Option Asked). (threads_in a).0) (sym first ∙ second), ap (λ (a : Option Asked). (threads_in a).1) (sym first ∙ second), ap specs_in (sym first ∙ second))

@@ -4,5 +4,6 @@ pub mod Message
 pub mod Refusal
 pub mod Run
 pub mod Site
+pub mod Storm
 pub mod Text
 pub mod Verdict

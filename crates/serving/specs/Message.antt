@@ -17,6 +17,8 @@ use Rattle.command.specs.declared.fault.WordFault.TheVariants.{BadWords}
 use Rattle.command.specs.declared.misuse.Misuse.{Misuse}
 use Rattle.command.specs.declared.misuse.Misuse.TheVariants as misuse
 use Rattle.command.specs.declared.misuse.Part.{Part}
+use Rattle.command.specs.declared.count.Count.{Count}
+use Rattle.command.specs.declared.count.Count.TheVariants as count
 use Rattle.command.specs.declared.misuse.Part.TheVariants as part
 use Rattle.serving.specs.declared.faults.Fault.TheVariants.{Words, Misused, Plugin, Run}
 
@@ -44,16 +46,22 @@ part_name part.Name = codes "NAME"
 part_name part.Weight = codes "WEIGHT"
 part_name part.Fuel = codes "FUEL"
 
+-- the number that an option asks for, as the usage names it
+abbrev pub count_letter : Count → List ℕ
+count_letter count.Workers = codes "N"
+count_letter count.Cycles = codes "C"
+count_letter count.Binders = codes "B"
+
 -- what is wrong with words, behind the fault's name
 unfoldable pub misuse_text : Misuse → List ℕ
 misuse_text misuse.Command = codes " COMMAND"
-misuse_text (misuse.Workers number) = codes " N of word " ++ decimal number
+misuse_text (misuse.Number count number) = codes " " ++ count_letter count ++ codes " of word " ++ decimal number
 misuse_text (misuse.Plugin part number) = codes " " ++ part_name part ++ codes " of word " ++ decimal number
 misuse_text misuse.Together = []
 
 -- what the words may be
 abbrev pub usage : List ℕ
-usage = codes "; usage: wsched run [--workers N] [NAME:WEIGHT:FUEL:FILE]... or wsched check MODULE"
+usage = codes "; usage: wsched run [--workers N] [SPEC]... or wsched storm [--cycles C] [--binders B] [--flaky] [SPEC]... or wsched check MODULE; a SPEC is NAME:WEIGHT:FUEL:FILE"
 
 -- why the program ended early
 abbrev pub text_of : Fault → List ℕ

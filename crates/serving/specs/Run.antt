@@ -32,13 +32,14 @@ pub record IsSiteRun (AreGiven : List (List ℕ) → Type 0) (specs : List SpecS
   -- nothing but the output, or a beginning of it, is written
   pub front : out.IsUntouched ⊎ SiteFront AreGiven specs source.old out.old out.new
 
--- What is told of failures and of want of memory by this status. `NotBegun` says why nothing was begun that a failed read is told of.
-pub record TellsFailures (NotBegun : Type 0) (source out err : DeviceUse) (ended : ℕ) : Type 0 where
+-- What is told of failures and of want of memory by this status. `Unread` is what holds of the source where the desk has no place, and
+-- `NotBegun` says why nothing was begun that a failed read is told of.
+pub record TellsFailures (Unread NotBegun : Type 0) (source out err : DeviceUse) (ended : ℕ) : Type 0 where
   -- all was done, and no fault is told
   pub quiet : ended ≡ 0 → err.IsUntouched
-  -- Memory, or the desk's place, was wanting, and that is told. Without a place nothing is read or written.
+  -- Memory, or the desk's place, was wanting, and that is told. Without a place nothing is written.
   pub room : ended ≡ 3 → TellsFault err (Run run_fault.NoMemory)
-      ⊎ (TellsFault err (Run run_fault.NoPlace) × source.IsUntouched × out.IsUntouched)
+      ⊎ (TellsFault err (Run run_fault.NoPlace) × Unread × out.IsUntouched)
   -- Nothing was begun: that is told, and nothing is read or written. Or a read or a write failed meanwhile, and that is told.
   pub failed : ended ≡ 4 → TellsFault err (Run run_fault.Read) × ((NotBegun × source.IsUntouched × out.IsUntouched) ⊎ (source.failures_old < source.failures_new))
       ⊎ (TellsFault err (Run run_fault.Write) × (out.failures_old < out.failures_new))

@@ -1,7 +1,8 @@
 //! What the program `wsched` does, from its words to its exit status, over streams and files that are handed in.
 //!
-//! - `program`: what is done from the words to the status: a run by `site_run`, a check by `check`.
+//! - `program`: what is done from the words to the status: a run by `site_run`, a storm by `storm_run`, a check by `check`.
 //! - `site`: a site's plugins, from what the words configure and the files have to kits.
+//! - `stand_in`: binders that stand in for a cluster.
 //! - `faults`, `refusal`: why the program ends early, and its status; why a module is refused.
 //! - `message`: the line that tells a fault; `verdict`: what is found of a module, and its line.
 //! - `device`, `folder`: standard input and output, and files, as the engine reads and writes.
@@ -18,6 +19,8 @@ mod program;
 mod refusal;
 mod site;
 mod site_run;
+mod stand_in;
+mod storm_run;
 mod verdict;
 
 pub use check::{check_file, check_module};
@@ -30,4 +33,6 @@ pub use program::answer;
 pub use refusal::Refusal;
 pub use site::{modules_in, site_kits};
 pub use site_run::serve;
+pub use stand_in::StandIn;
+pub use storm_run::serve_storm;
 pub use verdict::{Unaccepted, Verdict, accepted_in, verdict_on};

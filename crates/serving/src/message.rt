@@ -4,12 +4,12 @@ ghost use Rattle.serving.specs.Fault.{status_of};
 ghost use Rattle.serving.specs.declared.faults.Fault.TheVariants.{Misused};
 ghost use Rattle.serving.specs.Text.{fault_text};
 ghost use Rattle.serving.specs.Refusal.{refusal_text};
-ghost use Rattle.serving.specs.Message.{Tells, line_fault_text, run_text, part_name, misuse_text, usage, text_of, message_of};
+ghost use Rattle.serving.specs.Message.{Tells, line_fault_text, run_text, part_name, count_letter, misuse_text, usage, text_of, message_of};
 
 use crate::faults::Fault;
 use crate::refusal::{Refusal, push_refusal};
 use arrayvec::ArrayVec;
-use command::{Misuse, Part, WordFault};
+use command::{Count, Misuse, Part, WordFault};
 use engine::{RunFault, Sink, write_all};
 use itoa::Buffer;
 use manifest::LineFault;
@@ -17,18 +17,18 @@ use quant::Name;
 
 // Room for the longest line: a number has up to 20 digits, a fault's name up to 20 bytes, a field's
 // key up to 13, and a plugin's name up to 63. Each `push_..` says how much of the room it wants at most.
-const MAX_MESSAGE: usize = 256;
+const MAX_MESSAGE: usize = 320;
 
 // What the program's words may be.
 const USAGE: &[u8] =
-    b"; usage: wsched run [--workers N] [NAME:WEIGHT:FUEL:FILE]... or wsched check MODULE";
+    b"; usage: wsched run [--workers N] [SPEC]... or wsched storm [--cycles C] [--binders B] [--flaky] [SPEC]... or wsched check MODULE; a SPEC is NAME:WEIGHT:FUEL:FILE";
 
 /// A line that is made without memory, so that want of memory can be told.
 pub(crate) type Message = ArrayVec<u8, MAX_MESSAGE>;
 
 /// Adds a piece to a message.
 pub(crate) fn push(message: &mut Message, piece: &[u8])
-    requires { length message.old.items + length piece.now ≤ 256 }
+    requires { length message.old.items + length piece.now ≤ 320 }
     ensures text { message.new.items ≡ message.old.items ++ piece.now }
     ensures len { length message.new.items ≡ length message.old.items + length piece.now }
 {
@@ -37,7 +37,7 @@ pub(crate) fn push(message: &mut Message, piece: &[u8])
 
 /// Adds a number in decimal.
 pub(crate) fn push_number(message: &mut Message, n: u64)
-    requires { length message.old.items + 20 ≤ 256 }
+    requires { length message.old.items + 20 ≤ 320 }
     ensures text { message.new.items ≡ message.old.items ++ decimal n }
     ensures len { length message.new.items ≤ length message.old.items + 20 }
 {
@@ -47,7 +47,7 @@ pub(crate) fn push_number(message: &mut Message, n: u64)
 
 /// Adds a fault's number and its name.
 pub(crate) fn push_fault(message: &mut Message, number: u8, name: &str)
-    requires { length message.old.items + (length name.now + 21) ≤ 256 }
+    requires { length message.old.items + (length name.now + 21) ≤ 320 }
     ensures text { message.new.items ≡ message.old.items ++ fault_text number name.now }
     ensures len { length message.new.items ≤ length message.old.items + (length name.now + 21) }
 {
@@ -59,7 +59,7 @@ pub(crate) fn push_fault(message: &mut Message, number: u8, name: &str)
 // Adds a line's fault, with the field in which it stands.
 #[tactic(auto, using(crate::proofs::Lengths::line_name_short, crate::proofs::Lengths::key_short), unfolding(crate::specs::Message::line_fault_text))]
 fn push_line_fault(message: &mut Message, fault: LineFault)
-    requires { length message.old.items + 45 ≤ 256 }
+    requires { length message.old.items + 45 ≤ 320 }
     ensures text { message.new.items ≡ message.old.items ++ line_fault_text fault }
     ensures len { length message.new.items ≤ length message.old.items + 45 }
 {
@@ -73,7 +73,7 @@ fn push_line_fault(message: &mut Message, fault: LineFault)
 // Adds why a run ended early.
 #[tactic(auto, using(crate::proofs::Lengths::run_name_short), unfolding(crate::specs::Message::run_text))]
 fn push_run_fault(message: &mut Message, fault: RunFault)
-    requires { length message.old.items + 80 ≤ 256 }
+    requires { length message.old.items + 80 ≤ 320 }
     ensures text { message.new.items ≡ message.old.items ++ run_text fault }
     ensures len { length message.new.items ≤ length message.old.items + 80 }
 {
@@ -100,34 +100,51 @@ fn part_name(part: Part) -> &'static str
     }
 }
 
+// The number that an option asks for, as the usage names it.
+fn count_letter(count: Count) -> &'static str
+    ensures name { result.now ≡ count_letter count }
+    ensures short { length result.now ≤ 6 }
+{
+    match count {
+        Count::Workers => "N",
+        Count::Cycles => "C",
+        Count::Binders => "B",
+    }
+}
+
+// Adds what is wrong in the word of this number.
+fn push_place(message: &mut Message, what: &str, number: usize)
+    requires what { length what.now ≤ 6 }
+    requires room { length message.old.items + 40 ≤ 320 }
+    ensures text { message.new.items ≡ message.old.items ++ (codes " " ++ what.now ++ codes " of word " ++ decimal number) }
+    ensures len { length message.new.items ≤ length message.old.items + 40 }
+{
+    push(message, b" ");
+    push(message, what.as_bytes());
+    push(message, b" of word ");
+    push_number(message, number as u64);
+}
+
 // Adds what is wrong with words.
 #[tactic(auto, unfolding(crate::specs::Message::misuse_text))]
 fn push_misuse(message: &mut Message, misuse: Misuse)
-    requires { length message.old.items + 40 ≤ 256 }
+    requires { length message.old.items + 40 ≤ 320 }
     ensures text { message.new.items ≡ message.old.items ++ misuse_text misuse }
     ensures len { length message.new.items ≤ length message.old.items + 40 }
 {
     match misuse {
         Misuse::Command => push(message, b" COMMAND"),
-        Misuse::Workers(number) => {
-            push(message, b" N of word ");
-            push_number(message, number as u64);
-        }
-        Misuse::Plugin(part, number) => {
-            push(message, b" ");
-            push(message, part_name(part).as_bytes());
-            push(message, b" of word ");
-            push_number(message, number as u64);
-        }
+        Misuse::Number(count, number) => push_place(message, count_letter(count), number),
+        Misuse::Plugin(part, number) => push_place(message, part_name(part), number),
         Misuse::Together => {}
     }
 }
 
 // Adds that words ask for nothing, what is wrong with them, and what they may be.
 fn push_words_fault(message: &mut Message, misuse: Misuse)
-    requires { length message.old.items + 200 ≤ 256 }
+    requires { length message.old.items + 240 ≤ 320 }
     ensures text { message.new.items ≡ message.old.items ++ text_of (Misused misuse) }
-    ensures len { length message.new.items ≤ length message.old.items + 200 }
+    ensures len { length message.new.items ≤ length message.old.items + 240 }
 {
     let fault = WordFault::BadWords;
     push_fault(message, fault.number(), fault.name());
@@ -137,7 +154,7 @@ fn push_words_fault(message: &mut Message, misuse: Misuse)
 
 // Adds which plugin is refused, and why.
 fn push_plugin_fault(message: &mut Message, name: &Name, refusal: Refusal)
-    requires { length message.old.items + 200 ≤ 256 }
+    requires { length message.old.items + 200 ≤ 320 }
     ensures text { message.new.items ≡ message.old.items ++ (codes "plugin " ++ name.now ++ codes ": " ++ refusal_text refusal) }
     ensures len { length message.new.items ≤ length message.old.items + 200 }
 {

@@ -1,11 +1,12 @@
 //! What the program does, from its words to its exit status.
-ghost use Rattle.std.specs.Prelude.{◌≡◌, ◌≢◌, ◌⊎◌, ◌^◌, ◌<◌, ◌≤◌, ℕ, List, Some, None, map, IfErr, IfSome};
+ghost use Rattle.std.specs.Prelude.{◌≡◌, ◌≢◌, ◌⊎◌, ◌^◌, ◌<◌, ◌≤◌, ℕ, Bool, List, Some, None, map, IfErr, IfSome};
 ghost use Rattle.engine.specs.Device.{use_of};
-ghost use Rattle.command.specs.Words.{SpecSyntax, asked_by, run, check};
+ghost use Rattle.command.specs.Words.{SpecSyntax, asked_by, run, check, storm};
 ghost use Rattle.serving.specs.declared.faults.Fault.TheVariants as faults;
 ghost use Rattle.serving.specs.Fault.{status_of};
 ghost use Rattle.serving.specs.Run.{IsSiteRun, TellsFailures, TellsFault, told_of};
 ghost use Rattle.serving.specs.Site.{AreFromFiles};
+ghost use Rattle.serving.specs.Storm.{IsSiteStorm, left_unread};
 ghost use Rattle.serving.specs.Verdict.{TellsFront, TellsVerdict};
 
 use crate::check::check_file;
@@ -13,6 +14,7 @@ use crate::faults::Fault;
 use crate::folder::Files;
 use crate::message::report;
 use crate::site_run::serve_plan;
+use crate::storm_run::storm_plan;
 use command::{WordFault, Words, misuse_of, words};
 use engine::{Sink, Source};
 use std::alloc::Global;
@@ -23,7 +25,8 @@ use std::thread::Threads;
 
 /// Does what the words that follow the program's name ask for, and gives the exit status. Words that
 /// could not be read, or that ask for nothing, are told on `err`, and nothing is read or written.
-/// For `run` it is what `serve_plan` does under the keys, for `check` what `check_file` does.
+/// For `run` it is what `serve_plan` does under the keys, for `storm` what `storm_plan` does, and for
+/// `check` what `check_file` does.
 pub fn answer<
     T: Wait + Threads + Copy + Send + Sync + 'static,
     S: AsStr + Drop,
@@ -78,8 +81,16 @@ pub fn answer<
     ensures check_front { (file : List ℕ) → asked_by (λ given. map S.text given.items) args ≡ Some (check file)
         → (out.new ≡ out.old) ⊎ IfSome (F.contents files.old file) (TellsFront (W.written out.old) (W.written out.new)) }
 
+    // A storm is one of the script by the plugins that the words configure, with the modules in their files.
+    ensures storm { (cycles binders : ℕ) (flaky : Bool) (specs : List SpecSyntax)
+        → asked_by (λ given. map S.text given.items) args ≡ Some (storm cycles binders flaky specs)
+        → IsSiteStorm (AreFromFiles (F.contents files.old) specs) specs cycles binders (use_of R.remaining R.failure_count source.old source.new)
+        (use_of W.written W.failure_count out.old out.new) (use_of E.written E.failure_count err.old err.new) result }
+
     // Failures are told. Nothing is begun without keys, or where a file has failed; at any other status none has.
-    ensures failures { TellsFailures ((keys ≡ None) ⊎ (F.failure_count files.old < F.failure_count files.new))
+    ensures failures { TellsFailures
+        (left_unread (asked_by (λ given. map S.text given.items) args) (use_of R.remaining R.failure_count source.old source.new))
+        ((keys ≡ None) ⊎ (F.failure_count files.old < F.failure_count files.new))
         (use_of R.remaining R.failure_count source.old source.new) (use_of W.written W.failure_count out.old out.new)
         (use_of E.written E.failure_count err.old err.new) result }
     ensures files_told { result ≢ 4 → F.failure_count files.new ≡ F.failure_count files.old }
@@ -87,6 +98,7 @@ pub fn answer<
     match args {
         Ok(args) => match words(alloc, args.as_slice()) {
             Ok(Words::Run(plan)) => serve_plan(rt, alloc, keys, &plan, files, source, out, err),
+            Ok(Words::Storm(plan)) => storm_plan(rt, alloc, keys, &plan, files, source, out, err),
             Ok(Words::Check(file)) => check_file(alloc, file, files, out, err),
             Err(WordFault::BadWords) => report(Fault::Misused(misuse_of(args.as_slice())), err),
             Err(WordFault::NoMemory) => report(Fault::Words(WordFault::NoMemory), err),

@@ -7,7 +7,7 @@ ghost use Rattle.wtype.specs.Accepted.{Accepted};
 ghost use Rattle.plugin.specs.Plugins.{IsTaken};
 ghost use Rattle.plugin.specs.Kit.{IsKitOf, rules_of};
 ghost use Rattle.fleet.specs.Alike.{JudgeAlike};
-ghost use Rattle.command.specs.Within.{HaveDistinctNames, IsPlan, IsWithinLimits};
+ghost use Rattle.command.specs.Within.{AreWithinLimits, IsWithinLimits};
 ghost use Rattle.command.specs.Words.{syntax_of};
 ghost use Rattle.engine.specs.declared.fault.RunFault.TheVariants as run_fault;
 ghost use Rattle.serving.specs.declared.faults.Fault.TheVariants.{Run};
@@ -17,7 +17,7 @@ use crate::faults::Fault;
 use crate::folder::Files;
 use crate::refusal::Refusal;
 use crate::verdict::{Unaccepted, accepted_in};
-use command::{Plan, Spec};
+use command::Spec;
 use engine::RunFault;
 use plugin::{AddFault, Kit, KitFault, KitRules, Plugin, Plugins, kits_are_alike};
 use quant::Name;
@@ -36,26 +36,25 @@ const NO_MEMORY: Fault = Fault::Run(RunFault::NoMemory);
 /// `NoMemory` says nothing of them.
 pub fn site_kits(
     alloc: Global,
-    plan: &Plan<'_>,
+    specs: &[Spec<'_>],
     modules: &[Vec<u8>],
+    many: usize,
 ) -> Result<Vec<KitRules>, Fault>
-    requires plan { IsPlan plan.now }
-    requires modules { length modules.now ≡ length plan.now.specs.items }
-    ensures made { IfOk result (λ kits. AreSiteKits (map syntax_of plan.now.specs.items) (map (λ m. m.items) modules.now) plan.now.workers kits.items) }
+    requires specs { AreWithinLimits specs.now }
+    requires modules { length modules.now ≡ length specs.now }
+    ensures made { IfOk result (λ kits. AreSiteKits (map syntax_of specs.now) (map (λ m. m.items) modules.now) many kits.items) }
     ensures alike { IfOk result (λ kits. JudgeAlike rules_of kits.items) }
-    ensures refused { IfErr result (WhyNoSite (map syntax_of plan.now.specs.items) (map (λ m. m.items) modules.now)) }
+    ensures refused { IfErr result (WhyNoSite (map syntax_of specs.now) (map (λ m. m.items) modules.now)) }
 {
-    let plugins = plugins_of(alloc, plan.specs.as_slice(), modules)?;
-    let kits = kits_of(alloc, &plugins, plan.workers)?;
+    let plugins = plugins_of(alloc, specs, modules)?;
+    let kits = kits_of(alloc, &plugins, many)?;
     kits_are_alike();
     Ok(kits)
 }
 
 // The plugins that are configured, each with its module.
 fn plugins_of(alloc: Global, specs: &[Spec<'_>], modules: &[Vec<u8>]) -> Result<Plugins, Fault>
-    requires most { length specs.now ≤ 16 }
-    requires limits { All IsWithinLimits specs.now }
-    requires names { HaveDistinctNames specs.now }
+    requires specs { AreWithinLimits specs.now }
     requires modules { length modules.now ≡ length specs.now }
     ensures made { IfOk result (ArePlugins (map syntax_of specs.now) (map (λ m. m.items) modules.now)) }
     ensures refused { IfErr result (ModuleRefused (map syntax_of specs.now) (map (λ m. m.items) modules.now)) }

@@ -40,10 +40,10 @@ pub fn serve<T: Wait + Threads + Copy + Send + Sync + 'static, R: Source, W: Sin
     ensures run { IsSiteRun (λ given. given ≡ map (λ m. m.items) modules.now) (map syntax_of plan.now.specs.items)
         (use_of R.remaining R.failure_count source.old source.new) (use_of W.written W.failure_count out.old out.new)
         (use_of E.written E.failure_count err.old err.new) result }
-    ensures failures { TellsFailures ⊥ (use_of R.remaining R.failure_count source.old source.new)
+    ensures failures { TellsFailures (source.new ≡ source.old) ⊥ (use_of R.remaining R.failure_count source.old source.new)
         (use_of W.written W.failure_count out.old out.new) (use_of E.written E.failure_count err.old err.new) result }
 {
-    let kits = match site_kits(alloc, plan, modules) {
+    let kits = match site_kits(alloc, plan.specs.as_slice(), modules, plan.workers) {
         Ok(kits) => kits,
         Err(refused) => return report(refused, err),
     };
@@ -96,7 +96,7 @@ pub(crate) fn serve_plan<
     ensures run { IsSiteRun (AreFromFiles (F.contents files.old) (map syntax_of plan.now.specs.items)) (map syntax_of plan.now.specs.items)
         (use_of R.remaining R.failure_count source.old source.new) (use_of W.written W.failure_count out.old out.new)
         (use_of E.written E.failure_count err.old err.new) result }
-    ensures failures { TellsFailures ((keys ≡ None) ⊎ (F.failure_count files.old < F.failure_count files.new))
+    ensures failures { TellsFailures (source.new ≡ source.old) ((keys ≡ None) ⊎ (F.failure_count files.old < F.failure_count files.new))
         (use_of R.remaining R.failure_count source.old source.new) (use_of W.written W.failure_count out.old out.new)
         (use_of E.written E.failure_count err.old err.new) result }
 

@@ -8,14 +8,14 @@ use Rattle.serving.proofs.site.plugins_of.Goals as goal
 
 pub add_plugin-requires-clause-alone : goal.add_plugin-requires-clause-alone
 add_plugin-requires-clause-alone c =
-    alone c.args.specs.now (map (λ m. m.items) c.args.modules.now) c.loop-place.plugins c.loop-place.place c.index-specs-place.result c.requires.names
+    alone c.args.specs.now (map (λ m. m.items) c.args.modules.now) c.loop-place.plugins c.loop-place.place c.index-specs-place.result c.requires.specs.names
     (slice_get_read c.args.specs.now (length c.args.specs.now) c.loop-place.place c.index-specs-place.result refl c.loop-place-test.true c.index-specs-place.is)
     c.loop-place.invariant
 
 pub add_plugin-requires-clause-room : goal.add_plugin-requires-clause-room
 add_plugin-requires-clause-room c =
     let many = as_many (take c.loop-place.place (map syntax_of c.args.specs.now)) (take c.loop-place.place (map (λ m. m.items) c.args.modules.now)) c.loop-place.plugins c.loop-place.invariant in
-    omega (arith, many, length-take c.loop-place.place (map syntax_of c.args.specs.now), c.loop-place-test.true, c.requires.most)
+    omega (arith, many, length-take c.loop-place.place (map syntax_of c.args.specs.now), c.loop-place-test.true, c.requires.specs.most)
 
 pub returns-in_err-add_plugin-clause-refused : goal.returns-in_err-add_plugin-clause-refused
 returns-in_err-add_plugin-clause-refused c =

@@ -30,7 +30,7 @@ returns-in-Ok-clause-run g c =
     run_given _ _ _ _ _ _ _ weaker c.serve.ensures.run
 
 pub returns-in-Ok-clause-failures : goal.returns-in-Ok-clause-failures
-returns-in-Ok-clause-failures g c = failures_given _ _ _ _ _ _ (λ none. absurd none) c.serve.ensures.failures
+returns-in-Ok-clause-failures g c = failures_given _ _ _ _ _ _ _ (λ none. absurd none) c.serve.ensures.failures
 
 -- ---- they weren't
 

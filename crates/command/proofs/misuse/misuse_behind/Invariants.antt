@@ -1,0 +1,8 @@
+use Rattle.std.proofs.Common.{◌≡◌, ◌+◌, map, drop, None}
+use Rattle.command.specs.Misuse.{misuse_in}
+use Rattle.command.proofs.misuse.misuse_behind.Given as goal
+
+-- no word so far is wrong
+abbrev pub invariant-loop-at : goal.invariant-loop-at
+invariant-loop-at g l =
+    misuse_in l.is_storm 2 None (map g.S.AsStr.text (drop 1 l.args)) ≡ misuse_in l.is_storm (l.at + 1) l.awaited (map g.S.AsStr.text (drop l.at l.args))

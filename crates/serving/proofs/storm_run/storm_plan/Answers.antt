@@ -1,0 +1,42 @@
+use Rattle.std.proofs.Common.{◌≡◌, ◌∙◌, ℕ, List, map, inl, inr, refl, sym, subst, ap}
+use Rattle.command.specs.Words.{syntax_of}
+use Rattle.serving.specs.declared.faults.Fault.TheVariants.{Run}
+use Rattle.serving.specs.Fault.{status_of}
+use Rattle.serving.specs.Site.{AreFromFiles}
+use Rattle.serving.proofs.Ends.{failures_given}
+use Rattle.serving.proofs.Sites.{many_modules}
+use Rattle.serving.proofs.StormEnds.{storm_given, storm_not_begun}
+use Rattle.serving.proofs.storm_run.storm_plan.Goals as goal
+
+-- ---- there are no keys
+
+pub returns-in_default-clause-storm : goal.returns-in_default-clause-storm
+returns-in_default-clause-storm g c = storm_not_begun _ _ _ _ _ _ _ _ (inr c.report.ensures.status) refl
+
+-- ---- the files were read
+
+pub serve_storm-requires-clause-modules : goal.serve_storm-requires-clause-modules
+serve_storm-requires-clause-modules g c κs within =
+    let read = rw c.as_slice.ensures.value at c.in-Ok.ensures.modules in
+    rw c.as_slice-in-Ok.ensures.value (many_modules (λ m. m.items) (g.F.Files.contents c.args.files.now) c.args.plan.now.specs.items c.in-Ok.modules.items read)
+
+pub returns-in-Ok-clause-storm : goal.returns-in-Ok-clause-storm
+returns-in-Ok-clause-storm g c =
+    let read = rw c.as_slice.ensures.value at c.in-Ok.ensures.modules in
+    let here : AreFromFiles (g.F.Files.contents c.args.files.now) (map syntax_of c.args.plan.now.specs.items) (map (λ m. m.items) c.as_slice-in-Ok.result.now) =
+    rw c.as_slice-in-Ok.ensures.value read in
+    let weaker : (given : List (List ℕ)) → given ≡ map (λ m. m.items) c.as_slice-in-Ok.result.now
+    → AreFromFiles (g.F.Files.contents c.args.files.now) (map syntax_of c.args.plan.now.specs.items) given =
+    λ given is. subst (AreFromFiles (g.F.Files.contents c.args.files.now) (map syntax_of c.args.plan.now.specs.items)) (sym is) here in
+    storm_given _ _ _ _ _ _ _ _ _ weaker c.serve_storm.ensures.storm
+
+pub returns-in-Ok-clause-failures : goal.returns-in-Ok-clause-failures
+returns-in-Ok-clause-failures g c = failures_given _ _ _ _ _ _ _ (λ none. absurd none) c.serve_storm.ensures.failures
+
+-- ---- they weren't
+
+pub returns-in-Err-clause-storm : goal.returns-in-Err-clause-storm
+returns-in-Err-clause-storm g c = elim c.in-Err.ensures.faults [
+  | inl read ↦ storm_not_begun _ _ _ _ _ _ _ _ (inr (c.report-in-Err.ensures.status ∙ ap (λ f. status_of (Run f)) read)) refl
+  | inr memory ↦ storm_not_begun _ _ _ _ _ _ _ _ (inl (c.report-in-Err.ensures.status ∙ ap (λ f. status_of (Run f)) memory)) refl
+]

@@ -1,0 +1,53 @@
+-- What a storm of a site's script promises, by its exit status.
+use Rattle.std.specs.Prelude.{◌≡◌, ⊤, ◌⊎◌, ℕ, List, [], Option, Some, None, IfSome, Bool, true, false}
+use Rattle.plugin.specs.Kit.{Ready, rules_of}
+use Rattle.manifest.specs.declared.fault.LineFault.{LineFault}
+use Rattle.engine.specs.Device.{DeviceUse}
+use Rattle.engine.specs.declared.fault.RunFault.TheVariants as run_fault
+use Rattle.storm.specs.Script.{first_storm_fault, script_steps}
+use Rattle.storm.specs.Storm.{Storms}
+use Rattle.command.specs.Words.{SpecSyntax, Asked, run, check, storm}
+use Rattle.serving.specs.declared.faults.Fault.{Fault}
+use Rattle.serving.specs.declared.faults.Fault.TheVariants.{Run}
+use Rattle.serving.specs.Run.{TellsFault}
+use Rattle.serving.specs.Site.{AreSiteKits, SiteRefused}
+
+-- No line of the script is faulty and everything is read: by kits of a site's plugins, one a cycle thread, a storm of its steps came to
+-- this answer and wrote it.
+abbrev pub SiteStorms : (AreGiven : List (List ℕ) → Type 0) → List SpecSyntax → (cycles binders : ℕ) → (source out : DeviceUse) → (answer : Bool) → Type 0
+SiteStorms AreGiven specs cycles binders source out answer = (modules : List (List ℕ)) × AreGiven modules
+    × (kits : List (List Ready)) × AreSiteKits specs modules cycles kits
+    × IfSome source.old (λ script. (first_storm_fault script ≡ None) × (source.new ≡ Some [])
+    × Storms rules_of kits binders (script_steps script) out answer)
+
+-- a line of the script is the first faulty one
+abbrev pub StormFaulty : Fault → (script : Option (List ℕ)) → Type 0
+StormFaulty fault script = (number : ℕ) × (why : LineFault) × (fault ≡ Run (run_fault.Line number why))
+    × IfSome script (λ text. first_storm_fault text ≡ Some (number, why))
+
+-- the exit status that tells what an audit said
+abbrev pub audit_status : Bool → ℕ
+audit_status true = 0
+audit_status false = 1
+
+-- A storm of a script by the plugins that are configured ended with this status. `AreGiven` says which modules they have.
+pub record IsSiteStorm (AreGiven : List (List ℕ) → Type 0) (specs : List SpecSyntax) (cycles binders : ℕ) (source out err : DeviceUse) (ended : ℕ) : Type 0 where
+  -- these are the statuses of a storm
+  pub status : (ended ≡ 0) ⊎ ((ended ≡ 1) ⊎ ((ended ≡ 3) ⊎ (ended ≡ 4)))
+  -- the audit says yes
+  pub done : ended ≡ 0 → SiteStorms AreGiven specs cycles binders source out true
+  -- The audit says no, and no fault is told. Or nothing is written and a fault is told: a plugin's module is refused, and nothing is
+  -- read; or a line is the first faulty one.
+  pub input : ended ≡ 1 → (SiteStorms AreGiven specs cycles binders source out false × err.IsUntouched)
+      ⊎ ((fault : Fault) × TellsFault err fault × out.IsUntouched
+      × ((SiteRefused AreGiven specs fault × source.IsUntouched) ⊎ StormFaulty fault source.old))
+  -- but for the answer nothing is written, unless a write fails
+  pub quiet : ended ≡ 3 → out.IsUntouched
+  pub unwritten : ended ≡ 4 → out.IsUntouched ⊎ TellsFault err (Run run_fault.Write)
+
+-- What holds of the source where the desk has no place: it is as it was. A storm has read its script by then.
+abbrev pub left_unread : Option Asked → DeviceUse → Type 0
+left_unread None source = source.IsUntouched
+left_unread (Some (run workers specs)) source = source.IsUntouched
+left_unread (Some (check file)) source = source.IsUntouched
+left_unread (Some (storm cycles binders flaky specs)) source = ⊤
