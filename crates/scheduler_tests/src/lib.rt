@@ -7,6 +7,8 @@ mod amounts;
 #[cfg(test)]
 mod at_once;
 #[cfg(test)]
+mod audits;
+#[cfg(test)]
 mod binding;
 #[cfg(test)]
 mod choices;
@@ -24,6 +26,8 @@ mod script;
 mod sharing;
 #[cfg(test)]
 mod steps;
+#[cfg(test)]
+mod storms;
 #[cfg(test)]
 mod waiting;
 #[cfg(test)]

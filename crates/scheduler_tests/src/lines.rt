@@ -287,9 +287,14 @@ fn longest_rows(rt: HostRuntime) -> Result<(), Fail> {
     Ok(())
 }
 
-// A line of 65,536 bytes is read, one of a byte more is not.
+// A line of 65,536 bytes is read, one of a byte more is not. One space is no JSON text, nor is what isn't UTF-8.
 #[test]
 fn long_lines(rt: HostRuntime) -> Result<(), Fail> {
+    assert_eq!(rt; fault(rt.alloc(), b" "), (1, ""));
+    assert_eq!(rt;
+        fault(rt.alloc(), b"{\"op\":\"dump\",\"x\":\"\xff\"}"),
+        (1, "")
+    );
     let mut line = Vec::from_slice(rt.alloc(), br#"{"op":"dump"}"#)?;
     line.resize(65_536, b' ')?;
     assert_eq!(rt; fault(rt.alloc(), &line), (0, ""));

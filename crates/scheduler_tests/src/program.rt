@@ -6,6 +6,7 @@ mod long_script;
 mod modules;
 mod plugins;
 mod scripts;
+mod storms;
 
 use command::{Misuse, Part, WordFault};
 use engine::RunFault;

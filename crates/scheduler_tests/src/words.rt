@@ -5,13 +5,14 @@ use std::env::FillError;
 use std::rt::Env;
 use std::test::Fail;
 
-// What words ask for, in a row of a table: nothing, to check a file, or a run with this many workers
-// and these plugins.
+// What words ask for, in a row of a table: nothing, to check a file, a run with this many workers, or a
+// storm with this many cycle threads and binders, which are flaky or not, and these plugins.
 #[derive(Drop)]
 enum Want<'a> {
     Nothing,
     Check(&'a str),
     Run(usize, &'a [(&'a str, u8, u64, &'a str)]),
+    Storm(usize, usize, bool, &'a [(&'a str, u8, u64, &'a str)]),
 }
 
 // Whether the plugins are these.
@@ -33,6 +34,12 @@ fn is_asked(alloc: Global, args: &[&str], want: Want) -> bool {
         (Ok(Words::Check(file)), Want::Check(wanted)) => file == wanted,
         (Ok(Words::Run(plan)), Want::Run(workers, specs)) => {
             plan.workers == workers && are(&plan.specs, specs)
+        }
+        (Ok(Words::Storm(plan)), Want::Storm(cycles, binders, is_flaky, specs)) => {
+            plan.cycles == cycles
+                && plan.binders == binders
+                && plan.is_flaky == is_flaky
+                && are(&plan.specs, specs)
         }
         _ => false,
     }
@@ -101,6 +108,24 @@ fn words_ask_for_these(rt: HostRuntime) {
         (["run", "--workers=65"].as_slice(), Want::Nothing),
         (&SEVENTEEN[..17], Want::Run(1, &SIXTEEN)),
         (&SEVENTEEN, Want::Nothing),
+        (["storm"].as_slice(), Want::Storm(2, 2, false, &[])),
+        (
+            [
+                "storm",
+                "--flaky",
+                "--cycles",
+                "+8",
+                "a:1:1:f",
+                "--binders=01",
+            ]
+            .as_slice(),
+            Want::Storm(8, 1, true, &[("a", 1, 1, "f")]),
+        ),
+        (["storm", "--cycles", "9"].as_slice(), Want::Nothing),
+        (["storm", "--binders=0"].as_slice(), Want::Nothing),
+        (["storm", "--flaky", "--flaky"].as_slice(), Want::Nothing),
+        (["storm", "--workers", "2"].as_slice(), Want::Nothing),
+        (["run", "--flaky"].as_slice(), Want::Nothing),
     ];
     for (args, want) in rows {
         assert!(rt; is_asked(rt.alloc(), args, want), "{args:?}");

@@ -191,32 +191,32 @@ fn a_fault_of_plugins_is_told_before_the_script_is_read(rt: HostRuntime) -> Resu
         (
             ["r:1:1:missing.wasm", "r:1:1:broken.wasm"].as_slice(),
             2,
-            "wsched: 1 BadWords; usage: wsched run [--workers N] [NAME:WEIGHT:FUEL:FILE]... or wsched check MODULE\n",
+            "wsched: 1 BadWords; usage: wsched run [--workers N] [SPEC]... or wsched storm [--cycles C] [--binders B] [--flaky] [SPEC]... or wsched check MODULE; a SPEC is NAME:WEIGHT:FUEL:FILE\n",
         ),
         (
             ["r:0:1:missing.wasm"].as_slice(),
             2,
-            "wsched: 1 BadWords WEIGHT of word 2; usage: wsched run [--workers N] [NAME:WEIGHT:FUEL:FILE]... or wsched check MODULE\n",
+            "wsched: 1 BadWords WEIGHT of word 2; usage: wsched run [--workers N] [SPEC]... or wsched storm [--cycles C] [--binders B] [--flaky] [SPEC]... or wsched check MODULE; a SPEC is NAME:WEIGHT:FUEL:FILE\n",
         ),
         (
             ["r:11:1:missing.wasm"].as_slice(),
             2,
-            "wsched: 1 BadWords WEIGHT of word 2; usage: wsched run [--workers N] [NAME:WEIGHT:FUEL:FILE]... or wsched check MODULE\n",
+            "wsched: 1 BadWords WEIGHT of word 2; usage: wsched run [--workers N] [SPEC]... or wsched storm [--cycles C] [--binders B] [--flaky] [SPEC]... or wsched check MODULE; a SPEC is NAME:WEIGHT:FUEL:FILE\n",
         ),
         (
             ["r:1:0:missing.wasm"].as_slice(),
             2,
-            "wsched: 1 BadWords FUEL of word 2; usage: wsched run [--workers N] [NAME:WEIGHT:FUEL:FILE]... or wsched check MODULE\n",
+            "wsched: 1 BadWords FUEL of word 2; usage: wsched run [--workers N] [SPEC]... or wsched storm [--cycles C] [--binders B] [--flaky] [SPEC]... or wsched check MODULE; a SPEC is NAME:WEIGHT:FUEL:FILE\n",
         ),
         (
             ["r:1:1:broken.wasm", "--workers", "65"].as_slice(),
             2,
-            "wsched: 1 BadWords N of word 4; usage: wsched run [--workers N] [NAME:WEIGHT:FUEL:FILE]... or wsched check MODULE\n",
+            "wsched: 1 BadWords N of word 4; usage: wsched run [--workers N] [SPEC]... or wsched storm [--cycles C] [--binders B] [--flaky] [SPEC]... or wsched check MODULE; a SPEC is NAME:WEIGHT:FUEL:FILE\n",
         ),
         (
             ["r:1:1:broken.wasm", "--help"].as_slice(),
             2,
-            "wsched: 1 BadWords SPEC of word 3; usage: wsched run [--workers N] [NAME:WEIGHT:FUEL:FILE]... or wsched check MODULE\n",
+            "wsched: 1 BadWords SPEC of word 3; usage: wsched run [--workers N] [SPEC]... or wsched storm [--cycles C] [--binders B] [--flaky] [SPEC]... or wsched check MODULE; a SPEC is NAME:WEIGHT:FUEL:FILE\n",
         ),
         (
             ["r:1:1:broken.wasm", "s:1:1:missing.wasm"].as_slice(),

@@ -1,0 +1,248 @@
+//! Storms whose binds, and whose decisions, wait for one another: each is to be in a thread of its own.
+ghost use Rattle.std.specs.Prelude.{◌≡◌, ◌<◌, vec_len, IfOk};
+
+use binder::{BindAnswer, Binder, Tally};
+use desk::Snapshot;
+use engine::{DeviceFailed, Sink, Source};
+use fleet::{Decider, Decision, Fleet, NoMemory};
+use plugin::{Kit, KitRules, Plugins};
+use quant::{Name, SharedPod};
+use std::alloc::Global;
+use std::hash::RandomState;
+use std::process::Abort;
+use std::sync::atomic::{AtomicU64, Ordering};
+use std::sync::{Arc, Wait};
+use std::test::Fail;
+use std::thread;
+use std::thread::Threads;
+use storm::storm;
+
+/// A script in memory.
+#[derive(Drop)]
+struct Script<'a> {
+    bytes: &'a [u8],
+    left: usize,
+}
+
+impl Source for Script<'_> {
+    ghost use Rattle.std.specs.Prelude.{None};
+
+    ghost remaining = { λ _. None };
+
+    ghost bytes_left = { λ s. s.left };
+
+    ghost failure_count = { λ _. 0 };
+
+    fn failures(&self) -> u64 {
+        0
+    }
+
+    fn read(&mut self, buffer: &mut [u8]) -> Result<usize, DeviceFailed> {
+        let start = self.bytes.len().saturating_sub(self.left);
+        let rest = &self.bytes[start..];
+        let n = rest.len().min(buffer.len()).min(self.left);
+        buffer[..n].copy_from_slice(&rest[..n]);
+        self.left -= n;
+        Ok(n)
+    }
+}
+
+/// What is written, in memory.
+#[derive(Drop)]
+struct Paper {
+    bytes: Vec<u8>,
+    failures: u64,
+}
+
+impl Sink for Paper {
+    ghost use Rattle.std.specs.Prelude.{None};
+
+    ghost written = { λ _. None };
+
+    ghost failure_count = { λ s. s.failures };
+
+    fn failures(&self) -> u64 {
+        self.failures
+    }
+
+    fn write(&mut self, bytes: &[u8]) -> Result<usize, DeviceFailed> {
+        if self.bytes.extend_from_slice(bytes).is_err() {
+            self.failures += 1;
+            return Err(DeviceFailed);
+        }
+        Ok(bytes.len())
+    }
+}
+
+/// Two that begin: each turns until the other has begun too, and gives up after 10,000,000 turns.
+#[derive(Drop)]
+struct Pair {
+    begun: Arc<AtomicU64, Global>,
+    has_begun: bool,
+}
+
+impl Pair {
+    /// Begins, if it hasn't, and tells whether the other has begun.
+    fn begin(&mut self) -> bool {
+        if self.has_begun {
+            return true;
+        }
+        self.has_begun = true;
+        self.begun.fetch_add(1, Ordering::SeqCst);
+        for _ in 0..10_000_000u32 {
+            if self.begun.load(Ordering::SeqCst) >= 2 {
+                return true;
+            }
+            thread::yield_now();
+        }
+        false
+    }
+}
+
+/// A binder that waits in its first bind for another binder's first. Its bind fails where it waits in vain.
+#[derive(Drop)]
+struct Hand {
+    pair: Pair,
+    tally: Tally,
+}
+
+impl Binder for Hand {
+    ghost asks = { λ b. b.tally.asked };
+
+    ghost dones = { λ b. b.tally.done };
+
+    fn asked(&self) -> u64 {
+        self.tally.asked
+    }
+
+    fn bind(&mut self, _uid: &Name, _node: &Name) -> BindAnswer {
+        let answer = if self.pair.begin() {
+            BindAnswer::Done
+        } else {
+            BindAnswer::Failed
+        };
+        self.tally.count(answer);
+        answer
+    }
+}
+
+/// A decider that waits in its first decision for another one's first. It has no memory where it waits in vain.
+#[derive(Drop)]
+struct Turning<D: Drop> {
+    decider: D,
+    pair: Pair,
+}
+
+impl<D: Decider + Drop> Decider for Turning<D> {
+    type Kit = D::Kit;
+
+    ghost kits = { λ t. D.kits t.decider };
+
+    fn decide<R: Threads + Wait + Sync>(
+        &mut self,
+        rt: &R,
+        snapshot: Snapshot,
+        pod: &SharedPod,
+    ) -> Result<Decision, NoMemory> {
+        if !self.pair.begin() {
+            return Err(NoMemory);
+        }
+        self.decider.decide(rt, snapshot, pod)
+    }
+}
+
+/// A pair's halves, of which neither has begun.
+fn pair_by(begun: &Arc<AtomicU64, Global>) -> Result<Pair, Fail> {
+    Ok(Pair {
+        begun: Arc::try_clone(begun)?,
+        has_begun: false,
+    })
+}
+
+fn waiting_hand(
+    alloc: Global,
+    begun: &Arc<AtomicU64, Global>,
+) -> Result<Box<dyn Binder + Send>, Fail> {
+    let hand = Hand {
+        pair: pair_by(begun)?,
+        tally: Tally::new(),
+    };
+    let binder: Box<dyn Binder + Send> = Box::new(alloc, hand)?;
+    Ok(binder)
+}
+
+/// Two binders, each of which waits for the other.
+fn two_hands(alloc: Global) -> Result<Vec<Box<dyn Binder + Send>>, Fail>
+    ensures { IfOk result (λ hands. vec_len hands ≡ 2) }
+{
+    let begun = Arc::new(alloc, AtomicU64::new(0))?;
+    let mut hands = Vec::new(alloc);
+    hands.push(waiting_hand(alloc, &begun)?)?;
+    hands.push(waiting_hand(alloc, &begun)?)?;
+    Ok(hands)
+}
+
+/// A decider without plugins.
+fn turning_decider(
+    alloc: Global,
+    begun: &Arc<AtomicU64, Global>,
+) -> Result<Turning<Fleet<KitRules>>, Fail> {
+    let plugins = Plugins::new(alloc);
+    let kit = KitRules::new(Kit::new(alloc, &plugins)?);
+    Ok(Turning {
+        decider: Fleet::of_one(alloc, kit)?,
+        pair: pair_by(begun)?,
+    })
+}
+
+/// Two deciders, each of which waits for the other.
+fn two_turning(alloc: Global) -> Result<Vec<Turning<Fleet<KitRules>>>, Fail>
+    ensures { IfOk result (λ deciders. vec_len deciders ≡ 2) }
+{
+    let begun = Arc::new(alloc, AtomicU64::new(0))?;
+    let mut deciders = Vec::new(alloc);
+    deciders.push(turning_decider(alloc, &begun)?)?;
+    deciders.push(turning_decider(alloc, &begun)?)?;
+    Ok(deciders)
+}
+
+/// A node with room for both pods.
+const TWO: &[u8] =
+    b"{\"op\":\"node\",\"v\":1,\"name\":\"a\",\"cpu\":\"4\",\"mem\":\"8Gi\",\"pods\":110}
+{\"op\":\"pod\",\"v\":2,\"uid\":\"p1\",\"containers\":[[\"100m\",\"64Mi\"]]}
+{\"op\":\"pod\",\"v\":3,\"uid\":\"p2\",\"containers\":[[\"100m\",\"64Mi\"]]}";
+
+const BOTH_PLACED: &[u8] = b"node a cpu 200/4000 mem 134217728/8589934592 pods 2/110
+places bound 0 assumed 2
+queue active 0 backoff 0 unschedulable 0 inflight 0
+clock 0 version 3
+audit ok
+";
+
+/// Both pods are placed, and both binds done.
+#[test]
+fn cycles_and_binds_run_at_once(rt: HostRuntime) -> Result<(), Fail> {
+    let mut source = Script {
+        bytes: TWO,
+        left: TWO.len(),
+    };
+    let mut sink = Paper {
+        bytes: Vec::new(rt.alloc()),
+        failures: 0,
+    };
+    let keys = RandomState::new(&rt)?;
+    let deciders = two_turning(rt.alloc())?;
+    let binders = two_hands(rt.alloc())?;
+    let done = storm(
+        &rt,
+        rt.alloc(),
+        keys,
+        &mut source,
+        &mut sink,
+        deciders,
+        binders,
+    );
+    assert_eq!(rt; done, Ok(true));
+    assert_eq!(rt; sink.bytes.as_slice(), BOTH_PLACED);
+    Ok(())
+}
