@@ -14,10 +14,12 @@ enum { PASS = 0, UNSCHEDULABLE = 2, UNSCHEDULABLE_AND_UNRESOLVABLE = 3 };
 #ifdef __wasm__
 #define EXPORTED(name) __attribute__((export_name(name)))
 #define IMPORTED(name) __attribute__((import_module("sched"), import_name(name)))
+#define IMPORTED2(name) __attribute__((import_module("sched2"), import_name(name)))
 #else
 // On a machine of its own a rule is an ordinary program, and its test gives the two records: see keep_region_test.c.
 #define EXPORTED(name)
 #define IMPORTED(name)
+#define IMPORTED2(name)
 #endif
 #define FILTER EXPORTED("filter") int filter(void)
 #define SCORE EXPORTED("score") long long score(void)
@@ -25,8 +27,13 @@ enum { PASS = 0, UNSCHEDULABLE = 2, UNSCHEDULABLE_AND_UNRESOLVABLE = 3 };
 // Each writes its record, where that has at most `limit` bytes, and answers how many it has.
 IMPORTED("pod") u32 sched_pod(void *to, u32 limit);
 IMPORTED("node") u32 sched_node(void *to, u32 limit);
+// The same in version 2, whose records have a pod's tolerations and a node's taints as well. A module imports what it calls: a
+// rule that asks for version 1 alone has nothing of version 2.
+IMPORTED2("pod") u32 sched2_pod(void *to, u32 limit);
+IMPORTED2("node") u32 sched2_node(void *to, u32 limit);
 
-// No record is longer. A layout of another version would be misread, so it traps.
+// No record is longer. A layout of another version would be misread, so it traps. All fields but the tolerations and taints are
+// read alike from both versions; a rule asks for one of them.
 struct pod { u8 bytes[8192]; };
 struct node { u8 bytes[8192]; };
 static inline const struct pod *read_pod(void)
@@ -41,6 +48,21 @@ static inline const struct node *read_node(void)
     static struct node record;
     sched_node(&record, sizeof record);
     if (record.bytes[0] != 1) __builtin_trap();
+    return &record;
+}
+
+static inline const struct pod *read_pod2(void)
+{
+    static struct pod record;
+    sched2_pod(&record, sizeof record);
+    if (record.bytes[0] != 2) __builtin_trap();
+    return &record;
+}
+static inline const struct node *read_node2(void)
+{
+    static struct node record;
+    sched2_node(&record, sizeof record);
+    if (record.bytes[0] != 2) __builtin_trap();
     return &record;
 }
 
@@ -99,3 +121,69 @@ static inline const u8 *node_label(const struct node *n, const char *key)
 }
 static inline const u8 *pod_uid(const struct pod *p) { return p->bytes + 2; }
 static inline const u8 *node_name(const struct node *n) { return n->bytes + 2; }
+
+// What a taint does, and what a toleration's taint does: NO_EFFECT, of tolerations alone, stands for every effect. A toleration
+// compares the values, or takes every value.
+enum { NO_EFFECT = 0, NO_SCHEDULE = 1, PREFER_NO_SCHEDULE = 2, NO_EXECUTE = 3 };
+enum { EQUAL = 1, EXISTS = 2 };
+struct taint { const u8 *key, *value; u8 effect; };
+struct toleration { const u8 *key, *value; u8 compares, effect; };
+
+// A walk over a node's taints or a pod's tolerations, in the order of the row, of what read_node2 or read_pod2 gave:
+//
+//     struct taint taint;
+//     for (struct walk taints = node_taints(node); next_taint(&taints, &taint);)
+//         if (is(taint.key, "spot")) ..
+struct walk { const u8 *at; u32 left; };
+
+// The list behind labels. Version 1 has none, so it traps there.
+static inline struct walk behind(const u8 *record, const u8 *labels)
+{
+    if (*record != 2) __builtin_trap();
+    for (u32 left = 2u * *labels++; left; left--)
+        labels += 1 + *labels;
+    struct walk list = { labels + 1, *labels };
+    return list;
+}
+static inline struct walk node_taints(const struct node *n) { return behind(n->bytes, fields(n->bytes) + 41); }
+static inline struct walk pod_tolerations(const struct pod *p) { return behind(p->bytes, fields(p->bytes) + 20); }
+
+// The next of a walk, if there is one.
+static inline int next_taint(struct walk *taints, struct taint *next)
+{
+    if (!taints->left) return 0;
+    taints->left--;
+    next->key = taints->at;
+    next->value = next->key + 1 + *next->key;
+    const u8 *effect = next->value + 1 + *next->value;
+    next->effect = *effect;
+    taints->at = effect + 1;
+    return 1;
+}
+static inline int next_toleration(struct walk *tolerations, struct toleration *next)
+{
+    if (!tolerations->left) return 0;
+    tolerations->left--;
+    next->key = tolerations->at;
+    const u8 *compares = next->key + 1 + *next->key;
+    next->compares = *compares;
+    next->value = compares + 1;
+    const u8 *effect = next->value + 1 + *next->value;
+    next->effect = *effect;
+    tolerations->at = effect + 1;
+    return 1;
+}
+
+// Whether a pod tolerates a taint, as Kubernetes has it: one of its tolerations has the taint's key, or none and takes every
+// value; it takes every value or has the taint's; and it has the taint's effect or none.
+static inline int tolerates(const struct pod *p, const struct taint *taint)
+{
+    struct toleration own;
+    for (struct walk tolerations = pod_tolerations(p); next_toleration(&tolerations, &own);) {
+        int any = own.compares == EXISTS;
+        if ((same(own.key, taint->key) || (any && !*own.key)) && (any || same(own.value, taint->value))
+            && (own.effect == NO_EFFECT || own.effect == taint->effect))
+            return 1;
+    }
+    return 0;
+}

@@ -3,6 +3,7 @@ use Rattle.std.proofs.Common.{◌≡◌, ℕ, ◌+◌, ◌*◌, ◌≤◌, List,
 use Rattle.std.proofs.lemmas.List.{get_or_append_left, get_or_push}
 use Rattle.std.proofs.lemmas.Nat.{mul-le}
 use borrow.Author.Count.{below_more}
+use Rattle.whost.specs.declared.records.Records.{Records}
 use Rattle.plugin.specs.RuleSet.{RuleSet}
 use Rattle.plugin.specs.declared.verdict.ScoreVerdict.TheVariants as score
 use Rattle.quant.specs.declared.objects.Pod.{Pod}
@@ -14,10 +15,10 @@ use Rattle.choose.specs.declared.decision.Verdict.TheVariants.{Rejected, Passes}
 use Rattle.choose.specs.Verdict.{AreScores, weighted, built_in, ByRules, HasVerdict}
 
 -- the scores of the rules before a place are good, and this is their weighted sum
-pub record GoodBefore (rules : RuleSet) (pod node : List ℕ) (place sum : ℕ) : Type 0 where
+pub record GoodBefore (rules : RuleSet) (told : Records) (place sum : ℕ) : Type 0 where
   pub scores : List ℕ
   pub many : length scores ≡ place
-  pub are : AreScores rules pod node scores
+  pub are : AreScores rules told scores
   pub adds : sum ≡ weighted rules.weights scores
 
 -- where no score is known, nothing is added
@@ -25,8 +26,8 @@ pub nothing : (weights : List ℕ) → 0 ≡ weighted weights []
 nothing [] = refl
 nothing (w ∷ ws) = refl
 
-pub good_before_none : (rules : RuleSet) (pod node : List ℕ) → GoodBefore rules pod node 0 0
-good_before_none rules pod node = record {
+pub good_before_none : (rules : RuleSet) (told : Records) → GoodBefore rules told 0 0
+good_before_none rules told = record {
   scores = [];
   many = refl;
   are = λ k below. absurd (omega (arith, below));
@@ -46,18 +47,18 @@ weighted_push (v ∷ weights) (x ∷ scores) w s at =
     omega (arith, more)
 
 -- one good score more
-are_push : (rules : RuleSet) (pod node : List ℕ) (scores : List ℕ) (s : ℕ) → AreScores rules pod node scores → rules.Scores (length scores) pod node (score.Good s) → AreScores rules pod node (scores ++ s ∷ [])
-are_push rules pod node scores s are says = λ k below.
-    below_more (λ n. rules.Scores n pod node (score.Good (get_or (scores ++ s ∷ []) n 0))) (length scores)
-    (λ n lower. subst (λ v. rules.Scores n pod node (score.Good v)) (sym (get_or_append_left scores (s ∷ []) 0 n lower)) (are n lower))
-    (subst (λ v. rules.Scores (length scores) pod node (score.Good v)) (sym (get_or_push scores s 0 (length scores) refl)) says)
+are_push : (rules : RuleSet) (told : Records) (scores : List ℕ) (s : ℕ) → AreScores rules told scores → rules.Scores (length scores) told (score.Good s) → AreScores rules told (scores ++ s ∷ [])
+are_push rules told scores s are says = λ k below.
+    below_more (λ n. rules.Scores n told (score.Good (get_or (scores ++ s ∷ []) n 0))) (length scores)
+    (λ n lower. subst (λ v. rules.Scores n told (score.Good v)) (sym (get_or_append_left scores (s ∷ []) 0 n lower)) (are n lower))
+    (subst (λ v. rules.Scores (length scores) told (score.Good v)) (sym (get_or_push scores s 0 (length scores) refl)) says)
     k (omega (arith, below, length-append scores (s ∷ [])))
 
-pub good_before_more : (rules : RuleSet) (pod node : List ℕ) (place sum w s : ℕ) → GoodBefore rules pod node place sum → slice_get rules.weights place ≡ Some w → rules.Scores place pod node (score.Good s) → GoodBefore rules pod node (place + 1) (sum + w * s)
-good_before_more rules pod node place sum w s before at says = record {
+pub good_before_more : (rules : RuleSet) (told : Records) (place sum w s : ℕ) → GoodBefore rules told place sum → slice_get rules.weights place ≡ Some w → rules.Scores place told (score.Good s) → GoodBefore rules told (place + 1) (sum + w * s)
+good_before_more rules told place sum w s before at says = record {
   scores = before.scores ++ s ∷ [];
   many = simp length-append (omega (arith, before.many));
-  are = are_push rules pod node before.scores s before.are (subst (λ n. rules.Scores n pod node (score.Good s)) (sym before.many) says);
+  are = are_push rules told before.scores s before.are (subst (λ n. rules.Scores n told (score.Good s)) (sym before.many) says);
   adds = omega (arith, before.adds, weighted_push rules.weights before.scores w s (rw before.many at));
 }
 

@@ -5,6 +5,7 @@ use Rattle.std.proofs.lemmas.Bool.{ltb-true, ltb-false}
 use Rattle.std.proofs.lemmas.Grind.{same_number_lists}
 use Rattle.quant.specs.declared.objects.Pod.{Pod}
 use Rattle.desk.specs.Shown.{Shown}
+use Rattle.whost.specs.declared.records.Records.{Records}
 use Rattle.plugin.specs.RuleSet.{RuleSet, SayOneThing}
 use Rattle.plugin.specs.declared.verdict.FilterVerdict.TheVariants as filter
 use Rattle.plugin.specs.declared.verdict.ScoreVerdict.TheVariants as score
@@ -23,66 +24,66 @@ pub three_ways : (m n : ℕ) → (m < n) ⊎ ((m ≡ n) ⊎ (n < m))
 three_ways m n = by_less m n (nat_lt m n) refl (nat_lt n m) refl
 
 -- where a rule's filter passes, it doesn't stop there
-not_stopped : (rules : RuleSet) (pod node : List ℕ) (verdict : Verdict) → SayOneThing rules → (stops : StopsAt rules pod node verdict) → rules.Filters stops.place pod node filter.Passes → ⊥
-not_stopped rules pod node verdict once stops passes =
-    let same : stops.said ≡ filter.Passes = once.filter stops.place pod node stops.said filter.Passes stops.says passes in
+not_stopped : (rules : RuleSet) (told : Records) (verdict : Verdict) → SayOneThing rules → (stops : StopsAt rules told verdict) → rules.Filters stops.place told filter.Passes → ⊥
+not_stopped rules told verdict once stops passes =
+    let same : stops.said ≡ filter.Passes = once.filter stops.place told stops.said filter.Passes stops.says passes in
     let none : stopped_by stops.place stops.said ≡ None = ap (stopped_by stops.place) same in
     cc (stops.makes)
 
-one_stop : (rules : RuleSet) (pod node : List ℕ) (v w : Verdict) → SayOneThing rules → StopsAt rules pod node v → StopsAt rules pod node w → v ≡ w
-one_stop rules pod node v w once one other = elim (three_ways one.place other.place) [
-  | inl less ↦ absurd (not_stopped rules pod node v once one (other.before one.place less))
+one_stop : (rules : RuleSet) (told : Records) (v w : Verdict) → SayOneThing rules → StopsAt rules told v → StopsAt rules told w → v ≡ w
+one_stop rules told v w once one other = elim (three_ways one.place other.place) [
+  | inl less ↦ absurd (not_stopped rules told v once one (other.before one.place less))
   | inr more ↦ elim more [
     | inl same ↦
-        let says : rules.Filters other.place pod node one.said = subst (λ k. rules.Filters k pod node one.said) same one.says in
-        let said : one.said ≡ other.said = once.filter other.place pod node one.said other.said says other.says in
+        let says : rules.Filters other.place told one.said = subst (λ k. rules.Filters k told one.said) same one.says in
+        let said : one.said ≡ other.said = once.filter other.place told one.said other.said says other.says in
         let made : stopped_by one.place one.said ≡ stopped_by other.place other.said = ap (λ k. stopped_by k one.said) same ∙ ap (stopped_by other.place) said in
         let both : Some v ≡ Some w = sym one.makes ∙ (made ∙ other.makes) in
         cc
-    | inr greater ↦ absurd (not_stopped rules pod node w once other (one.before other.place greater))
+    | inr greater ↦ absurd (not_stopped rules told w once other (one.before other.place greater))
   ]
 ]
 
-one_filtered : (rules : RuleSet) (pod node : List ℕ) (one other : Option Verdict) → SayOneThing rules → Filtered rules pod node one → Filtered rules pod node other → one ≡ other
-one_filtered rules pod node None None once a b = refl
-one_filtered rules pod node None (Some w) once a b = absurd (not_stopped rules pod node w once b (a b.place b.there))
-one_filtered rules pod node (Some v) None once a b = absurd (not_stopped rules pod node v once a (b a.place a.there))
-one_filtered rules pod node (Some v) (Some w) once a b = ap (λ x. Some x) (one_stop rules pod node v w once a b)
+one_filtered : (rules : RuleSet) (told : Records) (one other : Option Verdict) → SayOneThing rules → Filtered rules told one → Filtered rules told other → one ≡ other
+one_filtered rules told None None once a b = refl
+one_filtered rules told None (Some w) once a b = absurd (not_stopped rules told w once b (a b.place b.there))
+one_filtered rules told (Some v) None once a b = absurd (not_stopped rules told v once a (b a.place a.there))
+one_filtered rules told (Some v) (Some w) once a b = ap (λ x. Some x) (one_stop rules told v w once a b)
 
 -- a score that is good doesn't err
-not_erring : (rules : RuleSet) (pod node : List ℕ) (verdict : Verdict) (scores : List ℕ) → SayOneThing rules → (errs : ScoreErrs rules pod node verdict) → AreScores rules pod node scores → length errs.before < length scores → ⊥
-not_erring rules pod node verdict scores once errs are there =
-    let same : score.Errs errs.why ≡ score.Good (slice_index scores (length errs.before)) = once.score (length errs.before) pod node _ _ errs.says (are (length errs.before) there) in
+not_erring : (rules : RuleSet) (told : Records) (verdict : Verdict) (scores : List ℕ) → SayOneThing rules → (errs : ScoreErrs rules told verdict) → AreScores rules told scores → length errs.before < length scores → ⊥
+not_erring rules told verdict scores once errs are there =
+    let same : score.Errs errs.why ≡ score.Good (slice_index scores (length errs.before)) = once.score (length errs.before) told _ _ errs.says (are (length errs.before) there) in
     cc
 
-same_scores : (rules : RuleSet) (pod node : List ℕ) (xs ys : List ℕ) → SayOneThing rules → length xs ≡ length ys → AreScores rules pod node xs → AreScores rules pod node ys → xs ≡ ys
-same_scores rules pod node xs ys once many one other = same_number_lists xs ys many (λ k below.
-    let same : score.Good (get_or xs k 0) ≡ score.Good (get_or ys k 0) = once.score k pod node _ _ (one k below) (other k (omega (arith, below, many))) in
+same_scores : (rules : RuleSet) (told : Records) (xs ys : List ℕ) → SayOneThing rules → length xs ≡ length ys → AreScores rules told xs → AreScores rules told ys → xs ≡ ys
+same_scores rules told xs ys once many one other = same_number_lists xs ys many (λ k below.
+    let same : score.Good (get_or xs k 0) ≡ score.Good (get_or ys k 0) = once.score k told _ _ (one k below) (other k (omega (arith, below, many))) in
     cc)
 
-one_error : (rules : RuleSet) (pod node : List ℕ) (v w : Verdict) → SayOneThing rules → ScoreErrs rules pod node v → ScoreErrs rules pod node w → v ≡ w
-one_error rules pod node v w once one other = elim (three_ways (length one.before) (length other.before)) [
-  | inl less ↦ absurd (not_erring rules pod node v other.before once one other.are less)
+one_error : (rules : RuleSet) (told : Records) (v w : Verdict) → SayOneThing rules → ScoreErrs rules told v → ScoreErrs rules told w → v ≡ w
+one_error rules told v w once one other = elim (three_ways (length one.before) (length other.before)) [
+  | inl less ↦ absurd (not_erring rules told v other.before once one other.are less)
   | inr more ↦ elim more [
     | inl same ↦
-        let says : rules.Scores (length other.before) pod node (score.Errs one.why) = subst (λ k. rules.Scores k pod node (score.Errs one.why)) same one.says in
-        let said : score.Errs one.why ≡ score.Errs other.why = once.score (length other.before) pod node _ _ says other.says in
+        let says : rules.Scores (length other.before) told (score.Errs one.why) = subst (λ k. rules.Scores k told (score.Errs one.why)) same one.says in
+        let said : score.Errs one.why ≡ score.Errs other.why = once.score (length other.before) told _ _ says other.says in
         let why : one.why ≡ other.why = cc in
         one.makes ∙ (ap (λ k. Errs k one.why) same ∙ (ap (λ why. Errs (length other.before) why) why ∙ sym other.makes))
-    | inr greater ↦ absurd (not_erring rules pod node w one.before once other one.are greater)
+    | inr greater ↦ absurd (not_erring rules told w one.before once other one.are greater)
   ]
 ]
 
-one_scored : (rules : RuleSet) (pod node : List ℕ) (one other : Result ℕ Verdict) → SayOneThing rules → Scored rules pod node one → Scored rules pod node other → one ≡ other
-one_scored rules pod node (Ok m) (Ok n) once a b =
-    let same : a.scores ≡ b.scores = same_scores rules pod node a.scores b.scores once (a.all ∙ sym b.all) a.are b.are in
+one_scored : (rules : RuleSet) (told : Records) (one other : Result ℕ Verdict) → SayOneThing rules → Scored rules told one → Scored rules told other → one ≡ other
+one_scored rules told (Ok m) (Ok n) once a b =
+    let same : a.scores ≡ b.scores = same_scores rules told a.scores b.scores once (a.all ∙ sym b.all) a.are b.are in
     ap (λ x. Ok x) (a.adds ∙ (ap (weighted rules.weights) same ∙ sym b.adds))
-one_scored rules pod node (Ok m) (Err w) once a b = absurd (not_erring rules pod node w a.scores once b a.are (omega (arith, b.there, a.all)))
-one_scored rules pod node (Err v) (Ok n) once a b = absurd (not_erring rules pod node v b.scores once a b.are (omega (arith, a.there, b.all)))
-one_scored rules pod node (Err v) (Err w) once a b = ap (λ x. Err x) (one_error rules pod node v w once a b)
+one_scored rules told (Ok m) (Err w) once a b = absurd (not_erring rules told w a.scores once b a.are (omega (arith, b.there, a.all)))
+one_scored rules told (Err v) (Ok n) once a b = absurd (not_erring rules told v b.scores once a b.are (omega (arith, a.there, b.all)))
+one_scored rules told (Err v) (Err w) once a b = ap (λ x. Err x) (one_error rules told v w once a b)
 
 one_by_scores : (rules : RuleSet) (pod : Pod) (shown : Shown) (v w : Verdict) → SayOneThing rules → ByScores rules pod shown v → ByScores rules pod shown w → v ≡ w
-one_by_scores rules pod shown v w once a b = a.is ∙ (ap (made_by shown pod) (one_scored rules _ _ a.scored b.scored once a.are b.are) ∙ sym b.is)
+one_by_scores rules pod shown v w once a b = a.is ∙ (ap (made_by shown pod) (one_scored rules _ a.scored b.scored once a.are b.are) ∙ sym b.is)
 
 one_after_filters : (rules : RuleSet) (pod : Pod) (shown : Shown) (v w : Verdict) (filtered : Option Verdict) → SayOneThing rules →
     MatchOption filtered (ByScores rules pod shown v) (λ stopped. v ≡ stopped) → MatchOption filtered (ByScores rules pod shown w) (λ stopped. w ≡ stopped) → v ≡ w
@@ -91,7 +92,7 @@ one_after_filters rules pod shown v w (Some stopped) once a b = a ∙ sym b
 
 one_by_rules : (rules : RuleSet) (pod : Pod) (shown : Shown) (v w : Verdict) → SayOneThing rules → ByRules rules pod shown v → ByRules rules pod shown w → v ≡ w
 one_by_rules rules pod shown v w once a b =
-    let same : a.filtered ≡ b.filtered = one_filtered rules _ _ a.filtered b.filtered once a.are b.are in
+    let same : a.filtered ≡ b.filtered = one_filtered rules _ a.filtered b.filtered once a.are b.are in
     one_after_filters rules pod shown v w b.filtered once (subst (λ found. MatchOption found (ByScores rules pod shown v) (λ stopped. v ≡ stopped)) same a.is) b.is
 
 one_by_built_in : (rules : RuleSet) (pod : Pod) (shown : Shown) (v w : Verdict) (found : Option Reason) → SayOneThing rules →

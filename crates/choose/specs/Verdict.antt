@@ -9,7 +9,8 @@ use Rattle.taints.specs.declared.tolerance.Rejection.{Rejection as TaintRejectio
 use Rattle.taints.specs.declared.tolerance.Rejection.TheVariants as taint
 use Rattle.taints.specs.Tolerance.{rejection, prefer_not}
 use Rattle.desk.specs.Shown.{Shown}
-use Rattle.whost.specs.Record.{pod_bytes, node_bytes}
+use Rattle.whost.specs.Handed.{told_of}
+use Rattle.whost.specs.declared.records.Records.{Records}
 use Rattle.plugin.specs.RuleSet.{RuleSet}
 use Rattle.plugin.specs.declared.verdict.Rejection.{Rejection}
 use Rattle.plugin.specs.declared.verdict.Rejection.TheVariants.{Unschedulable, UnschedulableAndUnresolvable}
@@ -50,26 +51,26 @@ stopped_by place (filter.Rejects how) = Some (Rejected (reason_of how))
 stopped_by place (filter.Errs why) = Some (Errs place why)
 
 -- the filters of all rules before a place pass a node
-abbrev pub PassBefore : RuleSet → (place : ℕ) → (pod node : List ℕ) → Type 0
-PassBefore rules place pod node = (k : ℕ) → k < place → rules.Filters k pod node filter.Passes
+abbrev pub PassBefore : RuleSet → (place : ℕ) → (told : Records) → Type 0
+PassBefore rules place told = (k : ℕ) → k < place → rules.Filters k told filter.Passes
 
 -- the first rule whose filter doesn't pass a node
-pub record StopsAt (rules : RuleSet) (pod node : List ℕ) (verdict : Verdict) : Type 0 where
+pub record StopsAt (rules : RuleSet) (told : Records) (verdict : Verdict) : Type 0 where
   pub place : ℕ
   pub there : place < length rules.weights
-  pub before : PassBefore rules place pod node
+  pub before : PassBefore rules place told
   pub said : FilterVerdict
-  pub says : rules.Filters place pod node said
+  pub says : rules.Filters place told said
   pub makes : stopped_by place said ≡ Some verdict
 
 -- what the filters of the rules make of a node: nothing where all of them pass
-abbrev pub Filtered : RuleSet → (pod node : List ℕ) → Option Verdict → Type 0
-Filtered rules pod node None = PassBefore rules (length rules.weights) pod node
-Filtered rules pod node (Some verdict) = StopsAt rules pod node verdict
+abbrev pub Filtered : RuleSet → (told : Records) → Option Verdict → Type 0
+Filtered rules told None = PassBefore rules (length rules.weights) told
+Filtered rules told (Some verdict) = StopsAt rules told verdict
 
 -- these are the scores of the first rules, all of them good
-abbrev pub AreScores : RuleSet → (pod node : List ℕ) → (scores : List ℕ) → Type 0
-AreScores rules pod node scores = (k : ℕ) → k < length scores → rules.Scores k pod node (score.Good (slice_index scores k))
+abbrev pub AreScores : RuleSet → (told : Records) → (scores : List ℕ) → Type 0
+AreScores rules told scores = (k : ℕ) → k < length scores → rules.Scores k told (score.Good (slice_index scores k))
 
 -- each score as often as its rule's weight says, added up
 abbrev pub weighted : (weights scores : List ℕ) → ℕ
@@ -78,25 +79,25 @@ weighted (w ∷ ws) [] = 0
 weighted (w ∷ ws) (s ∷ ss) = w * s + weighted ws ss
 
 -- all rules give good scores, and this is their weighted sum
-pub record ScoresSum (rules : RuleSet) (pod node : List ℕ) (sum : ℕ) : Type 0 where
+pub record ScoresSum (rules : RuleSet) (told : Records) (sum : ℕ) : Type 0 where
   pub scores : List ℕ
   pub all : length scores ≡ length rules.weights
-  pub are : AreScores rules pod node scores
+  pub are : AreScores rules told scores
   pub adds : sum ≡ weighted rules.weights scores
 
 -- the first rule whose score isn't good
-pub record ScoreErrs (rules : RuleSet) (pod node : List ℕ) (verdict : Verdict) : Type 0 where
+pub record ScoreErrs (rules : RuleSet) (told : Records) (verdict : Verdict) : Type 0 where
   pub before : List ℕ
   pub there : length before < length rules.weights
-  pub are : AreScores rules pod node before
+  pub are : AreScores rules told before
   pub why : Cause
-  pub says : rules.Scores (length before) pod node (score.Errs why)
+  pub says : rules.Scores (length before) told (score.Errs why)
   pub makes : verdict ≡ Errs (length before) why
 
 -- what the scores of the rules make of a node that all filters pass
-abbrev pub Scored : RuleSet → (pod node : List ℕ) → Result ℕ Verdict → Type 0
-Scored rules pod node (Ok sum) = ScoresSum rules pod node sum
-Scored rules pod node (Err verdict) = ScoreErrs rules pod node verdict
+abbrev pub Scored : RuleSet → (told : Records) → Result ℕ Verdict → Type 0
+Scored rules told (Ok sum) = ScoresSum rules told sum
+Scored rules told (Err verdict) = ScoreErrs rules told verdict
 
 -- a node that passes: its untolerated taints `PreferNoSchedule`, and its score for free room with what the rules add
 abbrev pub passing : Shown → Pod → ℕ → Verdict
@@ -111,13 +112,13 @@ made_by shown pod (Err verdict) = verdict
 -- the verdict on a node that all filters pass: the first score that isn't good, else it passes
 pub record ByScores (rules : RuleSet) (pod : Pod) (shown : Shown) (verdict : Verdict) : Type 0 where
   pub scored : Result ℕ Verdict
-  pub are : Scored rules (pod_bytes pod) (node_bytes shown.node shown.used) scored
+  pub are : Scored rules (told_of pod shown.node shown.used) scored
   pub is : verdict ≡ made_by shown pod scored
 
 -- the verdict on a node that no built-in filter rejects: the first filter of the rules that doesn't pass, else by the scores
 pub record ByRules (rules : RuleSet) (pod : Pod) (shown : Shown) (verdict : Verdict) : Type 0 where
   pub filtered : Option Verdict
-  pub are : Filtered rules (pod_bytes pod) (node_bytes shown.node shown.used) filtered
+  pub are : Filtered rules (told_of pod shown.node shown.used) filtered
   pub is : MatchOption filtered (ByScores rules pod shown verdict) (λ stopped. verdict ≡ stopped)
 
 -- the verdict on a node

@@ -18,7 +18,7 @@ fn reason_of(how: Rejection) -> Reason
 
 /// What the filters of the rules make of the node whose record is shown, in their order: the first that doesn't pass ends it.
 pub fn filtered<R: Rules>(records: &Records, rules: &mut R) -> Option<Verdict>
-    ensures is { Filtered (R.answers rules.old) records.now.pod records.now.node result }
+    ensures is { Filtered (R.answers rules.old) records.now result }
     ensures stays { rules.new ≡ rules.old }
 {
     for place in 0..rules.count() {
@@ -34,7 +34,7 @@ pub fn filtered<R: Rules>(records: &Records, rules: &mut R) -> Option<Verdict>
 /// What the scores of the rules add to the node whose record is shown, each as often as its weight says, or the verdict where
 /// one isn't good.
 pub fn scored<R: Rules>(records: &Records, rules: &mut R) -> Result<u16, Verdict>
-    ensures is { Scored (R.answers rules.old) records.now.pod records.now.node result }
+    ensures is { Scored (R.answers rules.old) records.now result }
     ensures stays { rules.new ≡ rules.old }
     ensures few { IfOk result (λ sum. sum ≤ 16000) }
 {

@@ -1,7 +1,7 @@
 //! The verdicts on nodes, one by one.
 ghost use Rattle.std.specs.Prelude.{◌≡◌, length, IfOk, map};
 ghost use Rattle.desk.specs.Shown.{shown};
-ghost use Rattle.whost.specs.Record.{pod_bytes};
+ghost use Rattle.whost.specs.Handed.{pod_records};
 ghost use Rattle.choose.specs.Verdict.{HasVerdict, built_in};
 ghost use Rattle.choose.specs.Choice.{AreVerdicts};
 
@@ -33,10 +33,10 @@ fn built_in(row: &Row, pod: &Pod) -> Option<Reason>
     }
 }
 
-/// The verdict on a node. Its record is written where there is a rule and no built-in filter rejects the node; the pod's
-/// stands already.
+/// The verdict on a node. Its records are written where there is a rule and no built-in filter rejects the node; the
+/// pod's stand already.
 pub fn verdict_of<R: Rules>(row: &Row, pod: &Pod, records: &mut Records, rules: &mut R) -> Verdict
-    requires { records.old.pod ≡ pod_bytes pod.now }
+    requires { records.old.pod ≡ pod_records pod.now }
     ensures is { HasVerdict (R.answers rules.old) pod.now (shown row.now) result }
     ensures stays { rules.new ≡ rules.old }
     ensures pod { records.new.pod ≡ records.old.pod }
@@ -59,8 +59,8 @@ pub fn verdict_of<R: Rules>(row: &Row, pod: &Pod, records: &mut Records, rules: 
     }
 }
 
-/// Writes the verdicts on nodes into the places for them, in the nodes' order. The pod's record is written once, and no memory
-/// is taken.
+/// Writes the verdicts on nodes into the places for them, in the nodes' order. The pod's records are written once, and no
+/// memory is taken.
 pub fn judge<R: Rules>(rows: &[Row], pod: &Pod, rules: &mut R, verdicts: &mut [Verdict])
     requires { length verdicts.old ≡ length rows.now }
     ensures are { AreVerdicts (R.answers rules.old) pod.now (map shown rows.now) verdicts.new }

@@ -10,8 +10,8 @@ use Rattle.fleet.specs.Speaking.{SpeaksFor}
 abbrev pub tally_rules : RuleSet
 tally_rules = record {
   weights = 1 ∷ [];
-  Filters = λ place pod node said. said ≡ filter.Errs Exhausted;
-  Scores = λ place pod node said. said ≡ score.Good 0;
+  Filters = λ place told said. said ≡ filter.Errs Exhausted;
+  Scores = λ place told said. said ≡ score.Good 0;
 }
 
 pub tally_speaks : SpeaksFor (λ pod node verdict. HasVerdict tally_rules pod node verdict) tally_rules

@@ -24,8 +24,8 @@ impl Rules for Tally {
 
     ghost answers = { λ _. record {
       weights = 1 ∷ [];
-      Filters = λ place pod node said. said ≡ filter.Errs Exhausted;
-      Scores = λ place pod node said. said ≡ score.Good 0;
+      Filters = λ place told said. said ≡ filter.Errs Exhausted;
+      Scores = λ place told said. said ≡ score.Good 0;
     } };
 
     fn count(&self) -> usize {
@@ -46,8 +46,8 @@ impl Rules for Tally {
     }
 
     ghost say_one_thing = { λ _. record {
-      filter = λ place pod node one other a b. a ∙ sym b;
-      score = λ place pod node one other a b. a ∙ sym b;
+      filter = λ place told one other a b. a ∙ sym b;
+      score = λ place told one other a b. a ∙ sym b;
     } };
 }
 

@@ -20,7 +20,7 @@ nothing_called (Some f) h = absurd (false_is_not (h.1 refl))
 
 -- a call of a plugin's instance is one of the plugin
 pub ends_of_call : (weight fuel : ℕ) (before after : MachineState) (export : Export) (records : Records) (outcome : Outcome) → CallsFromImage before export records fuel outcome after
-    → Ends (record { weight = weight; fuel = fuel; content = before.content; image = before.image }) export records.pod records.node outcome
+    → Ends (record { weight = weight; fuel = fuel; content = before.content; image = before.image }) export records outcome
 ends_of_call weight fuel before after export records outcome calls =
     record { after = after; calls = record { function = calls.function; function_is = calls.function_is; ends = calls.ends } }
 

@@ -9,6 +9,7 @@ use Rattle.wmach.specs.declared.outcome.Outcome.{Outcome}
 use Rattle.wmach.specs.Call.{MachineState, called_function}
 use Rattle.whost.specs.Calls.{CallsFromImage}
 use Rattle.whost.specs.Image.{IsImage}
+use Rattle.whost.specs.declared.records.Records.{Records}
 use Rattle.plugin.specs.declared.verdict.FilterVerdict.{FilterVerdict}
 use Rattle.plugin.specs.declared.verdict.FilterVerdict.TheVariants as filter
 use Rattle.plugin.specs.declared.verdict.ScoreVerdict.{ScoreVerdict}
@@ -48,30 +49,30 @@ abbrev pub called : Ready → Export → Option ℕ
 called plugin export = called_function (module_of plugin.content) export
 
 -- A call of the plugin, which begins from its image with these records, ends with this outcome.
-pub record Ends (plugin : Ready) (export : Export) (pod node : List ℕ) (outcome : Outcome) : Type 0 where
+pub record Ends (plugin : Ready) (export : Export) (told : Records) (outcome : Outcome) : Type 0 where
   pub after : MachineState
-  pub calls : CallsFromImage (at_image plugin) export (record { pod = pod; node = node }) plugin.fuel outcome after
+  pub calls : CallsFromImage (at_image plugin) export told plugin.fuel outcome after
 
 -- What a plugin says of a pod and a node: what is said by how its call ends, or, where it has nothing to be called, this.
-abbrev pub Says : {Verdict : Type 0} → Ready → Export → (without : Verdict) → (said : Outcome → Verdict) → (pod node : List ℕ) → Verdict → Type 0
-Says plugin export without said pod node verdict =
+abbrev pub Says : {Verdict : Type 0} → Ready → Export → (without : Verdict) → (said : Outcome → Verdict) → (told : Records) → Verdict → Type 0
+Says plugin export without said told verdict =
     ((called plugin export ≡ None) × (verdict ≡ without))
-    ⊎ ((outcome : Outcome) × Ends plugin export pod node outcome × (verdict ≡ said outcome))
+    ⊎ ((outcome : Outcome) × Ends plugin export told outcome × (verdict ≡ said outcome))
 
 -- its filter says this; a plugin without one lets the node pass
-abbrev pub FilterSays : Ready → (pod node : List ℕ) → FilterVerdict → Type 0
-FilterSays plugin pod node verdict = Says plugin export.Filter filter.Passes filter_said pod node verdict
+abbrev pub FilterSays : Ready → (told : Records) → FilterVerdict → Type 0
+FilterSays plugin told verdict = Says plugin export.Filter filter.Passes filter_said told verdict
 
 -- its score says this; a plugin without one gives 0
-abbrev pub ScoreSays : Ready → (pod node : List ℕ) → ScoreVerdict → Type 0
-ScoreSays plugin pod node verdict = Says plugin export.Score (score.Good 0) score_said pod node verdict
+abbrev pub ScoreSays : Ready → (told : Records) → ScoreVerdict → Type 0
+ScoreSays plugin told verdict = Says plugin export.Score (score.Good 0) score_said told verdict
 
 -- what the plugins of a kit say, each at its place
 abbrev pub rules_of : List Ready → RuleSet
 rules_of kit = record {
   weights = map (λ p. p.weight) kit;
-  Filters = λ place pod node verdict. (p : Ready) × (slice_get kit place ≡ Some p) × FilterSays p pod node verdict;
-  Scores = λ place pod node verdict. (p : Ready) × (slice_get kit place ≡ Some p) × ScoreSays p pod node verdict;
+  Filters = λ place told verdict. (p : Ready) × (slice_get kit place ≡ Some p) × FilterSays p told verdict;
+  Scores = λ place told verdict. (p : Ready) × (slice_get kit place ≡ Some p) × ScoreSays p told verdict;
 }
 
 -- a plugin that is ready is this one, from its image

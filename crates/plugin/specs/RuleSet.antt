@@ -1,5 +1,6 @@
 -- What a site's rules say, rule by rule in the order in which they are configured.
 use Rattle.std.specs.Prelude.{◌≡◌, ℕ, List, []}
+use Rattle.whost.specs.declared.records.Records.{Records}
 use Rattle.plugin.specs.declared.verdict.FilterVerdict.{FilterVerdict}
 use Rattle.plugin.specs.declared.verdict.ScoreVerdict.{ScoreVerdict}
 
@@ -8,17 +9,17 @@ pub record RuleSet : Type 1 where
   -- how much each rule's score counts: there are as many rules as weights
   pub weights : List ℕ
   -- the filter of the rule at this place says this
-  pub Filters : (place : ℕ) → (pod node : List ℕ) → FilterVerdict → Type 0
+  pub Filters : (place : ℕ) → (told : Records) → FilterVerdict → Type 0
   -- its score says this
-  pub Scores : (place : ℕ) → (pod node : List ℕ) → ScoreVerdict → Type 0
+  pub Scores : (place : ℕ) → (told : Records) → ScoreVerdict → Type 0
 
 -- of one pod and one node a filter says one thing, and so does a score
 pub record SayOneThing (rules : RuleSet) : Type 0 where
-  pub filter : (place : ℕ) (pod node : List ℕ) (one other : FilterVerdict) →
-      rules.Filters place pod node one → rules.Filters place pod node other → one ≡ other
-  pub score : (place : ℕ) (pod node : List ℕ) (one other : ScoreVerdict) →
-      rules.Scores place pod node one → rules.Scores place pod node other → one ≡ other
+  pub filter : (place : ℕ) (told : Records) (one other : FilterVerdict) →
+      rules.Filters place told one → rules.Filters place told other → one ≡ other
+  pub score : (place : ℕ) (told : Records) (one other : ScoreVerdict) →
+      rules.Scores place told one → rules.Scores place told other → one ≡ other
 
 -- no rules, of which nothing is said
 abbrev pub no_rules : RuleSet
-no_rules = record { weights = []; Filters = λ place pod node said. ⊥; Scores = λ place pod node said. ⊥ }
+no_rules = record { weights = []; Filters = λ place told said. ⊥; Scores = λ place told said. ⊥ }

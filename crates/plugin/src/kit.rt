@@ -74,7 +74,7 @@ impl Kit {
     /// changes, and of this one only the store, also where the call is cut off.
     pub fn filter(&mut self, place: usize, records: &Records) -> FilterVerdict
         requires { place < length self.old }
-        ensures says { IfSome (slice_get self.old place) (λ i. FilterSays i.ready records.now.pod records.now.node result) }
+        ensures says { IfSome (slice_get self.old place) (λ i. FilterSays i.ready records.now result) }
         ensures others { OnlyItsStore place self.old self.new }
     {
         self.members[place].filter(records)
@@ -84,7 +84,7 @@ impl Kit {
     /// this one only the store, also where the call is cut off.
     pub fn score(&mut self, place: usize, records: &Records) -> ScoreVerdict
         requires { place < length self.old }
-        ensures says { IfSome (slice_get self.old place) (λ i. ScoreSays i.ready records.now.pod records.now.node result) }
+        ensures says { IfSome (slice_get self.old place) (λ i. ScoreSays i.ready records.now result) }
         ensures within { IsWithin result }
         ensures others { OnlyItsStore place self.old self.new }
     {

@@ -69,7 +69,7 @@ impl Member {
 
     /// Asks its filter, from the image. A module without one lets the node pass. Of the instance only the store may change.
     pub fn filter(&mut self, records: &Records) -> FilterVerdict
-        ensures says { FilterSays self.old.ready records.now.pod records.now.node result }
+        ensures says { FilterSays self.old.ready records.now result }
         ensures stays { self.new ≡ record self.old { store = self.new.store } }
     {
         if !self.instance.has(Export::Filter) {
@@ -80,7 +80,7 @@ impl Member {
 
     /// Asks its score, from the image. A module without one gives 0. Of the instance only the store may change.
     pub fn score(&mut self, records: &Records) -> ScoreVerdict
-        ensures says { ScoreSays self.old.ready records.now.pod records.now.node result }
+        ensures says { ScoreSays self.old.ready records.now result }
         ensures within { IsWithin result }
         ensures stays { self.new ≡ record self.old { store = self.new.store } }
     {

@@ -8,7 +8,7 @@ use whost::Records;
 
 /// A site's rules, in the order in which they are configured.
 ///
-/// What a rule says depends on the rule, the pod's record and the node's record alone, whatever was asked before: each call
+/// What a rule says depends on the rule, the pod's records and the node's records alone, whatever was asked before: each call
 /// leaves the set as it was.
 pub trait Rules {
     // What the rules say, and how much their scores count.
@@ -29,13 +29,13 @@ pub trait Rules {
     /// Asks the filter of the rule at a place. A rule without one lets every node pass.
     fn filter(&mut self, place: usize, records: &Records) -> FilterVerdict
         requires { place < length (answers self.old).weights }
-        ensures says { (answers self.old).Filters place records.now.pod records.now.node result }
+        ensures says { (answers self.old).Filters place records.now result }
         ensures stays { self.new ≡ self.old };
 
     /// Asks the score of the rule at a place. A rule without one adds nothing: it gives 0.
     fn score(&mut self, place: usize, records: &Records) -> ScoreVerdict
         requires { place < length (answers self.old).weights }
-        ensures says { (answers self.old).Scores place records.now.pod records.now.node result }
+        ensures says { (answers self.old).Scores place records.now result }
         ensures within { IsWithin result }
         ensures stays { self.new ≡ self.old };
 

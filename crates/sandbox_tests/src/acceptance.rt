@@ -47,8 +47,13 @@ const EMPTY_BEHIND_1023: &[u8] = b"\x0A\x0C\x02\x04\x00\x41\x00\x0B\x05\x01\xFF\
 
 const EMPTY_BEHIND_1024: &[u8] = b"\x0A\x0C\x02\x04\x00\x41\x00\x0B\x05\x01\x80\x08\x7E\x0B";
 
-// Imports of the function `sched.pod` of the first type, and of the second, and of the function `sched.pods`.
+// Imports of the functions `sched.pod` and `sched2.node` of the first type, of `sched.pod` of the second, and of the functions
+// `sched.pods` and `sched3.pod`.
 const IMPORTS_POD: &[u8] = b"\x02\x0D\x01\x05sched\x03pod\x00\x00";
+
+const IMPORTS_NODE_2: &[u8] = b"\x02\x0F\x01\x06sched2\x04node\x00\x00";
+
+const IMPORTS_POD_3: &[u8] = b"\x02\x0E\x01\x06sched3\x03pod\x00\x00";
 
 const IMPORTS_POD_OF_SECOND: &[u8] = b"\x02\x0D\x01\x05sched\x03pod\x00\x01";
 
@@ -131,7 +136,7 @@ struct Row {
     fault: Option<TypeFault>,
 }
 
-const ROWS: [Row; 30] = [
+const ROWS: [Row; 32] = [
     Row {
         sections: &[TO_I32, ONE, FILTER, ZERO],
         fault: None,
@@ -153,6 +158,26 @@ const ROWS: [Row; 30] = [
             ZERO,
         ],
         fault: None,
+    },
+    Row {
+        sections: &[
+            HOST_AND_FILTER,
+            IMPORTS_NODE_2,
+            FUNCTION_OF_SECOND,
+            FILTER_BEHIND_IMPORT,
+            ZERO,
+        ],
+        fault: None,
+    },
+    Row {
+        sections: &[
+            HOST_AND_FILTER,
+            IMPORTS_POD_3,
+            FUNCTION_OF_SECOND,
+            FILTER_BEHIND_IMPORT,
+            ZERO,
+        ],
+        fault: Some(TypeFault::BadImport),
     },
     Row {
         sections: &[

@@ -3,7 +3,7 @@
 use crate::records::pod_of;
 use crate::records::rows::PODS;
 use crate::small_modules::{
-    FILTER, FILTER_BEHIND_IMPORT, ONE, ONE_OF_EACH, PAGE, POD, SCORE_ALONE, TO_I32,
+    FILTER, FILTER_BEHIND_IMPORT, ONE, ONE_OF_EACH, PAGE, POD, POD_2, SCORE_ALONE, TO_I32,
     TO_I32_AND_HOST, TO_I32_AND_START, ZERO, module_with,
 };
 use std::alloc::Global;
@@ -49,6 +49,12 @@ const LIMIT_25_READ: &[u8] =
 const LIMIT_26_READ: &[u8] =
     b"\0\x41\xE6\xFF\x03\x41\x1A\x10\x00\x1A\x41\xE6\xFF\x03\x28\x02\x00\x0B";
 
+// Calls of `sched2.pod`: 65,509 and 27, alone and with the four bytes there.
+const LIMIT_27: &[u8] = b"\0\x41\xE5\xFF\x03\x41\x1B\x10\x00\x0B";
+
+const LIMIT_27_READ: &[u8] =
+    b"\0\x41\xE5\xFF\x03\x41\x1B\x10\x00\x1A\x41\xE5\xFF\x03\x28\x02\x00\x0B";
+
 // What is at 0, which is 9 afterwards; and a start function that adds 1 to it.
 const READ_AND_WRITE: &[u8] = b"\0\x41\x00\x28\x02\x00\x41\x00\x41\x09\x36\x02\x00\x0B";
 
@@ -70,6 +76,9 @@ const FIFTY: &[u8] = b"\0\x42\x32\x0B";
 // A filter that can call the host's function.
 const ASKING: &[&[u8]] = &[TO_I32_AND_HOST, POD, ONE, PAGE, FILTER_BEHIND_IMPORT];
 
+// The same of version 2.
+const ASKING_2: &[&[u8]] = &[TO_I32_AND_HOST, POD_2, ONE, PAGE, FILTER_BEHIND_IMPORT];
+
 // What there is of a module.
 #[derive(Clone, Copy, PartialEq, Eq, Debug)]
 enum Found {
@@ -89,7 +98,7 @@ struct Row {
     found: Found,
 }
 
-const ROWS: [Row; 13] = [
+const ROWS: [Row; 17] = [
     Row {
         row: "a limit below the record's length",
         sections: ASKING,
@@ -137,6 +146,38 @@ const ROWS: [Row; 13] = [
         data: b"",
         fuel: 1_000,
         found: Found::Ends(Outcome::Trap(Trap::HostOutOfBounds, 1)),
+    },
+    Row {
+        row: "version 2, and a limit below the record's length",
+        sections: ASKING_2,
+        bodies: &[LIMIT_26],
+        data: b"",
+        fuel: 1_000,
+        found: Found::Ends(Outcome::Value(Some(Value::I32(27)), 1)),
+    },
+    Row {
+        row: "nothing of version 2 is written",
+        sections: ASKING_2,
+        bodies: &[LIMIT_26_READ],
+        data: b"",
+        fuel: 1_000,
+        found: Found::Ends(Outcome::Value(Some(Value::I32(0)), 3)),
+    },
+    Row {
+        row: "version 2, and a limit that is the record's length",
+        sections: ASKING_2,
+        bodies: &[LIMIT_27],
+        data: b"",
+        fuel: 1_000,
+        found: Found::Ends(Outcome::Value(Some(Value::I32(27)), 2)),
+    },
+    Row {
+        row: "the record of version 2 is written",
+        sections: ASKING_2,
+        bodies: &[LIMIT_27_READ],
+        data: b"",
+        fuel: 1_000,
+        found: Found::Ends(Outcome::Value(Some(Value::I32(0x7002_0102)), 4)),
     },
     Row {
         row: "data, then start, and each call from there",

@@ -14,8 +14,10 @@ pub const TO_I32_AND_HOST: &[u8] = b"\x01\x0B\x02\x60\x00\x01\x7F\x60\x02\x7F\x7
 
 pub const TO_I32_AND_START: &[u8] = b"\x01\x08\x02\x60\x00\x01\x7F\x60\x00\x00";
 
-/// The function `sched.pod`, and one that isn't the host's, of the second type.
+/// The functions `sched.pod` and `sched2.pod`, and one that isn't the host's, of the second type.
 pub const POD: &[u8] = b"\x02\x0D\x01\x05sched\x03pod\x00\x01";
+
+pub const POD_2: &[u8] = b"\x02\x0E\x01\x06sched2\x03pod\x00\x01";
 
 pub const PODS: &[u8] = b"\x02\x0E\x01\x05sched\x04pods\x00\x01";
 

@@ -110,8 +110,8 @@ impl Rules for Same {
 
     ghost answers = { λ r. record {
       weights = if r.there then 2 ∷ [] else [];
-      Filters = λ place pod node said. said ≡ r.filter;
-      Scores = λ place pod node said. said ≡ elim r.errs [ None ↦ Good 50 | Some why ↦ Errs why ];
+      Filters = λ place told said. said ≡ r.filter;
+      Scores = λ place told said. said ≡ elim r.errs [ None ↦ Good 50 | Some why ↦ Errs why ];
     } };
 
     fn count(&self) -> usize {
@@ -134,8 +134,8 @@ impl Rules for Same {
     }
 
     ghost say_one_thing = { λ r. record {
-      filter = λ place pod node one other a b. a ∙ sym b;
-      score = λ place pod node one other a b. a ∙ sym b;
+      filter = λ place told one other a b. a ∙ sym b;
+      score = λ place told one other a b. a ∙ sym b;
     } };
 }
 

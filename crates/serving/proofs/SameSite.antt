@@ -10,6 +10,7 @@ use Rattle.wmach.specs.declared.outcome.Outcome.{Outcome}
 use Rattle.wmach.specs.Call.{called_function}
 use Rattle.wmach.specs.Outcome.{HasOutcome}
 use Rattle.wstore.specs.Store.{Store}
+use Rattle.whost.specs.declared.records.Records.{Records}
 use Rattle.whost.specs.Handed.{record_of}
 use Rattle.whost.specs.Image.{IsImage}
 use Rattle.whost.specs.Refused.{OneImage}
@@ -46,42 +47,42 @@ OneModule = (bytes : List ℕ) (m n : ModuleSyntax) → Spells bytes m → Spell
 -- what the one says the other says
 record Agree (one other : RuleSet) : Type 0 where
   weights : one.weights ≡ other.weights
-  filters : (place : ℕ) (pod node : List ℕ) (verdict : FilterVerdict) → one.Filters place pod node verdict → other.Filters place pod node verdict
-  scores : (place : ℕ) (pod node : List ℕ) (verdict : ScoreVerdict) → one.Scores place pod node verdict → other.Scores place pod node verdict
+  filters : (place : ℕ) (told : Records) (verdict : FilterVerdict) → one.Filters place told verdict → other.Filters place told verdict
+  scores : (place : ℕ) (told : Records) (verdict : ScoreVerdict) → one.Scores place told verdict → other.Scores place told verdict
 
 module _ (one other : RuleSet) (agree : Agree one other) where
   as_many : length other.weights ≡ length one.weights
   as_many = ap length (sym agree.weights)
 
-  filtered : (pod node : List ℕ) (f : Option Verdict) → Filtered one pod node f → Filtered other pod node f
-  filtered pod node None passes = λ k below. agree.filters k pod node filter.Passes (passes k (omega (arith, below, as_many)))
-  filtered pod node (Some verdict) stops = record {
+  filtered : (told : Records) (f : Option Verdict) → Filtered one told f → Filtered other told f
+  filtered told None passes = λ k below. agree.filters k told filter.Passes (passes k (omega (arith, below, as_many)))
+  filtered told (Some verdict) stops = record {
     place = stops.place;
     there = omega (arith, stops.there, as_many);
-    before = λ k below. agree.filters k pod node filter.Passes (stops.before k below);
+    before = λ k below. agree.filters k told filter.Passes (stops.before k below);
     said = stops.said;
-    says = agree.filters stops.place pod node stops.said stops.says;
+    says = agree.filters stops.place told stops.said stops.says;
     makes = stops.makes;
   }
 
-  scored : (pod node : List ℕ) (r : Result ℕ Verdict) → Scored one pod node r → Scored other pod node r
-  scored pod node (Ok sum) sums = record {
+  scored : (told : Records) (r : Result ℕ Verdict) → Scored one told r → Scored other told r
+  scored told (Ok sum) sums = record {
     scores = sums.scores;
     all = sums.all ∙ sym as_many;
-    are = λ k below. agree.scores k pod node (score.Good (slice_index sums.scores k)) (sums.are k below);
+    are = λ k below. agree.scores k told (score.Good (slice_index sums.scores k)) (sums.are k below);
     adds = subst (λ ws. sum ≡ weighted ws sums.scores) agree.weights sums.adds;
   }
-  scored pod node (Err verdict) errs = record {
+  scored told (Err verdict) errs = record {
     before = errs.before;
     there = omega (arith, errs.there, as_many);
-    are = λ k below. agree.scores k pod node (score.Good (slice_index errs.before k)) (errs.are k below);
+    are = λ k below. agree.scores k told (score.Good (slice_index errs.before k)) (errs.are k below);
     why = errs.why;
-    says = agree.scores (length errs.before) pod node (score.Errs errs.why) errs.says;
+    says = agree.scores (length errs.before) told (score.Errs errs.why) errs.says;
     makes = errs.makes;
   }
 
   by_scores : (pod : Pod) (shown : Shown) (verdict : Verdict) → ByScores one pod shown verdict → ByScores other pod shown verdict
-  by_scores pod shown verdict by = record { scored = by.scored; are = scored _ _ by.scored by.are; is = by.is }
+  by_scores pod shown verdict by = record { scored = by.scored; are = scored _ by.scored by.are; is = by.is }
 
   or_by_scores : (f : Option Verdict) (pod : Pod) (shown : Shown) (verdict : Verdict) → MatchOption f (ByScores one pod shown verdict) (λ stopped. verdict ≡ stopped)
       → MatchOption f (ByScores other pod shown verdict) (λ stopped. verdict ≡ stopped)
@@ -89,7 +90,7 @@ module _ (one other : RuleSet) (agree : Agree one other) where
   or_by_scores (Some stopped) pod shown verdict is = is
 
   by_rules : (pod : Pod) (shown : Shown) (verdict : Verdict) → ByRules one pod shown verdict → ByRules other pod shown verdict
-  by_rules pod shown verdict by = record { filtered = by.filtered; are = filtered _ _ by.filtered by.are; is = or_by_scores by.filtered pod shown verdict by.is }
+  by_rules pod shown verdict by = record { filtered = by.filtered; are = filtered _ by.filtered by.are; is = or_by_scores by.filtered pod shown verdict by.is }
 
   -- have the same verdicts
   verdict_by : (pod : Pod) (shown : Shown) (verdict : Verdict) → HasVerdict one pod shown verdict → HasVerdict other pod shown verdict
@@ -109,26 +110,26 @@ record Alike (one other : Ready) : Type 0 where
   image : one.image ≡ other.image
 
 -- a call with these records ends so, from this image of a module
-abbrev Ended : (pod node : List ℕ) → Outcome → (after : Store) → ModuleSyntax → (image : Store) → (function fuel : ℕ) → Type 0
-Ended pod node outcome after m image function fuel = HasOutcome (record { module_syntax = m; records = record_of (record { pod = pod; node = node }) }) image function fuel outcome after
+abbrev Ended : (told : Records) → Outcome → (after : Store) → ModuleSyntax → (image : Store) → (function fuel : ℕ) → Type 0
+Ended told outcome after m image function fuel = HasOutcome (record { module_syntax = m; records = record_of told }) image function fuel outcome after
 
 -- end alike
-ends_alike : (one other : Ready) (e : Export) (pod node : List ℕ) (outcome : Outcome) → Alike one other → Ends one e pod node outcome → Ends other e pod node outcome
-ends_alike one other e pod node outcome alike ends = record {
+ends_alike : (one other : Ready) (e : Export) (told : Records) (outcome : Outcome) → Alike one other → Ends one e told outcome → Ends other e told outcome
+ends_alike one other e told outcome alike ends = record {
   after = ends.after;
   calls = record {
     function = ends.calls.function;
     function_is = subst (λ m. called_function m e ≡ Some ends.calls.function) alike.content ends.calls.function_is;
-    ends = subst (λ m. Ended pod node outcome ends.after.store m other.image ends.calls.function other.fuel) alike.content
-        (subst (λ image. Ended pod node outcome ends.after.store (module_of one.content) image ends.calls.function other.fuel) alike.image
-        (subst (λ fuel. Ended pod node outcome ends.after.store (module_of one.content) one.image ends.calls.function fuel) alike.fuel ends.calls.ends));
+    ends = subst (λ m. Ended told outcome ends.after.store m other.image ends.calls.function other.fuel) alike.content
+        (subst (λ image. Ended told outcome ends.after.store (module_of one.content) image ends.calls.function other.fuel) alike.image
+        (subst (λ fuel. Ended told outcome ends.after.store (module_of one.content) one.image ends.calls.function fuel) alike.fuel ends.calls.ends));
   };
 }
 
 -- and so say the same
-say_alike : {V : Type 0} (one other : Ready) (e : Export) (without : V) (said : Outcome → V) (pod node : List ℕ) (v : V) → Alike one other → Says one e without said pod node v → Says other e without said pod node v
-say_alike one other e without said pod node v alike (inl (none, is)) = inl (subst (λ m. called_function m e ≡ None) alike.content none, is)
-say_alike one other e without said pod node v alike (inr (outcome, ends, is)) = inr (outcome, ends_alike one other e pod node outcome alike ends, is)
+say_alike : {V : Type 0} (one other : Ready) (e : Export) (without : V) (said : Outcome → V) (told : Records) (v : V) → Alike one other → Says one e without said told v → Says other e without said told v
+say_alike one other e without said told v alike (inl (none, is)) = inl (subst (λ m. called_function m e ≡ None) alike.content none, is)
+say_alike one other e without said told v alike (inr (outcome, ends, is)) = inr (outcome, ends_alike one other e told outcome alike ends, is)
 
 -- kits whose plugins are alike, each at its place
 abbrev AllAlike : List Ready → List Ready → Type 0
@@ -154,12 +155,12 @@ weights_alike (x ∷ xs) (y ∷ ys) all = λ j. all.0.weight j ∷ weights_alike
 agree_alike : (one other : List Ready) → AllAlike one other → Agree (rules_of one) (rules_of other)
 agree_alike one other all = record {
   weights = weights_alike one other all;
-  filters = λ place pod node verdict said.
+  filters = λ place told verdict said.
       let at = alike_at one other place said.0 all said.1 in
-      (at.0, at.1, say_alike said.0 at.0 export.Filter filter.Passes filter_said pod node verdict at.2 said.2);
-  scores = λ place pod node verdict said.
+      (at.0, at.1, say_alike said.0 at.0 export.Filter filter.Passes filter_said told verdict at.2 said.2);
+  scores = λ place told verdict said.
       let at = alike_at one other place said.0 all said.1 in
-      (at.0, at.1, say_alike said.0 at.0 export.Score (score.Good 0) score_said pod node verdict at.2 said.2);
+      (at.0, at.1, say_alike said.0 at.0 export.Score (score.Good 0) score_said told verdict at.2 said.2);
 }
 
 module _ (one_module : OneModule) (one_image : OneImage) where

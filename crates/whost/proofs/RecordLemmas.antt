@@ -1,5 +1,5 @@
--- How many bytes the labels of a record take, and what the loop over their places wrote.
-use Rattle.std.proofs.Common.{◌≡◌, ℕ, ◌+◌, ◌≤◌, List, [], ◌∷◌, length, map, take, sum_by, refl, sym, ap, ◌∙◌, arith, length-append}
+-- How many bytes the labels, taints and tolerations of a record take, and what the loop over the places of labels wrote.
+use Rattle.std.proofs.Common.{◌≡◌, ℕ, ◌+◌, ◌≤◌, List, [], ◌∷◌, ◌++◌, Some, length, map, take, sum_by, refl, sym, ap, ◌∙◌, arith, length-append}
 use Rattle.std.specs.List.{flat_map}
 use Rattle.std.proofs.lemmas.List.Concat.{length-flat_map}
 use Rattle.std.proofs.lemmas.List.Folds.{flat_map-map}
@@ -8,7 +8,9 @@ use Rattle.std.proofs.lemmas.List.Sums.{sum_by-cons}
 use Rattle.std.proofs.lemmas.List.Sorted.{sum_by-IsPermutation}
 use Rattle.quant.specs.declared.objects.Label.{Label}
 use Rattle.whost.specs.KeyOrder.{in_key_order, label_at}
-use Rattle.whost.specs.Record.{text_field, label_field, labels_field, labels_size}
+use Rattle.quant.specs.declared.taint.Taint.{Taint}
+use Rattle.quant.specs.declared.taint.Toleration.{Toleration}
+use Rattle.whost.specs.Record.{text_field, effect_code, operator_code, label_field, labels_field, labels_size, taint_field, taints_field, taints_size, toleration_field, tolerations_field, tolerations_size}
 use Rattle.whost.proofs.KeyOrderLemmas.{order_moves}
 
 -- a label's bytes
@@ -33,3 +35,30 @@ pub at_all_places : (labels : List Label) (order : List ℕ) (n : ℕ) → lengt
     → flat_map (λ place. label_field (label_at labels place)) (take n order) ≡ flat_map label_field (in_key_order labels)
 at_all_places labels order n h e =
     rw (take_all n order h) (sym (flat_map-map label_field (label_at labels) order) ∙ ap (λ (ls : List Label). flat_map label_field ls) e)
+
+-- a taint's bytes, and those of taints
+taint_length : (taint : Taint) → length (taint_field taint) ≡ 3 + length taint.key + length taint.value
+taint_length taint =
+    let effect : List ℕ = effect_code (Some taint.effect) ∷ [] in
+    rw (length-append (text_field taint.key ++ text_field taint.value) effect, length-append (text_field taint.key) (text_field taint.value)) (omega arith)
+
+pub taints_length : (taints : List Taint) → length (taints_field taints) ≡ taints_size taints
+taints_length taints =
+    let size : Taint → ℕ = λ t. 3 + length t.key + length t.value in
+    let fields = length-flat_map taint_field taints in
+    let same = sum_same (λ (t : Taint). length (taint_field t)) size taint_length taints in
+    omega (arith, fields, same)
+
+-- a toleration's bytes, and those of tolerations
+toleration_length : (toleration : Toleration) → length (toleration_field toleration) ≡ 4 + length toleration.key + length toleration.value
+toleration_length toleration =
+    let middle : List ℕ = operator_code toleration.operator ∷ text_field toleration.value in
+    let effect : List ℕ = effect_code toleration.effect ∷ [] in
+    rw (length-append (text_field toleration.key ++ middle) effect, length-append (text_field toleration.key) middle) (omega arith)
+
+pub tolerations_length : (tolerations : List Toleration) → length (tolerations_field tolerations) ≡ tolerations_size tolerations
+tolerations_length tolerations =
+    let size : Toleration → ℕ = λ t. 4 + length t.key + length t.value in
+    let fields = length-flat_map toleration_field tolerations in
+    let same = sum_same (λ (t : Toleration). length (toleration_field t)) size toleration_length tolerations in
+    omega (arith, fields, same)

@@ -1,17 +1,42 @@
 //! The buffer that a record is written into, field after field.
-ghost use Rattle.std.specs.Prelude.{◌≡◌, ◌+◌, ◌*◌, ◌<◌, ◌≤◌, [], ◌∷◌, ◌++◌, length};
+ghost use Rattle.std.specs.Prelude.{◌≡◌, ◌+◌, ◌*◌, ◌<◌, ◌≤◌, [], ◌∷◌, ◌++◌, drop, length};
 ghost use Rattle.std.specs.List.{AllByRecursion};
 ghost use Rattle.std.specs.Int.{cast_unsigned, w32};
-ghost use Rattle.whost.specs.Record.{number_field, text_field, mark_field, amounts_field, label_field, labels_field, labels_size};
+ghost use Rattle.whost.specs.Record.{number_field, text_field, mark_field, amounts_field, label_field, labels_field, labels_size, effect_code as defined_effect, operator_code as defined_operator, taint_field, taints_field, taints_size, toleration_field, tolerations_field, tolerations_size};
 
 use crate::key_order::key_order;
 use arrayvec::ArrayVec;
 use byteorder::{ByteOrder, LittleEndian};
-use quant::{Label, Res};
+use quant::{Effect, Label, Operator, Res, Taint, Toleration};
 use std::marker::Model;
 
 /// The most bytes of a record.
 pub const RECORD_SIZE: usize = 8_192;
+
+/// The version that a record of version 2 begins with.
+pub(crate) const SECOND_VERSION: u8 = 2;
+
+// The byte of an effect. One that isn't given stands for every effect.
+fn effect_code(effect: Option<Effect>) -> u8
+    ensures { result ≡ defined_effect effect }
+{
+    match effect {
+        None => 0,
+        Some(Effect::NoSchedule) => 1,
+        Some(Effect::PreferNoSchedule) => 2,
+        Some(Effect::NoExecute) => 3,
+    }
+}
+
+// The byte of an operator.
+fn operator_code(operator: Operator) -> u8
+    ensures { result ≡ defined_operator operator }
+{
+    match operator {
+        Operator::Equal => 1,
+        Operator::Exists => 2,
+    }
+}
 
 /// A record: at most 8,192 bytes, all of whose room it has from the start. It is kilobytes large, so it is written in
 /// place and not moved about.
@@ -55,6 +80,17 @@ impl Record {
         ensures { self.new ≡ [] }
     {
         self.bytes.clear();
+    }
+
+    /// Makes it a record of version 2 that tells what one of version 1 does, whose bytes are copied: none is written anew.
+    pub(crate) fn copy_as_second(&mut self, first: &Record)
+        requires { 1 ≤ length first.now }
+        ensures bytes { self.new ≡ 2 ∷ drop 1 first.now }
+        ensures count { length self.new ≡ length first.now }
+    {
+        self.clear();
+        self.put_byte(SECOND_VERSION);
+        self.put(&first.as_bytes()[1..]);
     }
 
     /// Writes bytes behind those that stand already.
@@ -159,6 +195,57 @@ impl Record {
         self.put_byte(labels.len() as u8);
         for place in key_order(labels).as_slice() {
             self.put_label(&labels[usize::from(*place)]);
+        }
+    }
+
+    /// Writes a taint: its key, its value and its effect.
+    pub(crate) fn put_taint(&mut self, taint: &Taint)
+        requires { length self.old + 129 ≤ 8192 }
+        ensures field { self.new ≡ self.old ++ taint_field taint.now }
+        ensures most { length self.new ≤ length self.old + 129 }
+    {
+        self.put_text(taint.key.as_bytes());
+        self.put_text(taint.value.as_bytes());
+        self.put_byte(effect_code(Some(taint.effect)));
+    }
+
+    /// Writes taints in their order.
+    pub(crate) fn put_taints(&mut self, taints: &[Taint])
+        requires few { length taints.now ≤ 8 }
+        requires room { length self.old + 1033 ≤ 8192 }
+        ensures field { self.new ≡ self.old ++ taints_field taints.now }
+        ensures count { length self.new ≡ length self.old + taints_size taints.now }
+        ensures most { length self.new ≤ length self.old + 1033 }
+    {
+        self.put_byte(taints.len() as u8);
+        for taint in taints {
+            self.put_taint(taint);
+        }
+    }
+
+    /// Writes a toleration: its key, its operator, its value and its effect.
+    pub(crate) fn put_toleration(&mut self, toleration: &Toleration)
+        requires { length self.old + 130 ≤ 8192 }
+        ensures field { self.new ≡ self.old ++ toleration_field toleration.now }
+        ensures most { length self.new ≤ length self.old + 130 }
+    {
+        self.put_text(toleration.key.as_bytes());
+        self.put_byte(operator_code(toleration.operator));
+        self.put_text(toleration.value.as_bytes());
+        self.put_byte(effect_code(toleration.effect));
+    }
+
+    /// Writes tolerations in their order.
+    pub(crate) fn put_tolerations(&mut self, tolerations: &[Toleration])
+        requires few { length tolerations.now ≤ 16 }
+        requires room { length self.old + 2081 ≤ 8192 }
+        ensures field { self.new ≡ self.old ++ tolerations_field tolerations.now }
+        ensures count { length self.new ≡ length self.old + tolerations_size tolerations.now }
+        ensures most { length self.new ≤ length self.old + 2081 }
+    {
+        self.put_byte(tolerations.len() as u8);
+        for toleration in tolerations {
+            self.put_toleration(toleration);
         }
     }
 }

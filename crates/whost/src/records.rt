@@ -1,60 +1,98 @@
-//! The two records of a decision, of the pod and of the node that is looked at.
+//! What a module is told of a pod and of the node that is looked at: their records, in both versions.
 ghost use Rattle.std.specs.Prelude.{◌≡◌, []};
-ghost use Rattle.whost.specs.Record.{pod_bytes, node_bytes};
+ghost use Rattle.whost.specs.Handed.{pod_records, node_records};
 
 use crate::record::Record;
 use crate::rows::{node_record, pod_record};
 use quant::{Node, Pod, Res};
 use wmach::Host;
 
-/// The record of a pod and that of a node. Both are kilobytes large and are written in place, the pod's once a decision and
-/// the node's once a node.
+/// A record in version 1 and in version 2.
 #[derive(Debug, Drop)]
-pub struct Records {
-    pod: Record,
-    node: Record,
+pub struct Versions {
+    first: Record,
+    second: Record,
 }
 
-impl Records {
-    /// Two records of no bytes.
-    pub fn new() -> Records
-        ensures pod { result.pod ≡ [] }
-        ensures node { result.node ≡ [] }
+impl Versions {
+    // Two records of no bytes.
+    fn new() -> Versions
+        ensures first { result.first ≡ [] }
+        ensures second { result.second ≡ [] }
     {
-        Records {
-            pod: Record::new(),
-            node: Record::new(),
+        Versions {
+            first: Record::new(),
+            second: Record::new(),
         }
     }
 
-    /// The pod's record.
+    // Makes both those of a pod.
+    #[tactic(auto, unfolding(crate::specs::Record::pod_bytes, crate::specs::Record::pod_bytes2))]
+    fn show_pod(&mut self, pod: &Pod)
+        ensures { self.new ≡ pod_records pod.now }
+    {
+        pod_record(pod, &mut self.first);
+        self.second.copy_as_second(&self.first);
+        self.second.put_tolerations(pod.tolerations.as_slice());
+    }
+
+    // Makes both those of a node on which pods use so much.
+    #[tactic(auto, unfolding(crate::specs::Record::node_bytes, crate::specs::Record::node_bytes2))]
+    fn show_node(&mut self, node: &Node, used: &Res)
+        ensures { self.new ≡ node_records node.now used.now }
+    {
+        node_record(node, used, &mut self.first);
+        self.second.copy_as_second(&self.first);
+        self.second.put_taints(node.taints.as_slice());
+    }
+}
+
+/// The records of a pod and those of a node. Each is kilobytes large and is written in place, the pod's once a decision and the
+/// node's once a node.
+#[derive(Debug, Drop)]
+pub struct Records {
+    pod: Versions,
+    node: Versions,
+}
+
+impl Records {
+    /// Records of no bytes.
+    pub fn new() -> Records
+        ensures pod { result.pod ≡ record { first = []; second = [] } }
+        ensures node { result.node ≡ record { first = []; second = [] } }
+    {
+        Records {
+            pod: Versions::new(),
+            node: Versions::new(),
+        }
+    }
+
+    /// The pod's record of version 1.
     pub fn pod(&self) -> &Record
-        ensures { result.now ≡ self.now.pod }
+        ensures { result.now ≡ self.now.pod.first }
     {
-        &self.pod
+        &self.pod.first
     }
 
-    /// The node's record.
+    /// The node's record of version 1.
     pub fn node(&self) -> &Record
-        ensures { result.now ≡ self.now.node }
+        ensures { result.now ≡ self.now.node.first }
     {
-        &self.node
+        &self.node.first
     }
 
-    /// Makes the pod's record that of this pod. The node's stays.
+    /// Makes the pod's records those of this pod. The node's stay.
     pub fn show_pod(&mut self, pod: &Pod)
-        ensures pod { self.new.pod ≡ pod_bytes pod.now }
-        ensures node { self.new.node ≡ self.old.node }
+        ensures { self.new ≡ record self.old { pod = pod_records pod.now } }
     {
-        pod_record(pod, &mut self.pod);
+        self.pod.show_pod(pod);
     }
 
-    /// Makes the node's record that of this node, on which pods use so much. The pod's stays.
+    /// Makes the node's records those of this node, on which pods use so much. The pod's stay.
     pub fn show_node(&mut self, node: &Node, used: &Res)
-        ensures node { self.new.node ≡ node_bytes node.now used.now }
-        ensures pod { self.new.pod ≡ self.old.pod }
+        ensures { self.new ≡ record self.old { node = node_records node.now used.now } }
     {
-        node_record(node, used, &mut self.node);
+        self.node.show_node(node, used);
     }
 }
 
@@ -65,8 +103,10 @@ impl Host for Records {
 
     fn record(&self, import: usize) -> Option<&[u8]> {
         match import {
-            0 => Some(self.pod.as_bytes()),
-            1 => Some(self.node.as_bytes()),
+            0 => Some(self.pod.first.as_bytes()),
+            1 => Some(self.node.first.as_bytes()),
+            2 => Some(self.pod.second.as_bytes()),
+            3 => Some(self.node.second.as_bytes()),
             _ => None,
         }
     }

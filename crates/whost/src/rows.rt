@@ -1,26 +1,25 @@
-//! The record of a pod and the record of a node, field by field.
-ghost use Rattle.std.specs.Prelude.{◌≡◌, ◌≤◌, length};
-ghost use Rattle.whost.specs.Record.{pod_bytes, pod_size, node_bytes, node_size};
+//! The records of a pod and the records of a node, field by field.
+ghost use Rattle.std.specs.Prelude.{◌≡◌, ◌+◌, ◌≤◌, ◌++◌, length};
+ghost use Rattle.whost.specs.Record.{pod_fields, node_fields, pod_bytes, pod_bytes2, pod_size, node_bytes, node_bytes2, node_size, taints_size, tolerations_size};
 
-use crate::record::Record;
+use crate::record::{Record, SECOND_VERSION};
 use quant::{Node, Pod, Res};
 
-// What a record begins with: the version of its layout, and what it is of.
-const VERSION: u8 = 1;
+// The version that a record begins with.
+const FIRST_VERSION: u8 = 1;
 
+// What a record is of.
 const OF_POD: u8 = 1;
 
 const OF_NODE: u8 = 2;
 
-/// Makes `out` the record of a pod, whatever stood in it.
-#[tactic(auto, unfolding(crate::specs::Record::pod_bytes))]
-pub fn pod_record(pod: &Pod, out: &mut Record)
-    ensures bytes { out.new ≡ pod_bytes pod.now }
-    ensures count { length out.new ≡ pod_size pod.now }
-    ensures most { length out.new ≤ 8192 }
+// Writes what both versions tell of a pod behind the version.
+fn put_pod(pod: &Pod, out: &mut Record)
+    requires { length out.old ≤ 1 }
+    ensures fields { out.new ≡ out.old ++ pod_fields pod.now }
+    ensures count { length out.new + 1 ≡ length out.old + pod_size pod.now }
+    ensures most { length out.new ≤ length out.old + 4182 }
 {
-    out.clear();
-    out.put_byte(VERSION);
     out.put_byte(OF_POD);
     out.put_text(pod.uid.as_bytes());
     out.put_i32(pod.priority);
@@ -29,19 +28,67 @@ pub fn pod_record(pod: &Pod, out: &mut Record)
     out.put_labels(pod.labels.as_slice());
 }
 
-/// Makes `out` the record of a node on which pods use so much, whatever stood in it.
-#[tactic(auto, unfolding(crate::specs::Record::node_bytes))]
-pub fn node_record(node: &Node, used: &Res, out: &mut Record)
-    ensures bytes { out.new ≡ node_bytes node.now used.now }
-    ensures count { length out.new ≡ node_size node.now }
-    ensures most { length out.new ≤ 8192 }
+// Writes what both versions tell of a node behind the version.
+fn put_node(node: &Node, used: &Res, out: &mut Record)
+    requires { length out.old ≤ 1 }
+    ensures fields { out.new ≡ out.old ++ node_fields node.now used.now }
+    ensures count { length out.new + 1 ≡ length out.old + node_size node.now }
+    ensures most { length out.new ≤ length out.old + 4203 }
 {
-    out.clear();
-    out.put_byte(VERSION);
     out.put_byte(OF_NODE);
     out.put_text(node.name.as_bytes());
     out.put_mark(node.unschedulable);
     out.put_amounts(&node.allocatable);
     out.put_amounts(used);
     out.put_labels(node.labels.as_slice());
+}
+
+/// Makes `out` the record of a pod in version 1, whatever stood in it.
+#[tactic(auto, unfolding(crate::specs::Record::pod_bytes))]
+pub fn pod_record(pod: &Pod, out: &mut Record)
+    ensures bytes { out.new ≡ pod_bytes pod.now }
+    ensures count { length out.new ≡ pod_size pod.now }
+    ensures most { length out.new ≤ 4183 }
+{
+    out.clear();
+    out.put_byte(FIRST_VERSION);
+    put_pod(pod, out);
+}
+
+/// Makes `out` the record of a pod in version 2, whatever stood in it.
+#[tactic(auto, unfolding(crate::specs::Record::pod_bytes2))]
+pub fn pod_record2(pod: &Pod, out: &mut Record)
+    ensures bytes { out.new ≡ pod_bytes2 pod.now }
+    ensures count { length out.new ≡ pod_size pod.now + tolerations_size pod.now.tolerations.items }
+    ensures most { length out.new ≤ 6264 }
+{
+    out.clear();
+    out.put_byte(SECOND_VERSION);
+    put_pod(pod, out);
+    out.put_tolerations(pod.tolerations.as_slice());
+}
+
+/// Makes `out` the record in version 1 of a node on which pods use so much, whatever stood in it.
+#[tactic(auto, unfolding(crate::specs::Record::node_bytes))]
+pub fn node_record(node: &Node, used: &Res, out: &mut Record)
+    ensures bytes { out.new ≡ node_bytes node.now used.now }
+    ensures count { length out.new ≡ node_size node.now }
+    ensures most { length out.new ≤ 4204 }
+{
+    out.clear();
+    out.put_byte(FIRST_VERSION);
+    put_node(node, used, out);
+}
+
+/// Makes `out` the record in version 2 of a node on which pods use so much, whatever stood in it.
+#[tactic(auto, unfolding(crate::specs::Record::node_bytes2))]
+pub fn node_record2(node: &Node, used: &Res, out: &mut Record)
+    ensures bytes { out.new ≡ node_bytes2 node.now used.now }
+    ensures count { length out.new ≡ node_size node.now + taints_size node.now.taints.items }
+    ensures most { length out.new ≤ 5237 }
+{
+    out.clear();
+    out.put_byte(SECOND_VERSION);
+    put_node(node, used, out);
+    out.put_taints(node.taints.as_slice());
 }

@@ -19,6 +19,7 @@ use Rattle.wmem.specs.Access.{byte_count, with_bytes, reading_of, value_read}
 use Rattle.wmem.specs.Memory.{page_size, pages_in, zeros}
 use Rattle.wbin.specs.declared.module.Limits.{Limits}
 use Rattle.wbin.specs.Syntax.{Signature, ModuleSyntax}
+use Rattle.wtype.specs.Accepted.{host_number}
 use Rattle.wmach.specs.declared.outcome.Trap.{Trap}
 use Rattle.wmach.specs.declared.outcome.Trap.TheVariants.{MemoryOutOfBounds}
 use Rattle.wmach.specs.Configuration.{Store, Setting, Execution, instructions, label, frame, invoke, trap, Reduction, leads_to}
@@ -26,7 +27,7 @@ use Rattle.wmach.specs.Operands.{InRange, number_of, value_of, width_of, with_an
 use Rattle.wmach.specs.Numeric.{converted_from, converted_to, conversion_gives, after_binary, unary_gives, binary_gives, test_gives, relation_gives}
 use Rattle.wmach.specs.Access.{load_of, with_memory, stored_bytes, stored_width, cap_of, minus_one}
 use Rattle.wmach.specs.Indirect.{same_signature, type_of_function, call_element}
-use Rattle.wmach.specs.Host.{cost_of_bytes, has_room, hand_over, hand_over_given, record_named, imported_names, reduce_host, reduce_import}
+use Rattle.wmach.specs.Host.{cost_of_bytes, has_room, hand_over, hand_over_given, imported_names, reduce_host, reduce_import}
 use Rattle.wmach.specs.Plain.{reduce_plain}
 use Rattle.wmach.specs.Fits.{MemoryFits}
 use Rattle.wmach.specs.Call.{RecordsFit}
@@ -163,8 +164,8 @@ module _ (elements : List (Option ℕ)) where
 
     pub kept_import : (values : List Value) (function : ℕ) → AllInRange values → Kept (reduce_import setting store locals values function rest)
     kept_import values function are =
-        kept_and_then (slice_get (imported_names m.imports) function) (λ name. option_and_then (λ import. reduce_host setting store locals values import rest) (record_named name))
-        (λ name e. kept_and_then (record_named name) (λ import. reduce_host setting store locals values import rest)
+        kept_and_then (slice_get (imported_names m.imports) function) (λ name. option_and_then (λ import. reduce_host setting store locals values import rest) (host_number name))
+        (λ name e. kept_and_then (host_number name) (λ import. reduce_host setting store locals values import rest)
         (λ import f. kept_two types.I32 values (λ address limit below. hand_over_given m store locals below address limit (setting.records import) rest) are
         (λ address limit below p q below_are. kept_given below address limit (setting.records import) (records import) below_are)))
 

@@ -10,9 +10,10 @@ use Rattle.wmem.specs.Access.{with_bytes}
 use Rattle.wbin.specs.Syntax.{ModuleSyntax}
 use Rattle.wbody.specs.Context.{Operands, is_there}
 use Rattle.wbody.specs.Typing.{Typed}
+use Rattle.wtype.specs.Accepted.{ImportName, host_number}
 use Rattle.wmach.specs.declared.outcome.Trap.TheVariants.{HostOutOfBounds, NoRecord}
 use Rattle.wmach.specs.Configuration.{Store, Setting, Execution, instructions, trap, Reduction, leads_to}
-use Rattle.wmach.specs.Host.{imported_names, record_named, cost_of_bytes, has_room, hand_over, hand_over_given, reduce_host, reduce_import}
+use Rattle.wmach.specs.Host.{imported_names, cost_of_bytes, has_room, hand_over, hand_over_given, reduce_host, reduce_import}
 use Rattle.wmach.specs.Fits.{types_of, StoreTyped}
 use Rattle.wmach.proofs.Values.{two_taken}
 use Rattle.wmach.proofs.TypedExecution.{inner_context}
@@ -50,12 +51,12 @@ module _ (setting : Setting) (store : Store) (locals : List Value) (labels : Lis
   sound_given others below address limit None are next = to_trap m (types_of locals) labels result after e 0 store locals NoRecord fits refl
   sound_given others below address limit (Some bytes) are next = sound_hand_over others below address limit bytes are next
 
-  pub sound_import : (values : List Value) (function : ℕ) (name : List ℕ) (import : ℕ) (below : Operands) → slice_get (imported_names m.imports) function ≡ Some name → record_named name ≡ Some import → types_of values ≡ I32 ∷ I32 ∷ below → Next below → Here (reduce_import setting store locals values function rest)
+  pub sound_import : (values : List Value) (function : ℕ) (name : ImportName) (import : ℕ) (below : Operands) → slice_get (imported_names m.imports) function ≡ Some name → host_number name ≡ Some import → types_of values ≡ I32 ∷ I32 ∷ below → Next below → Here (reduce_import setting store locals values function rest)
   sound_import values function name import below name_is import_is are next =
       let two = two_taken I32 values below are in
       let go = λ (address limit : ℕ) (others : List Value). hand_over_given m store locals others address limit (setting.records import) rest in
       let by_record = λ (o : Option ℕ). option_and_then (λ i. reduce_host setting store locals values i rest) o in
-      let by_name = λ (o : Option (List ℕ)). option_and_then (λ n. by_record (record_named n)) o in
+      let by_name = λ (o : Option ImportName). option_and_then (λ n. by_record (host_number n)) o in
       let reduces : reduce_import setting store locals values function rest ≡ go two.first two.second two.others =
       ap by_name name_is ∙ ap by_record import_is ∙ two.goes go in
       subst Here (sym reduces) (sound_given two.others below two.first two.second (setting.records import) two.others_are next)

@@ -1,6 +1,5 @@
 -- The host functions (WebAssembly Core 1.0, 4.4.7): what the functions that a module imports do.
 use Rattle.std.specs.Prelude.{ℕ, ◌+◌, ◌/◌, ◌%◌, ◌^◌, List, [], ◌∷◌, Bool, ◌&&◌, Option, Some, None, option_and_then, length, slice_get, nat_lt, nat_le, if◌then◌else◌}
-use Rattle.std.specs.Str.{bytes_eq}
 use Rattle.wcode.specs.declared.value.ValueType.TheVariants.{I32}
 use Rattle.wcode.specs.declared.value.Value.{Value}
 use Rattle.wcode.specs.declared.value.Value.TheVariants as value
@@ -10,29 +9,22 @@ use Rattle.wbin.specs.declared.module.ImportKind.{ImportKind}
 use Rattle.wbin.specs.declared.module.ImportKind.TheVariants as imported
 use Rattle.wbin.specs.Syntax.{ImportSyntax, ModuleSyntax}
 use Rattle.wbody.specs.Context.{is_there}
-use Rattle.wtype.specs.Accepted.{pod_name, node_name}
+use Rattle.wtype.specs.Accepted.{ImportName, host_number}
 use Rattle.wmach.specs.declared.outcome.Trap.TheVariants.{HostOutOfBounds, NoRecord}
 use Rattle.wmach.specs.Configuration.{Store, Setting, instructions, trap, Reduction, leads_to}
 use Rattle.wmach.specs.Operands.{with_two}
 
 -- the name of an imported function before the others, if the import is one
-abbrev pub imported_name : List ℕ → ImportKind → List (List ℕ) → List (List ℕ)
+abbrev pub imported_name : ImportName → ImportKind → List ImportName → List ImportName
 imported_name name (imported.Function t) others = name ∷ others
 imported_name name (imported.Table l) others = others
 imported_name name (imported.Memory l) others = others
 imported_name name (imported.Global t) others = others
 
--- the names of the imported functions, in the order of their indices
-abbrev pub imported_names : List ImportSyntax → List (List ℕ)
+-- the names of the imported functions, each with its module's, in the order of their indices
+abbrev pub imported_names : List ImportSyntax → List ImportName
 imported_names [] = []
-imported_names (i ∷ is) = imported_name i.name i.kind (imported_names is)
-
--- the record that the host function of this name hands over: 0 is the pod's, 1 the node's
-abbrev pub record_named : List ℕ → Option ℕ
-record_named name =
-    if bytes_eq name pod_name then Some 0
-    else if bytes_eq name node_name then Some 1
-    else None
+imported_names (i ∷ is) = imported_name (i.module_name, i.name) i.kind (imported_names is)
 
 -- what it costs to write so many bytes: one for each 256 that are begun
 abbrev pub cost_of_bytes : ℕ → ℕ
@@ -62,8 +54,8 @@ abbrev pub reduce_host : Setting → Store → (locals values : List Value) → 
 reduce_host setting store locals values import rest =
     with_two I32 values (λ address limit below. hand_over_given setting.module_syntax store locals below address limit (setting.records import) rest)
 
--- the imported function with this index
+-- The imported function with this index. The number of a host function is that of the record that it hands over.
 abbrev pub reduce_import : Setting → Store → (locals values : List Value) → (function : ℕ) → (rest : Body) → Option Reduction
 reduce_import setting store locals values function rest =
-    option_and_then (λ name. option_and_then (λ import. reduce_host setting store locals values import rest) (record_named name))
+    option_and_then (λ name. option_and_then (λ import. reduce_host setting store locals values import rest) (host_number name))
     (slice_get (imported_names setting.module_syntax.imports) function)

@@ -4,23 +4,11 @@ ghost use Rattle.std.specs.Prelude.{◌≡◌, ◌<◌, Some, length, slice_get,
 ghost use Rattle.wbin.specs.Syntax.{module_of};
 ghost use Rattle.wtype.specs.Accepted.{ImportsRight};
 ghost use Rattle.wmach.specs.Coded.{RecordsAgree};
-ghost use Rattle.wmach.specs.Host.{imported_names, record_named as defined_record};
+ghost use Rattle.wmach.specs.Host.{imported_names};
 
 use std::alloc::{AllocError, Global};
 use wbin::{Import, Module};
-
-// The record of a host function, by its name: 0 is the pod's, 1 the node's.
-fn record_named(name: &[u8]) -> Option<usize>
-    ensures { defined_record name.now ≡ result }
-{
-    if name == b"pod".as_slice() {
-        Some(0)
-    } else if name == b"node".as_slice() {
-        Some(1)
-    } else {
-        None
-    }
-}
+use wtype::host_number;
 
 fn import_at(decoded: &Module, place: usize) -> &Import
     requires { place < length decoded.now.tables.imports.items }
@@ -29,7 +17,7 @@ fn import_at(decoded: &Module, place: usize) -> &Import
     &decoded.tables().imports[place]
 }
 
-/// The record that each imported function hands over, in a module that imports host functions alone.
+/// The record that each imported function hands over, in a module that imports host functions alone: the number of the function.
 pub fn records_of(alloc: Global, decoded: &Module) -> Result<Vec<usize>, AllocError>
     requires { ImportsRight (module_of decoded.now) }
     ensures { IfOk result (λ records. RecordsAgree (imported_names (module_of decoded.now).imports) records.items) }
@@ -38,7 +26,7 @@ pub fn records_of(alloc: Global, decoded: &Module) -> Result<Vec<usize>, AllocEr
     let mut records = Vec::with_capacity(alloc, count)?;
     for place in 0..count {
         let import = import_at(decoded, place);
-        let Some(record) = record_named(import.name.as_slice()) else {
+        let Some(record) = host_number(import.module.as_slice(), import.name.as_slice()) else {
             unreachable!();
         };
         records.push(record)?;

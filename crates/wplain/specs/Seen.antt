@@ -47,7 +47,9 @@ syntax_of p = record {
 abbrev pub records_of : Records → ℕ → Option (List ℕ)
 records_of r zero = option_map (λ v. v.items) r.pod
 records_of r (suc zero) = option_map (λ v. v.items) r.node
-records_of r (suc (suc n)) = None
+records_of r (suc (suc zero)) = option_map (λ v. v.items) r.second_pod
+records_of r (suc (suc (suc zero))) = option_map (λ v. v.items) r.second_node
+records_of r (suc (suc (suc (suc n)))) = None
 
 abbrev pub setting_of : Setting → machine.Setting
 setting_of s = record { module_syntax = syntax_of s.program; records = records_of s.records }

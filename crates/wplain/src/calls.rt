@@ -6,7 +6,7 @@ ghost use Rattle.wbody.specs.Context.{imported_functions};
 ghost use Rattle.wbin.specs.Syntax.{Signature};
 ghost use Rattle.wmach.specs.Configuration.{Store as machine_store, invoke as invoke_of, leads_to};
 ghost use Rattle.wmach.specs.Indirect.{type_of_function, call_as as defined_call_as, call_element as defined_call_element, reduce_call_indirect};
-ghost use Rattle.wmach.specs.Host.{imported_names, record_named as defined_record, hand_over as defined_hand_over, reduce_import};
+ghost use Rattle.wmach.specs.Host.{imported_names, hand_over as defined_hand_over, reduce_import};
 ghost use Rattle.wmach.specs.Reduction.{zero_of, imported_count as defined_count, enter as defined_enter, reduce_invoke};
 ghost use Rattle.wmach.specs.Operands.{topmost};
 ghost use Rattle.wplain.specs.Seen.{syntax_of, function_of, body_of_code, records_of, setting_of, reduction_of};
@@ -22,6 +22,7 @@ use wbin::{FunctionType, Import, ImportKind};
 use wcode::{Value, ValueType};
 use wmach::{Trap, same_signature};
 use wmem::Memory;
+use wtype::host_number;
 
 // How many functions are imported. It gives up where they can't be counted.
 fn count(imports: &[Import]) -> Option<usize>
@@ -100,21 +101,21 @@ fn type_of(program: &Program, function: u32) -> Option<&FunctionType>
     Some(t)
 }
 
-// The name of the imported function at this place among them.
-fn imported_name(imports: &[Import], place: usize) -> Option<&[u8]>
-    ensures { IfSome result (λ name. slice_get (imported_names (map import_of imports.now)) place ≡ Some name.now) }
+// The imported function at this place among them.
+fn imported_at(imports: &[Import], place: usize) -> Option<&Import>
+    ensures { IfSome result (λ i. slice_get (imported_names (map import_of imports.now)) place ≡ Some (i.now.module.items, i.now.name.items)) }
 {
     match imports {
         [] => None,
         [first, rest @ ..] => match first.kind {
             ImportKind::Function(_) => {
                 if place == 0 {
-                    Some(first.name.as_slice())
+                    Some(first)
                 } else {
-                    imported_name(rest, place - 1)
+                    imported_at(rest, place - 1)
                 }
             }
-            _ => imported_name(rest, place),
+            _ => imported_at(rest, place),
         },
     }
 }
@@ -205,19 +206,6 @@ pub fn called(locals: Vec<Value>, values: Vec<Value>, function: u32, rest: Code)
     }
 }
 
-// The record that the host function of this name hands over.
-fn record_named(name: &[u8]) -> Option<u8>
-    ensures { defined_record name.now ≡ result }
-{
-    if name == b"pod".as_slice() {
-        Some(0)
-    } else if name == b"node".as_slice() {
-        Some(1)
-    } else {
-        None
-    }
-}
-
 // So many bytes lie within the memory from this address on.
 fn has_room(memory: &Memory, address: u32, size: usize) -> bool
     ensures { result ≡ nat_le (address + size) (length memory.now.bytes) }
@@ -259,14 +247,15 @@ fn hand_over(
 }
 
 // The record that is handed over under this number, in room of its own.
-fn record(alloc: Global, records: &Records, import: u8) -> Result<Option<Vec<u8>>, AllocError>
-    requires { import < 2 }
+fn record(alloc: Global, records: &Records, import: usize) -> Result<Option<Vec<u8>>, AllocError>
     ensures { IfOk result (λ o. records_of records.now import ≡ option_map (λ r. r.items) o) }
 {
-    let held = if import == 0 {
-        &records.pod
-    } else {
-        &records.node
+    let held = match import {
+        0 => &records.pod,
+        1 => &records.node,
+        2 => &records.second_pod,
+        3 => &records.second_node,
+        _ => return Ok(None),
     };
     match held {
         Some(bytes) => Ok(Some(Vec::from_slice(alloc, bytes.as_slice())?)),
@@ -288,10 +277,10 @@ fn import(
         (store_of store.now) locals.items values.items function (body_of_code rest) ≡ Some (reduction_of (store_of store.now) s))) }
 {
     let mut values = values;
-    let Some(name) = imported_name(setting.program.imports.as_slice(), function as usize) else {
+    let Some(found) = imported_at(setting.program.imports.as_slice(), function as usize) else {
         return Ok(None);
     };
-    let Some(number) = record_named(name) else {
+    let Some(number) = host_number(found.module.as_slice(), found.name.as_slice()) else {
         return Ok(None);
     };
     let Some(limit) = pop_i32(&mut values) else {

@@ -22,11 +22,13 @@ pub struct Program {
     pub memories: Vec<Limits>,
 }
 
-/// The bytes that the two host functions hand over, or none.
+/// The bytes that the host functions hand over, or none: the records of version 1, and those of version 2.
 #[derive(Drop)]
 pub struct Records {
     pub pod: Option<Vec<u8>>,
     pub node: Option<Vec<u8>>,
+    pub second_pod: Option<Vec<u8>>,
+    pub second_node: Option<Vec<u8>>,
 }
 
 /// A module, and what is handed over.

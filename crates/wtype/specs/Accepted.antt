@@ -1,6 +1,6 @@
 -- Which modules are accepted (WebAssembly Core 1.0, 3.4): each body is typed, each index names something, and
 -- what this project asks of imports, exports and sizes.
-use Rattle.std.specs.Prelude.{◌≡◌, ◌≢◌, ℕ, ◌+◌, ◌<◌, ◌≤◌, List, [], ◌∷◌, ◌⊎◌, Option, Some, None, IfSome, IsSome, IsTrue, length, slice_get, if◌then◌else◌, codes}
+use Rattle.std.specs.Prelude.{◌≡◌, ◌≢◌, ℕ, ◌+◌, ◌<◌, ◌≤◌, List, [], ◌∷◌, ◌⊎◌, Option, Some, None, IfSome, IsSome, IsTrue, length, slice_get, if◌then◌else◌, ◌&&◌, codes}
 use Rattle.std.specs.List.{AllByRecursion}
 use Rattle.std.specs.Str.{bytes_eq}
 use Rattle.wcode.specs.declared.value.ValueType.{ValueType}
@@ -21,15 +21,24 @@ use Rattle.wbody.specs.Heights.{greatest_height}
 
 -- ---- imports
 
--- the module and the two functions that can be imported
-abbrev pub host_name : List ℕ
-host_name = codes "sched"
+-- what a function is imported by: the name of its module, and its own
+abbrev pub ImportName : Type 0
+ImportName = List ℕ × List ℕ
 
-abbrev pub pod_name : List ℕ
-pod_name = codes "pod"
+-- The functions of the host. A function's number is its place: those that hand over the records of version 1, of the pod and
+-- of the node, and then those of version 2.
+abbrev pub host_functions : List ImportName
+host_functions =
+    (codes "sched", codes "pod") ∷ (codes "sched", codes "node") ∷ (codes "sched2", codes "pod") ∷ (codes "sched2", codes "node") ∷ []
 
-abbrev pub node_name : List ℕ
-node_name = codes "node"
+-- the place of a name among these, which are counted from here
+abbrev pub place_among : List ImportName → (from : ℕ) → ImportName → Option ℕ
+place_among [] from name = None
+place_among (f ∷ fs) from name = if bytes_eq name.0 f.0 && bytes_eq name.1 f.1 then Some from else place_among fs (from + 1) name
+
+-- the number of the host's function of this name, if there is one
+abbrev pub host_number : ImportName → Option ℕ
+host_number name = place_among host_functions 0 name
 
 -- their type: where to write, and the most bytes; the answer is how many bytes there are
 abbrev pub host_type : Signature
@@ -42,10 +51,9 @@ IsImportOf m type (imported.Table l) = ⊥
 IsImportOf m type (imported.Memory l) = ⊥
 IsImportOf m type (imported.Global t) = ⊥
 
--- One of the two functions. Each may be imported any number of times.
+-- One of the host's functions. Each may be imported any number of times.
 pub record ImportAllowed (m : ModuleSyntax) (i : ImportSyntax) : Type 0 where
-  pub from_host : i.module_name ≡ host_name
-  pub named : (i.name ≡ pod_name) ⊎ (i.name ≡ node_name)
+  pub named : IsSome (host_number (i.module_name, i.name))
   pub typed : IsImportOf m host_type i.kind
 
 abbrev pub ImportsRight : ModuleSyntax → Type 0

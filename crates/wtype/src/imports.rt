@@ -1,22 +1,37 @@
-//! The imports that a module may have: the two functions of the host.
+//! The imports that a module may have: the functions of the host.
 
-ghost use Rattle.std.specs.Prelude.{◌≡◌, ◌⊎◌, [], ◌∷◌, MatchBool};
+ghost use Rattle.std.specs.Prelude.{◌≡◌, [], ◌∷◌, IsSome, MatchBool};
 ghost use Rattle.std.specs.List.{AllByRecursion};
 ghost use Rattle.wbin.specs.Syntax.{module_of, signature_of, import_of};
-ghost use Rattle.wtype.specs.Accepted.{ImportAllowed, ImportsRight, IsImportOf, host_name, pod_name, node_name, host_type};
+ghost use Rattle.wtype.specs.Accepted.{ImportAllowed, ImportsRight, IsImportOf, host_number as defined_number, host_type};
 
 use wbin::{FunctionType, Import, ImportKind, Module};
 use wcode::ValueType;
 
-// The names are those of one of the two functions.
-fn is_named(import: &Import) -> bool
-    ensures { MatchBool result ((import.now.module.items ≡ host_name)
-        × ((import.now.name.items ≡ pod_name) ⊎ (import.now.name.items ≡ node_name))) ((import.now.module.items ≡ host_name)
-        × ((import.now.name.items ≡ pod_name) ⊎ (import.now.name.items ≡ node_name)) → ⊥) }
+/// The number of the host's function that is imported by this module's name and this name, if there is one: 0 is `sched.pod`,
+/// 1 is `sched.node`, 2 is `sched2.pod`, 3 is `sched2.node`.
+pub fn host_number(from: &[u8], name: &[u8]) -> Option<usize>
+    ensures { defined_number (from.now, name.now) ≡ result }
 {
-    import.module.as_slice() == b"sched".as_slice()
-        && (import.name.as_slice() == b"pod".as_slice()
-            || import.name.as_slice() == b"node".as_slice())
+    if from == b"sched".as_slice() && name == b"pod".as_slice() {
+        Some(0)
+    } else if from == b"sched".as_slice() && name == b"node".as_slice() {
+        Some(1)
+    } else if from == b"sched2".as_slice() && name == b"pod".as_slice() {
+        Some(2)
+    } else if from == b"sched2".as_slice() && name == b"node".as_slice() {
+        Some(3)
+    } else {
+        None
+    }
+}
+
+// The names are those of one of the host's functions.
+fn is_named(import: &Import) -> bool
+    ensures { MatchBool result (IsSome (defined_number (import.now.module.items, import.now.name.items)))
+        (IsSome (defined_number (import.now.module.items, import.now.name.items)) → ⊥) }
+{
+    host_number(import.module.as_slice(), import.name.as_slice()).is_some()
 }
 
 // It takes two numbers and gives one.
@@ -43,14 +58,14 @@ fn is_host_function(decoded: &Module, kind: ImportKind) -> bool
     }
 }
 
-// It is one of the two functions.
+// It is one of the host's functions.
 fn is_allowed(decoded: &Module, import: &Import) -> bool
     ensures { MatchBool result (ImportAllowed (module_of decoded.now) (import_of import.now)) (ImportAllowed (module_of decoded.now) (import_of import.now) → ⊥) }
 {
     is_named(import) && is_host_function(decoded, import.kind)
 }
 
-// Each of these imports is one of the two functions.
+// Each of these imports is one of the host's functions.
 fn are_allowed(decoded: &Module, imports: &[Import]) -> bool
     ensures { MatchBool result (AllByRecursion (λ i. ImportAllowed (module_of decoded.now) (import_of i)) imports.now)
         (AllByRecursion (λ i. ImportAllowed (module_of decoded.now) (import_of i)) imports.now → ⊥) }
@@ -63,7 +78,7 @@ fn are_allowed(decoded: &Module, imports: &[Import]) -> bool
     true
 }
 
-// Each import is one of the two functions.
+// Each import is one of the host's functions.
 pub fn imports_right(decoded: &Module) -> bool
     ensures { MatchBool result (ImportsRight (module_of decoded.now)) (ImportsRight (module_of decoded.now) → ⊥) }
 {

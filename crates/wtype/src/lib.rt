@@ -15,5 +15,6 @@ mod sizes;
 
 pub use checked::{Checked, validate};
 pub use function_types::{listed, type_of_function};
+pub use imports::host_number;
 pub use sizes::count_locals;
 pub use wbody::TypeFault;

@@ -32,8 +32,8 @@ impl Rules for Site {
 
     ghost answers = { λ site. record {
       weights = if site.there then 2 ∷ [] else [];
-      Filters = λ place pod node said. said ≡ (if slice_index node 3 == 98 then site.on_b else site.on_others);
-      Scores = λ place pod node said. said ≡ elim site.errs [ None ↦ Good 50 | Some why ↦ Errs why ];
+      Filters = λ place told said. said ≡ (if slice_index told.node.first 3 == 98 then site.on_b else site.on_others);
+      Scores = λ place told said. said ≡ elim site.errs [ None ↦ Good 50 | Some why ↦ Errs why ];
     } };
 
     fn count(&self) -> usize {
@@ -62,8 +62,8 @@ impl Rules for Site {
     }
 
     ghost say_one_thing = { λ _. record {
-      filter = λ place pod node one other a b. a ∙ sym b;
-      score = λ place pod node one other a b. a ∙ sym b;
+      filter = λ place told one other a b. a ∙ sym b;
+      score = λ place told one other a b. a ∙ sym b;
     } };
 }
 

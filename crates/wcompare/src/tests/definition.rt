@@ -137,7 +137,12 @@ pub fn setting_of<R: Abort>(
             tables: Vec::from_slice(alloc, tables.tables.as_slice()).expect(rt, MEMORY),
             memories: Vec::from_slice(alloc, tables.memories.as_slice()).expect(rt, MEMORY),
         },
-        records: Records { pod, node: None },
+        records: Records {
+            pod,
+            node: None,
+            second_pod: None,
+            second_node: None,
+        },
     }
 }
 

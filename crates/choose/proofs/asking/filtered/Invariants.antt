@@ -7,5 +7,5 @@ invariant-loop-place g l = record {
   stays : l.rules ≡ l.fn.rules;
   last : l.place-end ≡ length (g.R.Rules.answers l.fn.rules).weights;
   within : l.place ≤ l.place-end;
-  before : PassBefore (g.R.Rules.answers l.fn.rules) l.place l.records.pod l.records.node;
+  before : PassBefore (g.R.Rules.answers l.fn.rules) l.place l.records;
 }

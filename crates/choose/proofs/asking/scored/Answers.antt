@@ -10,13 +10,13 @@ loop-place-init g c = record {
   within = omega arith;
   few = search rules;
   small = omega arith;
-  before = good_before_none _ _ _;
+  before = good_before_none _ _;
 }
 
 pub loop-place-preserved : goal.loop-place-preserved
 loop-place-preserved g c =
-    let said : (g.R.Rules.answers c.args.rules.now).Scores c.loop-place.place c.args.records.now.pod c.args.records.now.node (score.Good c.in-Good.score) =
-    subst (λ r. (g.R.Rules.answers r).Scores c.loop-place.place c.args.records.now.pod c.args.records.now.node (score.Good c.in-Good.score)) c.loop-place.invariant.stays c.in-Good.ensures.says in
+    let said : (g.R.Rules.answers c.args.rules.now).Scores c.loop-place.place c.args.records.now (score.Good c.in-Good.score) =
+    subst (λ r. (g.R.Rules.answers r).Scores c.loop-place.place c.args.records.now (score.Good c.in-Good.score)) c.loop-place.invariant.stays c.in-Good.ensures.says in
     let weighs : slice_get (g.R.Rules.answers c.args.rules.now).weights c.loop-place.place ≡ Some c.weight.result =
     subst (λ r. slice_get (g.R.Rules.answers r).weights c.loop-place.place ≡ Some c.weight.result) (c.score.ensures.stays ∙ c.loop-place.invariant.stays) c.weight.ensures.value in
     let good : c.in-Good.score ≤ 100 = c.in-Good.ensures.within in
@@ -27,5 +27,5 @@ loop-place-preserved g c =
       within = omega arith;
       few = search rules;
       small = rw (c.from.ensures, c.from-in-Good.ensures) (omega (arith, within));
-      before = rw (c.from.ensures, c.from-in-Good.ensures) (good_before_more _ _ _ _ _ _ _ c.loop-place.invariant.before weighs said);
+      before = rw (c.from.ensures, c.from-in-Good.ensures) (good_before_more _ _ _ _ _ _ c.loop-place.invariant.before weighs said);
     }

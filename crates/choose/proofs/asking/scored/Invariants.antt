@@ -9,5 +9,5 @@ invariant-loop-place g l = record {
   within : l.place ≤ l.place-end;
   few : l.place-end ≤ 16;
   small : l.sum ≤ 1000 * l.place;
-  before : GoodBefore (g.R.Rules.answers l.fn.rules) l.records.pod l.records.node l.place l.sum;
+  before : GoodBefore (g.R.Rules.answers l.fn.rules) l.records l.place l.sum;
 }

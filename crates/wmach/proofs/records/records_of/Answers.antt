@@ -1,11 +1,11 @@
 use Rattle.std.proofs.Common.{◌≡◌, Some, None, sym, ap, ◌∙◌, rules}
-use Rattle.wmach.specs.Host.{record_named}
-use Rattle.wmach.proofs.Recorded.{has_record, one_more, all_of}
+use Rattle.wtype.specs.Accepted.{host_number}
+use Rattle.wmach.proofs.Recorded.{name_in, names_in, has_record, one_more, all_of}
 use Rattle.wmach.proofs.records.records_of.Goals as goal
 
 pub loop-place-preserved : goal.loop-place-preserved
 loop-place-preserved c =
-    let named : record_named c.import_at-import.result.now.name.items ≡ Some c.in-Some.record = ap record_named (sym c.as_slice.ensures.value) ∙ c.record_named.ensures ∙ c.in-Some.is in
+    let named : host_number (name_in c.import_at-import.result.now) ≡ Some c.in-Some.record = ap host_number (names_in c.import_at-import.result.now _ _ c.as_slice.ensures.value c.as_slice-in-loop-place.ensures.value) ∙ c.host_number.ensures ∙ c.in-Some.is in
     one_more c.args.decoded.now c.loop-place.records.items _ c.in-Some.record c.loop-place.place c.import_at-import.result.now c.loop-place.invariant c.import_at-import.ensures named (search rules)
 
 pub returns : goal.returns
@@ -13,5 +13,5 @@ returns c = all_of c.args.decoded.now _ c.requires (search rules)
 
 pub unreachable-requires : goal.unreachable-requires
 unreachable-requires c =
-    let none : c.record_named.result ≡ None = search rules in
-    has_record c.args.decoded.now c.requires c.loop-place.place c.import_at-import.result.now c.import_at-import.ensures (ap record_named (sym c.as_slice.ensures.value) ∙ c.record_named.ensures ∙ none)
+    let none : c.host_number.result ≡ None = search rules in
+    has_record c.args.decoded.now c.requires c.loop-place.place c.import_at-import.result.now c.import_at-import.ensures (ap host_number (names_in c.import_at-import.result.now _ _ c.as_slice.ensures.value c.as_slice-in-loop-place.ensures.value) ∙ c.host_number.ensures ∙ none)

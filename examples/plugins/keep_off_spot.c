@@ -1,0 +1,16 @@
+// A filter: nodes with a taint `spot` are for pods that tolerate it, also where the taint's effect is PreferNoSchedule, by which
+// wsched alone only likes other nodes better.
+//
+//   clang --target=wasm32 -mcpu=mvp -O2 -ffreestanding -nostdlib -Wl,--no-entry,--strip-all,--max-memory=65536,-z,stack-size=4096 -o keep_off_spot.wasm keep_off_spot.c
+#include "sched.h"
+
+FILTER
+{
+    const struct pod *pod = read_pod2();
+    struct taint taint;
+    for (struct walk taints = node_taints(read_node2()); next_taint(&taints, &taint);)
+        if (is(taint.key, "spot") && !tolerates(pod, &taint))
+            // The node stays what it is, whatever pods come and go.
+            return UNSCHEDULABLE_AND_UNRESOLVABLE;
+    return PASS;
+}
