@@ -3,4 +3,4 @@ pub mod Together
 pub mod Alike
 pub mod Asking
 pub mod Collecting
-pub mod TallyKits
+pub mod Ruled

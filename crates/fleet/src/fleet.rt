@@ -5,9 +5,6 @@ ghost use Rattle.desk.specs.Shown.{shown};
 ghost use Rattle.choose.specs.Choice.{Choice};
 ghost use Rattle.fleet.specs.Alike.{JudgeAlike};
 
-#[cfg(test)]
-mod tests;
-
 use crate::gate::Gate;
 use crate::pieces::{Work, judge_pieces};
 use choose::{Decision, NoMemory, UNJUDGED, Verdict, decide};

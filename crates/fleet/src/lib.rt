@@ -13,8 +13,6 @@ mod message;
 mod pieces;
 mod pool;
 mod rule;
-#[cfg(test)]
-mod samples;
 mod worker;
 
 pub use asked::{Blank, Site};

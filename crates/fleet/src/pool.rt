@@ -6,9 +6,6 @@ ghost use Rattle.choose.specs.Choice.{Choice, AreVerdicts};
 ghost use Rattle.fleet.specs.Team.{rules_of};
 ghost use Rattle.fleet.specs.Speaking.{SpeaksFor};
 
-#[cfg(test)]
-mod tests;
-
 use crate::asked::{Asked, Blank, History, Order, Site};
 use crate::fleet::MAX_KITS;
 use crate::gate::Gate;

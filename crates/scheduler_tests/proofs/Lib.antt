@@ -1,1 +1,2 @@
 pub mod SameKits
+pub mod TallyKits

@@ -32,3 +32,5 @@ mod storms;
 mod waiting;
 #[cfg(test)]
 mod words;
+#[cfg(test)]
+mod workers;

@@ -1,6 +1,6 @@
 use Rattle.choose.specs.Verdict.{HasVerdict}
-use Rattle.fleet.proofs.TallyKits.{tally_rules}
-use Rattle.fleet.proofs.pool.tests.two_kits_decide.Given as goal
+use Rattle.scheduler_tests.proofs.TallyKits.{tally_rules}
+use Rattle.scheduler_tests.proofs.workers.pools.few_and_most_kits_decide.Given as goal
 
 -- the pool that is started, and what its kits say
 abbrev pub ghosts-decide_with : goal.ghosts-decide_with

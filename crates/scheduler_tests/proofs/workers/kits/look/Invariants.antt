@@ -1,4 +1,4 @@
-use Rattle.fleet.proofs.pool.tests.look.Given as goal
+use Rattle.scheduler_tests.proofs.workers.kits.look.Given as goal
 
 -- the desk that is opened, and its limits
 abbrev pub ghosts-look_in : goal.ghosts-look_in

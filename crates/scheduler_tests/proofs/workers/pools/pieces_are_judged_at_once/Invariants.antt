@@ -1,6 +1,6 @@
 use Rattle.choose.specs.Verdict.{HasVerdict}
-use Rattle.fleet.proofs.TallyKits.{tally_rules}
-use Rattle.fleet.proofs.pool.tests.pieces_are_judged_at_once.Given as goal
+use Rattle.scheduler_tests.proofs.TallyKits.{tally_rules}
+use Rattle.scheduler_tests.proofs.workers.pools.pieces_are_judged_at_once.Given as goal
 
 -- the pool that is started, and what its kits say
 abbrev pub ghosts-meet_in : goal.ghosts-meet_in

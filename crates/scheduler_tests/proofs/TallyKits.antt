@@ -1,4 +1,4 @@
--- What the kits of the tests say: the filter of their one rule uses up its fuel at every node.
+-- What the kits of workers' tests say: the filter of their one rule uses up its fuel at every node.
 use Rattle.std.proofs.Common.{◌≡◌, [], ◌∷◌}
 use Rattle.plugin.specs.RuleSet.{RuleSet}
 use Rattle.plugin.specs.declared.verdict.Cause.TheVariants.{Exhausted}

@@ -1,5 +1,5 @@
 use Rattle.desk.specs.Shared.{IsPassOf}
-use Rattle.fleet.proofs.pool.tests.look_in.Given as goal
+use Rattle.scheduler_tests.proofs.workers.kits.look_in.Given as goal
 
 -- it is the desk's pass
 abbrev pub invariant-loop-at : goal.invariant-loop-at

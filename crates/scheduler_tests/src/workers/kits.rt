@@ -1,0 +1,205 @@
+//! Kits that count how often they are asked, what is told that pieces begin, and a look at some nodes.
+ghost use Rattle.std.specs.Prelude.{◌≡◌};
+
+use desk::{Blank, Desk, Limits, Naming, Snapshot, Step};
+use fleet::Gate;
+use plugin::{Cause, FilterVerdict, Rules, ScoreVerdict};
+use quant::{Bytes, Cpu, Event, Name, Node, Pod, Request, Res, SharedNode, SharedPod, Version};
+use std::alloc::Global;
+use std::hash::RandomState;
+use std::marker::Brand;
+use std::process::Abort;
+use std::sync::atomic::{AtomicBool, AtomicU64, Ordering};
+use std::sync::{Arc, Wait};
+use std::test::Fail;
+use std::thread;
+use whost::Records;
+
+/// How often each of some came, by their places: kits that are asked, or pieces that begin.
+#[derive(Drop)]
+pub struct Counts {
+    counts: Vec<AtomicU64>,
+}
+
+impl Counts {
+    /// None of so many came yet.
+    pub fn new(alloc: Global, many: usize) -> Result<Counts, Fail> {
+        let mut counts = Vec::new(alloc);
+        for _ in 0..many {
+            counts.push(AtomicU64::new(0))?;
+        }
+        Ok(Counts { counts })
+    }
+
+    fn add(&self, place: usize) {
+        if let Some(count) = self.counts.get(place) {
+            count.fetch_add(1, Ordering::SeqCst);
+        }
+    }
+
+    pub fn at(&self, place: usize) -> u64 {
+        self.counts
+            .get(place)
+            .map_or(0, |count| count.load(Ordering::SeqCst))
+    }
+}
+
+impl Gate for Counts {
+    fn enter(&self, piece: usize) {
+        self.add(piece);
+    }
+}
+
+/// A kit with one rule, whose filter uses up its fuel at every node. It counts how often it is asked.
+#[derive(Drop)]
+pub struct Tally {
+    pub asked: Arc<Counts>,
+    pub place: usize,
+}
+
+impl Rules for Tally {
+    ghost use Rattle.std.specs.Prelude.{◌≡◌, [], ◌∷◌};
+    ghost use Rattle.std.proofs.Common.{sym, ◌∙◌};
+    ghost use Rattle.plugin.specs.declared.verdict.Cause.TheVariants.{Exhausted};
+    ghost use Rattle.plugin.specs.declared.verdict.FilterVerdict.TheVariants as filter;
+    ghost use Rattle.plugin.specs.declared.verdict.ScoreVerdict.TheVariants as score;
+
+    ghost answers = { λ _. record {
+      weights = 1 ∷ [];
+      Filters = λ place told said. said ≡ filter.Errs Exhausted;
+      Scores = λ place told said. said ≡ score.Good 0;
+    } };
+
+    fn count(&self) -> usize {
+        1
+    }
+
+    fn weight(&self, _place: usize) -> u8 {
+        1
+    }
+
+    fn filter(&mut self, _place: usize, _records: &Records) -> FilterVerdict {
+        self.asked.add(self.place);
+        FilterVerdict::Errs(Cause::Exhausted)
+    }
+
+    fn score(&mut self, _place: usize, _records: &Records) -> ScoreVerdict {
+        ScoreVerdict::Good(0)
+    }
+
+    ghost say_one_thing = { λ _. record {
+      filter = λ place told one other a b. a ∙ sym b;
+      score = λ place told one other a b. a ∙ sym b;
+    } };
+}
+
+/// Two pieces, each of which waits where it begins until the other has begun.
+#[derive(Drop)]
+pub struct Both {
+    first: AtomicBool,
+    second: AtomicBool,
+    gave_up: AtomicBool,
+}
+
+impl Both {
+    /// Neither has begun.
+    pub fn new() -> Both {
+        Both {
+            first: AtomicBool::new(false),
+            second: AtomicBool::new(false),
+            gave_up: AtomicBool::new(false),
+        }
+    }
+
+    /// Whether one gave up waiting for the other.
+    pub fn gave_up(&self) -> bool {
+        self.gave_up.load(Ordering::SeqCst)
+    }
+}
+
+impl Gate for Both {
+    fn enter(&self, piece: usize) {
+        let (mine, other) = if piece == 0 {
+            (&self.first, &self.second)
+        } else {
+            (&self.second, &self.first)
+        };
+        mine.store(true, Ordering::SeqCst);
+        for _ in 0..10_000_000u32 {
+            if other.load(Ordering::SeqCst) {
+                return;
+            }
+            thread::yield_now();
+        }
+        self.gave_up.store(true, Ordering::SeqCst);
+    }
+}
+
+/// A pod that asks for a tenth of a core.
+pub fn pod(alloc: Global) -> Result<SharedPod, Fail> {
+    let pod = Pod {
+        uid: Name::new(b"p1")?,
+        priority: 0,
+        request: Request::new(Cpu(100), Bytes(67_108_864))?,
+        labels: Default::default(),
+        tolerations: Default::default(),
+    };
+    Ok(SharedPod::new(alloc, pod)?)
+}
+
+// A node of this name, with 4 cores, 8 GiB and room for 110 pods.
+fn node(alloc: Global, letter: u8) -> Result<SharedNode, Fail> {
+    let node = Node {
+        name: Name::new(&[letter])?,
+        allocatable: Res {
+            cpu: Cpu(4_000),
+            mem: Bytes(8_589_934_592),
+            pods: 110,
+        },
+        labels: Default::default(),
+        taints: Default::default(),
+        unschedulable: false,
+    };
+    Ok(SharedNode::new(alloc, node)?)
+}
+
+// A look at these nodes, at a desk that has nothing else.
+fn look_in<J: Naming, R: Abort + Wait>(
+    rt: &R,
+    alloc: Global,
+    keys: RandomState,
+    blank: Blank,
+    limits: Limits,
+    nodes: &[SharedNode],
+) -> Snapshot
+    requires named { blank.seen.book ≡ J.book }
+    requires limits { limits ≡ J.limits }
+{
+    let mut desk = Desk::<J>::new(blank, alloc, keys, limits).expect(rt, "memory");
+    let mut pass = desk.pass().expect(rt, "a pass");
+    for at in 0..nodes.len() {
+        let told = Event::NodeSet {
+            version: Version(at as u64 + 1),
+            node: nodes[at].share().expect(rt, "memory"),
+        };
+        desk.apply(rt, &mut pass, Step::Event(told))
+            .expect(rt, "memory");
+    }
+    let shown = desk.look(&mut pass).expect(rt, "memory");
+    desk.discard(rt);
+    shown
+}
+
+/// A look at nodes of these names.
+pub fn look<R: Abort + Wait>(
+    rt: &R,
+    alloc: Global,
+    keys: RandomState,
+    letters: &[u8],
+) -> Result<Snapshot, Fail> {
+    let mut nodes = Vec::new(alloc);
+    for letter in letters {
+        nodes.push(node(alloc, *letter)?)?;
+    }
+    Ok(look_in::<Brand, R>(rt, alloc, keys, Blank::new(), Limits::greatest(), &nodes))
+}
