@@ -6,7 +6,7 @@ use Rattle.quant.specs.Request.{greatest_by}
 use Rattle.desk.specs.Shown.{Shown}
 use Rattle.plugin.specs.declared.verdict.Cause.{Cause}
 use Rattle.choose.specs.declared.decision.Verdict.{Verdict}
-use Rattle.choose.specs.declared.decision.Verdict.TheVariants.{Rejected, Errs, Passes}
+use Rattle.choose.specs.declared.decision.Verdict.TheVariants.{Rejected, RejectedBy, Errs, Passes}
 use Rattle.choose.specs.declared.decision.Reason.{Reason}
 use Rattle.choose.specs.declared.best.Worth.TheVariants.{Error, Total}
 use Rattle.choose.specs.Choice.{Judged, judged, errs, count_of, most_of, total_of, is_for, counts_of, NoneErrs, NonePasses, LeastErring, IsFirst, IsBest}
@@ -80,5 +80,6 @@ none_passes nodes most is none = subst (λ m. All (λ node. total_of m node.verd
 -- a verdict that says nothing tells the rule and the cause
 pub is_erring : (verdict : Verdict) → errs verdict ≡ true → (place : ℕ) × (why : Cause) × (verdict ≡ Errs place why)
 is_erring (Rejected reason) e = cc
+is_erring (RejectedBy place how) e = cc
 is_erring (Errs place why) e = (place, why, refl)
 is_erring (Passes count score) e = cc

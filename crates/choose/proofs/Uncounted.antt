@@ -7,12 +7,14 @@ use Rattle.quant.specs.Request.{greatest_by}
 use Rattle.choose.specs.declared.decision.Reason.{Reason}
 use Rattle.choose.specs.declared.decision.Reason.TheVariants.{Marked, Taint, Cpu, Memory, Pods, Plugin, Final}
 use Rattle.choose.specs.declared.decision.Counts.{Counts}
-use Rattle.choose.specs.declared.decision.Verdict.TheVariants.{Rejected, Errs}
+use Rattle.choose.specs.declared.decision.Verdict.{Verdict}
+use Rattle.choose.specs.declared.decision.Verdict.TheVariants.{Rejected, RejectedBy, Errs, Passes}
 use Rattle.choose.specs.declared.decision.Decision.{Decision}
 use Rattle.choose.specs.declared.decision.Decision.TheVariants as decision
 use Rattle.choose.specs.Choice.{Judged, errs, count_of, most_of, total_of, same_reason, is_for, count_for, IsFirst, IsChoice}
 use Rattle.quant.specs.Name.{is_before}
-use Rattle.choose.specs.Laws.{one_less, uncounted}
+use Rattle.choose.specs.Verdict.{reason_of}
+use Rattle.choose.specs.Laws.{one_less, rejects_for, uncounted}
 
 -- what holds of all holds without one of them
 all_without : {X : Type 0} (P : X → Type 0) (front : List X) (x : X) (back : List X) → All P (front ++ x ∷ back) → All P (front ++ back)
@@ -56,56 +58,80 @@ less : (test : Bool) (n rest : ℕ) → n ≡ cond test 1 0 + rest → (if test 
 less true n rest is = omega (arith, is)
 less false n rest is = omega (arith, is)
 
-fewer : (front back : List Judged) (name : List ℕ) (own reason : Reason) (n : ℕ) → n ≡ count_for reason (front ++ record { name = name; verdict = Rejected own } ∷ back) → one_less own reason n ≡ count_for reason (front ++ back)
-fewer front back name own reason n is =
-    less (same_reason reason own) n (count_for reason (front ++ back)) (is ∙ count_without (λ node. is_for reason node.verdict) front (record { name = name; verdict = Rejected own }) back)
+-- ---- what a verdict that rejects is
 
-same_most : (front back : List Judged) (name : List ℕ) (reason : Reason) → most_of (front ++ record { name = name; verdict = Rejected reason } ∷ back) ≡ most_of (front ++ back)
-same_most front back name reason = greatest_without (λ node. count_of node.verdict) front (record { name = name; verdict = Rejected reason }) back refl
+rejected_for : (own reason : Reason) (verdict : Verdict) → rejects_for verdict ≡ Some own → is_for reason verdict ≡ same_reason reason own
+rejected_for own reason (Rejected other) is = let same : other ≡ own = cc in ap (same_reason reason) same
+rejected_for own reason (RejectedBy place how) is = let same : reason_of how ≡ own = cc in ap (same_reason reason) same
+rejected_for own reason (Errs place why) is = absurd (cc)
+rejected_for own reason (Passes count score) is = absurd (cc)
 
-first_without : (front back : List Judged) (name : List ℕ) (reason : Reason) (most : ℕ) (node : Judged) (total : ℕ) →
-    IsFirst (front ++ record { name = name; verdict = Rejected reason } ∷ back) (total_of most) node total → IsFirst (front ++ back) (total_of most) node total
-first_without front back name reason most node total first = record {
-  there = there_without front (record { name = name; verdict = Rejected reason }) back node
-      (λ same.
-      let none : None ≡ total_of most node.verdict = ap (λ j. total_of most j.verdict) same in
-      let some : total_of most node.verdict ≡ Some total = first.has in
-      cc)
-      first.there;
-  has = first.has;
-  none_greater = all_without (λ other. IfSome (total_of most other.verdict) (λ w. w ≤ total)) front (record { name = name; verdict = Rejected reason }) back first.none_greater;
-  none_earlier = all_without (λ other. total_of most other.verdict ≡ Some total → is_before other.name node.name ≡ false) front (record { name = name; verdict = Rejected reason }) back first.none_earlier;
-}
+rejected_counts_none : (own : Reason) (verdict : Verdict) → rejects_for verdict ≡ Some own → count_of verdict ≡ 0
+rejected_counts_none own (Rejected other) is = refl
+rejected_counts_none own (RejectedBy place how) is = refl
+rejected_counts_none own (Errs place why) is = refl
+rejected_counts_none own (Passes count score) is = absurd (cc)
 
-pub rejected_only_count : (front back : List Judged) (name : List ℕ) (reason : Reason) (decision : Decision) →
-    IsChoice (front ++ record { name = name; verdict = Rejected reason } ∷ back) decision → IsChoice (front ++ back) (uncounted reason decision)
-rejected_only_count front back name reason (decision.PluginError place node why) is = record {
-  there = there_without front (record { name = name; verdict = Rejected reason }) back (record { name = node; verdict = Errs place why })
-      (λ same.
-      let other : Rejected reason ≡ Errs place why = ap (λ j. j.verdict) same in
-      cc)
-      is.there;
-  says_nothing = refl;
-  least = all_without (λ other. errs other.verdict ≡ true → is_before other.name node ≡ false) front (record { name = name; verdict = Rejected reason }) back is.least;
-}
-rejected_only_count front back name reason (decision.Node node total) is = (
-  all_without (λ other. errs other.verdict ≡ false) front (record { name = name; verdict = Rejected reason }) back is.0,
-  (
-    is.1.0,
-    subst (λ most. IsFirst (front ++ back) (total_of most) (record { name = node; verdict = is.1.0 }) total) (same_most front back name reason)
-        (first_without front back name reason (most_of (front ++ record { name = name; verdict = Rejected reason } ∷ back)) (record { name = node; verdict = is.1.0 }) total is.1.1),
-  ),
-)
-rejected_only_count front back name reason (decision.Unschedulable counts) is =
-    let marked = fewer front back name reason Marked counts.marked (ap (λ (c : Counts). c.marked) is.2) in
-    let taint = fewer front back name reason Taint counts.taint (ap (λ (c : Counts). c.taint) is.2) in
-    let cpu = fewer front back name reason Cpu counts.cpu (ap (λ (c : Counts). c.cpu) is.2) in
-    let memory = fewer front back name reason Memory counts.memory (ap (λ (c : Counts). c.memory) is.2) in
-    let pods = fewer front back name reason Pods counts.pods (ap (λ (c : Counts). c.pods) is.2) in
-    let plugin = fewer front back name reason Plugin counts.plugin (ap (λ (c : Counts). c.plugin) is.2) in
-    let final = fewer front back name reason Final counts.plugin_final (ap (λ (c : Counts). c.plugin_final) is.2) in (
-      all_without (λ other. errs other.verdict ≡ false) front (record { name = name; verdict = Rejected reason }) back is.0,
-      subst (λ most. All (λ node. total_of most node.verdict ≡ None) (front ++ back)) (same_most front back name reason)
-          (all_without (λ node. total_of (most_of (front ++ record { name = name; verdict = Rejected reason } ∷ back)) node.verdict ≡ None) front (record { name = name; verdict = Rejected reason }) back is.1),
-      cc,
-    )
+rejected_has_none : (own : Reason) (most : ℕ) (verdict : Verdict) → rejects_for verdict ≡ Some own → total_of most verdict ≡ None
+rejected_has_none own most (Rejected other) is = refl
+rejected_has_none own most (RejectedBy place how) is = refl
+rejected_has_none own most (Errs place why) is = refl
+rejected_has_none own most (Passes count score) is = absurd (cc)
+
+-- ---- without a node that is rejected
+
+module _ (front back : List Judged) (out : Judged) (own : Reason) (rejected : rejects_for out.verdict ≡ Some own) where
+  fewer : (reason : Reason) (n : ℕ) → n ≡ count_for reason (front ++ out ∷ back) → one_less own reason n ≡ count_for reason (front ++ back)
+  fewer reason n is =
+      less (same_reason reason own) n (count_for reason (front ++ back))
+      (is ∙ count_without (λ node. is_for reason node.verdict) front out back
+      ∙ ap (λ test. cond test 1 0 + count_for reason (front ++ back)) (rejected_for own reason out.verdict rejected))
+
+  same_most : most_of (front ++ out ∷ back) ≡ most_of (front ++ back)
+  same_most = greatest_without (λ node. count_of node.verdict) front out back (rejected_counts_none own out.verdict rejected)
+
+  first_without : (most : ℕ) (node : Judged) (total : ℕ) → IsFirst (front ++ out ∷ back) (total_of most) node total → IsFirst (front ++ back) (total_of most) node total
+  first_without most node total first = record {
+    there = there_without front out back node
+        (λ same.
+        let none : total_of most out.verdict ≡ None = rejected_has_none own most out.verdict rejected in
+        let also : total_of most out.verdict ≡ total_of most node.verdict = ap (λ (j : Judged). total_of most j.verdict) same in
+        let some : total_of most node.verdict ≡ Some total = first.has in
+        cc)
+        first.there;
+    has = first.has;
+    none_greater = all_without (λ other. IfSome (total_of most other.verdict) (λ w. w ≤ total)) front out back first.none_greater;
+    none_earlier = all_without (λ other. total_of most other.verdict ≡ Some total → is_before other.name node.name ≡ false) front out back first.none_earlier;
+  }
+
+  pub rejected_only_count : (decision : Decision) → IsChoice (front ++ out ∷ back) decision → IsChoice (front ++ back) (uncounted own decision)
+  rejected_only_count (decision.PluginError place node why) is = record {
+    there = there_without front out back (record { name = node; verdict = Errs place why })
+        (λ same.
+        let also : rejects_for out.verdict ≡ None = ap (λ (j : Judged). rejects_for j.verdict) same in
+        cc)
+        is.there;
+    says_nothing = refl;
+    least = all_without (λ other. errs other.verdict ≡ true → is_before other.name node ≡ false) front out back is.least;
+  }
+  rejected_only_count (decision.Node node total) is = (
+    all_without (λ other. errs other.verdict ≡ false) front out back is.0,
+    (
+      is.1.0,
+      subst (λ most. IsFirst (front ++ back) (total_of most) (record { name = node; verdict = is.1.0 }) total) same_most
+          (first_without (most_of (front ++ out ∷ back)) (record { name = node; verdict = is.1.0 }) total is.1.1),
+    ),
+  )
+  rejected_only_count (decision.Unschedulable counts) is =
+      let marked = fewer Marked counts.marked (ap (λ (c : Counts). c.marked) is.2) in
+      let taint = fewer Taint counts.taint (ap (λ (c : Counts). c.taint) is.2) in
+      let cpu = fewer Cpu counts.cpu (ap (λ (c : Counts). c.cpu) is.2) in
+      let memory = fewer Memory counts.memory (ap (λ (c : Counts). c.memory) is.2) in
+      let pods = fewer Pods counts.pods (ap (λ (c : Counts). c.pods) is.2) in
+      let plugin = fewer Plugin counts.plugin (ap (λ (c : Counts). c.plugin) is.2) in
+      let final = fewer Final counts.plugin_final (ap (λ (c : Counts). c.plugin_final) is.2) in (
+        all_without (λ other. errs other.verdict ≡ false) front out back is.0,
+        subst (λ most. All (λ node. total_of most node.verdict ≡ None) (front ++ back)) same_most
+            (all_without (λ node. total_of (most_of (front ++ out ∷ back)) node.verdict ≡ None) front out back is.1),
+        cc,
+      )

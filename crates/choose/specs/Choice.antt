@@ -10,11 +10,11 @@ use Rattle.plugin.specs.RuleSet.{RuleSet}
 use Rattle.choose.specs.declared.decision.Reason.{Reason}
 use Rattle.choose.specs.declared.decision.Reason.TheVariants.{Marked, Taint, Cpu, Memory, Pods, Plugin, Final}
 use Rattle.choose.specs.declared.decision.Verdict.{Verdict}
-use Rattle.choose.specs.declared.decision.Verdict.TheVariants.{Rejected, Errs, Passes}
+use Rattle.choose.specs.declared.decision.Verdict.TheVariants.{Rejected, RejectedBy, Errs, Passes}
 use Rattle.choose.specs.declared.decision.Counts.{Counts}
 use Rattle.choose.specs.declared.decision.Decision.{Decision}
 use Rattle.choose.specs.declared.decision.Decision.TheVariants as decision
-use Rattle.choose.specs.Verdict.{HasVerdict}
+use Rattle.choose.specs.Verdict.{HasVerdict, reason_of}
 
 -- a node's name, and the verdict on it
 pub record Judged : Type 0 where
@@ -30,12 +30,14 @@ judged (shown ∷ rest) (verdict ∷ verdicts) = record { name = shown.node.name
 -- a verdict says nothing of a node
 abbrev pub errs : Verdict → Bool
 errs (Rejected reason) = false
+errs (RejectedBy place how) = false
 errs (Errs place why) = true
 errs (Passes count score) = false
 
 -- the untolerated taints `PreferNoSchedule` of a node that passes
 abbrev pub count_of : Verdict → ℕ
 count_of (Rejected reason) = 0
+count_of (RejectedBy place how) = 0
 count_of (Errs place why) = 0
 count_of (Passes count score) = count
 
@@ -43,11 +45,15 @@ count_of (Passes count score) = count
 abbrev pub most_of : List Judged → ℕ
 most_of nodes = greatest_by (λ node. count_of node.verdict) nodes
 
--- the total of a node that passes, where `most` is that greatest number
+-- the total of a node that passes with so many of these taints and this score, where `most` is that greatest number
+abbrev pub total : (most count score : ℕ) → ℕ
+total most count score = score + taint_score count most
+
 abbrev pub total_of : (most : ℕ) → Verdict → Option ℕ
 total_of most (Rejected reason) = None
+total_of most (RejectedBy place how) = None
 total_of most (Errs place why) = None
-total_of most (Passes count score) = Some (score + taint_score count most)
+total_of most (Passes count score) = Some (total most count score)
 
 -- two reasons are the same
 abbrev pub same_reason : Reason → Reason → Bool
@@ -63,6 +69,7 @@ same_reason _ _ = false
 -- a node is rejected for this first reason
 abbrev pub is_for : Reason → Verdict → Bool
 is_for reason (Rejected own) = same_reason reason own
+is_for reason (RejectedBy place how) = same_reason reason (reason_of how)
 is_for reason (Errs place why) = false
 is_for reason (Passes count score) = false
 

@@ -1,15 +1,15 @@
 -- What holds of every choice.
-use Rattle.std.specs.Prelude.{◌≡◌, ℕ, ◌-◌, ◌<◌, if◌then◌else◌, List, [], ◌∷◌, ◌++◌, length}
+use Rattle.std.specs.Prelude.{◌≡◌, ℕ, ◌-◌, ◌<◌, if◌then◌else◌, List, [], ◌∷◌, ◌++◌, length, Option, Some, None}
 use Rattle.quant.specs.declared.objects.Pod.{Pod}
 use Rattle.desk.specs.Shown.{Shown}
 use Rattle.plugin.specs.RuleSet.{RuleSet}
 use Rattle.choose.specs.declared.decision.Reason.{Reason}
 use Rattle.choose.specs.declared.decision.Reason.TheVariants.{Marked, Taint, Cpu, Memory, Pods, Plugin, Final}
 use Rattle.choose.specs.declared.decision.Verdict.{Verdict}
-use Rattle.choose.specs.declared.decision.Verdict.TheVariants.{Rejected}
+use Rattle.choose.specs.declared.decision.Verdict.TheVariants.{Rejected, RejectedBy, Errs, Passes}
 use Rattle.choose.specs.declared.decision.Decision.{Decision}
 use Rattle.choose.specs.declared.decision.Decision.TheVariants as decision
-use Rattle.choose.specs.Verdict.{HasVerdict}
+use Rattle.choose.specs.Verdict.{HasVerdict, reason_of}
 use Rattle.choose.specs.Choice.{Judged, judged, same_reason, IsChoice, AreVerdicts, Choice}
 use Rattle.choose.specs.Finding.{name_at}
 
@@ -61,8 +61,15 @@ uncounted own (decision.Unschedulable counts) = decision.Unschedulable (record {
   plugin_final = one_less own Final counts.plugin_final;
 })
 
+-- the reason for which a verdict rejects, where it does
+abbrev pub rejects_for : Verdict → Option Reason
+rejects_for (Rejected reason) = Some reason
+rejects_for (RejectedBy place how) = Some (reason_of how)
+rejects_for (Errs place why) = None
+rejects_for (Passes count score) = None
+
 -- Without a node that is rejected the decision among the others is the same, but for the counts.
 abbrev pub RejectedOnlyCount : Type 0
 RejectedOnlyCount =
-    (front back : List Judged) (name : List ℕ) (reason : Reason) (decision : Decision) →
-    IsChoice (front ++ record { name = name; verdict = Rejected reason } ∷ back) decision → IsChoice (front ++ back) (uncounted reason decision)
+    (front back : List Judged) (node : Judged) (reason : Reason) → rejects_for node.verdict ≡ Some reason → (decision : Decision) →
+    IsChoice (front ++ node ∷ back) decision → IsChoice (front ++ back) (uncounted reason decision)

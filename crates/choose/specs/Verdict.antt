@@ -21,7 +21,7 @@ use Rattle.plugin.specs.declared.verdict.ScoreVerdict.TheVariants as score
 use Rattle.choose.specs.declared.decision.Reason.{Reason}
 use Rattle.choose.specs.declared.decision.Reason.TheVariants.{Marked, Taint, Cpu, Memory, Pods, Plugin, Final}
 use Rattle.choose.specs.declared.decision.Verdict.{Verdict}
-use Rattle.choose.specs.declared.decision.Verdict.TheVariants.{Rejected, Errs, Passes}
+use Rattle.choose.specs.declared.decision.Verdict.TheVariants.{Rejected, RejectedBy, Errs, Passes}
 
 -- the resource of which there is too little
 abbrev pub too_little : Result (Unit {0}) Shortage → Option Reason
@@ -39,7 +39,7 @@ first_reason None room = too_little room
 unfoldable pub built_in : Shown → Pod → Option Reason
 built_in shown pod = first_reason (rejection shown.node pod) (fit_of shown.node.allocatable shown.used pod.request)
 
--- why a rule's filter rejects
+-- why a rule's filter rejects, as reasons are counted
 abbrev pub reason_of : Rejection → Reason
 reason_of Unschedulable = Plugin
 reason_of UnschedulableAndUnresolvable = Final
@@ -47,7 +47,7 @@ reason_of UnschedulableAndUnresolvable = Final
 -- what a filter's answer makes of a node, where it doesn't pass
 abbrev pub stopped_by : (place : ℕ) → FilterVerdict → Option Verdict
 stopped_by place filter.Passes = None
-stopped_by place (filter.Rejects how) = Some (Rejected (reason_of how))
+stopped_by place (filter.Rejects how) = Some (RejectedBy place how)
 stopped_by place (filter.Errs why) = Some (Errs place why)
 
 -- the filters of all rules before a place pass a node

@@ -1,20 +1,10 @@
 //! What the rules make of a node.
 ghost use Rattle.std.specs.Prelude.{◌≡◌, ◌≤◌, IfOk};
-ghost use Rattle.choose.specs.Verdict.{Filtered, Scored, reason_of};
+ghost use Rattle.choose.specs.Verdict.{Filtered, Scored};
 
-use crate::decision::{Reason, Verdict};
-use plugin::{FilterVerdict, Rejection, Rules, ScoreVerdict};
+use crate::decision::Verdict;
+use plugin::{FilterVerdict, Rules, ScoreVerdict};
 use whost::Records;
-
-// Why a rule's filter rejects.
-fn reason_of(how: Rejection) -> Reason
-    ensures { result ≡ reason_of how }
-{
-    match how {
-        Rejection::Unschedulable => Reason::Plugin,
-        Rejection::UnschedulableAndUnresolvable => Reason::Final,
-    }
-}
 
 /// What the filters of the rules make of the node whose record is shown, in their order: the first that doesn't pass ends it.
 pub fn filtered<R: Rules>(records: &Records, rules: &mut R) -> Option<Verdict>
@@ -24,7 +14,7 @@ pub fn filtered<R: Rules>(records: &Records, rules: &mut R) -> Option<Verdict>
     for place in 0..rules.count() {
         match rules.filter(place, records) {
             FilterVerdict::Passes => {}
-            FilterVerdict::Rejects(how) => return Some(Verdict::Rejected(reason_of(how))),
+            FilterVerdict::Rejects(how) => return Some(Verdict::RejectedBy(place, how)),
             FilterVerdict::Errs(why) => return Some(Verdict::Errs(place, why)),
         }
     }

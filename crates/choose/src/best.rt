@@ -1,9 +1,9 @@
 //! The node that goes first among all.
-ghost use Rattle.std.specs.Prelude.{◌≡◌, ◌<◌, length, map, IfSome};
+ghost use Rattle.std.specs.Prelude.{◌≡◌, ◌<◌, ◌≤◌, length, map, IfSome};
 ghost use Rattle.std.specs.List.{All};
 ghost use Rattle.quant.specs.Request.{greatest_by};
 ghost use Rattle.desk.specs.Shown.{shown};
-ghost use Rattle.choose.specs.Choice.{judged, count_of};
+ghost use Rattle.choose.specs.Choice.{judged, count_of, total};
 ghost use Rattle.quant.specs.Name.{is_before};
 ghost use Rattle.choose.specs.Finding.{worth_of, IsBounded, name_at, goes_before, after_one_more, StandsFirst};
 
@@ -35,12 +35,19 @@ impl Worth {
     {
         match (self, verdict) {
             (Worth::Error, Verdict::Errs(_, _)) => Some(0),
-            (Worth::Total(most), Verdict::Passes(count, score)) => {
-                Some(u32::from(score) + u32::from(normalize(count, most)))
-            }
+            (Worth::Total(most), Verdict::Passes(count, score)) => Some(total(most, count, score)),
             _ => None,
         }
     }
+}
+
+/// The total of a node that passes with so many untolerated taints `PreferNoSchedule` and this score, where the most that a
+/// node has which passes are these.
+pub fn total(most: u8, count: u8, score: u16) -> u32
+    requires { count ≤ most }
+    ensures { result ≡ total most count score }
+{
+    u32::from(score) + u32::from(normalize(count, most))
 }
 
 /// The node that goes first: the one of the least name among those that are worth most.

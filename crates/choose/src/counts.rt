@@ -1,9 +1,11 @@
 //! How many nodes are rejected for which reason.
 ghost use Rattle.std.specs.Prelude.{◌≡◌, count_by};
 ghost use Rattle.choose.specs.Choice.{is_for};
+ghost use Rattle.choose.specs.Verdict.{reason_of};
 ghost use Rattle.choose.specs.Finding.{counts_in};
 
 use crate::decision::{Counts, Reason, Verdict};
+use plugin::Rejection;
 
 /// How many of the verdicts reject for each reason.
 pub fn counts(verdicts: &[Verdict]) -> Counts
@@ -30,12 +32,23 @@ fn count_for(verdicts: &[Verdict], reason: Reason) -> usize
         .count()
 }
 
+// Why a rule's filter rejects.
+fn reason_of(how: Rejection) -> Reason
+    ensures { result ≡ reason_of how }
+{
+    match how {
+        Rejection::Unschedulable => Reason::Plugin,
+        Rejection::UnschedulableAndUnresolvable => Reason::Final,
+    }
+}
+
 // Whether a verdict rejects for this reason.
 fn is_for(verdict: Verdict, reason: Reason) -> bool
     ensures { result ≡ is_for reason verdict }
 {
     match verdict {
         Verdict::Rejected(own) => own == reason,
+        Verdict::RejectedBy(_, how) => reason_of(how) == reason,
         _ => false,
     }
 }

@@ -1,5 +1,5 @@
 //! What is decided of a node, and of a pod.
-use plugin::Cause;
+use plugin::{Cause, Rejection};
 use quant::Name;
 
 /// The first reason for which a node isn't for a pod.
@@ -24,8 +24,10 @@ pub enum Reason {
 /// What is decided of a node.
 #[derive(Clone, Copy, PartialEq, Eq, Debug)]
 pub enum Verdict {
-    /// It isn't for the pod.
+    /// A built-in filter rejects it.
     Rejected(Reason),
+    /// The filter of the rule at this place rejects it.
+    RejectedBy(usize, Rejection),
     /// The rule at this place said nothing of it, for this cause.
     Errs(usize, Cause),
     /// It is for the pod: how many of its taints `PreferNoSchedule` the pod doesn't tolerate, and the node's score but for

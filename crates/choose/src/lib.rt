@@ -12,6 +12,7 @@ mod decision;
 mod judging;
 mod laws;
 
+pub use best::{most_taints, total};
 pub use choice::{choose, decide};
 pub use decision::{Counts, Decision, Reason, UNJUDGED, Verdict};
 pub use desk::NoMemory;

@@ -6,17 +6,17 @@ use Rattle.clap.specs.Words.{Row, Text, first_of, subcommand_name_of, subcommand
 use Rattle.clap.specs.declared.parser.matches.ArgMatches.{ArgMatches}
 use Rattle.clap.specs.declared.parser.matches.ArgMatches.TheViews.{out-ArgMatches}
 use Rattle.command.specs.declared.count.Count.TheVariants.{Workers, Cycles, Binders}
-use Rattle.command.specs.Words.{SpecSyntax, are_taken, check, command_line, found, is_told, meaning, number_found, run, run_found, specs_found, storm, storm_found}
+use Rattle.command.specs.Words.{SpecSyntax, are_taken, check, command_line, explain, found, is_told, meaning, number_found, plan_found, run, specs_found, storm, storm_found}
 
 -- the number of workers and the plugins of a run
-pub run_is : (rows : List Row) (workers : ℕ) (specs : List SpecSyntax) → number_found Workers rows ≡ Some workers
-    → specs_found rows ≡ Some specs → run_found rows ≡ Some (run workers specs)
-run_is rows workers specs first second = rw (first, second) refl
+pub plan_is : (rows : List Row) (workers : ℕ) (specs : List SpecSyntax) → number_found Workers rows ≡ Some workers
+    → specs_found rows ≡ Some specs → plan_found rows ≡ Some (workers, specs)
+plan_is rows workers specs first second = rw (first, second) refl
 
-pub no_workers : (rows : List Row) → number_found Workers rows ≡ None → run_found rows ≡ None
+pub no_workers : (rows : List Row) → number_found Workers rows ≡ None → plan_found rows ≡ None
 no_workers rows none = rw none refl
 
-pub no_specs : (rows : List Row) (workers : ℕ) → number_found Workers rows ≡ Some workers → specs_found rows ≡ None → run_found rows ≡ None
+pub no_specs : (rows : List Row) (workers : ℕ) → number_found Workers rows ≡ Some workers → specs_found rows ≡ None → plan_found rows ≡ None
 no_specs rows workers first none = rw (first, none) refl
 
 -- the numbers of threads, the flag and the plugins of a storm
@@ -61,17 +61,22 @@ found_by (Some p) name rows first second =
     let rows_are : p.1 ≡ rows = ap (λ o. unwrap_or o rows) (sym second) in
     ap₂ (λ n r. found (Some (n, r))) name_is rows_are
 
--- a run, a storm, and a command that is neither
-pub run_by : (name : Text) (rows : List Row) → bytes_eq name (codes "run") ≡ true → found (Some (name, rows)) ≡ run_found rows
-run_by name rows is_run = rw is_run refl
+-- a run, what explains one, a storm, and a command that is none of these
+pub run_by : (name : Text) (rows : List Row) (workers : ℕ) (specs : List SpecSyntax) → bytes_eq name (codes "run") ≡ true → plan_found rows ≡ Some (workers, specs)
+    → found (Some (name, rows)) ≡ Some (run workers specs)
+run_by name rows workers specs is_run plan = rw (is_run, plan) refl
 
-pub storm_by : (name : Text) (rows : List Row) → bytes_eq name (codes "run") ≡ false → bytes_eq name (codes "storm") ≡ true
+pub explain_by : (name : Text) (rows : List Row) (workers : ℕ) (specs : List SpecSyntax) → bytes_eq name (codes "run") ≡ false → bytes_eq name (codes "explain") ≡ true
+    → plan_found rows ≡ Some (workers, specs) → found (Some (name, rows)) ≡ Some (explain workers specs)
+explain_by name rows workers specs no_run is_explain plan = rw (no_run, is_explain, plan) refl
+
+pub storm_by : (name : Text) (rows : List Row) → bytes_eq name (codes "run") ≡ false → bytes_eq name (codes "explain") ≡ false → bytes_eq name (codes "storm") ≡ true
     → found (Some (name, rows)) ≡ storm_found rows
-storm_by name rows no_run is_storm = rw (no_run, is_storm) refl
+storm_by name rows no_run no_explain is_storm = rw (no_run, no_explain, is_storm) refl
 
-pub check_by : (name : Text) (rows : List Row) → bytes_eq name (codes "run") ≡ false → bytes_eq name (codes "storm") ≡ false
+pub check_by : (name : Text) (rows : List Row) → bytes_eq name (codes "run") ≡ false → bytes_eq name (codes "explain") ≡ false → bytes_eq name (codes "storm") ≡ false
     → found (Some (name, rows)) ≡ option_map check (first_of (codes "MODULE") rows)
-check_by name rows no_run no_storm = rw (no_run, no_storm) refl
+check_by name rows no_run no_explain no_storm = rw (no_run, no_explain, no_storm) refl
 
 -- what words ask for that are taken, and that aren't
 pub meaning_taken : (words : List Text) → are_taken words ≡ true → meaning words ≡ found (subcommand_of command_line words)

@@ -1,6 +1,6 @@
 -- What words ask for at worked examples.
 use Rattle.std.specs.Prelude.{◌≡◌, ℕ, ◌^◌, true, false, List, [], ◌∷◌, map, codes, Some, None}
-use Rattle.command.specs.Words.{SpecSyntax, check, meaning, run, storm}
+use Rattle.command.specs.Words.{SpecSyntax, check, explain, meaning, run, storm}
 use Rattle.command.specs.declared.count.Count.TheVariants.{Workers, Cycles, Binders}
 use Rattle.command.specs.declared.misuse.Misuse.TheVariants.{Command, Number, Plugin, Together}
 use Rattle.command.specs.declared.misuse.Part.TheVariants.{Spec, Name, Weight, Fuel}
@@ -49,6 +49,11 @@ pub record WorkedExamples : Type 0 where
   pub one_name_twice : meaning (codes "run" ∷ codes "a:1:1:f" ∷ codes "a:2:2:g" ∷ []) ≡ None
   pub most_plugins : meaning (codes "run" ∷ words_of (codes "abcdefghijklmnop")) ≡ Some (run 1 (plugins_of (codes "abcdefghijklmnop")))
   pub too_many_plugins : meaning (codes "run" ∷ words_of (codes "abcdefghijklmnopq")) ≡ None
+  -- what explains a run
+  pub an_explanation : meaning (codes "explain" ∷ []) ≡ Some (explain 1 [])
+  pub explained_by_workers : meaning (codes "explain" ∷ codes "a:1:1:f" ∷ codes "--workers=2" ∷ []) ≡ Some (explain 2 (plugin (codes "a") 1 1 (codes "f") ∷ []))
+  pub explained_by_too_many : meaning (codes "explain" ∷ codes "--workers" ∷ codes "65" ∷ []) ≡ None
+  pub one_name_twice_in_an_explanation : meaning (codes "explain" ∷ codes "a:1:1:f" ∷ codes "a:2:2:g" ∷ []) ≡ None
   -- a storm
   pub a_storm : meaning (codes "storm" ∷ []) ≡ Some (storm 2 2 false [])
   pub most_threads : meaning (codes "storm" ∷ codes "--cycles" ∷ codes "8" ∷ codes "--binders=8" ∷ []) ≡ Some (storm 8 8 false [])
@@ -100,3 +105,4 @@ pub record WorkedExamples : Type 0 where
   pub of_flaky_twice : misuse_of (codes "storm" ∷ codes "--flaky" ∷ codes "--flaky" ∷ []) ≡ Together
   pub of_workers_of_a_storm : misuse_of (codes "storm" ∷ codes "--workers=2" ∷ []) ≡ Plugin Spec 2
   pub of_cycles_of_a_run : misuse_of (codes "run" ∷ codes "--cycles=2" ∷ []) ≡ Plugin Spec 2
+  pub of_an_explanation : misuse_of (codes "explain" ∷ codes "--workers" ∷ codes "65" ∷ []) ≡ Number Workers 3

@@ -85,7 +85,7 @@ misuse_in is_storm number awaited (word ∷ rest) =
 unfoldable pub misuse_of : List (List ℕ) → Misuse
 misuse_of [] = Command
 misuse_of (command ∷ rest) =
-    if bytes_eq command (codes "run") then misuse_in false 2 None rest
+    if bytes_eq command (codes "run") || bytes_eq command (codes "explain") then misuse_in false 2 None rest
     else if bytes_eq command (codes "storm") then misuse_in true 2 None rest
     else if bytes_eq command (codes "check") then Together
     else Command

@@ -1,4 +1,4 @@
--- What the program's words ask for: `run [--workers N] [SPEC]...`, `storm [--cycles C] [--binders B] [--flaky] [SPEC]...`, where
+-- What the program's words ask for: `run [--workers N] [SPEC]...`, `explain` with the same words behind it, `storm [--cycles C] [--binders B] [--flaky] [SPEC]...`, where
 -- a SPEC is `NAME:WEIGHT:FUEL:FILE`, or `check MODULE`.
 use Rattle.std.specs.Prelude.{◌≡◌, ℕ, ◌+◌, ◌==◌, ◌&&◌, nat_le, not, Bool, true, false, List, [], ◌∷◌, take, drop, length, map, codes, bytes_eq, Option, Some, None, option_map, option_and_then, unwrap_or, Result, Ok, Err, if◌then◌else◌}
 use Rattle.std.specs.List.{list_any, position}
@@ -13,7 +13,7 @@ use Rattle.command.specs.declared.asked.Plan.{Plan}
 use Rattle.command.specs.declared.asked.StormPlan.{StormPlan}
 use Rattle.command.specs.declared.asked.Spec.{Spec}
 use Rattle.command.specs.declared.asked.Words.{Words}
-use Rattle.command.specs.declared.asked.Words.TheVariants.{Run, Storm, Check}
+use Rattle.command.specs.declared.asked.Words.TheVariants.{Run, Explain, Storm, Check}
 use Rattle.command.specs.declared.count.Count.{Count}
 use Rattle.command.specs.declared.count.Count.TheVariants.{Workers, Cycles, Binders}
 use Rattle.command.specs.Count.{name_of, number_for, number_up_to}
@@ -26,10 +26,11 @@ pub record SpecSyntax : Type 0 where
   pub fuel : ℕ
   pub file : List ℕ
 
--- what the program can be asked for: a run by so many workers with these plugins, a storm of so many threads that run cycles and so
+-- what the program can be asked for: a run by so many workers with these plugins, or what explains one, a storm of so many threads that run cycles and so
 -- many that bind pods, of which every third bind fails or not, or to check the module in the file of this name
 pub data Asked : Type 0 where
   run : (workers : ℕ) → (specs : List SpecSyntax) → Asked
+  explain : (workers : ℕ) → (specs : List SpecSyntax) → Asked
   storm : (cycles binders : ℕ) → (is_flaky : Bool) → (specs : List SpecSyntax) → Asked
   check : (file : List ℕ) → Asked
 
@@ -37,14 +38,15 @@ pub data Asked : Type 0 where
 abbrev pub syntax_of : Spec → SpecSyntax
 syntax_of spec = record { name = spec.name; weight = spec.weight; fuel = spec.fuel; file = spec.file.now }
 
-abbrev pub planned : Plan → Asked
-planned plan = run plan.workers (map syntax_of plan.specs.items)
+abbrev pub planned : Plan → ℕ × List SpecSyntax
+planned plan = (plan.workers, map syntax_of plan.specs.items)
 
 abbrev pub storm_planned : StormPlan → Asked
 storm_planned plan = storm plan.cycles plan.binders plan.is_flaky (map syntax_of plan.specs.items)
 
 abbrev pub asked_of : Words → Asked
-asked_of (Run plan) = planned plan
+asked_of (Run plan) = run plan.workers (map syntax_of plan.specs.items)
+asked_of (Explain plan) = explain plan.workers (map syntax_of plan.specs.items)
 asked_of (Storm plan) = storm_planned plan
 asked_of (Check file) = check file.now
 
@@ -103,9 +105,9 @@ abbrev pub is_told : Option Text → Bool
 is_told None = false
 is_told (Some text) = bytes_eq text (codes "true")
 
--- the run that is asked for
-abbrev pub run_found : List Row → Option Asked
-run_found rows = option_and_then (λ workers. option_map (run workers) (specs_found rows)) (number_found Workers rows)
+-- the number of workers and the plugins of a run
+abbrev pub plan_found : List Row → Option (ℕ × List SpecSyntax)
+plan_found rows = option_and_then (λ workers. option_map (λ specs. (workers, specs)) (specs_found rows)) (number_found Workers rows)
 
 -- the storm that is asked for
 abbrev pub storm_found : List Row → Option Asked
@@ -117,7 +119,8 @@ storm_found rows =
 abbrev pub found : Option (Text × List Row) → Option Asked
 found None = None
 found (Some command) =
-    if bytes_eq command.0 (codes "run") then run_found command.1
+    if bytes_eq command.0 (codes "run") then option_map (λ plan. run plan.0 plan.1) (plan_found command.1)
+    else if bytes_eq command.0 (codes "explain") then option_map (λ plan. explain plan.0 plan.1) (plan_found command.1)
     else if bytes_eq command.0 (codes "storm") then storm_found command.1
     else option_map check (first_of (codes "MODULE") command.1)
 
@@ -144,8 +147,8 @@ abbrev pub file_rule : Rule
 file_rule = record (new_rule (codes "MODULE")) { required = true }
 
 -- the commands
-abbrev pub run_command : App
-run_command = with_rule (with_rule (new_app (codes "run")) (option_rule (codes "workers"))) specs_rule
+abbrev pub run_command : (name : Text) → App
+run_command name = with_rule (with_rule (new_app name) (option_rule (codes "workers"))) specs_rule
 
 abbrev pub storm_command : App
 storm_command =
@@ -165,7 +168,9 @@ program = on_top (λ s. record s {
 
 -- the command line as `clap` sees it
 abbrev pub command_line : App
-command_line = with_subcommand (with_subcommand (with_subcommand program run_command.top) storm_command.top) check_command.top
+command_line =
+    with_subcommand (with_subcommand (with_subcommand (with_subcommand program (run_command (codes "run")).top) (run_command (codes "explain")).top) storm_command.top)
+    check_command.top
 
 -- `clap` takes the words for the command line
 abbrev pub are_taken : List (List ℕ) → Bool

@@ -42,6 +42,8 @@ pub struct StormPlan<'a> {
 pub enum Words<'a> {
     /// To read a script from standard input, and to write the answers to standard output.
     Run(Plan<'a>),
+    /// To run a script, and to tell of each cycle what was decided of each node.
+    Explain(Plan<'a>),
     /// To have many threads apply the lines of a script and place its pods at once, and to say whether the state is right then.
     Storm(StormPlan<'a>),
     /// To say whether the module in the file of this name is accepted.

@@ -2,7 +2,7 @@
 ghost use Rattle.std.specs.Prelude.{◌≡◌, ◌≤◌, Some, None, Err, true, false, map, option_map, IfErr, IfOk};
 ghost use Rattle.clap.specs.Words.{app_of, found_of, rows_of, rule_of, subcommand_of, subcommand_rows_of};
 ghost use Rattle.command.specs.Count.{most_of};
-ghost use Rattle.command.specs.Words.{IsLocal, are_taken, asked_of, command_line, found, is_told, meaning, number_found, option_rule, planned, run_command, run_found, specs_found, storm_command, storm_found, storm_planned, syntax_of};
+ghost use Rattle.command.specs.Words.{IsLocal, are_taken, asked_of, command_line, found, is_told, meaning, number_found, option_rule, plan_found, planned, run_command, specs_found, storm_command, storm_found, storm_planned, syntax_of};
 ghost use Rattle.command.specs.Within.{AreWithinLimits, IsPlan, IsStormPlan, IsWithin};
 
 use crate::asked::{Plan, Spec, StormPlan, Words};
@@ -24,13 +24,13 @@ fn option<'a>(alloc: Global, name: &'a str) -> Arg<'a>
     Arg::new(alloc, name).long(name).action(ArgAction::Set)
 }
 
-// The command `run`.
-fn run_command<'a>(alloc: Global) -> Result<Command<'a>, AllocError>
-    ensures shape { IfOk result (λ command. app_of command ≡ run_command) }
+// A command of this name that asks for a run: `run` or `explain`.
+fn run_command<'a>(alloc: Global, name: &'a str) -> Result<Command<'a>, AllocError>
+    ensures shape { IfOk result (λ command. app_of command ≡ run_command name.entry.now) }
     ensures local { IfOk result IsLocal }
 {
     let specs = Arg::new(alloc, "SPEC").action(ArgAction::Append);
-    Command::new(alloc, "run")
+    Command::new(alloc, name)
         .arg(option(alloc, "workers"))?
         .arg(specs)
 }
@@ -55,7 +55,8 @@ fn storm_command<'a>(alloc: Global) -> Result<Command<'a>, AllocError>
 fn command_line<'a>(alloc: Global) -> Result<Command<'a>, AllocError>
     ensures { IfOk result (λ command. app_of command ≡ command_line) }
 {
-    let run = run_command(alloc)?;
+    let run = run_command(alloc, "run")?;
+    let explain = run_command(alloc, "explain")?;
     let storm = storm_command(alloc)?;
     let file = Arg::new(alloc, "MODULE").required(true);
     let check = Command::new(alloc, "check").arg(file)?;
@@ -65,6 +66,7 @@ fn command_line<'a>(alloc: Global) -> Result<Command<'a>, AllocError>
         .disable_help_subcommand(true)
         .subcommand_required(true)
         .subcommand(run)?
+        .subcommand(explain)?
         .subcommand(storm)?
         .subcommand(check)
 }
@@ -106,8 +108,8 @@ fn is_told(word: Option<&str>) -> bool
 
 // The run that was found behind a command.
 fn plan_of<'a>(alloc: Global, matches: &ArgMatches<'a>) -> Result<Plan<'a>, WordFault>
-    ensures ok { IfOk result (λ plan. run_found (rows_of (found_of matches.now)) ≡ Some (planned plan)) }
-    ensures refused { result ≡ Err WordFault.BadWords → run_found (rows_of (found_of matches.now)) ≡ None }
+    ensures ok { IfOk result (λ plan. plan_found (rows_of (found_of matches.now)) ≡ Some (planned plan)) }
+    ensures refused { result ≡ Err WordFault.BadWords → plan_found (rows_of (found_of matches.now)) ≡ None }
     ensures within { IfOk result IsPlan }
 {
     Ok(Plan {
@@ -142,6 +144,9 @@ fn words_of<'a>(alloc: Global, matches: &ArgMatches<'a>) -> Result<Words<'a>, Wo
     if name == "run" {
         return Ok(Words::Run(plan_of(alloc, behind)?));
     }
+    if name == "explain" {
+        return Ok(Words::Explain(plan_of(alloc, behind)?));
+    }
     if name == "storm" {
         return Ok(Words::Storm(storm_of(alloc, behind)?));
     }
@@ -169,7 +174,7 @@ fn found_in<'a, S: AsStr>(alloc: Global, args: &'a [S]) -> Result<ArgMatches<'a>
     }
 }
 
-/// Reads the words that follow the program's name: `run [--workers N] [SPEC]...`,
+/// Reads the words that follow the program's name: `run [--workers N] [SPEC]...`, `explain` with the same words behind it,
 /// `storm [--cycles C] [--binders B] [--flaky] [SPEC]...` or `check MODULE`.
 ///
 /// N is a whole number from 1 to 64, and 1 where it isn't told; C and B are from 1 to 8, and 2 where they aren't. A SPEC is `NAME:WEIGHT:FUEL:FILE`,

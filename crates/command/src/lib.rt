@@ -1,7 +1,7 @@
 //! What the program's words ask for: a run or a storm with a site's plugins, or to check a module.
 //!
 //! `arguments` has the words that follow the program's name, and `words` says what they ask for:
-//! `run [--workers N] [SPEC]...` or `storm [--cycles C] [--binders B] [--flaky] [SPEC]...`, where a
+//! `run [--workers N] [SPEC]...`, `explain` with the same words behind it, or `storm [--cycles C] [--binders B] [--flaky] [SPEC]...`, where a
 //! SPEC is `NAME:WEIGHT:FUEL:FILE`, or `check MODULE`. The words are read as `clap` reads them; `count`
 //! and `plugin_words` read what `clap` leaves as text.
 #![tactic(auto)]

@@ -188,7 +188,7 @@ pub fn misuse_of<S: AsStr>(args: &[S]) -> Misuse
     let Some(command) = args.first() else {
         return Misuse::Command;
     };
-    if command.as_str() == "run" {
+    if command.as_str() == "run" || command.as_str() == "explain" {
         return misuse_behind(false, args);
     }
     if command.as_str() == "storm" {

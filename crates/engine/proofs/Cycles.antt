@@ -23,10 +23,11 @@ use Rattle.desk.specs.Shown.{Shown}
 use Rattle.plugin.specs.RuleSet.{RuleSet}
 use Rattle.choose.specs.declared.decision.Decision.{Decision}
 use Rattle.choose.specs.declared.decision.Decision.TheVariants as decisions
-use Rattle.choose.specs.Choice.{Choice}
+use Rattle.choose.specs.declared.decision.Verdict.{Verdict}
+use Rattle.choose.specs.Choice.{AreVerdicts, Choice}
 use Rattle.engine.specs.declared.one_cycle.Cycled.{Cycled}
-use Rattle.engine.specs.Cycle.{IsFailed, MayLook, IsGivenUp, IsLeft, IsCutShort, AfterAssume, EndsWith, IsDecided, AfterPop, IsCycle}
-use Rattle.engine.specs.CycleAlone.{AfterAssumeAlone, EndsAlone, IsDecidedAlone, AfterPopAlone, IsCycleAlone}
+use Rattle.engine.specs.Cycle.{IsFailed, MayLook, IsGivenUp, IsLeft, IsCutShort, AfterAssume, EndsWith, IsDecided, AfterPop, IsCycle, DecideAfter, DecideCycle}
+use Rattle.engine.specs.CycleAlone.{AfterAssumeAlone, EndsAlone, IsDecidedAlone, AfterPopAlone, IsCycleAlone, DecideAlone}
 
 -- ---- whose pass it is
 
@@ -151,3 +152,22 @@ module _ (desk : Desk) (one : desk.handed ≡ 1) (answers : AnswersAlone) (looks
             (subst (λ answer. AfterPopAlone rules (state_seen desk cycle.popped) answer came (state_seen desk p')) said.0
             (after_pop_alone rules cycle.popped p' cycle.answer came there cycle.then));
       }
+
+  -- and so are the verdicts by which it was decided
+  decide_alone : (rules : RuleSet) (p : Pass) (answer : Reply) (verdicts : List Verdict) → IsPassOf p desk → DecideAfter rules desk p answer verdicts → DecideAlone rules (state_seen desk p) answer verdicts
+  decide_alone rules p (replies.Popped pod) verdicts member seen =
+      subst (λ rows. AreVerdicts rules pod rows verdicts) (looks desk p seen.looked seen.rows one member seen.looks).0 seen.are
+  decide_alone rules p replies.Idle verdicts member seen = tt
+  decide_alone rules p replies.Done verdicts member seen = tt
+  decide_alone rules p (replies.Ticket ticket) verdicts member seen = tt
+  decide_alone rules p (replies.Counts n) verdicts member seen = tt
+  decide_alone rules p (replies.Refused why) verdicts member seen = tt
+
+  pub verdicts_alone : (rules : RuleSet) (p : Pass) (verdicts : List Verdict) → IsPassOf p desk → DecideCycle rules desk p verdicts
+      → DecideAlone rules (after (state_seen desk p) 0 Pop) (reply (state_seen desk p) 0 Pop) verdicts
+  verdicts_alone rules p verdicts member cycle =
+      let said = answers desk p cycle.popped Pop cycle.answer one member cycle.pops in
+      let there = member_applied desk p cycle.popped Pop cycle.answer cycle.pops member in
+      subst (λ s. DecideAlone rules s (reply (state_seen desk p) 0 Pop) verdicts) said.1
+      (subst (λ answer. DecideAlone rules (state_seen desk cycle.popped) answer verdicts) said.0
+      (decide_alone rules cycle.popped cycle.answer verdicts there cycle.then))

@@ -1,6 +1,6 @@
 -- A run keeps its promise at each of its ends.
 use Rattle.std.proofs.Common.{◌≡◌, ◌⊎◌, ◌∙◌, ◌+◌, ◌<◌, ℕ, List, [], Option, Some, None, Result, Ok, Err, IfSome, IfErr, OnOk, OnErr, inl, inr, refl, sym, subst, ap, arith}
-use Rattle.quant.specs.declared.name.Name.{Name}
+use Rattle.engine.specs.Telling.{Telling}
 use Rattle.manifest.specs.declared.fault.LineFault.{LineFault}
 use Rattle.plugin.specs.RuleSet.{RuleSet}
 use Rattle.engine.specs.declared.asked.Asked.{Asked}
@@ -10,23 +10,23 @@ use Rattle.engine.specs.Device.{DeviceUse, CountsFailure}
 use Rattle.engine.specs.Output.{first_fault, WritesOutput, WritesFront, IsLineFault}
 use Rattle.engine.specs.Run.{IsRun}
 
-module _ (rules : RuleSet) (names : List Name) (source sink : DeviceUse) where
+module _ (rules : RuleSet) (telling : Telling) (source sink : DeviceUse) where
   -- a beginning of the output is written
   abbrev pub Front : Type 0
-  Front = IfSome source.old (λ script. WritesFront rules names script sink.old sink.new)
+  Front = IfSome source.old (λ script. WritesFront rules telling script sink.old sink.new)
 
   -- all of it, and everything is read
   abbrev pub Done : Type 0
-  Done = IfSome source.old (λ script. (first_fault script ≡ None) × WritesOutput rules names script sink.old sink.new × (source.new ≡ Some []))
+  Done = IfSome source.old (λ script. (first_fault script ≡ None) × WritesOutput rules telling script sink.old sink.new × (source.new ≡ Some []))
 
   -- all of it up to a faulty line
   abbrev pub UpTo : ℕ → LineFault → Type 0
-  UpTo number fault = IfSome source.old (λ script. (first_fault script ≡ Some (number, fault)) × WritesOutput rules names script sink.old sink.new)
+  UpTo number fault = IfSome source.old (λ script. (first_fault script ≡ Some (number, fault)) × WritesOutput rules telling script sink.old sink.new)
 
-module _ {T : Type 0} (rules : RuleSet) (names : List Name) (source sink : DeviceUse) where
+module _ {T : Type 0} (rules : RuleSet) (telling : Telling) (source sink : DeviceUse) where
   -- memory was wanting
-  pub no_memory : (result : Result T RunFault) (e : RunFault) → result ≡ Err e → e ≡ NoMemory → source.failures_new ≡ source.failures_old → sink.failures_new ≡ sink.failures_old → Front rules names source sink → IsRun rules names source sink result
-  no_memory result e is what reads writes front = subst (IsRun rules names source sink) (sym (is ∙ ap Err what)) (record {
+  pub no_memory : (result : Result T RunFault) (e : RunFault) → result ≡ Err e → e ≡ NoMemory → source.failures_new ≡ source.failures_old → sink.failures_new ≡ sink.failures_old → Front rules telling source sink → IsRun rules telling source sink result
+  no_memory result e is what reads writes front = subst (IsRun rules telling source sink) (sym (is ∙ ap Err what)) (record {
     done = tt;
     line = λ n f eq. cc;
     front = front;
@@ -37,8 +37,8 @@ module _ {T : Type 0} (rules : RuleSet) (names : List Name) (source sink : Devic
   })
 
   -- there was no place
-  pub no_place : (result : Result T RunFault) (e : RunFault) → result ≡ Err e → e ≡ NoPlace → source.failures_new ≡ source.failures_old → sink.failures_new ≡ sink.failures_old → Front rules names source sink → IsRun rules names source sink result
-  no_place result e is what reads writes front = subst (IsRun rules names source sink) (sym (is ∙ ap Err what)) (record {
+  pub no_place : (result : Result T RunFault) (e : RunFault) → result ≡ Err e → e ≡ NoPlace → source.failures_new ≡ source.failures_old → sink.failures_new ≡ sink.failures_old → Front rules telling source sink → IsRun rules telling source sink result
+  no_place result e is what reads writes front = subst (IsRun rules telling source sink) (sym (is ∙ ap Err what)) (record {
     done = tt;
     line = λ n f eq. cc;
     front = front;
@@ -49,8 +49,8 @@ module _ {T : Type 0} (rules : RuleSet) (names : List Name) (source sink : Devic
   })
 
   -- a read failed
-  pub read_failed : (result : Result T RunFault) (e : RunFault) → result ≡ Err e → e ≡ Read → source.failures_old < source.failures_new → sink.failures_new ≡ sink.failures_old → Front rules names source sink → IsRun rules names source sink result
-  read_failed result e is what reads writes front = subst (IsRun rules names source sink) (sym (is ∙ ap Err what)) (record {
+  pub read_failed : (result : Result T RunFault) (e : RunFault) → result ≡ Err e → e ≡ Read → source.failures_old < source.failures_new → sink.failures_new ≡ sink.failures_old → Front rules telling source sink → IsRun rules telling source sink result
+  read_failed result e is what reads writes front = subst (IsRun rules telling source sink) (sym (is ∙ ap Err what)) (record {
     done = tt;
     line = λ n f eq. cc;
     front = front;
@@ -61,8 +61,8 @@ module _ {T : Type 0} (rules : RuleSet) (names : List Name) (source sink : Devic
   })
 
   -- a write failed
-  pub write_failed : (result : Result T RunFault) (e : RunFault) → result ≡ Err e → e ≡ Write → source.failures_new ≡ source.failures_old → sink.failures_new ≡ sink.failures_old + 1 → Front rules names source sink → IsRun rules names source sink result
-  write_failed result e is what reads writes front = subst (IsRun rules names source sink) (sym (is ∙ ap Err what)) (record {
+  pub write_failed : (result : Result T RunFault) (e : RunFault) → result ≡ Err e → e ≡ Write → source.failures_new ≡ source.failures_old → sink.failures_new ≡ sink.failures_old + 1 → Front rules telling source sink → IsRun rules telling source sink result
+  write_failed result e is what reads writes front = subst (IsRun rules telling source sink) (sym (is ∙ ap Err what)) (record {
     done = tt;
     line = λ n f eq. cc;
     front = front;
@@ -74,18 +74,18 @@ module _ {T : Type 0} (rules : RuleSet) (names : List Name) (source sink : Devic
 
   -- a line could not be read
   pub unread : (result : Result T RunFault) (e : RunFault) → result ≡ Err e → (e ≡ Read) ⊎ (e ≡ NoMemory) → (e ≡ Read → source.failures_old < source.failures_new)
-      → (e ≡ NoMemory → source.failures_new ≡ source.failures_old) → sink.failures_new ≡ sink.failures_old → Front rules names source sink → IsRun rules names source sink result
+      → (e ≡ NoMemory → source.failures_new ≡ source.failures_old) → sink.failures_new ≡ sink.failures_old → Front rules telling source sink → IsRun rules telling source sink result
   unread result e is (inl what) reads others writes front = read_failed result e is what (reads what) writes front
   unread result e is (inr what) reads others writes front = no_memory result e is what (others what) writes front
 
   -- no desk was had
-  pub no_desk : (result : Result T RunFault) (e : RunFault) → result ≡ Err e → (e ≡ NoMemory) ⊎ (e ≡ NoPlace) → source.failures_new ≡ source.failures_old → sink.failures_new ≡ sink.failures_old → Front rules names source sink → IsRun rules names source sink result
+  pub no_desk : (result : Result T RunFault) (e : RunFault) → result ≡ Err e → (e ≡ NoMemory) ⊎ (e ≡ NoPlace) → source.failures_new ≡ source.failures_old → sink.failures_new ≡ sink.failures_old → Front rules telling source sink → IsRun rules telling source sink result
   no_desk result e is (inl what) reads writes front = no_memory result e is what reads writes front
   no_desk result e is (inr what) reads writes front = no_place result e is what reads writes front
 
   -- all was read, and what waited is written, or not
-  pub at_end : (result : Result T RunFault) → OnOk result (Done rules names source sink) → OnErr result (Front rules names source sink) → (was : ℕ) → was ≡ sink.failures_old → CountsFailure was sink.failures_new result → IfErr result (λ e. e ≡ Write)
-      → source.failures_new ≡ source.failures_old → IsRun rules names source sink result
+  pub at_end : (result : Result T RunFault) → OnOk result (Done rules telling source sink) → OnErr result (Front rules telling source sink) → (was : ℕ) → was ≡ sink.failures_old → CountsFailure was sink.failures_new result → IfErr result (λ e. e ≡ Write)
+      → source.failures_new ≡ source.failures_old → IsRun rules telling source sink result
   at_end (Ok x) done front was as_before counts what reads = record {
     done = done;
     line = λ n f eq. cc;
@@ -99,7 +99,7 @@ module _ {T : Type 0} (rules : RuleSet) (names : List Name) (source sink : Devic
 
   -- a line is faulty, or memory was wanting for it
   pub at_line : (e : RunFault) (number : ℕ) (says : Result (Option Asked) LineFault) → IsLineFault number says e → source.failures_new ≡ source.failures_old → sink.failures_new ≡ sink.failures_old
-      → Front rules names source sink → ((fault : LineFault) → says ≡ Err fault → UpTo rules names source sink number fault) → IsRun {T = T} rules names source sink (Err e)
+      → Front rules telling source sink → ((fault : LineFault) → says ≡ Err fault → UpTo rules telling source sink number fault) → IsRun {T = T} rules telling source sink (Err e)
   at_line (Line n f) number says is reads writes front up_to = record {
     done = tt;
     line = λ m g eq.

@@ -1,7 +1,7 @@
 -- What runs that are cut short write of a script's output.
 use Rattle.std.proofs.Common.{◌≡◌, ℕ, ◌⊎◌, inl, inr, List, [], ◌∷◌, ◌++◌, refl, sym, ap, subst, ◌∙◌}
 use Rattle.std.proofs.lemmas.List.{append_assoc}
-use Rattle.quant.specs.declared.name.Name.{Name}
+use Rattle.engine.specs.Telling.{Telling}
 use Rattle.plugin.specs.RuleSet.{RuleSet, SayOneThing}
 use Rattle.engine.specs.declared.asked.Asked.{Asked}
 use Rattle.engine.specs.Answers.{State, opening, limits, AllAnswered}
@@ -29,10 +29,10 @@ one_goes_on (x ∷ a) (y ∷ b) r s e =
       | inr on ↦ inr (one_more y x b a (sym head) on)
     ]
 
-module _ (rules : RuleSet) (names : List Name) where
+module _ (rules : RuleSet) (telling : Telling) where
   -- what is asked first is answered, and then what is asked later
-  parts : (s : State) (l later : List Asked) (end : State) (text : List ℕ) → AllAnswered rules names s (l ++ later) end text
-      → (between : State) × (front rest : List ℕ) × AllAnswered rules names s l between front × (text ≡ front ++ rest)
+  parts : (s : State) (l later : List Asked) (end : State) (text : List ℕ) → AllAnswered rules telling s (l ++ later) end text
+      → (between : State) × (front rest : List ℕ) × AllAnswered rules telling s l between front × (text ≡ front ++ rest)
   parts s [] later end text all = (s, [], text, (refl, refl), refl)
   parts s (a ∷ l) later end text (between, answer, rest, now, then, is) =
       let on = parts between l later end rest then in
@@ -40,10 +40,10 @@ module _ (rules : RuleSet) (names : List Name) where
 
   -- the answers to more begin with those to less
   more_answers : (l later : List Asked) (one other : State) (text text' : List ℕ) → SayOneThing rules
-      → AllAnswered rules names opening l one text → AllAnswered rules names opening (l ++ later) other text' → Begins text text'
+      → AllAnswered rules telling opening l one text → AllAnswered rules telling opening (l ++ later) other text' → Begins text text'
   more_answers l later one other text text' once less more =
       let on = parts opening l later other text' more in
-      let same : Agree one on.0 text on.1 = all_one rules names opening l one on.0 text on.1 once (at_opening limits) less on.3 in
+      let same : Agree one on.0 text on.1 = all_one rules telling opening l one on.0 text on.1 once (at_opening limits) less on.3 in
       (on.2, on.4 ∙ ap (λ t. t ++ on.2) (sym same.1))
 
   -- a beginning of what begins a text begins it
@@ -52,9 +52,9 @@ module _ (rules : RuleSet) (names : List Name) where
 
 -- what a run writes that is cut short begins the output
 pub fronts_begin_output : (rules : RuleSet) → SayOneThing rules → FrontsBeginOutput rules
-fronts_begin_output rules once names script front text a whole =
-    through rules names front a.rest a.text text a.begins
-    (more_answers rules names a.asked a.later a.end whole.end a.text text once a.answered (subst (λ l. AllAnswered rules names opening l whole.end text) a.cut whole.answered))
+fronts_begin_output rules once telling script front text a whole =
+    through rules telling front a.rest a.text text a.begins
+    (more_answers rules telling a.asked a.later a.end whole.end a.text text once a.answered (subst (λ l. AllAnswered rules telling opening l whole.end text) a.cut whole.answered))
 
 -- of two texts that begin one, one begins the other
 both_begin : (one other whole : List ℕ) → Begins one whole → Begins other whole → Begins one other ⊎ Begins other one
@@ -62,16 +62,16 @@ both_begin one other whole (r, a) (s, b) = one_goes_on one other r s (sym a ∙ 
 
 -- of what two runs write that are cut short one begins the other
 pub fronts_agree : (rules : RuleSet) → SayOneThing rules → FrontsAgree rules
-fronts_agree rules once names script one other a b = by (one_goes_on a.asked b.asked a.later b.later (sym a.cut ∙ b.cut))
+fronts_agree rules once telling script one other a b = by (one_goes_on a.asked b.asked a.later b.later (sym a.cut ∙ b.cut))
   where
     -- the answers to what both were asked, and more, begin with what each wrote
     by : GoesOn a.asked b.asked ⊎ GoesOn b.asked a.asked → Begins one other ⊎ Begins other one
     by (inl (later, is)) =
         both_begin one other b.text
-        (through rules names one a.rest a.text b.text a.begins
-        (more_answers rules names a.asked later a.end b.end a.text b.text once a.answered (subst (λ l. AllAnswered rules names opening l b.end b.text) is b.answered)))
+        (through rules telling one a.rest a.text b.text a.begins
+        (more_answers rules telling a.asked later a.end b.end a.text b.text once a.answered (subst (λ l. AllAnswered rules telling opening l b.end b.text) is b.answered)))
         (b.rest, b.begins)
     by (inr (later, is)) =
         both_begin one other a.text (a.rest, a.begins)
-        (through rules names other b.rest b.text a.text b.begins
-        (more_answers rules names b.asked later b.end a.end b.text a.text once b.answered (subst (λ l. AllAnswered rules names opening l a.end a.text) is a.answered)))
+        (through rules telling other b.rest b.text a.text b.begins
+        (more_answers rules telling b.asked later b.end a.end b.text a.text once b.answered (subst (λ l. AllAnswered rules telling opening l a.end a.text) is a.answered)))

@@ -25,3 +25,8 @@ OnOk-extended (Err e) was now piece text grown same = tt
 pub two-pieces : (was first both a b end : List ℕ) → first ≡ was ++ a → both ≡ first ++ b → both ++ end ≡ was ++ ((a ++ b) ++ end)
 two-pieces was first both a b end e f =
     ap (λ t. t ++ end) (f ∙ ap (λ t. t ++ b) e ∙ append_assoc was a b) ∙ append_assoc was (a ++ b) end
+
+-- four pieces, of which two were added together
+pub four-pieces : (was two three all a b c d : List ℕ) → two ≡ was ++ (a ++ b) → three ≡ two ++ c → all ≡ three ++ d → all ≡ was ++ ((a ++ b) ++ (c ++ d))
+four-pieces was two three all a b c d e f g =
+    g ∙ ap (λ t. t ++ d) f ∙ append_assoc two c d ∙ ap (λ t. t ++ (c ++ d)) e ∙ append_assoc was (a ++ b) (c ++ d)

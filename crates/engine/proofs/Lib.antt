@@ -1,10 +1,14 @@
 pub mod Cycles
 pub mod Either
 pub mod Ends
+pub mod Explained
 pub mod Fronts
+pub mod Indented
 pub mod Kits
 pub mod Known
+pub mod Nodes
 pub mod OneOutput
+pub mod OutputLines
 pub mod OwnNames
 pub mod Pieces
 pub mod Progress

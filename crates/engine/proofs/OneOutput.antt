@@ -1,6 +1,7 @@
 -- A script has one output.
-use Rattle.std.proofs.Common.{◌≡◌, ℕ, List, [], ◌∷◌, ◌++◌, sym, ap, subst, ◌∙◌}
+use Rattle.std.proofs.Common.{◌≡◌, ℕ, Bool, true, false, List, [], ◌∷◌, ◌++◌, sym, ap, subst, ◌∙◌}
 use Rattle.quant.specs.declared.name.Name.{Name}
+use Rattle.engine.specs.Telling.{Telling, Explains, TellsNodes, verdict_lines}
 use Rattle.quant.specs.declared.objects.Pod.{Pod}
 use Rattle.queue.specs.declared.state.Failure.TheVariants.{Unschedulable, Again}
 use Rattle.desk.specs.declared.step.Step.{Step}
@@ -13,7 +14,9 @@ use Rattle.plugin.specs.RuleSet.{RuleSet, SayOneThing}
 use Rattle.choose.specs.declared.decision.Decision.{Decision}
 use Rattle.choose.specs.declared.decision.Decision.TheVariants as decisions
 use Rattle.choose.specs.Laws.{HaveOwnNames}
+use Rattle.choose.specs.Choice.{judged}
 use Rattle.choose.proofs.OneDecision.{one_decision}
+use Rattle.choose.proofs.OneVerdict.{one_list}
 use Rattle.engine.specs.declared.asked.Asked.{Asked}
 use Rattle.engine.specs.declared.asked.Asked.TheVariants as asked
 use Rattle.engine.specs.declared.one_cycle.Cycled.{Cycled}
@@ -95,34 +98,51 @@ after_pop_own rules s (replies.Ticket ticket) came s' own a = absurd a
 after_pop_own rules s (replies.Counts n) came s' own a = absurd a
 after_pop_own rules s (replies.Refused why) came s' own a = absurd a
 
+-- ---- what is told of the nodes
+
+one_told_after : (rules : RuleSet) (names : List Name) (s : State) (r : Reply) (text text' : List ℕ) → SayOneThing rules → Explains rules names s r text → Explains rules names s r text' → text ≡ text'
+one_told_after rules names s (replies.Popped pod) text text' once a b =
+    let same : a.0 ≡ b.0 = one_list rules pod (snapshot s.cluster) a.0 b.0 once a.1 b.1 in
+    a.2 ∙ (ap (λ verdicts. verdict_lines names (judged (snapshot s.cluster) verdicts)) same ∙ sym b.2)
+one_told_after rules names s replies.Done text text' once a b = a ∙ sym b
+one_told_after rules names s replies.Idle text text' once a b = a ∙ sym b
+one_told_after rules names s (replies.Ticket ticket) text text' once a b = a ∙ sym b
+one_told_after rules names s (replies.Counts n) text text' once a b = a ∙ sym b
+one_told_after rules names s (replies.Refused why) text text' once a b = a ∙ sym b
+
+one_told : (rules : RuleSet) (names : List Name) (explains : Bool) (s : State) (text text' : List ℕ) → SayOneThing rules → TellsNodes rules names explains s text → TellsNodes rules names explains s text' → text ≡ text'
+one_told rules names true s text text' once a b = one_told_after rules names (machine.after s 0 Pop) (reply s 0 Pop) text text' once a b
+one_told rules names false s text text' once a b = a ∙ sym b
+
 -- ---- what is asked
 
 -- all that can be asked keeps it
-answered_own : (rules : RuleSet) (names : List Name) (s : State) (a : Asked) (s' : State) (text : List ℕ) → Own s → Answered rules names s a s' text → Own s'
+answered_own : (rules : RuleSet) (telling : Telling) (s : State) (a : Asked) (s' : State) (text : List ℕ) → Own s → Answered rules telling s a s' text → Own s'
 unfolding after
-answered_own rules names s (asked.Step step) s' text own told = kept_to s s' step told.0 own
-answered_own rules names s asked.Cycle s' text own told = after_pop_own rules (machine.after s 0 Pop) (reply s 0 Pop) told.0 s' (kept s 0 Pop own) told.1.is
+answered_own rules telling s (asked.Step step) s' text own told = kept_to s s' step told.0 own
+answered_own rules telling s asked.Cycle s' text own told = after_pop_own rules (machine.after s 0 Pop) (reply s 0 Pop) told.0 s' (kept s 0 Pop own) told.1.is
 
 -- what is asked has one answer
-one_answer : (rules : RuleSet) (names : List Name) (s : State) (a : Asked) (one other : State) (text text' : List ℕ) → SayOneThing rules → Own s
-    → Answered rules names s a one text → Answered rules names s a other text' → Agree one other text text'
-one_answer rules names s (asked.Step step) one other text text' once own a b = (a.0 ∙ sym b.0, a.1 ∙ sym b.1)
-one_answer rules names s asked.Cycle one other text text' once own a b =
+one_answer : (rules : RuleSet) (telling : Telling) (s : State) (a : Asked) (one other : State) (text text' : List ℕ) → SayOneThing rules → Own s
+    → Answered rules telling s a one text → Answered rules telling s a other text' → Agree one other text text'
+one_answer rules telling s (asked.Step step) one other text text' once own a b = (a.0 ∙ sym b.0, a.1 ∙ sym b.1)
+one_answer rules telling s asked.Cycle one other text text' once own a b =
     let popped : State = machine.after s 0 Pop in
     let same : Agree one other a.0 b.0 = after_pop rules popped (reply s 0 Pop) a.0 b.0 one other once (shown_apart popped.cluster (kept s 0 Pop own)) a.1.is b.1.is in
-    (same.0, a.2 ∙ (ap (cycle_line names) same.1 ∙ sym b.2))
+    let told : a.2.0 ≡ b.2.0 = one_told rules telling.names telling.explains s a.2.0 b.2.0 once a.2.1 b.2.1 in
+    (same.0, a.2.4 ∙ ((λ i. told i ++ cycle_line telling.names (same.1 i)) ∙ sym b.2.4))
 
 -- and all that is asked has one
-pub all_one : (rules : RuleSet) (names : List Name) (s : State) (l : List Asked) (one other : State) (text text' : List ℕ) → SayOneThing rules → Own s
-    → AllAnswered rules names s l one text → AllAnswered rules names s l other text' → Agree one other text text'
-all_one rules names s [] one other text text' once own a b = (a.0 ∙ sym b.0, a.1 ∙ sym b.1)
-all_one rules names s (first ∷ later) one other text text' once own (between, answer, rest, now, then, is) (between', answer', rest', now', then', is') =
-    let here : Agree between between' answer answer' = one_answer rules names s first between between' answer answer' once own now now' in
-    let there : Agree one other rest rest' = all_one rules names between' later one other rest rest' once (answered_own rules names s first between' answer' own now')
-    (subst (λ t. AllAnswered rules names t later one rest) here.0 then) then' in
+pub all_one : (rules : RuleSet) (telling : Telling) (s : State) (l : List Asked) (one other : State) (text text' : List ℕ) → SayOneThing rules → Own s
+    → AllAnswered rules telling s l one text → AllAnswered rules telling s l other text' → Agree one other text text'
+all_one rules telling s [] one other text text' once own a b = (a.0 ∙ sym b.0, a.1 ∙ sym b.1)
+all_one rules telling s (first ∷ later) one other text text' once own (between, answer, rest, now, then, is) (between', answer', rest', now', then', is') =
+    let here : Agree between between' answer answer' = one_answer rules telling s first between between' answer answer' once own now now' in
+    let there : Agree one other rest rest' = all_one rules telling between' later one other rest rest' once (answered_own rules telling s first between' answer' own now')
+    (subst (λ t. AllAnswered rules telling t later one rest) here.0 then) then' in
     (there.0, is ∙ ((λ i. here.1 i ++ there.1 i) ∙ sym is'))
 
 -- a script has one output
 pub one_output : (rules : RuleSet) → SayOneThing rules → OneOutput rules
-one_output rules once names script one other a b =
-    (all_one rules names opening (asked_in (lines_of script)) a.end b.end one other once (at_opening limits) a.answered b.answered).1
+one_output rules once telling script one other a b =
+    (all_one rules telling opening (asked_in (lines_of script)) a.end b.end one other once (at_opening limits) a.answered b.answered).1

@@ -5,7 +5,7 @@ use Rattle.std.proofs.lemmas.Bool.{ne_eqb, lt-leb, cases_lt}
 use Rattle.std.proofs.lemmas.List.{length-take, append-nil, take_all}
 use Rattle.std.specs.Io.KnownBytes.{Appends, Consumes, IsAtEnd, prepend_known}
 use Rattle.manifest.specs.declared.fault.LineFault.{LineFault}
-use Rattle.quant.specs.declared.name.Name.{Name}
+use Rattle.engine.specs.Telling.{Telling}
 use Rattle.plugin.specs.RuleSet.{RuleSet}
 use Rattle.engine.specs.declared.asked.Asked.{Asked}
 use Rattle.manifest.specs.Line.{meaning}
@@ -42,43 +42,43 @@ asked_by-kept text = ⊎_elim
 -- ---- what is answered
 
 -- one more is answered
-all_answered_more : (rules : RuleSet) (names : List Name) (s between s' : State) (done : List Asked) (asked : Asked) (text more : List ℕ) → AllAnswered rules names s done between text → Answered rules names between asked s' more → AllAnswered rules names s (done ++ asked ∷ []) s' (text ++ more)
-all_answered_more rules names s between s' [] asked text more so_far next = (
+all_answered_more : (rules : RuleSet) (telling : Telling) (s between s' : State) (done : List Asked) (asked : Asked) (text more : List ℕ) → AllAnswered rules telling s done between text → Answered rules telling between asked s' more → AllAnswered rules telling s (done ++ asked ∷ []) s' (text ++ more)
+all_answered_more rules telling s between s' [] asked text more so_far next = (
   s',
   more,
   [],
-  subst (λ was. Answered rules names was asked s' more) so_far.0 next,
+  subst (λ was. Answered rules telling was asked s' more) so_far.0 next,
   (refl, refl),
   ap (λ t. t ++ more) so_far.1 ∙ sym (append-nil more),
 )
-all_answered_more rules names s between s' (first ∷ done) asked text more so_far next =
+all_answered_more rules telling s between s' (first ∷ done) asked text more so_far next =
     let (after, answer, rest, answered, later, apart) = so_far in (
       after,
       answer,
       rest ++ more,
       answered,
-      all_answered_more rules names after between s' done asked rest more later next,
+      all_answered_more rules telling after between s' done asked rest more later next,
       ap (λ t. t ++ more) apart ∙ append_assoc answer rest more,
     )
 
 -- ---- the run so far
 
 -- Of a known script this rest is left, `old` was written before the run and `now` by now, and so on.
-pub record IsAt (rules : RuleSet) (names : List Name) (script rest : List ℕ) (old now : Option (List ℕ)) (pending : List ℕ) (state : State) (number : ℕ) (text : List ℕ) : Type 0 where
+pub record IsAt (rules : RuleSet) (telling : Telling) (script rest : List ℕ) (old now : Option (List ℕ)) (pending : List ℕ) (state : State) (number : ℕ) (text : List ℕ) : Type 0 where
   pub writes : Appends old now text
   pub done : List Asked
   pub cut : asked_in (lines_of script) ≡ done ++ asked_in (lines_of rest)
-  pub answered : AllAnswered rules names opening done state (text ++ pending)
+  pub answered : AllAnswered rules telling opening done state (text ++ pending)
   pub faults : fault_from number (lines_of rest) ≡ first_fault script
 
-abbrev pub IsRunning : RuleSet → List Name → Option (List ℕ) → Option (List ℕ) → Option (List ℕ) → Option (List ℕ) → List ℕ → State → ℕ → Type 0
-IsRunning rules names None rest old now pending state number = Unit {0}
-IsRunning rules names (Some script) None old now pending state number = ⊥
-IsRunning rules names (Some script) (Some rest) old now pending state number = (text : List ℕ) × IsAt rules names script rest old now pending state number text
+abbrev pub IsRunning : RuleSet → Telling → Option (List ℕ) → Option (List ℕ) → Option (List ℕ) → Option (List ℕ) → List ℕ → State → ℕ → Type 0
+IsRunning rules telling None rest old now pending state number = Unit {0}
+IsRunning rules telling (Some script) None old now pending state number = ⊥
+IsRunning rules telling (Some script) (Some rest) old now pending state number = (text : List ℕ) × IsAt rules telling script rest old now pending state number text
 
-module _ (rules : RuleSet) (names : List Name) where
+module _ (rules : RuleSet) (telling : Telling) where
   -- where nothing is written, that is a beginning of any output
-  pub nothing-written : (script known : Option (List ℕ)) → IfSome script (λ text. WritesFront rules names text known known)
+  pub nothing-written : (script known : Option (List ℕ)) → IfSome script (λ text. WritesFront rules telling text known known)
   nothing-written None known = tt
   nothing-written (Some text) known = (
     [],
@@ -87,17 +87,17 @@ module _ (rules : RuleSet) (names : List Name) where
   )
 
   -- nothing is read yet, and nothing written
-  pub IsRunning-start : (script old : Option (List ℕ)) → IsRunning rules names script (prepend_known [] script) old old [] opening 1
+  pub IsRunning-start : (script old : Option (List ℕ)) → IsRunning rules telling script (prepend_known [] script) old old [] opening 1
   unfolding first_fault
   IsRunning-start None old = tt
   IsRunning-start (Some script) old = ([], record { writes = Appends-nil old; done = []; cut = refl; answered = (refl, refl); faults = refl })
 
   -- the same of a reader that is new, and of nothing that waits
-  pub IsRunning-begin : (script old : Option (List ℕ)) (reader pending : List ℕ) (state : State) → reader ≡ [] → pending ≡ [] → state ≡ opening → IsRunning rules names script (prepend_known reader script) old old pending state 1
+  pub IsRunning-begin : (script old : Option (List ℕ)) (reader pending : List ℕ) (state : State) → reader ≡ [] → pending ≡ [] → state ≡ opening → IsRunning rules telling script (prepend_known reader script) old old pending state 1
   IsRunning-begin script old reader pending state none nothing opens = rw (none, nothing, opens) (IsRunning-start script old)
 
   -- a beginning of what waited is written, and the rest waits on
-  pub IsRunning-partly : (script rest old was now : Option (List ℕ)) (pending later : List ℕ) (state : State) (number : ℕ) → WritesSome was now pending later → IsRunning rules names script rest old was pending state number → IsRunning rules names script rest old now later state number
+  pub IsRunning-partly : (script rest old was now : Option (List ℕ)) (pending later : List ℕ) (state : State) (number : ℕ) → WritesSome was now pending later → IsRunning rules telling script rest old was pending state number → IsRunning rules telling script rest old now later state number
   IsRunning-partly None rest old was now pending later state number wrote so_far = tt
   IsRunning-partly (Some script) None old was now pending later state number wrote so_far = absurd so_far
   IsRunning-partly (Some script) (Some rest) old was now pending later state number wrote so_far =
@@ -107,13 +107,13 @@ module _ (rules : RuleSet) (names : List Name) where
           writes = Appends-trans old was now _ _ so_far.1.writes wrote.2;
           done = so_far.1.done;
           cut = so_far.1.cut;
-          answered = subst (AllAnswered rules names opening so_far.1.done state) same so_far.1.answered;
+          answered = subst (AllAnswered rules telling opening so_far.1.done state) same so_far.1.answered;
           faults = so_far.1.faults;
         },
       )
 
   -- what waited is written
-  pub IsRunning-flushed : (script rest old was now : Option (List ℕ)) (pending : List ℕ) (state : State) (number : ℕ) → Appends was now pending → IsRunning rules names script rest old was pending state number → IsRunning rules names script rest old now [] state number
+  pub IsRunning-flushed : (script rest old was now : Option (List ℕ)) (pending : List ℕ) (state : State) (number : ℕ) → Appends was now pending → IsRunning rules telling script rest old was pending state number → IsRunning rules telling script rest old now [] state number
   IsRunning-flushed None rest old was now pending state number wrote so_far = tt
   IsRunning-flushed (Some script) None old was now pending state number wrote so_far = absurd so_far
   IsRunning-flushed (Some script) (Some rest) old was now pending state number wrote so_far = (
@@ -122,13 +122,13 @@ module _ (rules : RuleSet) (names : List Name) where
       writes = Appends-trans old was now _ _ so_far.1.writes wrote;
       done = so_far.1.done;
       cut = so_far.1.cut;
-      answered = subst (AllAnswered rules names opening so_far.1.done state) (sym (append-nil (so_far.0 ++ pending))) so_far.1.answered;
+      answered = subst (AllAnswered rules telling opening so_far.1.done state) (sym (append-nil (so_far.0 ++ pending))) so_far.1.answered;
       faults = so_far.1.faults;
     },
   )
 
   -- a beginning of what waited is written
-  pub front-flushed : (script rest old was now : Option (List ℕ)) (pending : List ℕ) (state : State) (number : ℕ) → AppendsFront was now pending → IsRunning rules names script rest old was pending state number → IfSome script (λ text. WritesFront rules names text old now)
+  pub front-flushed : (script rest old was now : Option (List ℕ)) (pending : List ℕ) (state : State) (number : ℕ) → AppendsFront was now pending → IsRunning rules telling script rest old was pending state number → IfSome script (λ text. WritesFront rules telling text old now)
   front-flushed None rest old was now pending state number wrote so_far = tt
   front-flushed (Some script) None old was now pending state number wrote so_far = absurd so_far
   front-flushed (Some script) (Some rest) old was now pending state number wrote so_far = (
@@ -147,7 +147,7 @@ module _ (rules : RuleSet) (names : List Name) where
   )
 
   -- a beginning of the output is written at any time
-  pub front-now : (script rest old now : Option (List ℕ)) (pending : List ℕ) (state : State) (number : ℕ) → IsRunning rules names script rest old now pending state number → IfSome script (λ text. WritesFront rules names text old now)
+  pub front-now : (script rest old now : Option (List ℕ)) (pending : List ℕ) (state : State) (number : ℕ) → IsRunning rules telling script rest old now pending state number → IfSome script (λ text. WritesFront rules telling text old now)
   front-now None rest old now pending state number so_far = tt
   front-now (Some script) None old now pending state number so_far = absurd so_far
   front-now (Some script) (Some rest) old now pending state number so_far = (
@@ -181,9 +181,9 @@ fault-first : (number : ℕ) (rest later line text : List ℕ) (says : Result (O
 fault-first number rest later line text says stored cut told =
     ap (fault_from number) cut ∙ ap (λ r. fault_or number r (fault_from (number + 1) (lines_of later))) (says-whole line text says stored told)
 
-module _ (rules : RuleSet) (names : List Name) where
+module _ (rules : RuleSet) (telling : Telling) where
   -- the answer to a line waits
-  pub IsRunning-asked : (script rest later old now : Option (List ℕ)) (pending new line text : List ℕ) (state next : State) (number : ℕ) (asked : Asked) → TakesLine rest later line → asked_by line ≡ Ok (Some asked) → Answered rules names state asked next text → new ≡ pending ++ text → IsRunning rules names script rest old now pending state number → IsRunning rules names script later old now new next (number + 1)
+  pub IsRunning-asked : (script rest later old now : Option (List ℕ)) (pending new line text : List ℕ) (state next : State) (number : ℕ) (asked : Asked) → TakesLine rest later line → asked_by line ≡ Ok (Some asked) → Answered rules telling state asked next text → new ≡ pending ++ text → IsRunning rules telling script rest old now pending state number → IsRunning rules telling script later old now new next (number + 1)
   IsRunning-asked None rest later old now pending new line text state next number asked took says answered waits so_far = tt
   IsRunning-asked (Some script) None later old now pending new line text state next number asked took says answered waits so_far = absurd so_far
   IsRunning-asked (Some script) (Some rest) None old now pending new line text state next number asked took says answered waits so_far = absurd took
@@ -197,13 +197,13 @@ module _ (rules : RuleSet) (names : List Name) where
           writes = so_far.1.writes;
           done = done ++ asked ∷ [];
           cut = so_far.1.cut ∙ ap (λ t. done ++ t) first ∙ sym (append_assoc done (asked ∷ []) left);
-          answered = subst (AllAnswered rules names opening (done ++ asked ∷ []) next) same (all_answered_more rules names opening state next done asked (so_far.0 ++ pending) text so_far.1.answered answered);
+          answered = subst (AllAnswered rules telling opening (done ++ asked ∷ []) next) same (all_answered_more rules telling opening state next done asked (so_far.0 ++ pending) text so_far.1.answered answered);
           faults = sym (fault-first number rest later line took.0 (Ok (Some asked)) took.1 took.2 says) ∙ so_far.1.faults;
         },
       )
 
   -- an empty line is passed over and counted
-  pub IsRunning-empty : (script rest later old now : Option (List ℕ)) (pending line : List ℕ) (state : State) (number : ℕ) → TakesLine rest later line → asked_by line ≡ Ok None → IsRunning rules names script rest old now pending state number → IsRunning rules names script later old now pending state (number + 1)
+  pub IsRunning-empty : (script rest later old now : Option (List ℕ)) (pending line : List ℕ) (state : State) (number : ℕ) → TakesLine rest later line → asked_by line ≡ Ok None → IsRunning rules telling script rest old now pending state number → IsRunning rules telling script later old now pending state (number + 1)
   IsRunning-empty None rest later old now pending line state number took says so_far = tt
   IsRunning-empty (Some script) None later old now pending line state number took says so_far = absurd so_far
   IsRunning-empty (Some script) (Some rest) None old now pending line state number took says so_far = absurd took
@@ -219,7 +219,7 @@ module _ (rules : RuleSet) (names : List Name) where
   )
 
   -- a line is answered
-  pub IsRunning-answered : (script rest later old now : Option (List ℕ)) (pending new line : List ℕ) (state next : State) (number : ℕ) (says : Result (Option Asked) LineFault) → asked_by line ≡ says → TakesLine rest later line → IsAnswered rules names says state next pending new → IsRunning rules names script rest old now pending state number → IsRunning rules names script later old now new next (number + 1)
+  pub IsRunning-answered : (script rest later old now : Option (List ℕ)) (pending new line : List ℕ) (state next : State) (number : ℕ) (says : Result (Option Asked) LineFault) → asked_by line ≡ says → TakesLine rest later line → IsAnswered rules telling says state next pending new → IsRunning rules telling script rest old now pending state number → IsRunning rules telling script later old now new next (number + 1)
   IsRunning-answered script rest later old now pending new line state next number (Ok None) says took done so_far =
       rw (done.0, done.1) (IsRunning-empty script rest later old now pending line state number took says so_far)
   IsRunning-answered script rest later old now pending new line state next number (Ok (Some asked)) says took done so_far =
@@ -229,24 +229,24 @@ module _ (rules : RuleSet) (names : List Name) where
   -- ---- the end
 
   -- what was asked is all that the script asks, where nothing is left
-  all_written : (script rest : List ℕ) (old now : Option (List ℕ)) (state : State) (number : ℕ) → asked_in (lines_of rest) ≡ [] → (so_far : (text : List ℕ) × IsAt rules names script rest old now [] state number text) → WritesOutput rules names script old now
+  all_written : (script rest : List ℕ) (old now : Option (List ℕ)) (state : State) (number : ℕ) → asked_in (lines_of rest) ≡ [] → (so_far : (text : List ℕ) × IsAt rules telling script rest old now [] state number text) → WritesOutput rules telling script old now
   all_written script rest old now state number none so_far =
       let done = so_far.1.done in
       let all : done ≡ asked_in (lines_of script) = sym (so_far.1.cut ∙ ap (λ t. done ++ t) none ∙ append-nil done) in (
         so_far.0,
         record {
           end = state;
-          answered = subst (λ asked. AllAnswered rules names opening asked state so_far.0) all (subst (AllAnswered rules names opening done state) (append-nil so_far.0) so_far.1.answered);
+          answered = subst (λ asked. AllAnswered rules telling opening asked state so_far.0) all (subst (AllAnswered rules telling opening done state) (append-nil so_far.0) so_far.1.answered);
         },
         so_far.1.writes,
       )
 
   -- all answers up to a faulty line are written
   abbrev pub EndsAtFault : Option (List ℕ) → Option (List ℕ) → Option (List ℕ) → ℕ → LineFault → Type 0
-  EndsAtFault script old now number fault = IfSome script (λ text. (first_fault text ≡ Some (number, fault)) × WritesOutput rules names text old now)
+  EndsAtFault script old now number fault = IfSome script (λ text. (first_fault text ≡ Some (number, fault)) × WritesOutput rules telling text old now)
 
   -- a faulty line ends the output
-  pub fault-flushed : (script rest later old now : Option (List ℕ)) (line : List ℕ) (state : State) (number : ℕ) (fault : LineFault) → TakesLine rest later line → asked_by line ≡ Err fault → IsRunning rules names script rest old now [] state number → EndsAtFault script old now number fault
+  pub fault-flushed : (script rest later old now : Option (List ℕ)) (line : List ℕ) (state : State) (number : ℕ) (fault : LineFault) → TakesLine rest later line → asked_by line ≡ Err fault → IsRunning rules telling script rest old now [] state number → EndsAtFault script old now number fault
   fault-flushed None rest later old now line state number fault took says so_far = tt
   fault-flushed (Some script) None later old now line state number fault took says so_far = absurd so_far
   fault-flushed (Some script) (Some rest) None old now line state number fault took says so_far = absurd took
@@ -255,7 +255,7 @@ module _ (rules : RuleSet) (names : List Name) where
       (sym so_far.1.faults ∙ fault-first number rest later line took.0 (Err fault) took.1 took.2 says, all_written script rest old now state number none so_far)
 
   -- all of the script is read, and answered
-  pub end-flushed : (script rest left old now : Option (List ℕ)) (reader : List ℕ) (state : State) (number : ℕ) → (reader ≡ []) × IsAtEnd left × Consumes rest (prepend_known reader left) [] → IsRunning rules names script rest old now [] state number → IfSome script (λ text. (first_fault text ≡ None) × WritesOutput rules names text old now × (left ≡ Some []))
+  pub end-flushed : (script rest left old now : Option (List ℕ)) (reader : List ℕ) (state : State) (number : ℕ) → (reader ≡ []) × IsAtEnd left × Consumes rest (prepend_known reader left) [] → IsRunning rules telling script rest old now [] state number → IfSome script (λ text. (first_fault text ≡ None) × WritesOutput rules telling text old now × (left ≡ Some []))
   end-flushed None rest left old now reader state number ended so_far = tt
   end-flushed (Some script) None left old now reader state number ended so_far = absurd so_far
   end-flushed (Some script) (Some rest) None old now reader state number ended so_far = absurd ended.2

@@ -1,6 +1,7 @@
 -- Kits that judge alike have the same output.
-use Rattle.std.proofs.Common.{ℕ, List, [], ◌∷◌, refl, arith}
+use Rattle.std.proofs.Common.{ℕ, Bool, true, false, List, [], ◌∷◌, refl, arith}
 use Rattle.quant.specs.declared.name.Name.{Name}
+use Rattle.engine.specs.Telling.{Telling, Explains, TellsNodes}
 use Rattle.quant.specs.declared.objects.Pod.{Pod}
 use Rattle.desk.specs.declared.step.Step.TheVariants.{Pop}
 use Rattle.desk.specs.declared.step.Reply.{Reply}
@@ -44,20 +45,34 @@ module _ (rules other : RuleSet) (alike : (pod : Pod) (shown : Shown) (verdict :
   after_pop s (replies.Counts n) came s' a = absurd a
   after_pop s (replies.Refused why) came s' a = absurd a
 
+  -- what is told of the nodes
+  explains : (names : List Name) (s : State) (r : Reply) (text : List ℕ) → Explains rules names s r text → Explains other names s r text
+  explains names s (replies.Popped pod) text told = (told.0, verdicts pod (machine.snapshot s.cluster) told.0 told.1, told.2)
+  explains names s replies.Done text told = told
+  explains names s replies.Idle text told = told
+  explains names s (replies.Ticket ticket) text told = told
+  explains names s (replies.Counts n) text told = told
+  explains names s (replies.Refused why) text told = told
+
+  tells : (names : List Name) (is_told : Bool) (s : State) (text : List ℕ) → TellsNodes rules names is_told s text → TellsNodes other names is_told s text
+  tells names true s text told = explains names (machine.after s 0 Pop) (reply s 0 Pop) text told
+  tells names false s text told = told
+
   -- the answer to what is asked
-  answered : (names : List Name) (s : State) (a : Asked) (s' : State) (text : List ℕ) → Answered rules names s a s' text → Answered other names s a s' text
-  answered names s (asked.Step step) s' text told = told
-  answered names s asked.Cycle s' text (came, cycle, is) = (came, record { is = after_pop (machine.after s 0 Pop) (reply s 0 Pop) came s' cycle.is }, is)
+  answered : (telling : Telling) (s : State) (a : Asked) (s' : State) (text : List ℕ) → Answered rules telling s a s' text → Answered other telling s a s' text
+  answered telling s (asked.Step step) s' text told = told
+  answered telling s asked.Cycle s' text (came, cycle, (told, are, indented, others, is)) =
+      (came, record { is = after_pop (machine.after s 0 Pop) (reply s 0 Pop) came s' cycle.is }, (told, tells telling.names telling.explains s told are, indented, others, is))
 
   -- and to all that is asked
-  pub all_answered : (names : List Name) (s : State) (l : List Asked) (s' : State) (text : List ℕ) → AllAnswered rules names s l s' text → AllAnswered other names s l s' text
-  all_answered names s [] s' text told = told
-  all_answered names s (first ∷ later) s' text (between, answer, rest, now, then, is) =
-      (between, answer, rest, answered names s first between answer now, all_answered names between later s' rest then, is)
+  pub all_answered : (telling : Telling) (s : State) (l : List Asked) (s' : State) (text : List ℕ) → AllAnswered rules telling s l s' text → AllAnswered other telling s l s' text
+  all_answered telling s [] s' text told = told
+  all_answered telling s (first ∷ later) s' text (between, answer, rest, now, then, is) =
+      (between, answer, rest, answered telling s first between answer now, all_answered telling between later s' rest then, is)
 
 -- the output by a kit is the output by one that judges alike
 pub same_output : {Kit : Type 0} (answers : Kit → RuleSet) (one other : Kit) → SameOutput answers one other
-same_output answers one other names script text alike output = record {
+same_output answers one other telling script text alike output = record {
   end = output.end;
-  answered = all_answered (answers one) (answers other) (λ pod shown verdict. alike one other pod shown verdict (0, omega arith, refl) (1, omega arith, refl)) names opening (asked_in (lines_of script)) output.end text output.answered;
+  answered = all_answered (answers one) (answers other) (λ pod shown verdict. alike one other pod shown verdict (0, omega arith, refl) (1, omega arith, refl)) telling opening (asked_in (lines_of script)) output.end text output.answered;
 }

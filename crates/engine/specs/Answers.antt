@@ -1,9 +1,8 @@
 -- What is answered to the lines of a script, by the machine of a desk that has one pass.
-use Rattle.std.specs.Prelude.{◌≡◌, ℕ, List, [], ◌∷◌, ◌++◌, ⊤}
+use Rattle.std.specs.Prelude.{◌≡◌, ℕ, true, false, List, [], ◌∷◌, ◌++◌, ⊤}
 use Rattle.std.specs.List.{flat_map}
 use Rattle.std.proofs.Common.{lit≤}
 use Rattle.quant.specs.declared.limits.TheConstants.{MAX_NODES, MAX_PLACED, MAX_QUEUED}
-use Rattle.quant.specs.declared.name.Name.{Name}
 use Rattle.book.specs.declared.limits.Limits.{Limits}
 use Rattle.desk.specs.declared.step.Step.{Step}
 use Rattle.desk.specs.declared.step.Step.TheVariants as steps
@@ -19,6 +18,8 @@ use Rattle.engine.specs.declared.asked.Asked.{Asked}
 use Rattle.engine.specs.declared.asked.Asked.TheVariants as asked
 use Rattle.engine.specs.declared.one_cycle.Cycled.{Cycled}
 use Rattle.engine.specs.CycleAlone.{IsCycleAlone}
+use Rattle.engine.specs.Indented.{AreLines}
+use Rattle.engine.specs.Telling.{Telling, TellsNodes}
 use Rattle.engine.specs.Text.{ok_line, refused_line, node_line, places_line, queue_line, clock_line, cycle_line}
 
 -- the state in which steps are done
@@ -73,13 +74,17 @@ look_lines state _ = []
 unfoldable pub text_of : State → Step → List ℕ
 text_of state step = look_lines state step ++ reply_lines (machine.reply state 0 step)
 
--- what a line asks for is done and answered
-abbrev pub Answered : RuleSet → (names : List Name) → State → Asked → State → List ℕ → Type 0
-Answered rules names s (asked.Step step) s' text = (s' ≡ after s step) × (text ≡ text_of s step)
-Answered rules names s asked.Cycle s' text = (came : Cycled) × IsCycleAlone rules s came s' × (text ≡ cycle_line names came)
+-- What a line asks for is done and answered: a cycle with what is told of the nodes, and with what it came to. What is told of nodes is
+-- whole lines that begin with two spaces, and the rest is whole lines of which none does.
+abbrev pub Answered : RuleSet → (telling : Telling) → State → Asked → State → List ℕ → Type 0
+Answered rules telling s (asked.Step step) s' text = (s' ≡ after s step) × (text ≡ text_of s step) × AreLines false text
+Answered rules telling s asked.Cycle s' text =
+    (came : Cycled) × IsCycleAlone rules s came s'
+    × ((told : List ℕ) × TellsNodes rules telling.names telling.explains s told × AreLines true told × AreLines false (cycle_line telling.names came)
+    × (text ≡ told ++ cycle_line telling.names came))
 
 -- this is done and answered, and then what is asked later
-abbrev pub AllAnswered : RuleSet → (names : List Name) → State → List Asked → State → List ℕ → Type 0
-AllAnswered rules names s [] s' text = (s' ≡ s) × (text ≡ [])
-AllAnswered rules names s (first ∷ later) s' text =
-    (between : State) × (answer rest : List ℕ) × Answered rules names s first between answer × AllAnswered rules names between later s' rest × (text ≡ answer ++ rest)
+abbrev pub AllAnswered : RuleSet → (telling : Telling) → State → List Asked → State → List ℕ → Type 0
+AllAnswered rules telling s [] s' text = (s' ≡ s) × (text ≡ [])
+AllAnswered rules telling s (first ∷ later) s' text =
+    (between : State) × (answer rest : List ℕ) × Answered rules telling s first between answer × AllAnswered rules telling between later s' rest × (text ≡ answer ++ rest)

@@ -13,7 +13,8 @@ use Rattle.desk.specs.Shared.{Pass, Desk, IsApplied, IsLooked}
 use Rattle.plugin.specs.RuleSet.{RuleSet}
 use Rattle.choose.specs.declared.decision.Decision.{Decision}
 use Rattle.choose.specs.declared.decision.Decision.TheVariants as decisions
-use Rattle.choose.specs.Choice.{Choice}
+use Rattle.choose.specs.declared.decision.Verdict.{Verdict}
+use Rattle.choose.specs.Choice.{AreVerdicts, Choice}
 use Rattle.engine.specs.declared.one_cycle.Cycled.{Cycled}
 use Rattle.engine.specs.declared.one_cycle.Cycled.TheVariants as cycled
 
@@ -73,6 +74,30 @@ pub record IsCycle (rules : RuleSet) (desk : Desk) (p : Pass) (came : Cycled) (p
   pub popped : Pass
   pub pops : IsApplied desk p Pop answer popped
   pub then : AfterPop rules desk popped answer came p'
+
+-- ---- the verdicts
+
+-- these are the verdicts on the nodes that the pass saw when it looked, for the pod
+pub record AreSeen (rules : RuleSet) (desk : Desk) (p : Pass) (pod : Pod) (verdicts : List Verdict) : Type 0 where
+  pub rows : List Shown
+  pub looked : Pass
+  pub looks : IsLooked desk p rows looked
+  pub are : AreVerdicts rules pod rows verdicts
+
+-- the verdicts by which it was decided of the pod that was popped, if one was
+abbrev pub DecideAfter : RuleSet → Desk → Pass → Reply → List Verdict → Type 0
+DecideAfter rules desk p (replies.Popped pod) verdicts = AreSeen rules desk p pod verdicts
+DecideAfter rules desk p replies.Done verdicts = Unit {0}
+DecideAfter rules desk p replies.Idle verdicts = Unit {0}
+DecideAfter rules desk p (replies.Ticket ticket) verdicts = Unit {0}
+DecideAfter rules desk p (replies.Counts n) verdicts = Unit {0}
+DecideAfter rules desk p (replies.Refused why) verdicts = Unit {0}
+
+pub record DecideCycle (rules : RuleSet) (desk : Desk) (p : Pass) (verdicts : List Verdict) : Type 0 where
+  pub answer : Reply
+  pub popped : Pass
+  pub pops : IsApplied desk p Pop answer popped
+  pub then : DecideAfter rules desk popped answer verdicts
 
 -- ---- want of memory
 

@@ -1,13 +1,16 @@
 -- What holds of every script.
-use Rattle.std.specs.Prelude.{◌≡◌, ℕ, ◌⊎◌, List, [], ◌∷◌, ◌++◌}
+use Rattle.std.specs.Prelude.{◌≡◌, ℕ, ◌⊎◌, true, false, List, [], ◌∷◌, ◌++◌}
+use Rattle.std.specs.List.{All, flat_map}
 use Rattle.quant.specs.declared.name.Name.{Name}
+use Rattle.engine.specs.Telling.{Telling, telling}
+use Rattle.engine.specs.Indented.{AreLines, without_indented}
 use Rattle.plugin.specs.RuleSet.{RuleSet}
 use Rattle.fleet.specs.Alike.{JudgeAlike}
 use Rattle.engine.specs.Output.{IsOutput, BeginsOutput}
 
--- There is one output of a script: it depends on the script, the rules and their names alone.
+-- There is one output of a script: it depends on the script, the rules, their names and whether verdicts are told alone.
 abbrev pub OneOutput : RuleSet → Type 0
-OneOutput rules = (names : List Name) (script one other : List ℕ) → IsOutput rules names script one → IsOutput rules names script other → one ≡ other
+OneOutput rules = (telling : Telling) (script one other : List ℕ) → IsOutput rules telling script one → IsOutput rules telling script other → one ≡ other
 
 -- a text begins another
 abbrev pub Begins : (front text : List ℕ) → Type 0
@@ -15,15 +18,34 @@ Begins front text = (rest : List ℕ) × (text ≡ front ++ rest)
 
 -- What a run writes that is cut short begins the output of the script.
 abbrev pub FrontsBeginOutput : RuleSet → Type 0
-FrontsBeginOutput rules = (names : List Name) (script front text : List ℕ) → BeginsOutput rules names script front → IsOutput rules names script text → Begins front text
+FrontsBeginOutput rules = (telling : Telling) (script front text : List ℕ) → BeginsOutput rules telling script front → IsOutput rules telling script text → Begins front text
 
 -- Of what two such runs write one begins the other.
 abbrev pub FrontsAgree : RuleSet → Type 0
 FrontsAgree rules =
-    (names : List Name) (script one other : List ℕ) → BeginsOutput rules names script one → BeginsOutput rules names script other → Begins one other ⊎ Begins other one
+    (telling : Telling) (script one other : List ℕ) → BeginsOutput rules telling script one → BeginsOutput rules telling script other → Begins one other ⊎ Begins other one
 
 -- The output of a script by one kit is its output by another that judges alike. A decider's kits do, so that how many they are
 -- changes nothing.
 abbrev pub SameOutput : {Kit : Type 0} → (answers : Kit → RuleSet) → (one other : Kit) → Type 0
 SameOutput answers one other =
-    (names : List Name) (script text : List ℕ) → JudgeAlike answers (one ∷ other ∷ []) → IsOutput (answers one) names script text → IsOutput (answers other) names script text
+    (telling : Telling) (script text : List ℕ) → JudgeAlike answers (one ∷ other ∷ []) → IsOutput (answers one) telling script text → IsOutput (answers other) telling script text
+
+-- A text is another, with lines put in before parts of it that begin with two spaces: of each pair the first is put in, and the second is
+-- of the other.
+pub record IsWithLines (plain text : List ℕ) : Type 0 where
+  pub parts : List (List ℕ × List ℕ)
+  pub text_is : text ≡ flat_map (λ part. part.0 ++ part.1) parts
+  pub plain_is : plain ≡ flat_map (λ part. part.1) parts
+  pub indented : All (λ part. AreLines true part.0) parts
+
+-- What explains a script's cycles is its output without explanations, with lines put in that begin with two spaces.
+abbrev pub ExplainedOutput : RuleSet → Type 0
+ExplainedOutput rules =
+    (names : List Name) (script text : List ℕ) → IsOutput rules (telling names true) script text →
+    (plain : List ℕ) × IsOutput rules (telling names false) script plain × IsWithLines plain text
+
+-- Without its lines that begin with two spaces it is the output: no line of that begins so.
+abbrev pub PlainOutput : RuleSet → Type 0
+PlainOutput rules =
+    (names : List Name) (script text : List ℕ) → IsOutput rules (telling names true) script text → IsOutput rules (telling names false) script (without_indented text)

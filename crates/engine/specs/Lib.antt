@@ -3,8 +3,10 @@ pub mod Cycle
 pub mod CycleAlone
 pub mod Device
 pub mod Fault
+pub mod Indented
 pub mod Laws
 pub mod Lines
 pub mod Output
 pub mod Run
+pub mod Telling
 pub mod Text

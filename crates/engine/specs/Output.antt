@@ -1,7 +1,7 @@
 -- The output of a script.
 use Rattle.std.specs.Prelude.{◌≡◌, ℕ, ◌+◌, ◌==◌, List, [], ◌∷◌, ◌++◌, length, Option, Some, None, Result, Ok, Err, if◌then◌else◌}
 use Rattle.manifest.specs.declared.fault.LineFault.{LineFault}
-use Rattle.quant.specs.declared.name.Name.{Name}
+use Rattle.engine.specs.Telling.{Telling}
 use Rattle.plugin.specs.RuleSet.{RuleSet}
 use Rattle.engine.specs.declared.asked.Asked.{Asked}
 use Rattle.manifest.specs.Line.{meaning}
@@ -42,34 +42,34 @@ unfoldable pub first_fault : List ℕ → Option (ℕ × LineFault)
 first_fault script = fault_from 1 (lines_of script)
 
 -- the output of a script for these rules, which have these names: the answers to its lines in order, up to the first faulty one
-pub record IsOutput (rules : RuleSet) (names : List Name) (script text : List ℕ) : Type 0 where
+pub record IsOutput (rules : RuleSet) (telling : Telling) (script text : List ℕ) : Type 0 where
   pub end : State
-  pub answered : AllAnswered rules names opening (asked_in (lines_of script)) end text
+  pub answered : AllAnswered rules telling opening (asked_in (lines_of script)) end text
 
 -- a beginning of the output: it begins the answers to the first lines, which may be all
-pub record BeginsOutput (rules : RuleSet) (names : List Name) (script front : List ℕ) : Type 0 where
+pub record BeginsOutput (rules : RuleSet) (telling : Telling) (script front : List ℕ) : Type 0 where
   pub asked : List Asked
   pub later : List Asked
   pub cut : asked_in (lines_of script) ≡ asked ++ later
   pub end : State
   pub text : List ℕ
-  pub answered : AllAnswered rules names opening asked end text
+  pub answered : AllAnswered rules telling opening asked end text
   pub rest : List ℕ
   pub begins : text ≡ front ++ rest
 
 -- the output of a script is written
-abbrev pub WritesOutput : RuleSet → (names : List Name) → (script : List ℕ) → (old new : Option (List ℕ)) → Type 0
-WritesOutput rules names script old new = (text : List ℕ) × IsOutput rules names script text × Appends old new text
+abbrev pub WritesOutput : RuleSet → (telling : Telling) → (script : List ℕ) → (old new : Option (List ℕ)) → Type 0
+WritesOutput rules telling script old new = (text : List ℕ) × IsOutput rules telling script text × Appends old new text
 
 -- a beginning of it is written
-abbrev pub WritesFront : RuleSet → (names : List Name) → (script : List ℕ) → (old new : Option (List ℕ)) → Type 0
-WritesFront rules names script old new = (text : List ℕ) × BeginsOutput rules names script text × Appends old new text
+abbrev pub WritesFront : RuleSet → (telling : Telling) → (script : List ℕ) → (old new : Option (List ℕ)) → Type 0
+WritesFront rules telling script old new = (text : List ℕ) × BeginsOutput rules telling script text × Appends old new text
 
 -- what a line asks for is done and answered: nothing, where it is empty
-abbrev pub IsAnswered : RuleSet → (names : List Name) → Result (Option Asked) LineFault → State → State → List ℕ → List ℕ → Type 0
-IsAnswered rules names (Ok None) old new waits later = (new ≡ old) × (later ≡ waits)
-IsAnswered rules names (Ok (Some asked)) old new waits later = (text : List ℕ) × Answered rules names old asked new text × (later ≡ waits ++ text)
-IsAnswered rules names (Err fault) old new waits later = ⊥
+abbrev pub IsAnswered : RuleSet → (telling : Telling) → Result (Option Asked) LineFault → State → State → List ℕ → List ℕ → Type 0
+IsAnswered rules telling (Ok None) old new waits later = (new ≡ old) × (later ≡ waits)
+IsAnswered rules telling (Ok (Some asked)) old new waits later = (text : List ℕ) × Answered rules telling old asked new text × (later ≡ waits ++ text)
+IsAnswered rules telling (Err fault) old new waits later = ⊥
 
 -- a run ends at this line by its fault, or for want of memory
 abbrev pub IsLineFault : ℕ → Result (Option Asked) LineFault → RunFault → Type 0

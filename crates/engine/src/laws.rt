@@ -1,5 +1,5 @@
 //! What holds of every script. The functions do nothing: their contracts are the laws.
-ghost use Rattle.engine.specs.Laws.{OneOutput, FrontsBeginOutput, FrontsAgree, SameOutput};
+ghost use Rattle.engine.specs.Laws.{OneOutput, FrontsBeginOutput, FrontsAgree, SameOutput, ExplainedOutput, PlainOutput};
 
 use plugin::Rules;
 
@@ -15,4 +15,11 @@ pub fn one_output<K: Rules>(_kit: &K)
 /// the same script gives the same bytes by any decider, with any number of workers.
 pub fn same_output<K: Rules>(_one: &K, _other: &K)
     ensures { SameOutput K.answers _one.now _other.now }
+{}
+
+/// What explains the cycles of a script is its output, with lines put in that begin with two spaces. Without these lines it is the
+/// output, byte for byte, since no line of that begins so.
+pub fn explained_output<K: Rules>(_kit: &K)
+    ensures explained { ExplainedOutput (K.answers _kit.now) }
+    ensures plain { PlainOutput (K.answers _kit.now) }
 {}

@@ -6,9 +6,10 @@
 //! - Lines are cut off the source in pieces of 64 KiB, and of a line no more is kept than a line may
 //!   have and one byte, by which it is known to be too long.
 //! - The desk is one that many passes can share, with one pass; its state is what that pass has seen.
-//! - A session has that desk, and makes the text that answers a command.
+//! - A session has that desk, and makes the text that answers a command; `verdicts` has the lines that explain a cycle.
 //! - Each way to end early is a `RunFault`, which has a number and a name.
-//! - That a script has one output, whoever runs it and with however many workers, are the laws `one_output` and `same_output`.
+//! - That a script has one output, whoever runs it and with however many workers, are the laws `one_output` and `same_output`;
+//!   that an explained one is the same with lines put in is `explained_output`.
 //!
 //! Output is written before more input is read, and before 64 KiB of it wait.
 #![tactic(auto)]
@@ -23,11 +24,12 @@ mod one_cycle;
 mod script;
 mod session;
 mod text;
+mod verdicts;
 mod with_kits;
 
 pub use device::{DeviceFailed, Sink, Source, write_all};
 pub use fault::RunFault;
-pub use laws::{one_output, same_output};
+pub use laws::{explained_output, one_output, same_output};
 pub use lines::LineReader;
 pub use one_cycle::{CutShort, Cycled, cycle};
 pub use script::run;

@@ -3,7 +3,7 @@ ghost use Rattle.std.specs.Prelude.{◌≡◌, ◌⊎◌, IfOk, IfErr, OnOk, OnE
 ghost use Rattle.desk.specs.Caller.{IsTimely};
 ghost use Rattle.desk.specs.Machine as machine;
 ghost use Rattle.fleet.specs.Team.{rules_of};
-ghost use Rattle.engine.specs.CycleAlone.{IsCycleAlone};
+ghost use Rattle.engine.specs.CycleAlone.{DecideAlone, IsCycleAlone};
 
 use crate::fault::RunFault;
 use crate::one_cycle::{CutShort, Cycled, cycle};
@@ -91,6 +91,8 @@ impl<J: Naming> LoneDesk<J> {
         decider: &mut D,
     ) -> Result<Cycled, CutShort>
         ensures cycled { IfOk result (λ came. IsCycleAlone (rules_of D.Kit.answers (D.kits decider.old)) self.old came self.new) }
+        ensures verdicts { OnOk result (DecideAlone (rules_of D.Kit.answers (D.kits decider.old))
+            (machine.after self.old 0 Step.Pop) (machine.reply self.old 0 Step.Pop) (D.last decider.new)) }
         ensures kits { D.kits decider.new ≡ D.kits decider.old }
     {
         one_pass_is_alone();

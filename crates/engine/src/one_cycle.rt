@@ -1,8 +1,9 @@
 //! One cycle of the scheduler: a pod is popped, a node is chosen for it, and its place is assumed.
-ghost use Rattle.std.specs.Prelude.{◌≡◌, IfOk, IfErr, OnErr};
+ghost use Rattle.std.specs.Prelude.{◌≡◌, IfOk, IfErr, OnOk, OnErr};
 ghost use Rattle.desk.specs.Shared.{IsPassOf};
 ghost use Rattle.fleet.specs.Team.{rules_of};
-ghost use Rattle.engine.specs.Cycle.{IsFailed, EndsWith, IsAssumed, IsChosen, IsDecided, MayLook, IsGivenUp, IsLeft, IsCycle, IsCutShort};
+ghost use Rattle.engine.specs.CycleAlone.{is_idle};
+ghost use Rattle.engine.specs.Cycle.{IsFailed, EndsWith, IsAssumed, IsChosen, IsDecided, MayLook, IsGivenUp, IsLeft, IsCycle, IsCutShort, AreSeen, DecideCycle};
 
 use choose::{Counts, Decision};
 use desk::{Desk, Naming, NoMemory, Pass, Refusal, Reply, Step};
@@ -42,6 +43,18 @@ pub enum Cycled {
         uid: Name,
         why: Refusal,
     },
+}
+
+impl Cycled {
+    /// Whether no pod waited to be popped.
+    pub fn is_idle(&self) -> bool
+        ensures { result ≡ is_idle self.now }
+    {
+        match self {
+            Cycled::Idle => true,
+            _ => false,
+        }
+    }
 }
 
 /// A cycle was cut short for want of memory. Where a pod was popped and could not be failed either, it is told: it stays in
@@ -172,6 +185,7 @@ fn decide<J: Naming, T: Wait + Threads + Sync, D: Decider>(
 ) -> Result<Decision, NoMemory>
     requires { IsPassOf pass.old desk.now }
     ensures chosen { IfOk result (λ decision. IsChosen (rules_of D.Kit.answers (D.kits decider.old)) desk.now pass.old pod.now decision pass.new) }
+    ensures verdicts { OnOk result (AreSeen (rules_of D.Kit.answers (D.kits decider.old)) desk.now pass.old pod.now (D.last decider.new)) }
     ensures looked { OnErr result (MayLook desk.now pass.old pass.new) }
     ensures kits { D.kits decider.new ≡ D.kits decider.old }
 {
@@ -192,6 +206,7 @@ pub fn cycle<J: Naming, T: Wait + Threads + Sync, D: Decider>(
 ) -> Result<Cycled, CutShort>
     requires { IsPassOf pass.old desk.now }
     ensures cycled { IfOk result (λ came. IsCycle (rules_of D.Kit.answers (D.kits decider.old)) desk.now pass.old came pass.new) }
+    ensures verdicts { OnOk result (DecideCycle (rules_of D.Kit.answers (D.kits decider.old)) desk.now pass.old (D.last decider.new)) }
     ensures cut_short { IfErr result (λ short. IsCutShort desk.now pass.old short.held pass.new) }
     ensures kits { D.kits decider.new ≡ D.kits decider.old }
 {

@@ -6,6 +6,7 @@ ghost use Rattle.manifest.specs.Reading.{Answers};
 ghost use Rattle.fleet.specs.Team.{rules_of};
 ghost use Rattle.engine.specs.Output.{asked_by, IsAnswered, IsLineFault};
 ghost use Rattle.engine.specs.Run.{IsRun};
+ghost use Rattle.engine.specs.Telling.{telling};
 ghost use Rattle.engine.specs.Answers.{opening, limits, IsTimely};
 
 use crate::asked::{Asked, asked_for};
@@ -76,6 +77,7 @@ fn answer_line<J: Naming, T: Wait + Threads + Sync, D: Decider>(
     rt: &T,
     alloc: Global,
     names: &[Name],
+    explains: bool,
     decider: &mut D,
     session: &mut Session<J>,
     line: &[u8],
@@ -83,7 +85,7 @@ fn answer_line<J: Naming, T: Wait + Threads + Sync, D: Decider>(
     pending: &mut Vec<u8>,
 ) -> Result<(), RunFault>
     requires { vec_len pending.old < MAX_PENDING }
-    ensures answered { OnOk result (IsAnswered (rules_of D.Kit.answers (D.kits decider.old)) names.now (asked_by line.now) session.old.desk session.new.desk
+    ensures answered { OnOk result (IsAnswered (rules_of D.Kit.answers (D.kits decider.old)) (telling names.now explains) (asked_by line.now) session.old.desk session.new.desk
         pending.old.items pending.new.items) }
     ensures kept { OnErr result (pending.new.items ≡ pending.old.items) }
     ensures kits { D.kits decider.new ≡ D.kits decider.old }
@@ -91,7 +93,7 @@ fn answer_line<J: Naming, T: Wait + Threads + Sync, D: Decider>(
 {
     match asked_in(alloc, line) {
         Ok(None) => Ok(()),
-        Ok(Some(asked)) => session.answer(rt, names, decider, asked, pending),
+        Ok(Some(asked)) => session.answer(rt, names, explains, decider, asked, pending),
         Err(LineFault::NoMemory) => Err(RunFault::NoMemory),
         Err(fault) => Err(RunFault::Line(number, fault)),
     }
@@ -102,6 +104,7 @@ fn run_lines<J: Naming, T: Wait + Threads + Sync, D: Decider, R: Source, W: Sink
     rt: &T,
     alloc: Global,
     names: &[Name],
+    explains: bool,
     decider: &mut D,
     session: &mut Session<J>,
     source: &mut R,
@@ -111,7 +114,7 @@ fn run_lines<J: Naming, T: Wait + Threads + Sync, D: Decider, R: Source, W: Sink
     requires reads { R.failure_count source.old < 10 ^ 18 }
     requires writes { W.failure_count sink.old < 10 ^ 18 }
     requires finite { R.bytes_left source.old < 2 ^ 64 }
-    ensures run { IsRun (rules_of D.Kit.answers (D.kits decider.old)) names.now
+    ensures run { IsRun (rules_of D.Kit.answers (D.kits decider.old)) (telling names.now explains)
         (use_of R.remaining R.failure_count source.old source.new) (use_of W.written W.failure_count sink.old sink.new) result }
     ensures placed { result ≢ Err RunFault.NoPlace }
     ensures kits { D.kits decider.new ≡ D.kits decider.old }
@@ -130,6 +133,7 @@ fn run_lines<J: Naming, T: Wait + Threads + Sync, D: Decider, R: Source, W: Sink
             rt,
             alloc,
             names,
+            explains,
             decider,
             session,
             &line,
@@ -151,6 +155,7 @@ fn run_desk<J: Naming, T: Wait + Threads + Sync, D: Decider, R: Source, W: Sink>
     keys: RandomState,
     greatest: Limits,
     names: &[Name],
+    explains: bool,
     decider: &mut D,
     source: &mut R,
     sink: &mut W,
@@ -161,20 +166,30 @@ fn run_desk<J: Naming, T: Wait + Threads + Sync, D: Decider, R: Source, W: Sink>
     requires reads { R.failure_count source.old < 10 ^ 18 }
     requires writes { W.failure_count sink.old < 10 ^ 18 }
     requires finite { R.bytes_left source.old < 2 ^ 64 }
-    ensures run { IsRun (rules_of D.Kit.answers (D.kits decider.old)) names.now
+    ensures run { IsRun (rules_of D.Kit.answers (D.kits decider.old)) (telling names.now explains)
         (use_of R.remaining R.failure_count source.old source.new) (use_of W.written W.failure_count sink.old sink.new) result }
     ensures no_place { result ≡ Err RunFault.NoPlace → (source.new ≡ source.old) × (sink.new ≡ sink.old) }
     ensures kits { D.kits decider.new ≡ D.kits decider.old }
 {
     let mut session = Session::<J>::new(rt, blank, alloc, keys, greatest)?;
-    let done = run_lines(rt, alloc, names, decider, &mut session, source, sink);
+    let done = run_lines(
+        rt,
+        alloc,
+        names,
+        explains,
+        decider,
+        &mut session,
+        source,
+        sink,
+    );
     session.end(rt);
     done
 }
 
 /// Reads a script to its end or its first faulty line, does what its lines ask of a new desk with
 /// one pass, and writes the answers. A cycle goes by the decider; the names of its rules are handed in
-/// beside it, in their order. Names are looked up under the keys.
+/// beside it, in their order. Where cycles are to be explained, the line of each that popped a pod has those
+/// of the nodes that it saw in front. Names are looked up under the keys.
 /// A line ends at a newline, which the last one may lack; an empty line is passed over and counted.
 ///
 /// Before more is read, all answers so far are written, so that a peer that waits for them goes on.
@@ -188,6 +203,7 @@ pub fn run<T: Wait + Threads + Sync, D: Decider, R: Source, W: Sink>(
     alloc: Global,
     keys: RandomState,
     names: &[Name],
+    explains: bool,
     decider: &mut D,
     source: &mut R,
     sink: &mut W,
@@ -195,7 +211,7 @@ pub fn run<T: Wait + Threads + Sync, D: Decider, R: Source, W: Sink>(
     requires reads { R.failure_count source.old < 10 ^ 18 }
     requires writes { W.failure_count sink.old < 10 ^ 18 }
     requires finite { R.bytes_left source.old < 2 ^ 64 }
-    ensures run { IsRun (rules_of D.Kit.answers (D.kits decider.old)) names.now
+    ensures run { IsRun (rules_of D.Kit.answers (D.kits decider.old)) (telling names.now explains)
         (use_of R.remaining R.failure_count source.old source.new) (use_of W.written W.failure_count sink.old sink.new) result }
     ensures no_place { result ≡ Err RunFault.NoPlace → (source.new ≡ source.old) × (sink.new ≡ sink.old) }
     ensures kits { D.kits decider.new ≡ D.kits decider.old }
@@ -207,6 +223,7 @@ pub fn run<T: Wait + Threads + Sync, D: Decider, R: Source, W: Sink>(
         keys,
         Limits::greatest(),
         names,
+        explains,
         decider,
         source,
         sink,

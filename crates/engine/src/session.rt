@@ -1,18 +1,20 @@
 //! What a script's commands are done on.
-ghost use Rattle.std.specs.Prelude.{◌≡◌, ◌++◌, ◌⊎◌, ℕ, List, OnOk, OnErr, IfOk, IfErr};
+ghost use Rattle.std.specs.Prelude.{◌≡◌, ◌++◌, ◌⊎◌, ℕ, List, true, false, OnOk, OnErr, IfOk, IfErr};
 ghost use Rattle.desk.specs.Caller as caller;
 ghost use Rattle.desk.specs.Machine as machine;
 ghost use Rattle.engine.specs.Answers.{after, text_of, opening, limits, reply_lines, snapshot_lines, Answered, IsTimely};
 ghost use Rattle.fleet.specs.Team.{rules_of};
 ghost use Rattle.engine.specs.CycleAlone.{IsCycleAlone};
-ghost use Rattle.engine.specs.Text.{cycle_line};
-ghost use Rattle.engine.specs.declared.one_cycle.Cycled.{Cycled};
+ghost use Rattle.engine.specs.Indented.{AreLines};
+ghost use Rattle.engine.specs.Telling.{TellsNodes, telling};
 ghost use Rattle.engine.specs.declared.asked.Asked.TheVariants as asked;
 
 use crate::asked::Asked;
 use crate::fault::RunFault;
 use crate::lone_desk::LoneDesk;
+use crate::one_cycle::Cycled;
 use crate::text::{push_clock, push_cycled, push_node, push_places, push_queue, push_refused};
+use crate::verdicts::push_verdicts;
 use desk::{Blank, Counts, Limits, Naming, Reply, Snapshot, Step};
 use fleet::Decider;
 use quant::Name;
@@ -49,18 +51,20 @@ impl<J: Naming> Session<J> {
         })
     }
 
-    // Does what is asked for, and adds the answer to the output. The decider's rules have these names, in their order.
+    // Does what is asked for, and adds the answer to the output. The decider's rules have these names, in their order, and
+    // what was decided of each node is told too where a cycle is to be explained.
     pub(crate) fn answer<R: Wait + Threads + Sync, D: Decider>(
         &mut self,
         rt: &R,
         names: &[Name],
+        explains: bool,
         decider: &mut D,
         asked: Asked,
         out: &mut Vec<u8>,
     ) -> Result<(), RunFault>
         requires { IsTimely asked }
-        ensures answered { OnOk result ((text : List ℕ) × Answered (rules_of D.Kit.answers (D.kits decider.old)) names.now self.old.desk asked self.new.desk text
-            × (out.new.items ≡ out.old.items ++ text)) }
+        ensures answered { OnOk result ((text : List ℕ) × Answered (rules_of D.Kit.answers (D.kits decider.old)) (telling names.now explains)
+            self.old.desk asked self.new.desk text × (out.new.items ≡ out.old.items ++ text)) }
         ensures kept { OnErr result (out.new.items ≡ out.old.items) }
         ensures kits { D.kits decider.new ≡ D.kits decider.old }
         ensures faults { IfErr result (λ e. e ≡ RunFault.NoMemory) }
@@ -68,7 +72,7 @@ impl<J: Naming> Session<J> {
         self.text.clear();
         match asked {
             Asked::Step(step) => self.step(rt, step)?,
-            Asked::Cycle => self.cycle(rt, names, decider)?,
+            Asked::Cycle => self.cycle(rt, names, explains, decider)?,
         }
         add(out, &self.text)
     }
@@ -79,6 +83,7 @@ impl<J: Naming> Session<J> {
         requires { caller.IsTimely step }
         ensures state { OnOk result (self.new.desk ≡ after self.old.desk step) }
         ensures text { OnOk result (self.new.text.items ≡ self.old.text.items ++ text_of self.old.desk step) }
+        ensures lines { OnOk result (AreLines false (text_of self.old.desk step)) }
         ensures faults { IfErr result (λ e. e ≡ RunFault.NoMemory) }
     {
         if let Step::Count = step {
@@ -89,21 +94,49 @@ impl<J: Naming> Session<J> {
         Ok(())
     }
 
-    // Does a cycle, and adds the line that tells what it came to.
+    // Does a cycle, and adds the line that tells what it came to, with those of the nodes in front where it is to be explained.
     fn cycle<R: Wait + Threads + Sync, D: Decider>(
         &mut self,
         rt: &R,
         names: &[Name],
+        explains: bool,
         decider: &mut D,
     ) -> Result<(), RunFault>
-        ensures cycled { OnOk result ((came : Cycled) × IsCycleAlone (rules_of D.Kit.answers (D.kits decider.old)) self.old.desk came self.new.desk
-            × (self.new.text.items ≡ self.old.text.items ++ cycle_line names.now came)) }
+        ensures cycled { OnOk result ((text : List ℕ) × Answered (rules_of D.Kit.answers (D.kits decider.old)) (telling names.now explains)
+            self.old.desk asked.Cycle self.new.desk text × (self.new.text.items ≡ self.old.text.items ++ text)) }
         ensures kits { D.kits decider.new ≡ D.kits decider.old }
         ensures faults { IfErr result (λ e. e ≡ RunFault.NoMemory) }
     {
-        let came = self.desk.cycle(rt, decider)?;
+        let came = self.told_cycle(rt, names, explains, decider)?;
         push_cycled(&mut self.text, names, &came)?;
         Ok(())
+    }
+
+    // Does a cycle, and adds the lines of the nodes that it saw where it is to be explained. No node changes before the
+    // decision, so a look before the cycle shows them.
+    fn told_cycle<R: Wait + Threads + Sync, D: Decider>(
+        &mut self,
+        rt: &R,
+        names: &[Name],
+        explains: bool,
+        decider: &mut D,
+    ) -> Result<Cycled, RunFault>
+        ensures cycled { IfOk result (λ came. IsCycleAlone (rules_of D.Kit.answers (D.kits decider.old)) self.old.desk came self.new.desk) }
+        ensures told { OnOk result ((told : List ℕ) × TellsNodes (rules_of D.Kit.answers (D.kits decider.old)) names.now explains self.old.desk told
+            × AreLines true told × (self.new.text.items ≡ self.old.text.items ++ told)) }
+        ensures kits { D.kits decider.new ≡ D.kits decider.old }
+        ensures faults { IfErr result (λ e. e ≡ RunFault.NoMemory) }
+    {
+        if !explains {
+            return Ok(self.desk.cycle(rt, decider)?);
+        }
+        let snapshot = self.desk.look()?;
+        let came = self.desk.cycle(rt, decider)?;
+        if came.is_idle() {
+            return Ok(came);
+        }
+        push_verdicts(&mut self.text, names, snapshot.rows(), decider.verdicts())?;
+        Ok(came)
     }
 
     // Adds the lines of the nodes to the text.
@@ -111,6 +144,7 @@ impl<J: Naming> Session<J> {
         ensures state { self.new.desk ≡ self.old.desk }
         ensures text { OnOk result (self.new.text.items ≡ self.old.text.items
             ++ snapshot_lines (machine.snapshot self.old.desk.cluster)) }
+        ensures lines { OnOk result (AreLines false (snapshot_lines (machine.snapshot self.old.desk.cluster))) }
         ensures faults { IfErr result (λ e. e ≡ RunFault.NoMemory) }
     {
         let snapshot = self.desk.look()?;
@@ -177,7 +211,8 @@ pub fn push_dump(out: &mut Vec<u8>, snapshot: &Snapshot, counts: Counts) -> Resu
 
 // Adds the lines of the nodes, in the order of their names.
 fn push_snapshot(out: &mut Vec<u8>, snapshot: &Snapshot) -> Result<(), AllocError>
-    ensures { OnOk result (out.new.items ≡ out.old.items ++ snapshot_lines snapshot.now) }
+    ensures text { OnOk result (out.new.items ≡ out.old.items ++ snapshot_lines snapshot.now) }
+    ensures lines { OnOk result (AreLines false (snapshot_lines snapshot.now)) }
 {
     for row in snapshot.rows() {
         push_node(out, &row.node, row.used)?;

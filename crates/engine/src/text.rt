@@ -1,6 +1,8 @@
 //! The lines of the output.
-ghost use Rattle.std.specs.Prelude.{◌≡◌, ◌++◌, [], OnOk, decimal, slice_index_or};
+ghost use Rattle.std.specs.Prelude.{◌≡◌, ◌++◌, [], OnOk, decimal, slice_index_or, false};
 ghost use Rattle.std.specs.Fmt.{signed_decimal};
+ghost use Rattle.engine.specs.Lines.{IsLine};
+ghost use Rattle.engine.specs.Indented.{AreLines};
 ghost use Rattle.engine.specs.Text.{refused_line, share_text, node_line, counts, places_line, queue_line, clock_line, assumed_line, reasons_text, unschedulable_line, cause_text, error_line, lost_line, cycle_line};
 
 use crate::one_cycle::Cycled;
@@ -20,7 +22,7 @@ fn push_number(out: &mut Vec<u8>, n: u64) -> Result<(), AllocError>
 }
 
 // Adds a label and a number.
-fn push_count(out: &mut Vec<u8>, label: &[u8], n: u64) -> Result<(), AllocError>
+pub(crate) fn push_count(out: &mut Vec<u8>, label: &[u8], n: u64) -> Result<(), AllocError>
     ensures { OnOk result (out.new.items ≡ out.old.items ++ (label.now ++ decimal n)) }
 {
     out.extend_from_slice(label)?;
@@ -50,7 +52,8 @@ pub(crate) fn push_refused(out: &mut Vec<u8>, why: Refusal) -> Result<(), AllocE
 // Adds the line of a node and what its pods use.
 #[tactic(auto, unfolding(crate::specs::Text::node_line))]
 pub(crate) fn push_node(out: &mut Vec<u8>, node: &Node, used: Res) -> Result<(), AllocError>
-    ensures { OnOk result (out.new.items ≡ out.old.items ++ node_line node.now used) }
+    ensures text { OnOk result (out.new.items ≡ out.old.items ++ node_line node.now used) }
+    ensures lines { OnOk result (AreLines false (node_line node.now used)) }
 {
     let whole = node.allocatable;
     out.extend_from_slice(b"node ")?;
@@ -131,7 +134,8 @@ fn push_assumed(
     total: u32,
     ticket: u64,
 ) -> Result<(), AllocError>
-    ensures { OnOk result (out.new.items ≡ out.old.items ++ assumed_line uid.now node.now total ticket) }
+    ensures text { OnOk result (out.new.items ≡ out.old.items ++ assumed_line uid.now node.now total ticket) }
+    ensures lines { OnOk result (AreLines false (assumed_line uid.now node.now total ticket)) }
 {
     out.extend_from_slice(uid.as_bytes())?;
     out.extend_from_slice(b" on ")?;
@@ -141,7 +145,7 @@ fn push_assumed(
 }
 
 // Adds a label and a text.
-fn push_text(out: &mut Vec<u8>, label: &[u8], text: &[u8]) -> Result<(), AllocError>
+pub(crate) fn push_text(out: &mut Vec<u8>, label: &[u8], text: &[u8]) -> Result<(), AllocError>
     ensures { OnOk result (out.new.items ≡ out.old.items ++ (label.now ++ text.now)) }
 {
     out.extend_from_slice(label)?;
@@ -167,7 +171,8 @@ fn push_reasons(out: &mut Vec<u8>, n: Counts) -> Result<(), AllocError>
 
 // Adds the line of a pod for which every node is rejected.
 fn push_unschedulable(out: &mut Vec<u8>, uid: &Name, n: Counts) -> Result<(), AllocError>
-    ensures { OnOk result (out.new.items ≡ out.old.items ++ unschedulable_line uid.now n) }
+    ensures text { OnOk result (out.new.items ≡ out.old.items ++ unschedulable_line uid.now n) }
+    ensures lines { OnOk result (AreLines false (unschedulable_line uid.now n)) }
 {
     push_text(out, uid.as_bytes(), b" unschedulable")?;
     push_reasons(out, n)?;
@@ -176,7 +181,7 @@ fn push_unschedulable(out: &mut Vec<u8>, uid: &Name, n: Counts) -> Result<(), Al
 
 // Adds why a rule said nothing of a node.
 #[tactic(auto, unfolding(crate::specs::Text::cause_text))]
-fn push_cause(out: &mut Vec<u8>, why: Cause) -> Result<(), AllocError>
+pub(crate) fn push_cause(out: &mut Vec<u8>, why: Cause) -> Result<(), AllocError>
     ensures { OnOk result (out.new.items ≡ out.old.items ++ cause_text why) }
 {
     match why {
@@ -200,7 +205,9 @@ fn push_error(
     node: &Name,
     why: Cause,
 ) -> Result<(), AllocError>
-    ensures { OnOk result (out.new.items ≡ out.old.items ++ error_line uid.now rule.now node.now why) }
+    requires { IsLine rule.now }
+    ensures text { OnOk result (out.new.items ≡ out.old.items ++ error_line uid.now rule.now node.now why) }
+    ensures lines { OnOk result (AreLines false (error_line uid.now rule.now node.now why)) }
 {
     push_text(out, uid.as_bytes(), b" error plugin ")?;
     push_text(out, rule, b" node ")?;
@@ -212,7 +219,8 @@ fn push_error(
 // Adds the line of a pod whose place was refused.
 #[tactic(auto, unfolding(crate::specs::Text::lost_line))]
 fn push_lost(out: &mut Vec<u8>, uid: &Name, why: Refusal) -> Result<(), AllocError>
-    ensures { OnOk result (out.new.items ≡ out.old.items ++ lost_line uid.now why) }
+    ensures text { OnOk result (out.new.items ≡ out.old.items ++ lost_line uid.now why) }
+    ensures lines { OnOk result (AreLines false (lost_line uid.now why)) }
 {
     out.extend_from_slice(uid.as_bytes())?;
     push_count(out, b" lost ", u64::from(why.number()))?;
@@ -222,8 +230,9 @@ fn push_lost(out: &mut Vec<u8>, uid: &Name, why: Refusal) -> Result<(), AllocErr
 }
 
 // The name of the rule at a place.
-fn name_at(names: &[Name], place: usize) -> &[u8]
-    ensures { result.now ≡ slice_index_or names.now place [] }
+pub(crate) fn name_at(names: &[Name], place: usize) -> &[u8]
+    ensures name { result.now ≡ slice_index_or names.now place [] }
+    ensures line { IsLine result.now }
 {
     match names.get(place) {
         Some(name) => name.as_bytes(),
@@ -238,7 +247,8 @@ pub(crate) fn push_cycled(
     names: &[Name],
     came: &Cycled,
 ) -> Result<(), AllocError>
-    ensures { OnOk result (out.new.items ≡ out.old.items ++ cycle_line names.now came.now) }
+    ensures text { OnOk result (out.new.items ≡ out.old.items ++ cycle_line names.now came.now) }
+    ensures lines { OnOk result (AreLines false (cycle_line names.now came.now)) }
 {
     match came {
         Cycled::Idle => out.extend_from_slice(b"idle\n"),

@@ -6,6 +6,7 @@ ghost use Rattle.fleet.specs.Speaking.{SpeaksFor};
 ghost use Rattle.fleet.specs.Team.{rules_of};
 ghost use Rattle.engine.specs.Device.{use_of};
 ghost use Rattle.engine.specs.Run.{IsRun};
+ghost use Rattle.engine.specs.Telling.{telling};
 
 use crate::device::{Sink, Source};
 use crate::fault::RunFault;
@@ -31,6 +32,7 @@ fn run_in<
     alloc: Global,
     keys: RandomState,
     names: &[Name],
+    explains: bool,
     blank: Blank,
     first: K,
     others: Vec<K>,
@@ -44,7 +46,7 @@ fn run_in<
     requires reads { R.failure_count source.old < 10 ^ 18 }
     requires writes { W.failure_count sink.old < 10 ^ 18 }
     requires finite { R.bytes_left source.old < 2 ^ 64 }
-    ensures run { IsRun (K.answers first) names.now
+    ensures run { IsRun (K.answers first) (telling names.now explains)
         (use_of R.remaining R.failure_count source.old source.new) (use_of W.written W.failure_count sink.old sink.new) result }
     ensures no_place { result ≡ Err RunFault.NoPlace → (source.new ≡ source.old) × (sink.new ≡ sink.old) }
 {
@@ -52,7 +54,7 @@ fn run_in<
         return Err(RunFault::NoMemory);
     };
     let mut pool = Pool::<J, K, NoGate>::start(*rt, alloc, blank, first, others, gate)?;
-    let done = run(rt, alloc, keys, names, &mut pool, source, sink);
+    let done = run(rt, alloc, keys, names, explains, &mut pool, source, sink);
     pool.end(rt);
     done
 }
@@ -71,6 +73,7 @@ pub fn run_with_kits<
     alloc: Global,
     keys: RandomState,
     names: &[Name],
+    explains: bool,
     kits: Vec<K>,
     source: &mut R,
     sink: &mut W,
@@ -81,7 +84,7 @@ pub fn run_with_kits<
     requires reads { R.failure_count source.old < 10 ^ 18 }
     requires writes { W.failure_count sink.old < 10 ^ 18 }
     requires finite { R.bytes_left source.old < 2 ^ 64 }
-    ensures run { IsRun (rules_of K.answers kits.items) names.now
+    ensures run { IsRun (rules_of K.answers kits.items) (telling names.now explains)
         (use_of R.remaining R.failure_count source.old source.new) (use_of W.written W.failure_count sink.old sink.new) result }
     ensures no_place { result ≡ Err RunFault.NoPlace → (source.new ≡ source.old) × (sink.new ≡ sink.old) }
 {
@@ -92,6 +95,7 @@ pub fn run_with_kits<
         alloc,
         keys,
         names,
+        explains,
         Blank::new(),
         first,
         others,

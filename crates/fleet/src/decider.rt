@@ -1,14 +1,15 @@
 //! What decides where pods go.
-ghost use Rattle.std.specs.Prelude.{◌≡◌, List, IfOk};
+ghost use Rattle.std.specs.Prelude.{◌≡◌, List, IfOk, OnOk};
 ghost use denote.Param.Send.{IsSync};
-ghost use Rattle.choose.specs.Choice.{Choice};
+ghost use Rattle.choose.specs.Choice.{AreVerdicts, Choice};
+ghost use Rattle.choose.specs.declared.decision.Verdict.{Verdict};
 ghost use Rattle.fleet.specs.Team.{rules_of};
 
 use crate::asked::Site;
 use crate::fleet::Fleet;
 use crate::gate::{Gate, NoGate};
 use crate::pool::Pool;
-use choose::{Decision, NoMemory};
+use choose::{Decision, NoMemory, Verdict};
 use desk::Snapshot;
 use plugin::{KitRules, Rules};
 use quant::SharedPod;
@@ -22,6 +23,9 @@ pub trait Decider {
     // The kits for whose rules it stands: the first for all.
     ghost kits: { Self → List Self.Kit };
 
+    // The verdicts of its last decision.
+    ghost last: { Self → List Verdict };
+
     /// Where a pod goes, by a look at the nodes: the choice that the first kit would make alone.
     ///
     /// Errors: `NoMemory`. Nothing is decided then, and it can be used again.
@@ -33,13 +37,20 @@ pub trait Decider {
     ) -> Result<Decision, NoMemory>
         requires { IsSync R.row }
         ensures chosen { IfOk result (Choice (rules_of Self.Kit.answers (kits self.old)) snapshot pod.now) }
+        ensures judged { OnOk result (AreVerdicts (rules_of Self.Kit.answers (kits self.old)) pod.now snapshot (last self.new)) }
         ensures kits { kits self.new ≡ kits self.old };
+
+    /// The verdicts of its last decision, in the order of the nodes.
+    fn verdicts(&self) -> &[Verdict]
+        ensures { result.now ≡ last self.now };
 }
 
 impl Decider for Fleet<KitRules> {
     type Kit = KitRules;
 
     ghost kits = { λ fleet. fleet.kits };
+
+    ghost last = { λ fleet. fleet.verdicts };
 
     fn decide<R: Threads + Wait + Sync>(
         &mut self,
@@ -49,12 +60,18 @@ impl Decider for Fleet<KitRules> {
     ) -> Result<Decision, NoMemory> {
         self.decide(rt, &snapshot, pod, &NoGate)
     }
+
+    fn verdicts(&self) -> &[Verdict] {
+        self.verdicts()
+    }
 }
 
 impl<J: Site, K: Rules + Drop, G: Gate + Drop> Decider for Pool<J, K, G> {
     type Kit = K;
 
     ghost kits = { λ pool. pool.kits };
+
+    ghost last = { λ pool. pool.verdicts };
 
     fn decide<R: Threads + Wait + Sync>(
         &mut self,
@@ -63,5 +80,9 @@ impl<J: Site, K: Rules + Drop, G: Gate + Drop> Decider for Pool<J, K, G> {
         pod: &SharedPod,
     ) -> Result<Decision, NoMemory> {
         self.decide(rt, snapshot, pod)
+    }
+
+    fn verdicts(&self) -> &[Verdict] {
+        self.verdicts()
     }
 }

@@ -2,7 +2,7 @@
 ghost use Rattle.std.specs.Prelude.{◌≡◌, ◌<◌, ◌≤◌, [], ◌∷◌, length, vec_len, map, IfOk, OnErr, OnOk};
 ghost use Rattle.std.specs.List.{All};
 ghost use Rattle.desk.specs.Shown.{shown};
-ghost use Rattle.choose.specs.Choice.{Choice};
+ghost use Rattle.choose.specs.Choice.{AreVerdicts, Choice};
 ghost use Rattle.fleet.specs.Alike.{JudgeAlike};
 
 use crate::gate::Gate;
@@ -32,7 +32,7 @@ impl<K: Rules + Send> Model for Fleet<K> {
 
     ghost Value = { Team K };
 
-    ghost view = { λ f. record { kits = f.kits.items; room = vec_capacity f.verdicts } };
+    ghost view = { λ f. record { kits = f.kits.items; room = vec_capacity f.verdicts; verdicts = f.verdicts.items } };
 
     ghost invariant = { λ f. (0 < length f.kits.items) × (length f.kits.items ≤ 64) × JudgeAlike K.answers f.kits.items };
 }
@@ -82,6 +82,7 @@ impl<K: Rules + Send> Fleet<K> {
         gate: &G,
     ) -> Result<Decision, NoMemory>
         ensures chosen { IfOk result (λ decision. All (λ kit. Choice (K.answers kit) snapshot.now pod.now decision) self.old.kits) }
+        ensures judged { OnOk result (All (λ kit. AreVerdicts (K.answers kit) pod.now snapshot.now self.new.verdicts) self.old.kits) }
         ensures some { 0 < length self.old.kits }
         ensures kits { self.new.kits ≡ self.old.kits }
         ensures no_memory { OnErr result (self.old.room < length snapshot.now) }
@@ -89,6 +90,13 @@ impl<K: Rules + Send> Fleet<K> {
         ensures kept { self.old.room ≤ self.new.room }
     {
         self.decide_among(rt, snapshot.rows(), pod, gate)
+    }
+
+    /// The verdicts of the last decision, in the order of the nodes.
+    pub fn verdicts(&self) -> &[Verdict]
+        ensures { result.now ≡ self.now.verdicts }
+    {
+        self.verdicts.as_slice()
     }
 
     // The decision among these nodes.
@@ -100,6 +108,27 @@ impl<K: Rules + Send> Fleet<K> {
         gate: &G,
     ) -> Result<Decision, NoMemory>
         ensures chosen { IfOk result (λ decision. All (λ kit. Choice (K.answers kit) (map shown rows.now) pod.now decision) self.old.kits) }
+        ensures judged { OnOk result (All (λ kit. AreVerdicts (K.answers kit) pod.now (map shown rows.now) self.new.verdicts) self.old.kits) }
+        ensures some { 0 < length self.old.kits }
+        ensures kits { self.new.kits ≡ self.old.kits }
+        ensures no_memory { OnErr result (self.old.room < length rows.now) }
+        ensures room { OnOk result (length rows.now ≤ self.new.room) }
+        ensures kept { self.old.room ≤ self.new.room }
+    {
+        self.judge_among(rt, rows, pod, gate)?;
+        Ok(decide(rows, self.verdicts.as_slice()))
+    }
+
+    // Makes the verdicts on these nodes.
+    fn judge_among<R: Threads + Sync, G: Gate + Sync>(
+        &mut self,
+        rt: &R,
+        rows: &[Row],
+        pod: &Pod,
+        gate: &G,
+    ) -> Result<(), NoMemory>
+        ensures judged { OnOk result (All (λ kit. AreVerdicts (K.answers kit) pod.now (map shown rows.now) self.new.verdicts) self.old.kits) }
+        ensures all { OnOk result (length self.new.verdicts ≡ length rows.now) }
         ensures some { 0 < length self.old.kits }
         ensures kits { self.new.kits ≡ self.old.kits }
         ensures no_memory { OnErr result (self.old.room < length rows.now) }
@@ -120,6 +149,6 @@ impl<K: Rules + Send> Fleet<K> {
             self.kits.as_mut_slice(),
             self.verdicts.as_mut_slice(),
         );
-        Ok(decide(rows, self.verdicts.as_slice()))
+        Ok(())
     }
 }

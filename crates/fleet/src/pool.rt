@@ -1,5 +1,5 @@
 //! A pool: kits, and workers that stay, which decide with them.
-ghost use Rattle.std.specs.Prelude.{◌≡◌, ◌+◌, ◌<◌, [], ◌∷◌, length, vec_len, IfOk};
+ghost use Rattle.std.specs.Prelude.{◌≡◌, ◌+◌, ◌<◌, [], ◌∷◌, length, vec_len, IfOk, OnOk};
 ghost use Rattle.std.specs.List.{All};
 ghost use Rattle.std.specs.Arc.{arc_value};
 ghost use Rattle.choose.specs.Choice.{Choice, AreVerdicts};
@@ -41,7 +41,7 @@ impl<J: Site, K: Rules + Drop, G: Drop> Model for Pool<J, K, G> {
 
     ghost Value = { Team K };
 
-    ghost view = { λ p. record { kits = p.home ∷ []; room = vec_capacity p.verdicts } };
+    ghost view = { λ p. record { kits = p.home ∷ []; room = vec_capacity p.verdicts; verdicts = p.verdicts.items } };
 
     ghost invariant = { λ p. SpeaksFor J.Says (K.answers p.home) × (length p.helpers.items < 64) };
 }
@@ -103,6 +103,7 @@ impl<J: Site, K: Rules + Drop, G: Gate + Drop> Pool<J, K, G> {
         pod: &SharedPod,
     ) -> Result<Decision, NoMemory>
         ensures chosen { IfOk result (Choice (rules_of K.answers self.old.kits) snapshot pod.now) }
+        ensures judged { OnOk result (AreVerdicts (rules_of K.answers self.old.kits) pod.now snapshot self.new.verdicts) }
         ensures kits { self.new.kits ≡ self.old.kits }
     {
         let nodes = snapshot.rows().len();
@@ -147,6 +148,13 @@ impl<J: Site, K: Rules + Drop, G: Gate + Drop> Pool<J, K, G> {
         ))
     }
 
+    /// The verdicts of the last decision, in the order of the nodes.
+    pub fn verdicts(&self) -> &[Verdict]
+        ensures { result.now ≡ self.now.verdicts }
+    {
+        self.verdicts.as_slice()
+    }
+
     /// Ends the pool: it waits until its workers are gone.
     pub fn end<R: Wait>(self, rt: &R) {
         let Pool {
@@ -173,6 +181,7 @@ fn choose_here<K: Rules, G: Gate>(
 ) -> Decision
     requires { length verdicts.old ≡ length snapshot.now }
     ensures chosen { Choice (K.answers home.old) snapshot.now pod.now result }
+    ensures judged { AreVerdicts (K.answers home.old) pod.now snapshot.now verdicts.new }
     ensures stays { home.new ≡ home.old }
 {
     let rows = snapshot.rows();
@@ -199,6 +208,7 @@ fn choose_there<J: Site, K: Rules + Drop, G: Gate, R: Wait>(
     requires places { length verdicts.old ≡ length (arc_value order.now).snapshot }
     requires speaks { SpeaksFor J.Says (K.answers home.old) }
     ensures chosen { let asked = arc_value order.now in Choice (K.answers home.old) asked.snapshot asked.pod result }
+    ensures judged { let asked = arc_value order.now in AreVerdicts (K.answers home.old) asked.pod asked.snapshot verdicts.new }
     ensures stays { home.new ≡ home.old }
     ensures length { length helpers.new ≡ length helpers.old }
 {

@@ -1,6 +1,7 @@
 //! What the program ends with, over devices that take and give a few bytes at a time, are interrupted
 //! and fail, and over files in the folder that a test runs in.
 mod checks;
+mod explained;
 mod keep_region;
 mod long_script;
 mod modules;
@@ -183,22 +184,31 @@ fn assert_ends(
     Ok(())
 }
 
-// Runs a script without a faulty line by 1, 2 and 64 workers, in pieces of many sizes.
+// Runs, or explains, a script without a faulty line by 1, 2 and 64 workers, in pieces of many sizes.
 #[track_caller]
 fn assert_answers<'a>(
     rt: &(impl Abort + fs::Files + Wait + Threads + Copy + Send + Sync + 'static),
     alloc: Global,
     keys: RandomState,
+    explains: bool,
     plugins: &'a [&'a str],
     script: &'a str,
     out: &str,
     name: &str,
 ) -> Result<(), AllocError> {
-    let rows = [
-        (["run"].as_slice(), 1),
-        (["run", "--workers", "2"].as_slice(), 64),
-        (["run", "--workers", "64"].as_slice(), 65_536),
-    ];
+    let rows = if explains {
+        [
+            (["explain"].as_slice(), 1),
+            (["explain", "--workers", "2"].as_slice(), 64),
+            (["explain", "--workers", "64"].as_slice(), 65_536),
+        ]
+    } else {
+        [
+            (["run"].as_slice(), 1),
+            (["run", "--workers", "2"].as_slice(), 64),
+            (["run", "--workers", "64"].as_slice(), 65_536),
+        ]
+    };
     for (args, most) in rows {
         let given = Given {
             args,
@@ -230,15 +240,16 @@ fn remove_files(rt: &impl fs::Files, files: &[(&str, &[u8])]) -> io::Result<()> 
 fn a_fault_prints_its_number_and_its_name(rt: HostRuntime) -> Result<(), Fail> {
     let refusal = Refusal::NotReady(InstanceFault::StartExhausted);
     let text = format!(in rt.alloc();
-        "{}, {}, {}, {}",
+        "{}, {}, {}, {}, {}",
         Fault::Words(WordFault::BadWords),
         Fault::Misused(Misuse::Plugin(Part::Name, 3)),
         Fault::Plugin(Name::new(b"r")?, refusal),
+        Fault::Unread(Name::new(b"s")?),
         Fault::Run(RunFault::NoPlace)
     )?;
     assert_eq!(rt;
         text.as_str(),
-        "1 BadWords, 1 BadWords NAME of word 3, plugin r: refused instance 4 StartExhausted, 5 NoPlace"
+        "1 BadWords, 1 BadWords NAME of word 3, plugin r: refused instance 4 StartExhausted, plugin s: 3 Read, 5 NoPlace"
     );
     Ok(())
 }

@@ -3,6 +3,7 @@
 ghost use Rattle.std.specs.Prelude.{◌≡◌, ◌<◌, ◌≤◌, vec_len, IfOk};
 ghost use Rattle.std.specs.List.{All};
 
+use choose::Verdict;
 use desk::Snapshot;
 use engine::{DeviceFailed, RunFault, Sink, Source, run, run_with_kits};
 use fleet::{Decider, Decision, Fleet, NoGate, NoMemory};
@@ -150,6 +151,8 @@ impl Decider for Crew {
 
     ghost kits = { λ crew. crew.fleet.kits };
 
+    ghost last = { λ crew. crew.fleet.verdicts };
+
     fn decide<R: Threads + Wait + Sync>(
         &mut self,
         rt: &R,
@@ -157,6 +160,10 @@ impl Decider for Crew {
         pod: &SharedPod,
     ) -> Result<Decision, NoMemory> {
         self.fleet.decide(rt, &snapshot, pod, &NoGate)
+    }
+
+    fn verdicts(&self) -> &[Verdict] {
+        self.fleet.verdicts()
     }
 }
 
@@ -200,7 +207,16 @@ fn run_pieces<T: Wait + Threads + Sync + Abort>(
     let names = [Name::new(b"rule").expect(rt, "a name")];
     let fleet = Fleet::of_one(alloc, rules).expect(rt, "memory");
     let mut crew = Crew { fleet };
-    let result = run(rt, alloc, keys, &names, &mut crew, &mut source, &mut sink);
+    let result = run(
+        rt,
+        alloc,
+        keys,
+        &names,
+        false,
+        &mut crew,
+        &mut source,
+        &mut sink,
+    );
     Ended {
         result,
         output: sink.bytes,
@@ -408,12 +424,21 @@ fn written_by<T: Wait + Threads + Copy + Send + Sync + 'static>(
     let names = [Name::new(b"rule")?];
     let kits = kits_of(alloc, rules, count)?;
     if stay {
-        run_with_kits(rt, alloc, keys, &names, kits, &mut source, &mut sink)?;
+        run_with_kits(rt, alloc, keys, &names, false, kits, &mut source, &mut sink)?;
     } else {
         let mut crew = Crew {
             fleet: Fleet::new(alloc, kits),
         };
-        run(rt, alloc, keys, &names, &mut crew, &mut source, &mut sink)?;
+        run(
+            rt,
+            alloc,
+            keys,
+            &names,
+            false,
+            &mut crew,
+            &mut source,
+            &mut sink,
+        )?;
     }
     Ok(sink.bytes)
 }

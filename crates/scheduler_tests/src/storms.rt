@@ -2,6 +2,7 @@
 ghost use Rattle.std.specs.Prelude.{◌≡◌, ◌<◌, vec_len, IfOk};
 
 use binder::{BindAnswer, Binder, Tally};
+use choose::Verdict;
 use desk::Snapshot;
 use engine::{DeviceFailed, Sink, Source};
 use fleet::{Decider, Decision, Fleet, NoMemory};
@@ -138,6 +139,8 @@ impl<D: Decider + Drop> Decider for Turning<D> {
 
     ghost kits = { λ t. D.kits t.decider };
 
+    ghost last = { λ t. D.last t.decider };
+
     fn decide<R: Threads + Wait + Sync>(
         &mut self,
         rt: &R,
@@ -148,6 +151,10 @@ impl<D: Decider + Drop> Decider for Turning<D> {
             return Err(NoMemory);
         }
         self.decider.decide(rt, snapshot, pod)
+    }
+
+    fn verdicts(&self) -> &[Verdict] {
+        self.decider.verdicts()
     }
 }
 

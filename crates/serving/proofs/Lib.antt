@@ -1,4 +1,5 @@
 pub mod Ends
+pub mod Failures
 pub mod Lengths
 pub mod Fronts
 pub mod Quiet

@@ -6,7 +6,7 @@ use Rattle.engine.specs.Lines.{lines_of}
 use Rattle.engine.specs.Output.{asked_in, WritesOutput, WritesFront}
 use Rattle.engine.specs.declared.fault.RunFault.{RunFault}
 use Rattle.engine.specs.declared.fault.RunFault.TheVariants as run_fault
-use Rattle.quant.specs.declared.name.Name.{Name}
+use Rattle.engine.specs.Telling.{Telling}
 use Rattle.manifest.specs.declared.fault.LineFault.{LineFault}
 use Rattle.serving.specs.Fault.{status_of}
 use Rattle.serving.specs.Message.{message_of, run_text}
@@ -14,8 +14,8 @@ use Rattle.serving.specs.declared.faults.Fault.TheVariants.{Words, Run}
 use Rattle.command.specs.declared.fault.WordFault.TheVariants as word_fault
 
 -- the whole output is a beginning of it
-pub output_front : (rules : RuleSet) (names : List Name) (script : List ℕ) (old new : Option (List ℕ)) → WritesOutput rules names script old new → WritesFront rules names script old new
-output_front rules names script old new (text, output, writes) = (
+pub output_front : (rules : RuleSet) (telling : Telling) (script : List ℕ) (old new : Option (List ℕ)) → WritesOutput rules telling script old new → WritesFront rules telling script old new
+output_front rules telling script old new (text, output, writes) = (
   text,
   record {
     asked = asked_in (lines_of script);

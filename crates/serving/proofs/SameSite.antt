@@ -1,5 +1,5 @@
 -- A site's script has one output: what its plugins say depends on the modules that their bytes spell, their images and their fuels.
-use Rattle.std.proofs.Common.{◌≡◌, ◌∙◌, ℕ, zero, suc, List, [], ◌∷◌, length, map, Option, Some, None, Result, Ok, Err, IfSome, MatchOption, slice_get, slice_index, inl, inr, refl, sym, subst, ap, arith}
+use Rattle.std.proofs.Common.{◌≡◌, ◌∙◌, ℕ, zero, suc, Bool, List, [], ◌∷◌, length, map, Option, Some, None, Result, Ok, Err, IfSome, MatchOption, slice_get, slice_index, inl, inr, refl, sym, subst, ap, arith}
 use Rattle.quant.specs.declared.objects.Pod.{Pod}
 use Rattle.desk.specs.Shown.{Shown}
 use Rattle.wbin.specs.Syntax.{ModuleSyntax, module_of}
@@ -34,8 +34,9 @@ use Rattle.engine.proofs.OneOutput.{one_output}
 use Rattle.engine.proofs.Fronts.{fronts_agree, fronts_begin_output}
 use Rattle.engine.proofs.SameOutput.{all_answered}
 use Rattle.command.specs.Words.{SpecSyntax}
-use Rattle.serving.specs.Laws.{FilesGiveModules, OneSiteOutput, SiteFrontsAgree, SiteFrontsBeginOutput}
-use Rattle.serving.specs.Site.{ArePlugins, IsPlugin, IsSiteKit, names_of}
+use Rattle.engine.proofs.Explained.{explained_output, plain_output}
+use Rattle.serving.specs.Laws.{FilesGiveModules, OneSiteOutput, SiteExplainedOutput, SiteFrontsAgree, SiteFrontsBeginOutput, SitePlainOutput}
+use Rattle.serving.specs.Site.{ArePlugins, IsPlugin, IsSiteKit, names_of, told_by}
 use Rattle.serving.specs.Verdict.{front_of}
 
 -- bytes spell one module
@@ -198,37 +199,48 @@ module _ (one_module : OneModule) (one_image : OneImage) where
 
   -- ---- what is written
 
-  output_alike : (specs : List SpecSyntax) (modules : List (List ℕ)) (script text : List ℕ) (one other : List Ready) → IsSiteKit specs modules one → IsSiteKit specs modules other
-      → IsOutput (rules_of one) (names_of specs) script text → IsOutput (rules_of other) (names_of specs) script text
-  output_alike specs modules script text one other a b output = record {
+  output_alike : (explains : Bool) (specs : List SpecSyntax) (modules : List (List ℕ)) (script text : List ℕ) (one other : List Ready) → IsSiteKit specs modules one → IsSiteKit specs modules other
+      → IsOutput (rules_of one) (told_by explains specs) script text → IsOutput (rules_of other) (told_by explains specs) script text
+  output_alike explains specs modules script text one other a b output = record {
     end = output.end;
-    answered = all_answered (rules_of one) (rules_of other) (verdict_by (rules_of one) (rules_of other) (site_alike specs modules one other a b)) (names_of specs) opening (asked_in (lines_of script)) output.end text output.answered;
+    answered = all_answered (rules_of one) (rules_of other) (verdict_by (rules_of one) (rules_of other) (site_alike specs modules one other a b)) (told_by explains specs) opening (asked_in (lines_of script)) output.end text output.answered;
   }
 
-  front_alike : (specs : List SpecSyntax) (modules : List (List ℕ)) (script front : List ℕ) (one other : List Ready) → IsSiteKit specs modules one → IsSiteKit specs modules other
-      → BeginsOutput (rules_of one) (names_of specs) script front → BeginsOutput (rules_of other) (names_of specs) script front
-  front_alike specs modules script front one other a b begins = record {
+  front_alike : (explains : Bool) (specs : List SpecSyntax) (modules : List (List ℕ)) (script front : List ℕ) (one other : List Ready) → IsSiteKit specs modules one → IsSiteKit specs modules other
+      → BeginsOutput (rules_of one) (told_by explains specs) script front → BeginsOutput (rules_of other) (told_by explains specs) script front
+  front_alike explains specs modules script front one other a b begins = record {
     asked = begins.asked;
     later = begins.later;
     cut = begins.cut;
     end = begins.end;
     text = begins.text;
-    answered = all_answered (rules_of one) (rules_of other) (verdict_by (rules_of one) (rules_of other) (site_alike specs modules one other a b)) (names_of specs) opening begins.asked begins.end begins.text begins.answered;
+    answered = all_answered (rules_of one) (rules_of other) (verdict_by (rules_of one) (rules_of other) (site_alike specs modules one other a b)) (told_by explains specs) opening begins.asked begins.end begins.text begins.answered;
     rest = begins.rest;
     begins = begins.begins;
   }
 
   pub one_site_output : OneSiteOutput
-  one_site_output specs modules script one other (kit, is, output) (kit', is', output') =
-      one_output (rules_of kit') (one_answer kit') (names_of specs) script one other (output_alike specs modules script one kit kit' is is' output) output'
+  one_site_output explains specs modules script one other (kit, is, output) (kit', is', output') =
+      one_output (rules_of kit') (one_answer kit') (told_by explains specs) script one other (output_alike explains specs modules script one kit kit' is is' output) output'
 
   pub site_fronts_begin : SiteFrontsBeginOutput
-  site_fronts_begin specs modules script front text (kit, is, begins) (kit', is', output) =
-      fronts_begin_output (rules_of kit') (one_answer kit') (names_of specs) script front text (front_alike specs modules script front kit kit' is is' begins) output
+  site_fronts_begin explains specs modules script front text (kit, is, begins) (kit', is', output) =
+      fronts_begin_output (rules_of kit') (one_answer kit') (told_by explains specs) script front text (front_alike explains specs modules script front kit kit' is is' begins) output
 
   pub site_fronts_agree : SiteFrontsAgree
-  site_fronts_agree specs modules script one other (kit, is, begins) (kit', is', begins') =
-      fronts_agree (rules_of kit') (one_answer kit') (names_of specs) script one other (front_alike specs modules script one kit kit' is is' begins) begins'
+  site_fronts_agree explains specs modules script one other (kit, is, begins) (kit', is', begins') =
+      fronts_agree (rules_of kit') (one_answer kit') (told_by explains specs) script one other (front_alike explains specs modules script one kit kit' is is' begins) begins'
+
+-- ---- an explained output
+
+pub site_explained : SiteExplainedOutput
+site_explained specs modules script text (kit, is, output) =
+    let explained = explained_output (rules_of kit) (names_of specs) script text output in
+    (explained.0, (kit, is, explained.1), explained.2)
+
+-- and without the lines that are put in
+pub site_plain : SitePlainOutput
+site_plain specs modules script text (kit, is, output) = (kit, is, plain_output (rules_of kit) (names_of specs) script text output)
 
 -- ---- files
 

@@ -5,9 +5,10 @@ use Rattle.quant.specs.declared.name.Name.{Name}
 use Rattle.manifest.specs.declared.fault.LineFault.{LineFault}
 use Rattle.plugin.specs.Kit.{Ready, IsKitOf, rules_of}
 use Rattle.fleet.specs.Team as team
+use Rattle.engine.specs.Telling.{telling}
 use Rattle.engine.specs.Output.{first_fault, WritesOutput, WritesFront}
-use Rattle.command.specs.Words.{SpecSyntax, Asked, run, storm, check}
-use Rattle.serving.specs.Site.{AreSiteKits, IsSiteKit, WritesSiteOutput, WritesSiteFront, names_of}
+use Rattle.command.specs.Words.{SpecSyntax, Asked, run, explain, storm, check}
+use Rattle.serving.specs.Site.{AreSiteKits, IsSiteKit, WritesSiteOutput, WritesSiteFront, names_of, told_by}
 use Rattle.serving.proofs.Quiet.{output_front}
 
 -- the first of a site's kits is one, and its rules are the run's
@@ -18,52 +19,53 @@ first_kit : (specs : List SpecSyntax) (modules : List (List ℕ)) (workers : ℕ
 first_kit specs modules workers [] some are = absurd (omega (arith, some, are.count))
 first_kit specs modules workers (kit ∷ kits) some are = (kit, record { plugins = are.plugins; are = are.are; is = All-head (IsKitOf are.plugins) kit kits are.all }, refl)
 
-pub site_output : (specs : List SpecSyntax) (modules : List (List ℕ)) (workers : ℕ) (kits : List (List Ready)) (names : List Name) → 1 ≤ workers → AreSiteKits specs modules workers kits
-    → names ≡ names_of specs → (script : List ℕ) (old new : Option (List ℕ)) → WritesOutput (team.rules_of rules_of kits) names script old new
-    → WritesSiteOutput specs modules script old new
-site_output specs modules workers kits names some are named script old new writes =
+pub site_output : (explains : Bool) (specs : List SpecSyntax) (modules : List (List ℕ)) (workers : ℕ) (kits : List (List Ready)) (names : List Name) → 1 ≤ workers → AreSiteKits specs modules workers kits
+    → names ≡ names_of specs → (script : List ℕ) (old new : Option (List ℕ)) → WritesOutput (team.rules_of rules_of kits) (telling names explains) script old new
+    → WritesSiteOutput explains specs modules script old new
+site_output explains specs modules workers kits names some are named script old new writes =
     let first = first_kit specs modules workers kits some are in
     (first.0, first.1, rw (first.2, named) at writes)
 
-pub site_front : (specs : List SpecSyntax) (modules : List (List ℕ)) (workers : ℕ) (kits : List (List Ready)) (names : List Name) → 1 ≤ workers → AreSiteKits specs modules workers kits
-    → names ≡ names_of specs → (known old new : Option (List ℕ)) → IfSome known (λ script. WritesFront (team.rules_of rules_of kits) names script old new)
-    → IfSome known (λ script. WritesSiteFront specs modules script old new)
-site_front specs modules workers kits names some are named None old new writes = tt
-site_front specs modules workers kits names some are named (Some script) old new writes =
+pub site_front : (explains : Bool) (specs : List SpecSyntax) (modules : List (List ℕ)) (workers : ℕ) (kits : List (List Ready)) (names : List Name) → 1 ≤ workers → AreSiteKits specs modules workers kits
+    → names ≡ names_of specs → (known old new : Option (List ℕ)) → IfSome known (λ script. WritesFront (team.rules_of rules_of kits) (telling names explains) script old new)
+    → IfSome known (λ script. WritesSiteFront explains specs modules script old new)
+site_front explains specs modules workers kits names some are named None old new writes = tt
+site_front explains specs modules workers kits names some are named (Some script) old new writes =
     let first = first_kit specs modules workers kits some are in
     (first.0, first.1, rw (first.2, named) at writes)
 
 -- no line is faulty
-pub site_done : (specs : List SpecSyntax) (modules : List (List ℕ)) (workers : ℕ) (kits : List (List Ready)) (names : List Name) → 1 ≤ workers → AreSiteKits specs modules workers kits
+pub site_done : (explains : Bool) (specs : List SpecSyntax) (modules : List (List ℕ)) (workers : ℕ) (kits : List (List Ready)) (names : List Name) → 1 ≤ workers → AreSiteKits specs modules workers kits
     → names ≡ names_of specs → (known left old new : Option (List ℕ))
-    → IfSome known (λ script. (first_fault script ≡ None) × WritesOutput (team.rules_of rules_of kits) names script old new × (left ≡ Some []))
-    → IfSome known (λ script. (first_fault script ≡ None) × WritesSiteOutput specs modules script old new × (left ≡ Some []))
-site_done specs modules workers kits names some are named None left old new done = tt
-site_done specs modules workers kits names some are named (Some script) left old new (fine, writes, read) =
-    (fine, site_output specs modules workers kits names some are named script old new writes, read)
+    → IfSome known (λ script. (first_fault script ≡ None) × WritesOutput (team.rules_of rules_of kits) (telling names explains) script old new × (left ≡ Some []))
+    → IfSome known (λ script. (first_fault script ≡ None) × WritesSiteOutput explains specs modules script old new × (left ≡ Some []))
+site_done explains specs modules workers kits names some are named None left old new done = tt
+site_done explains specs modules workers kits names some are named (Some script) left old new (fine, writes, read) =
+    (fine, site_output explains specs modules workers kits names some are named script old new writes, read)
 
 -- the whole output is a beginning of it
-pub done_front : (specs : List SpecSyntax) (modules : List (List ℕ)) (known left old new : Option (List ℕ))
-    → IfSome known (λ script. (first_fault script ≡ None) × WritesSiteOutput specs modules script old new × (left ≡ Some []))
-    → IfSome known (λ script. WritesSiteFront specs modules script old new)
-done_front specs modules None left old new done = tt
-done_front specs modules (Some script) left old new (fine, (kit, is, writes), read) =
-    (kit, is, output_front (rules_of kit) (names_of specs) script old new writes)
+pub done_front : (explains : Bool) (specs : List SpecSyntax) (modules : List (List ℕ)) (known left old new : Option (List ℕ))
+    → IfSome known (λ script. (first_fault script ≡ None) × WritesSiteOutput explains specs modules script old new × (left ≡ Some []))
+    → IfSome known (λ script. WritesSiteFront explains specs modules script old new)
+done_front explains specs modules None left old new done = tt
+done_front explains specs modules (Some script) left old new (fine, (kit, is, writes), read) =
+    (kit, is, output_front (rules_of kit) (told_by explains specs) script old new writes)
 
 -- a line is faulty
-pub site_line : (specs : List SpecSyntax) (modules : List (List ℕ)) (workers : ℕ) (kits : List (List Ready)) (names : List Name) → 1 ≤ workers → AreSiteKits specs modules workers kits
+pub site_line : (explains : Bool) (specs : List SpecSyntax) (modules : List (List ℕ)) (workers : ℕ) (kits : List (List Ready)) (names : List Name) → 1 ≤ workers → AreSiteKits specs modules workers kits
     → names ≡ names_of specs → (known old new : Option (List ℕ)) (number : ℕ) (fault : LineFault)
-    → IfSome known (λ script. (first_fault script ≡ Some (number, fault)) × WritesOutput (team.rules_of rules_of kits) names script old new)
-    → IfSome known (λ script. (first_fault script ≡ Some (number, fault)) × WritesSiteOutput specs modules script old new)
-site_line specs modules workers kits names some are named None old new number fault line = tt
-site_line specs modules workers kits names some are named (Some script) old new number fault (first, writes) =
-    (first, site_output specs modules workers kits names some are named script old new writes)
+    → IfSome known (λ script. (first_fault script ≡ Some (number, fault)) × WritesOutput (team.rules_of rules_of kits) (telling names explains) script old new)
+    → IfSome known (λ script. (first_fault script ≡ Some (number, fault)) × WritesSiteOutput explains specs modules script old new)
+site_line explains specs modules workers kits names some are named None old new number fault line = tt
+site_line explains specs modules workers kits names some are named (Some script) old new number fault (first, writes) =
+    (first, site_output explains specs modules workers kits names some are named script old new writes)
 
 -- ---- what words ask for
 
 abbrev specs_in : Option Asked → List SpecSyntax
 specs_in None = []
 specs_in (Some (run workers specs)) = specs
+specs_in (Some (explain workers specs)) = specs
 specs_in (Some (storm cycles binders is_flaky specs)) = specs
 specs_in (Some (check file)) = []
 
@@ -75,6 +77,7 @@ same_specs asked workers other specs others one two = ap specs_in (sym one ∙ t
 abbrev threads_in : Option Asked → ℕ × ℕ
 threads_in None = (0, 0)
 threads_in (Some (run workers specs)) = (0, 0)
+threads_in (Some (explain workers specs)) = (0, 0)
 threads_in (Some (storm cycles binders is_flaky specs)) = (cycles, binders)
 threads_in (Some (check file)) = (0, 0)
 
@@ -83,3 +86,7 @@ pub same_storm : (asked : Option Asked) (cycles others binders other : ℕ) (fla
     → asked ≡ Some (storm others other one these) → (cycles ≡ others) × (binders ≡ other) × (specs ≡ these)
 same_storm asked cycles others binders other flaky one specs these first second =
     (ap (λ (a : Option Asked). (threads_in a).0) (sym first ∙ second), ap (λ (a : Option Asked). (threads_in a).1) (sym first ∙ second), ap specs_in (sym first ∙ second))
+
+-- the plugins of an explanation that words ask for are those that they were read as
+pub same_explained : (asked : Option Asked) (workers other : ℕ) (specs others : List SpecSyntax) → asked ≡ Some (explain workers specs) → asked ≡ Some (explain other others) → specs ≡ others
+same_explained asked workers other specs others one two = ap specs_in (sym one ∙ two)

@@ -12,8 +12,10 @@ use Rattle.command.specs.Words.{SpecSyntax, syntax_of}
 use Rattle.command.specs.Within.{HaveDistinctNames}
 use Rattle.command.specs.declared.asked.Spec.{Spec}
 use Rattle.serving.specs.Verdict.{front_of}
+use Rattle.engine.specs.declared.fault.RunFault.TheVariants as run_fault
 use Rattle.serving.specs.declared.faults.Fault.{Fault}
-use Rattle.serving.specs.Site.{ArePlugins, IsPlugin, ModuleRefused, WhyNoPlugin, AreFromFiles, names_of}
+use Rattle.serving.specs.declared.faults.Fault.TheVariants.{Words, Misused, Plugin, Unread, Run}
+use Rattle.serving.specs.Site.{ArePlugins, IsPlugin, ModuleRefused, WhyNoModule, WhyNoModules, WhyNoPlugin, AreFromFiles, names_of}
 
 -- ---- lists
 
@@ -175,6 +177,20 @@ pub many_modules : {M : Type 0} (bytes_of : M → List ℕ) (contents : List ℕ
     → AreFromFiles contents (map syntax_of specs) (map bytes_of modules) → length modules ≡ length specs
 many_modules bytes_of contents specs modules are =
     sym (length-map modules bytes_of) ∙ as_many_read contents (map syntax_of specs) (map bytes_of modules) are ∙ length-map specs syntax_of
+
+-- where one can't be had, there are none
+pub no_modules : (specs : List Spec) (first old new : ℕ) (i : ℕ) (spec : Spec) (fault : Fault) → slice_get specs i ≡ Some spec → old ≡ first
+    → WhyNoModule spec.name old new fault → WhyNoModules (map syntax_of specs) first new fault
+no_modules specs first old new i spec (Words fault) at same why = absurd why
+no_modules specs first old new i spec (Misused fault) at same why = absurd why
+no_modules specs first old new i spec (Plugin name fault) at same why = absurd why
+no_modules specs first old new i spec (Unread name) at same why =
+    record { place = i; spec = syntax_of spec; spec_is = at_image syntax_of specs i spec at; named = sym why.0; failed = omega (arith, same, why.1) }
+no_modules specs first old new i spec (Run run_fault.NoMemory) at same why = why ∙ same
+no_modules specs first old new i spec (Run (run_fault.Line number fault)) at same why = absurd why
+no_modules specs first old new i spec (Run run_fault.Read) at same why = absurd why
+no_modules specs first old new i spec (Run run_fault.Write) at same why = absurd why
+no_modules specs first old new i spec (Run run_fault.NoPlace) at same why = absurd why
 
 -- ---- kits
 

@@ -2,7 +2,7 @@
 use Rattle.std.specs.Prelude.{ℕ}
 use Rattle.engine.specs.declared.fault.RunFault.TheVariants.{Line, NoMemory, Read, Write, NoPlace}
 use Rattle.serving.specs.declared.faults.Fault.{Fault}
-use Rattle.serving.specs.declared.faults.Fault.TheVariants.{Words, Misused, Plugin, Run}
+use Rattle.serving.specs.declared.faults.Fault.TheVariants.{Words, Misused, Plugin, Unread, Run}
 use Rattle.command.specs.declared.fault.WordFault.TheVariants as words
 
 -- the exit status of the program, where a fault ends it
@@ -11,6 +11,7 @@ status_of (Words words.BadWords) = 2
 status_of (Words words.NoMemory) = 3
 status_of (Misused misuse) = 2
 status_of (Plugin name refusal) = 1
+status_of (Unread name) = 4
 status_of (Run (Line number fault)) = 1
 status_of (Run NoMemory) = 3
 status_of (Run Read) = 4

@@ -1,24 +1,25 @@
 -- What holds of every script of a site.
-use Rattle.std.specs.Prelude.{◌≡◌, ◌⊎◌, ℕ, List, Option, Some}
+use Rattle.std.specs.Prelude.{◌≡◌, ◌⊎◌, ℕ, Bool, true, false, List, Option, Some}
 use Rattle.std.specs.List.{All}
-use Rattle.engine.specs.Laws.{Begins}
+use Rattle.engine.specs.Indented.{without_indented}
+use Rattle.engine.specs.Laws.{Begins, IsWithLines}
 use Rattle.command.specs.Words.{SpecSyntax}
 use Rattle.serving.specs.Site.{AreFromFiles, BeginsSiteOutput, IsSiteOutput}
 
 -- By plugins of these names, weights and fuels, with these bytes of their modules, a script has one output.
 abbrev pub OneSiteOutput : Type 0
 OneSiteOutput =
-    (specs : List SpecSyntax) (modules : List (List ℕ)) (script one other : List ℕ) → IsSiteOutput specs modules script one → IsSiteOutput specs modules script other → one ≡ other
+    (explains : Bool) (specs : List SpecSyntax) (modules : List (List ℕ)) (script one other : List ℕ) → IsSiteOutput explains specs modules script one → IsSiteOutput explains specs modules script other → one ≡ other
 
 -- What a run writes that is cut short begins it.
 abbrev pub SiteFrontsBeginOutput : Type 0
 SiteFrontsBeginOutput =
-    (specs : List SpecSyntax) (modules : List (List ℕ)) (script front text : List ℕ) → BeginsSiteOutput specs modules script front → IsSiteOutput specs modules script text → Begins front text
+    (explains : Bool) (specs : List SpecSyntax) (modules : List (List ℕ)) (script front text : List ℕ) → BeginsSiteOutput explains specs modules script front → IsSiteOutput explains specs modules script text → Begins front text
 
 -- Of what two such runs write one begins the other.
 abbrev pub SiteFrontsAgree : Type 0
 SiteFrontsAgree =
-    (specs : List SpecSyntax) (modules : List (List ℕ)) (script one other : List ℕ) → BeginsSiteOutput specs modules script one → BeginsSiteOutput specs modules script other
+    (explains : Bool) (specs : List SpecSyntax) (modules : List (List ℕ)) (script one other : List ℕ) → BeginsSiteOutput explains specs modules script one → BeginsSiteOutput explains specs modules script other
     → Begins one other ⊎ Begins other one
 
 -- The same files give the same modules, where it is known what they have.
@@ -26,3 +27,15 @@ abbrev pub FilesGiveModules : Type 0
 FilesGiveModules =
     (contents : List ℕ → Option (List ℕ)) (specs : List SpecSyntax) (one other : List (List ℕ)) → All (λ s. (whole : List ℕ) × (contents s.file ≡ Some whole)) specs
     → AreFromFiles contents specs one → AreFromFiles contents specs other → one ≡ other
+
+-- What explains a site's script is its output, with lines put in that begin with two spaces.
+abbrev pub SiteExplainedOutput : Type 0
+SiteExplainedOutput =
+    (specs : List SpecSyntax) (modules : List (List ℕ)) (script text : List ℕ) → IsSiteOutput true specs modules script text
+    → (plain : List ℕ) × IsSiteOutput false specs modules script plain × IsWithLines plain text
+
+-- Without its lines that begin with two spaces it is the output.
+abbrev pub SitePlainOutput : Type 0
+SitePlainOutput =
+    (specs : List SpecSyntax) (modules : List (List ℕ)) (script text : List ℕ) → IsSiteOutput true specs modules script text
+    → IsSiteOutput false specs modules script (without_indented text)

@@ -1,3 +1,4 @@
+pub mod Failures
 pub mod Fault
 pub mod Laws
 pub mod Message

@@ -20,7 +20,7 @@ use Rattle.command.specs.declared.misuse.Part.{Part}
 use Rattle.command.specs.declared.count.Count.{Count}
 use Rattle.command.specs.declared.count.Count.TheVariants as count
 use Rattle.command.specs.declared.misuse.Part.TheVariants as part
-use Rattle.serving.specs.declared.faults.Fault.TheVariants.{Words, Misused, Plugin, Run}
+use Rattle.serving.specs.declared.faults.Fault.TheVariants.{Words, Misused, Plugin, Unread, Run}
 
 -- the field in which a fault stands, where there is one
 abbrev pub field_text : Option Field → List ℕ
@@ -61,13 +61,14 @@ misuse_text misuse.Together = []
 
 -- what the words may be
 abbrev pub usage : List ℕ
-usage = codes "; usage: wsched run [--workers N] [SPEC]... or wsched storm [--cycles C] [--binders B] [--flaky] [SPEC]... or wsched check MODULE; a SPEC is NAME:WEIGHT:FUEL:FILE"
+usage = codes "; usage: wsched run [--workers N] [SPEC]... or wsched explain [--workers N] [SPEC]... or wsched storm [--cycles C] [--binders B] [--flaky] [SPEC]... or wsched check MODULE; a SPEC is NAME:WEIGHT:FUEL:FILE"
 
 -- why the program ended early
 abbrev pub text_of : Fault → List ℕ
 text_of (Words fault) = fault_text (number_of fault) (name_of fault)
 text_of (Misused misuse) = fault_text (number_of BadWords) (name_of BadWords) ++ misuse_text misuse ++ usage
 text_of (Plugin name refusal) = codes "plugin " ++ name ++ codes ": " ++ refusal_text refusal
+text_of (Unread name) = codes "plugin " ++ name ++ codes ": " ++ fault_text (run.number_of Read) (run.name_of Read)
 text_of (Run fault) = run_text fault
 
 -- the line that tells it

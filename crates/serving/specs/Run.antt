@@ -1,12 +1,13 @@
 -- What a run of a site's script promises, by its exit status.
-use Rattle.std.specs.Prelude.{◌≡◌, ◌≢◌, ◌⊎◌, ◌<◌, List, ℕ, Result, Ok, Err}
+use Rattle.std.specs.Prelude.{◌≡◌, ◌≢◌, ◌⊎◌, ◌<◌, Bool, List, ℕ, Result, Ok, Err}
+use Rattle.quant.specs.declared.name.Name.{Name}
 use Rattle.engine.specs.Device.{DeviceUse}
 use Rattle.engine.specs.declared.fault.RunFault.TheVariants as run_fault
 use Rattle.command.specs.Words.{SpecSyntax}
 use Rattle.command.specs.Misuse.{misuse_of}
 use Rattle.command.specs.declared.fault.WordFault.{WordFault}
 use Rattle.serving.specs.declared.faults.Fault.{Fault}
-use Rattle.serving.specs.declared.faults.Fault.TheVariants.{Run, Words, Misused}
+use Rattle.serving.specs.declared.faults.Fault.TheVariants.{Run, Words, Misused, Unread}
 use Rattle.serving.specs.Message.{Tells, message_of}
 use Rattle.serving.specs.Site.{SiteDone, SiteFaulty, SiteFront, SiteRefused}
 
@@ -19,29 +20,31 @@ abbrev pub told_of : {V : Type 0} → (V → List (List ℕ)) → Result V WordF
 told_of texts (Ok words) = Misused (misuse_of (texts words))
 told_of texts (Err fault) = Words fault
 
--- A run of a script by the plugins that are configured ended with this status. `AreGiven` says which modules they have.
-pub record IsSiteRun (AreGiven : List (List ℕ) → Type 0) (specs : List SpecSyntax) (source out err : DeviceUse) (ended : ℕ) : Type 0 where
+-- A run of a script by the plugins that are configured, which explains its cycles or not, ended with this status. `AreGiven` says which modules they have.
+pub record IsSiteRun (explains : Bool) (AreGiven : List (List ℕ) → Type 0) (specs : List SpecSyntax) (source out err : DeviceUse) (ended : ℕ) : Type 0 where
   -- these are the statuses of a run
   pub status : (ended ≡ 0) ⊎ ((ended ≡ 1) ⊎ ((ended ≡ 3) ⊎ (ended ≡ 4)))
   -- no line is faulty, the output is written whole, and everything is read
-  pub done : ended ≡ 0 → SiteDone AreGiven specs source.old source.new out.old out.new
+  pub done : ended ≡ 0 → SiteDone explains AreGiven specs source.old source.new out.old out.new
   -- A plugin's module is refused, that is told, and nothing is read or written. Or a line is faulty: it is the first one and its fault is
   -- told, and the output of the lines before it is written whole.
   pub input : ended ≡ 1 → (fault : Fault) × TellsFault err fault
-      × ((SiteRefused AreGiven specs fault × source.IsUntouched × out.IsUntouched) ⊎ SiteFaulty AreGiven specs fault source.old out.old out.new)
+      × ((SiteRefused AreGiven specs fault × source.IsUntouched × out.IsUntouched) ⊎ SiteFaulty explains AreGiven specs fault source.old out.old out.new)
   -- nothing but the output, or a beginning of it, is written
-  pub front : out.IsUntouched ⊎ SiteFront AreGiven specs source.old out.old out.new
+  pub front : out.IsUntouched ⊎ SiteFront explains AreGiven specs source.old out.old out.new
 
--- What is told of failures and of want of memory by this status. `Unread` is what holds of the source where the desk has no place, and
--- `NotBegun` says why nothing was begun that a failed read is told of.
-pub record TellsFailures (Unread NotBegun : Type 0) (source out err : DeviceUse) (ended : ℕ) : Type 0 where
+-- What is told of failures and of want of memory by this status. `Left` is what holds of the source where the desk has no place. `NotBegun`
+-- says why nothing was begun that a failed read is told of, and `NoFile` so of what is told of the file of the plugin of this name.
+pub record TellsFailures (Left NotBegun : Type 0) (NoFile : Name → Type 0) (source out err : DeviceUse) (ended : ℕ) : Type 0 where
   -- all was done, and no fault is told
   pub quiet : ended ≡ 0 → err.IsUntouched
   -- Memory, or the desk's place, was wanting, and that is told. Without a place nothing is written.
   pub room : ended ≡ 3 → TellsFault err (Run run_fault.NoMemory)
-      ⊎ (TellsFault err (Run run_fault.NoPlace) × Unread × out.IsUntouched)
-  -- Nothing was begun: that is told, and nothing is read or written. Or a read or a write failed meanwhile, and that is told.
+      ⊎ (TellsFault err (Run run_fault.NoPlace) × Left × out.IsUntouched)
+  -- Nothing was begun: that is told, and nothing is read or written. Or a read or a write failed meanwhile, and that is told. Or a plugin's
+  -- file couldn't be read: it is told which plugin's, and nothing is read or written.
   pub failed : ended ≡ 4 → TellsFault err (Run run_fault.Read) × ((NotBegun × source.IsUntouched × out.IsUntouched) ⊎ (source.failures_old < source.failures_new))
-      ⊎ (TellsFault err (Run run_fault.Write) × (out.failures_old < out.failures_new))
+      ⊎ (TellsFault err (Run run_fault.Write) × (out.failures_old < out.failures_new)
+      ⊎ ((name : Name) × TellsFault err (Unread name) × NoFile name × source.IsUntouched × out.IsUntouched))
   -- and each failure is told: at any other status no read, and no write to the output, has failed
   pub failures_told : ended ≢ 4 → (source.failures_new ≡ source.failures_old) × (out.failures_new ≡ out.failures_old)

@@ -1,5 +1,5 @@
 -- A site's plugins: what the words configure, with what the files have.
-use Rattle.std.specs.Prelude.{◌≡◌, ◌≢◌, ◌⊎◌, ℕ, List, [], ◌∷◌, length, map, take, Option, Some, None, IfSome, slice_get}
+use Rattle.std.specs.Prelude.{◌≡◌, ◌≢◌, ◌⊎◌, ◌<◌, ℕ, Bool, List, [], ◌∷◌, length, map, take, Option, Some, None, IfSome, slice_get}
 use Rattle.std.specs.List.{All, AllZip}
 use Rattle.wbin.specs.Syntax.{module_of}
 use Rattle.wbin.specs.Grammar.{Spells}
@@ -10,11 +10,12 @@ use Rattle.plugin.specs.Plugins.{Configured}
 use Rattle.plugin.specs.Kit.{Ready, IsKitOf, rules_of}
 use Rattle.plugin.specs.Refused.{WhyNoKit}
 use Rattle.manifest.specs.declared.fault.LineFault.{LineFault}
+use Rattle.engine.specs.Telling.{Telling, telling}
 use Rattle.engine.specs.Output.{first_fault, IsOutput, BeginsOutput, WritesOutput, WritesFront}
 use Rattle.engine.specs.declared.fault.RunFault.TheVariants as run_fault
 use Rattle.command.specs.Words.{SpecSyntax}
 use Rattle.serving.specs.declared.faults.Fault.{Fault}
-use Rattle.serving.specs.declared.faults.Fault.TheVariants.{Plugin, Run}
+use Rattle.serving.specs.declared.faults.Fault.TheVariants.{Plugin, Unread, Run}
 use Rattle.serving.specs.declared.refusal.Refusal.TheVariants.{NotReady}
 use Rattle.serving.specs.Fault.{status_of}
 use Rattle.serving.specs.Verdict.{IsRefusedFor, front_of}
@@ -22,6 +23,10 @@ use Rattle.serving.specs.Verdict.{IsRefusedFor, front_of}
 -- the names that plugins are given
 abbrev pub names_of : List SpecSyntax → List (List ℕ)
 names_of specs = map (λ s. s.name) specs
+
+-- what a run by them tells, which explains its cycles or not
+abbrev pub told_by : (explains : Bool) → List SpecSyntax → Telling
+told_by explains specs = telling (names_of specs) explains
 
 -- A plugin is the one that the words configure, and its module the one that these bytes spell, which is accepted.
 pub record IsPlugin (spec : SpecSyntax) (bytes : List ℕ) (plugin : Configured) : Type 0 where
@@ -44,25 +49,47 @@ pub record IsSiteKit (specs : List SpecSyntax) (modules : List (List ℕ)) (kit 
   pub is : IsKitOf plugins kit
 
 -- the output of a script, for a kit of these plugins
-abbrev pub IsSiteOutput : List SpecSyntax → (modules : List (List ℕ)) → (script text : List ℕ) → Type 0
-IsSiteOutput specs modules script text = (kit : List Ready) × IsSiteKit specs modules kit × IsOutput (rules_of kit) (names_of specs) script text
+abbrev pub IsSiteOutput : (explains : Bool) → List SpecSyntax → (modules : List (List ℕ)) → (script text : List ℕ) → Type 0
+IsSiteOutput explains specs modules script text = (kit : List Ready) × IsSiteKit specs modules kit × IsOutput (rules_of kit) (told_by explains specs) script text
 
 -- a beginning of it
-abbrev pub BeginsSiteOutput : List SpecSyntax → (modules : List (List ℕ)) → (script front : List ℕ) → Type 0
-BeginsSiteOutput specs modules script front = (kit : List Ready) × IsSiteKit specs modules kit × BeginsOutput (rules_of kit) (names_of specs) script front
+abbrev pub BeginsSiteOutput : (explains : Bool) → List SpecSyntax → (modules : List (List ℕ)) → (script front : List ℕ) → Type 0
+BeginsSiteOutput explains specs modules script front = (kit : List Ready) × IsSiteKit specs modules kit × BeginsOutput (rules_of kit) (told_by explains specs) script front
 
 -- the output of a script, for a kit of these plugins, is written
-abbrev pub WritesSiteOutput : List SpecSyntax → (modules : List (List ℕ)) → (script : List ℕ) → (old new : Option (List ℕ)) → Type 0
-WritesSiteOutput specs modules script old new = (kit : List Ready) × IsSiteKit specs modules kit × WritesOutput (rules_of kit) (names_of specs) script old new
+abbrev pub WritesSiteOutput : (explains : Bool) → List SpecSyntax → (modules : List (List ℕ)) → (script : List ℕ) → (old new : Option (List ℕ)) → Type 0
+WritesSiteOutput explains specs modules script old new = (kit : List Ready) × IsSiteKit specs modules kit × WritesOutput (rules_of kit) (told_by explains specs) script old new
 
 -- a beginning of it is written
-abbrev pub WritesSiteFront : List SpecSyntax → (modules : List (List ℕ)) → (script : List ℕ) → (old new : Option (List ℕ)) → Type 0
-WritesSiteFront specs modules script old new = (kit : List Ready) × IsSiteKit specs modules kit × WritesFront (rules_of kit) (names_of specs) script old new
+abbrev pub WritesSiteFront : (explains : Bool) → List SpecSyntax → (modules : List (List ℕ)) → (script : List ℕ) → (old new : Option (List ℕ)) → Type 0
+WritesSiteFront explains specs modules script old new = (kit : List Ready) × IsSiteKit specs modules kit × WritesFront (rules_of kit) (told_by explains specs) script old new
 
 -- The modules are what the plugins' files have, where that is known. Of a file no more is read than tells that it is longer than
 -- a module may be.
 abbrev pub AreFromFiles : (contents : List ℕ → Option (List ℕ)) → List SpecSyntax → (modules : List (List ℕ)) → Type 0
 AreFromFiles contents specs modules = AllZip (λ spec bytes. IfSome (contents spec.file) (λ whole. bytes ≡ front_of whole)) specs modules
+
+-- Why there is no module of the plugin of this name, where files have failed this often before and by now: memory was wanting, and none has
+-- failed; or its file couldn't be read.
+abbrev pub WhyNoModule : (name : List ℕ) → (failures_old failures_new : ℕ) → Fault → Type 0
+WhyNoModule name failures_old failures_new (Run run_fault.NoMemory) = failures_new ≡ failures_old
+WhyNoModule name failures_old failures_new (Unread named) = (named ≡ name) × (failures_old < failures_new)
+WhyNoModule name failures_old failures_new _ = ⊥
+
+-- The file of the plugin of this name couldn't be read, where files have failed this often before and by now: the words configure the plugin.
+pub record UnreadPlugin (specs : List SpecSyntax) (failures_old failures_new : ℕ) (name : List ℕ) : Type 0 where
+  pub place : ℕ
+  pub spec : SpecSyntax
+  pub spec_is : slice_get specs place ≡ Some spec
+  pub named : spec.name ≡ name
+  pub failed : failures_old < failures_new
+
+-- Why there are no modules of the plugins that the words configure: memory was wanting, and no file has failed; or a plugin's file couldn't be
+-- read.
+abbrev pub WhyNoModules : List SpecSyntax → (failures_old failures_new : ℕ) → Fault → Type 0
+WhyNoModules specs failures_old failures_new (Run run_fault.NoMemory) = failures_new ≡ failures_old
+WhyNoModules specs failures_old failures_new (Unread name) = UnreadPlugin specs failures_old failures_new name
+WhyNoModules specs failures_old failures_new _ = ⊥
 
 -- so many kits are those of one site
 pub record AreSiteKits (specs : List SpecSyntax) (modules : List (List ℕ)) (workers : ℕ) (kits : List (List Ready)) : Type 0 where
@@ -113,21 +140,21 @@ WhyNoSite specs modules fault = (fault ≡ Run run_fault.NoMemory) ⊎ (ModuleRe
 -- ---- a run, where this says which modules the plugins have
 
 -- No line of the script is faulty, its output is written whole, and everything is read.
-abbrev pub SiteDone : (AreGiven : List (List ℕ) → Type 0) → List SpecSyntax → (script left old new : Option (List ℕ)) → Type 0
-SiteDone AreGiven specs script left old new = (modules : List (List ℕ)) × AreGiven modules
-    × IfSome script (λ text. (first_fault text ≡ None) × WritesSiteOutput specs modules text old new × (left ≡ Some []))
+abbrev pub SiteDone : (explains : Bool) → (AreGiven : List (List ℕ) → Type 0) → List SpecSyntax → (script left old new : Option (List ℕ)) → Type 0
+SiteDone explains AreGiven specs script left old new = (modules : List (List ℕ)) × AreGiven modules
+    × IfSome script (λ text. (first_fault text ≡ None) × WritesSiteOutput explains specs modules text old new × (left ≡ Some []))
 
 -- a plugin's module is refused
 abbrev pub SiteRefused : (AreGiven : List (List ℕ) → Type 0) → List SpecSyntax → Fault → Type 0
 SiteRefused AreGiven specs fault = (modules : List (List ℕ)) × AreGiven modules × WhyNoSite specs modules fault × (status_of fault ≡ 1)
 
 -- a line of the script is the first faulty one, and the output of those before it is written whole
-abbrev pub SiteFaulty : (AreGiven : List (List ℕ) → Type 0) → List SpecSyntax → Fault → (script old new : Option (List ℕ)) → Type 0
-SiteFaulty AreGiven specs fault script old new = (modules : List (List ℕ)) × AreGiven modules
+abbrev pub SiteFaulty : (explains : Bool) → (AreGiven : List (List ℕ) → Type 0) → List SpecSyntax → Fault → (script old new : Option (List ℕ)) → Type 0
+SiteFaulty explains AreGiven specs fault script old new = (modules : List (List ℕ)) × AreGiven modules
     × (number : ℕ) × (why : LineFault) × (fault ≡ Run (run_fault.Line number why))
-    × IfSome script (λ text. (first_fault text ≡ Some (number, why)) × WritesSiteOutput specs modules text old new)
+    × IfSome script (λ text. (first_fault text ≡ Some (number, why)) × WritesSiteOutput explains specs modules text old new)
 
 -- a beginning of the output is written
-abbrev pub SiteFront : (AreGiven : List (List ℕ) → Type 0) → List SpecSyntax → (script old new : Option (List ℕ)) → Type 0
-SiteFront AreGiven specs script old new = (modules : List (List ℕ)) × AreGiven modules
-    × IfSome script (λ text. WritesSiteFront specs modules text old new)
+abbrev pub SiteFront : (explains : Bool) → (AreGiven : List (List ℕ) → Type 0) → List SpecSyntax → (script old new : Option (List ℕ)) → Type 0
+SiteFront explains AreGiven specs script old new = (modules : List (List ℕ)) × AreGiven modules
+    × IfSome script (λ text. WritesSiteFront explains specs modules text old new)

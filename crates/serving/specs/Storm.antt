@@ -1,12 +1,12 @@
 -- What a storm of a site's script promises, by its exit status.
-use Rattle.std.specs.Prelude.{◌≡◌, ⊤, ◌⊎◌, ℕ, List, [], Option, Some, None, IfSome, Bool, true, false}
+use Rattle.std.specs.Prelude.{◌≡◌, ◌⊎◌, ℕ, List, [], Option, Some, None, IfSome, Bool, true, false}
 use Rattle.plugin.specs.Kit.{Ready, rules_of}
 use Rattle.manifest.specs.declared.fault.LineFault.{LineFault}
 use Rattle.engine.specs.Device.{DeviceUse}
 use Rattle.engine.specs.declared.fault.RunFault.TheVariants as run_fault
 use Rattle.storm.specs.Script.{first_storm_fault, script_steps}
 use Rattle.storm.specs.Storm.{Storms}
-use Rattle.command.specs.Words.{SpecSyntax, Asked, run, check, storm}
+use Rattle.command.specs.Words.{SpecSyntax}
 use Rattle.serving.specs.declared.faults.Fault.{Fault}
 use Rattle.serving.specs.declared.faults.Fault.TheVariants.{Run}
 use Rattle.serving.specs.Run.{TellsFault}
@@ -44,10 +44,3 @@ pub record IsSiteStorm (AreGiven : List (List ℕ) → Type 0) (specs : List Spe
   -- but for the answer nothing is written, unless a write fails
   pub quiet : ended ≡ 3 → out.IsUntouched
   pub unwritten : ended ≡ 4 → out.IsUntouched ⊎ TellsFault err (Run run_fault.Write)
-
--- What holds of the source where the desk has no place: it is as it was. A storm has read its script by then.
-abbrev pub left_unread : Option Asked → DeviceUse → Type 0
-left_unread None source = source.IsUntouched
-left_unread (Some (run workers specs)) source = source.IsUntouched
-left_unread (Some (check file)) source = source.IsUntouched
-left_unread (Some (storm cycles binders flaky specs)) source = ⊤

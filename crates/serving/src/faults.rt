@@ -20,6 +20,9 @@ pub enum Fault {
     /// The module of the plugin of this name was refused.
     #[error("plugin {}: refused {}", .0.as_str(), .1)]
     Plugin(Name, Refusal),
+    /// The file of the plugin of this name couldn't be opened or read.
+    #[error("plugin {}: {}", .0.as_str(), RunFault::Read)]
+    Unread(Name),
     /// The run of a script ended early.
     #[error("{0}")]
     Run(RunFault),
@@ -36,7 +39,7 @@ impl Fault {
             Fault::Words(WordFault::BadWords) | Fault::Misused(_) => 2,
             Fault::Words(WordFault::NoMemory)
             | Fault::Run(RunFault::NoMemory | RunFault::NoPlace) => 3,
-            Fault::Run(RunFault::Read | RunFault::Write) => 4,
+            Fault::Unread(_) | Fault::Run(RunFault::Read | RunFault::Write) => 4,
         }
     }
 }

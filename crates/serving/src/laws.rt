@@ -1,14 +1,17 @@
 //! What holds of every script of a site. The function does nothing: its contract is the law.
-ghost use Rattle.serving.specs.Laws.{FilesGiveModules, OneSiteOutput, SiteFrontsAgree, SiteFrontsBeginOutput};
+ghost use Rattle.serving.specs.Laws.{FilesGiveModules, OneSiteOutput, SiteExplainedOutput, SiteFrontsAgree, SiteFrontsBeginOutput, SitePlainOutput};
 
 /// A site's script has one output: it depends on the script, on the plugins' names, weights and fuels, and on the bytes of their
 /// modules alone, so that it is the same with any number of workers. What a run writes that is cut short begins it. Where it is
-/// known what the plugins' files have, their modules are the same in each run.
+/// known what the plugins' files have, their modules are the same in each run. What explains it is the same output, with lines put
+/// in that begin with two spaces; without these lines it is that output, byte for byte.
 pub fn one_site_output()
     ensures whole { OneSiteOutput }
     ensures front { SiteFrontsBeginOutput }
     ensures fronts { SiteFrontsAgree }
     ensures files { FilesGiveModules }
+    ensures explained { SiteExplainedOutput }
+    ensures plain { SitePlainOutput }
 {
     wbin::one_module();
     whost::one_image();

@@ -1,7 +1,7 @@
 //! The line by which the program tells a fault.
 ghost use Rattle.std.specs.Prelude.{◌≡◌, ◌+◌, ◌^◌, ◌<◌, ◌≤◌, ◌++◌, codes, length, decimal};
 ghost use Rattle.serving.specs.Fault.{status_of};
-ghost use Rattle.serving.specs.declared.faults.Fault.TheVariants.{Misused};
+ghost use Rattle.serving.specs.declared.faults.Fault.TheVariants.{Misused, Unread};
 ghost use Rattle.serving.specs.Text.{fault_text};
 ghost use Rattle.serving.specs.Refusal.{refusal_text};
 ghost use Rattle.serving.specs.Message.{Tells, line_fault_text, run_text, part_name, count_letter, misuse_text, usage, text_of, message_of};
@@ -21,7 +21,7 @@ const MAX_MESSAGE: usize = 320;
 
 // What the program's words may be.
 const USAGE: &[u8] =
-    b"; usage: wsched run [--workers N] [SPEC]... or wsched storm [--cycles C] [--binders B] [--flaky] [SPEC]... or wsched check MODULE; a SPEC is NAME:WEIGHT:FUEL:FILE";
+    b"; usage: wsched run [--workers N] [SPEC]... or wsched explain [--workers N] [SPEC]... or wsched storm [--cycles C] [--binders B] [--flaky] [SPEC]... or wsched check MODULE; a SPEC is NAME:WEIGHT:FUEL:FILE";
 
 /// A line that is made without memory, so that want of memory can be told.
 pub(crate) type Message = ArrayVec<u8, MAX_MESSAGE>;
@@ -142,9 +142,9 @@ fn push_misuse(message: &mut Message, misuse: Misuse)
 
 // Adds that words ask for nothing, what is wrong with them, and what they may be.
 fn push_words_fault(message: &mut Message, misuse: Misuse)
-    requires { length message.old.items + 240 ≤ 320 }
+    requires { length message.old.items + 290 ≤ 320 }
     ensures text { message.new.items ≡ message.old.items ++ text_of (Misused misuse) }
-    ensures len { length message.new.items ≤ length message.old.items + 240 }
+    ensures len { length message.new.items ≤ length message.old.items + 290 }
 {
     let fault = WordFault::BadWords;
     push_fault(message, fault.number(), fault.name());
@@ -164,6 +164,20 @@ fn push_plugin_fault(message: &mut Message, name: &Name, refusal: Refusal)
     push_refusal(message, refusal);
 }
 
+// Adds which plugin's file couldn't be read.
+#[tactic(auto, using(crate::proofs::Lengths::run_name_short))]
+fn push_unread(message: &mut Message, name: &Name)
+    requires { length message.old.items + 103 ≤ 320 }
+    ensures text { message.new.items ≡ message.old.items ++ text_of (Unread name.now) }
+    ensures len { length message.new.items ≤ length message.old.items + 103 }
+{
+    let fault = RunFault::Read;
+    push(message, b"plugin ");
+    push(message, name.as_bytes());
+    push(message, b": ");
+    push_fault(message, fault.number(), fault.name());
+}
+
 // The line that tells a fault.
 #[tactic(auto, using(crate::proofs::Lengths::word_name_short), unfolding(crate::specs::Message::message_of))]
 fn fault_message(fault: &Fault) -> Message
@@ -175,6 +189,7 @@ fn fault_message(fault: &Fault) -> Message
         Fault::Words(fault) => push_fault(&mut message, fault.number(), fault.name()),
         Fault::Misused(misuse) => push_words_fault(&mut message, *misuse),
         Fault::Plugin(name, refusal) => push_plugin_fault(&mut message, name, *refusal),
+        Fault::Unread(name) => push_unread(&mut message, name),
         Fault::Run(fault) => push_run_fault(&mut message, *fault),
     }
     push(&mut message, b"\n");

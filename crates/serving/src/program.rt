@@ -1,12 +1,13 @@
 //! What the program does, from its words to its exit status.
-ghost use Rattle.std.specs.Prelude.{◌≡◌, ◌≢◌, ◌⊎◌, ◌^◌, ◌<◌, ◌≤◌, ℕ, Bool, List, Some, None, map, IfErr, IfSome};
+ghost use Rattle.std.specs.Prelude.{◌≡◌, ◌≢◌, ◌⊎◌, ◌^◌, ◌<◌, ◌≤◌, ℕ, Bool, true, false, List, Some, None, map, IfErr, IfSome};
 ghost use Rattle.engine.specs.Device.{use_of};
-ghost use Rattle.command.specs.Words.{SpecSyntax, asked_by, run, check, storm};
+ghost use Rattle.command.specs.Words.{SpecSyntax, asked_by, run, explain, check, storm};
 ghost use Rattle.serving.specs.declared.faults.Fault.TheVariants as faults;
 ghost use Rattle.serving.specs.Fault.{status_of};
+ghost use Rattle.serving.specs.Failures.{lacks_file, left_unread, not_begun};
 ghost use Rattle.serving.specs.Run.{IsSiteRun, TellsFailures, TellsFault, told_of};
 ghost use Rattle.serving.specs.Site.{AreFromFiles};
-ghost use Rattle.serving.specs.Storm.{IsSiteStorm, left_unread};
+ghost use Rattle.serving.specs.Storm.{IsSiteStorm};
 ghost use Rattle.serving.specs.Verdict.{TellsFront, TellsVerdict};
 
 use crate::check::check_file;
@@ -25,7 +26,7 @@ use std::thread::Threads;
 
 /// Does what the words that follow the program's name ask for, and gives the exit status. Words that
 /// could not be read, or that ask for nothing, are told on `err`, and nothing is read or written.
-/// For `run` it is what `serve_plan` does under the keys, for `storm` what `storm_plan` does, and for
+/// For `run` and `explain` it is what `serve_plan` does under the keys, for `storm` what `storm_plan` does, and for
 /// `check` what `check_file` does.
 pub fn answer<
     T: Wait + Threads + Copy + Send + Sync + 'static,
@@ -68,7 +69,12 @@ pub fn answer<
 
     // A run is one of the script by the plugins that the words configure, with the modules in their files.
     ensures run { (workers : ℕ) (specs : List SpecSyntax) → asked_by (λ given. map S.text given.items) args ≡ Some (run workers specs)
-        → IsSiteRun (AreFromFiles (F.contents files.old) specs) specs (use_of R.remaining R.failure_count source.old source.new)
+        → IsSiteRun false (AreFromFiles (F.contents files.old) specs) specs (use_of R.remaining R.failure_count source.old source.new)
+        (use_of W.written W.failure_count out.old out.new) (use_of E.written E.failure_count err.old err.new) result }
+
+    // So is what explains one.
+    ensures explained { (workers : ℕ) (specs : List SpecSyntax) → asked_by (λ given. map S.text given.items) args ≡ Some (explain workers specs)
+        → IsSiteRun true (AreFromFiles (F.contents files.old) specs) specs (use_of R.remaining R.failure_count source.old source.new)
         (use_of W.written W.failure_count out.old out.new) (use_of E.written E.failure_count err.old err.new) result }
 
     // A check: what the file has deserves this verdict, the status is the verdict's, its line is
@@ -87,17 +93,24 @@ pub fn answer<
         → IsSiteStorm (AreFromFiles (F.contents files.old) specs) specs cycles binders (use_of R.remaining R.failure_count source.old source.new)
         (use_of W.written W.failure_count out.old out.new) (use_of E.written E.failure_count err.old err.new) result }
 
-    // Failures are told. Nothing is begun without keys, or where a file has failed; at any other status none has.
+    // Failures are told. Nothing is begun without keys, or where a file has failed, which is told with the plugin whose file it is;
+    // at any other status none has.
     ensures failures { TellsFailures
         (left_unread (asked_by (λ given. map S.text given.items) args) (use_of R.remaining R.failure_count source.old source.new))
-        ((keys ≡ None) ⊎ (F.failure_count files.old < F.failure_count files.new))
+        (not_begun (asked_by (λ given. map S.text given.items) args) (keys ≡ None) (F.failure_count files.old) (F.failure_count files.new))
+        (lacks_file (asked_by (λ given. map S.text given.items) args) (F.failure_count files.old) (F.failure_count files.new))
         (use_of R.remaining R.failure_count source.old source.new) (use_of W.written W.failure_count out.old out.new)
         (use_of E.written E.failure_count err.old err.new) result }
     ensures files_told { result ≢ 4 → F.failure_count files.new ≡ F.failure_count files.old }
 {
     match args {
         Ok(args) => match words(alloc, args.as_slice()) {
-            Ok(Words::Run(plan)) => serve_plan(rt, alloc, keys, &plan, files, source, out, err),
+            Ok(Words::Run(plan)) => {
+                serve_plan(rt, alloc, keys, &plan, false, files, source, out, err)
+            }
+            Ok(Words::Explain(plan)) => {
+                serve_plan(rt, alloc, keys, &plan, true, files, source, out, err)
+            }
             Ok(Words::Storm(plan)) => storm_plan(rt, alloc, keys, &plan, files, source, out, err),
             Ok(Words::Check(file)) => check_file(alloc, file, files, out, err),
             Err(WordFault::BadWords) => report(Fault::Misused(misuse_of(args.as_slice())), err),

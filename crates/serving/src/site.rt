@@ -1,5 +1,5 @@
 //! A site's plugins: from what the words configure and what the files have to kits.
-ghost use Rattle.std.specs.Prelude.{◌≡◌, ◌⊎◌, ◌<◌, ◌^◌, ◌≤◌, ◌∷◌, ◌++◌, [], length, vec_len, map, IfErr, IfOk, OnOk};
+ghost use Rattle.std.specs.Prelude.{◌≡◌, ◌⊎◌, ◌<◌, ◌^◌, ◌≤◌, ◌∷◌, ◌++◌, [], length, vec_len, map, IfErr, IfOk, IfSome, OnOk};
 ghost use Rattle.std.specs.List.{All};
 ghost use Rattle.wbin.specs.Syntax.{module_of};
 ghost use Rattle.wbin.specs.Grammar.{Spells};
@@ -11,7 +11,8 @@ ghost use Rattle.command.specs.Within.{AreWithinLimits, IsWithinLimits};
 ghost use Rattle.command.specs.Words.{syntax_of};
 ghost use Rattle.engine.specs.declared.fault.RunFault.TheVariants as run_fault;
 ghost use Rattle.serving.specs.declared.faults.Fault.TheVariants.{Run};
-ghost use Rattle.serving.specs.Site.{IsToldAs, AreFromFiles, ArePlugins, AreSiteKits, IsPlugin, NoKit, ModuleRefused, WhyNoPlugin, WhyNoSite};
+ghost use Rattle.serving.specs.Site.{IsToldAs, AreFromFiles, ArePlugins, AreSiteKits, IsPlugin, NoKit, ModuleRefused, WhyNoModule, WhyNoModules, WhyNoPlugin, WhyNoSite};
+ghost use Rattle.serving.specs.Verdict.{front_of};
 
 use crate::faults::Fault;
 use crate::folder::Files;
@@ -143,25 +144,38 @@ fn not_ready(fault: KitFault) -> Fault
 /// The modules of plugins, each as its file has it, in the plugins' order. Of a file no more is read than tells that it is longer
 /// than a module may be.
 ///
-/// Errors: `Read` where a file can't be opened or read, and `NoMemory`.
+/// Errors: `Unread` with the first plugin whose file can't be opened or read, and `NoMemory`.
 pub fn modules_in<F: Files>(
     alloc: Global,
     specs: &[Spec<'_>],
     files: &mut F,
-) -> Result<Vec<Vec<u8>>, RunFault>
+) -> Result<Vec<Vec<u8>>, Fault>
     requires { F.failure_count files.old < 10 ^ 18 }
     ensures modules { IfOk result (λ modules. AreFromFiles (F.contents files.old) (map syntax_of specs.now) (map (λ m. m.items) modules.items)) }
-    ensures faults { IfErr result (λ e. (e ≡ RunFault.Read) ⊎ (e ≡ RunFault.NoMemory)) }
-    ensures failed { IfErr result (λ e. e ≡ RunFault.Read → F.failure_count files.old < F.failure_count files.new) }
-    ensures wanting { IfErr result (λ e. e ≡ RunFault.NoMemory → F.failure_count files.new ≡ F.failure_count files.old) }
+    ensures failed { IfErr result (WhyNoModules (map syntax_of specs.now) (F.failure_count files.old) (F.failure_count files.new)) }
     ensures read { OnOk result (F.failure_count files.new ≡ F.failure_count files.old) }
 {
     let mut modules = Vec::new(alloc);
     for place in 0..specs.len() {
-        let module = files.read_front(alloc, specs[place].file, LONGEST + 1)?;
+        let module = module_in(alloc, &specs[place], files)?;
         if modules.push(module).is_err() {
-            return Err(RunFault::NoMemory);
+            return Err(NO_MEMORY);
         }
     }
     Ok(modules)
+}
+
+// The module of a plugin, as its file has it.
+fn module_in<F: Files>(alloc: Global, spec: &Spec<'_>, files: &mut F) -> Result<Vec<u8>, Fault>
+    requires { F.failure_count files.old < 10 ^ 18 }
+    ensures front { IfOk result (λ bytes. IfSome (F.contents files.old spec.now.file.now) (λ whole. bytes.items ≡ front_of whole)) }
+    ensures failed { IfErr result (WhyNoModule spec.now.name (F.failure_count files.old) (F.failure_count files.new)) }
+    ensures read { OnOk result (F.failure_count files.new ≡ F.failure_count files.old) }
+    ensures same { F.contents files.new ≡ F.contents files.old }
+{
+    match files.read_front(alloc, spec.file, LONGEST + 1) {
+        Ok(bytes) => Ok(bytes),
+        Err(RunFault::NoMemory) => Err(NO_MEMORY),
+        Err(_) => Err(Fault::Unread(spec.name.copied())),
+    }
 }

@@ -1,10 +1,10 @@
 //! A run of a script, by the rules of a site's plugins.
-ghost use Rattle.std.specs.Prelude.{◌≡◌, ◌≢◌, ◌⊎◌, ◌^◌, ◌<◌, None, IfOk, length, map};
+ghost use Rattle.std.specs.Prelude.{◌≡◌, ◌≢◌, ◌^◌, ◌<◌, None, IfOk, length, map};
 ghost use Rattle.engine.specs.Device.{use_of};
 ghost use Rattle.command.specs.Within.{IsPlan};
 ghost use Rattle.command.specs.Words.{syntax_of};
 ghost use Rattle.serving.specs.Run.{IsSiteRun, TellsFailures};
-ghost use Rattle.serving.specs.Site.{AreFromFiles, names_of};
+ghost use Rattle.serving.specs.Site.{AreFromFiles, UnreadPlugin, names_of};
 
 use crate::faults::Fault;
 use crate::folder::Files;
@@ -20,12 +20,14 @@ use std::thread::Threads;
 
 /// Reads a script from `source`, decides by the plugins that are planned, whose modules' bytes stand in their order, writes the
 /// answers to `out`, and gives the exit status. A fault goes to `err` as one line, and a failed write of that line changes
-/// nothing. Names are looked up under the keys, which whoever writes the script can't know.
+/// nothing. Names are looked up under the keys, which whoever writes the script can't know. Where it explains, what was decided of
+/// each node stands before a cycle's line.
 pub fn serve<T: Wait + Threads + Copy + Send + Sync + 'static, R: Source, W: Sink, E: Sink>(
     rt: &T,
     alloc: Global,
     keys: RandomState,
     plan: &Plan<'_>,
+    explains: bool,
     modules: &[Vec<u8>],
     source: &mut R,
     out: &mut W,
@@ -37,10 +39,10 @@ pub fn serve<T: Wait + Threads + Copy + Send + Sync + 'static, R: Source, W: Sin
     requires writes { W.failure_count out.old < 10 ^ 18 }
     requires tells { E.failure_count err.old < 10 ^ 18 }
     requires finite { R.bytes_left source.old < 2 ^ 64 }
-    ensures run { IsSiteRun (λ given. given ≡ map (λ m. m.items) modules.now) (map syntax_of plan.now.specs.items)
+    ensures run { IsSiteRun explains (λ given. given ≡ map (λ m. m.items) modules.now) (map syntax_of plan.now.specs.items)
         (use_of R.remaining R.failure_count source.old source.new) (use_of W.written W.failure_count out.old out.new)
         (use_of E.written E.failure_count err.old err.new) result }
-    ensures failures { TellsFailures (source.new ≡ source.old) ⊥ (use_of R.remaining R.failure_count source.old source.new)
+    ensures failures { TellsFailures (source.new ≡ source.old) ⊥ (λ _. ⊥) (use_of R.remaining R.failure_count source.old source.new)
         (use_of W.written W.failure_count out.old out.new) (use_of E.written E.failure_count err.old err.new) result }
 {
     let kits = match site_kits(alloc, plan.specs.as_slice(), modules, plan.workers) {
@@ -50,7 +52,16 @@ pub fn serve<T: Wait + Threads + Copy + Send + Sync + 'static, R: Source, W: Sin
     let Ok(names) = names_in(alloc, plan.specs.as_slice()) else {
         return report(Fault::Run(RunFault::NoMemory), err);
     };
-    match run_with_kits(rt, alloc, keys, names.as_slice(), kits, source, out) {
+    match run_with_kits(
+        rt,
+        alloc,
+        keys,
+        names.as_slice(),
+        explains,
+        kits,
+        source,
+        out,
+    ) {
         Ok(()) => 0,
         Err(fault) => report(Fault::Run(fault), err),
     }
@@ -69,8 +80,8 @@ fn names_in(alloc: Global, specs: &[Spec<'_>]) -> Result<Vec<Name>, AllocError>
     Ok(names)
 }
 
-/// Reads the plugins' files and serves a script by them, as `serve` does. That a file can't be read, or that there are no keys,
-/// since the system gave no random bytes, is told as a failed read, and the script isn't read then.
+/// Reads the plugins' files and serves a script by them, as `serve` does. That a file can't be read is told with the name of its
+/// plugin. That there are no keys, since the system gave no random bytes, is told as a failed read. The script isn't read then.
 pub(crate) fn serve_plan<
     T: Wait + Threads + Copy + Send + Sync + 'static,
     F: Files,
@@ -82,6 +93,7 @@ pub(crate) fn serve_plan<
     alloc: Global,
     keys: Option<RandomState>,
     plan: &Plan<'_>,
+    explains: bool,
     files: &mut F,
     source: &mut R,
     out: &mut W,
@@ -93,10 +105,11 @@ pub(crate) fn serve_plan<
     requires writes { W.failure_count out.old < 10 ^ 18 }
     requires tells { E.failure_count err.old < 10 ^ 18 }
     requires finite { R.bytes_left source.old < 2 ^ 64 }
-    ensures run { IsSiteRun (AreFromFiles (F.contents files.old) (map syntax_of plan.now.specs.items)) (map syntax_of plan.now.specs.items)
+    ensures run { IsSiteRun explains (AreFromFiles (F.contents files.old) (map syntax_of plan.now.specs.items)) (map syntax_of plan.now.specs.items)
         (use_of R.remaining R.failure_count source.old source.new) (use_of W.written W.failure_count out.old out.new)
         (use_of E.written E.failure_count err.old err.new) result }
-    ensures failures { TellsFailures (source.new ≡ source.old) ((keys ≡ None) ⊎ (F.failure_count files.old < F.failure_count files.new))
+    ensures failures { TellsFailures (source.new ≡ source.old) (keys ≡ None)
+        (UnreadPlugin (map syntax_of plan.now.specs.items) (F.failure_count files.old) (F.failure_count files.new))
         (use_of R.remaining R.failure_count source.old source.new) (use_of W.written W.failure_count out.old out.new)
         (use_of E.written E.failure_count err.old err.new) result }
 
@@ -107,7 +120,17 @@ pub(crate) fn serve_plan<
         return report(Fault::Run(RunFault::Read), err);
     };
     match modules_in(alloc, plan.specs.as_slice(), files) {
-        Ok(modules) => serve(rt, alloc, keys, plan, modules.as_slice(), source, out, err),
-        Err(fault) => report(Fault::Run(fault), err),
+        Ok(modules) => serve(
+            rt,
+            alloc,
+            keys,
+            plan,
+            explains,
+            modules.as_slice(),
+            source,
+            out,
+            err,
+        ),
+        Err(unread) => report(unread, err),
     }
 }

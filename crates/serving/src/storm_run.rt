@@ -1,10 +1,10 @@
 //! A storm of a script, by the rules of a site's plugins.
-ghost use Rattle.std.specs.Prelude.{◌≡◌, ◌≢◌, ◌⊎◌, ◌∷◌, [], ◌^◌, ◌<◌, ⊤, None, IfOk, length, map};
+ghost use Rattle.std.specs.Prelude.{◌≡◌, ◌≢◌, ◌∷◌, [], ◌^◌, ◌<◌, ⊤, None, IfOk, length, map};
 ghost use Rattle.engine.specs.Device.{use_of};
 ghost use Rattle.command.specs.Within.{IsStormPlan};
 ghost use Rattle.command.specs.Words.{syntax_of};
 ghost use Rattle.serving.specs.Run.{TellsFailures};
-ghost use Rattle.serving.specs.Site.{AreFromFiles};
+ghost use Rattle.serving.specs.Site.{AreFromFiles, UnreadPlugin};
 ghost use Rattle.serving.specs.Storm.{IsSiteStorm, audit_status};
 
 use crate::faults::Fault;
@@ -44,7 +44,7 @@ pub fn serve_storm<T: Wait + Threads + Sync, R: Source, W: Sink, E: Sink>(
     ensures storm { IsSiteStorm (λ given. given ≡ map (λ m. m.items) modules.now) (map syntax_of plan.now.specs.items) plan.now.cycles plan.now.binders
         (use_of R.remaining R.failure_count source.old source.new) (use_of W.written W.failure_count out.old out.new)
         (use_of E.written E.failure_count err.old err.new) result }
-    ensures failures { TellsFailures ⊤ ⊥ (use_of R.remaining R.failure_count source.old source.new)
+    ensures failures { TellsFailures ⊤ ⊥ (λ _. ⊥) (use_of R.remaining R.failure_count source.old source.new)
         (use_of W.written W.failure_count out.old out.new) (use_of E.written E.failure_count err.old err.new) result }
 {
     let kits = match site_kits(alloc, plan.specs.as_slice(), modules, plan.cycles) {
@@ -92,8 +92,9 @@ fn deciders_of(alloc: Global, kits: Vec<KitRules>) -> Result<Vec<Fleet<KitRules>
     Ok(deciders)
 }
 
-/// Reads the plugins' files and makes a storm of a script by them, as `serve_storm` does. That a file can't be read, or that
-/// there are no keys, since the system gave no random bytes, is told as a failed read, and the script isn't read then.
+/// Reads the plugins' files and makes a storm of a script by them, as `serve_storm` does. That a file can't be read is told with
+/// the name of its plugin. That there are no keys, since the system gave no random bytes, is told as a failed read. The script
+/// isn't read then.
 pub(crate) fn storm_plan<T: Wait + Threads + Sync, F: Files, R: Source, W: Sink, E: Sink>(
     rt: &T,
     alloc: Global,
@@ -113,7 +114,8 @@ pub(crate) fn storm_plan<T: Wait + Threads + Sync, F: Files, R: Source, W: Sink,
     ensures storm { IsSiteStorm (AreFromFiles (F.contents files.old) (map syntax_of plan.now.specs.items)) (map syntax_of plan.now.specs.items)
         plan.now.cycles plan.now.binders (use_of R.remaining R.failure_count source.old source.new)
         (use_of W.written W.failure_count out.old out.new) (use_of E.written E.failure_count err.old err.new) result }
-    ensures failures { TellsFailures ⊤ ((keys ≡ None) ⊎ (F.failure_count files.old < F.failure_count files.new))
+    ensures failures { TellsFailures ⊤ (keys ≡ None)
+        (UnreadPlugin (map syntax_of plan.now.specs.items) (F.failure_count files.old) (F.failure_count files.new))
         (use_of R.remaining R.failure_count source.old source.new) (use_of W.written W.failure_count out.old out.new)
         (use_of E.written E.failure_count err.old err.new) result }
 
@@ -125,6 +127,6 @@ pub(crate) fn storm_plan<T: Wait + Threads + Sync, F: Files, R: Source, W: Sink,
     };
     match modules_in(alloc, plan.specs.as_slice(), files) {
         Ok(modules) => serve_storm(rt, alloc, keys, plan, modules.as_slice(), source, out, err),
-        Err(fault) => report(Fault::Run(fault), err),
+        Err(unread) => report(unread, err),
     }
 }

@@ -77,7 +77,7 @@ fn a_file_is_checked(rt: HostRuntime) -> Result<(), Fail> {
             0,
             2,
             "",
-            "wsched: 1 BadWords; usage: wsched run [--workers N] [SPEC]... or wsched storm [--cycles C] [--binders B] [--flaky] [SPEC]... or wsched check MODULE; a SPEC is NAME:WEIGHT:FUEL:FILE\n",
+            "wsched: 1 BadWords; usage: wsched run [--workers N] [SPEC]... or wsched explain [--workers N] [SPEC]... or wsched storm [--cycles C] [--binders B] [--flaky] [SPEC]... or wsched check MODULE; a SPEC is NAME:WEIGHT:FUEL:FILE\n",
         ),
         (
             [].as_slice(),
@@ -85,7 +85,7 @@ fn a_file_is_checked(rt: HostRuntime) -> Result<(), Fail> {
             0,
             2,
             "",
-            "wsched: 1 BadWords COMMAND; usage: wsched run [--workers N] [SPEC]... or wsched storm [--cycles C] [--binders B] [--flaky] [SPEC]... or wsched check MODULE; a SPEC is NAME:WEIGHT:FUEL:FILE\n",
+            "wsched: 1 BadWords COMMAND; usage: wsched run [--workers N] [SPEC]... or wsched explain [--workers N] [SPEC]... or wsched storm [--cycles C] [--binders B] [--flaky] [SPEC]... or wsched check MODULE; a SPEC is NAME:WEIGHT:FUEL:FILE\n",
         ),
     ];
     for (args, module, bad_write, status, out, err) in rows {

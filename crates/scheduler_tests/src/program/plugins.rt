@@ -132,7 +132,7 @@ fn plugins_are_asked_in_their_order(rt: HostRuntime) -> Result<(), Fail> {
         ),
     ];
     for (name, plugins, script, out) in rows {
-        assert_answers(&rt, rt.alloc(), keys, plugins, script, out, name)?;
+        assert_answers(&rt, rt.alloc(), keys, false, plugins, script, out, name)?;
     }
     remove_files(&rt, &ASKED)?;
     Ok(())
@@ -186,42 +186,46 @@ fn a_fault_of_plugins_is_told_before_the_script_is_read(rt: HostRuntime) -> Resu
             1,
             "wsched: plugin r: refused instance 4 StartExhausted\n",
         ),
-        (["r:1:1:missing.wasm"].as_slice(), 4, "wsched: 3 Read\n"),
-        (["r:1:1:"].as_slice(), 4, "wsched: 3 Read\n"),
+        (
+            ["r:1:1:missing.wasm"].as_slice(),
+            4,
+            "wsched: plugin r: 3 Read\n",
+        ),
+        (["r:1:1:"].as_slice(), 4, "wsched: plugin r: 3 Read\n"),
         (
             ["r:1:1:missing.wasm", "r:1:1:broken.wasm"].as_slice(),
             2,
-            "wsched: 1 BadWords; usage: wsched run [--workers N] [SPEC]... or wsched storm [--cycles C] [--binders B] [--flaky] [SPEC]... or wsched check MODULE; a SPEC is NAME:WEIGHT:FUEL:FILE\n",
+            "wsched: 1 BadWords; usage: wsched run [--workers N] [SPEC]... or wsched explain [--workers N] [SPEC]... or wsched storm [--cycles C] [--binders B] [--flaky] [SPEC]... or wsched check MODULE; a SPEC is NAME:WEIGHT:FUEL:FILE\n",
         ),
         (
             ["r:0:1:missing.wasm"].as_slice(),
             2,
-            "wsched: 1 BadWords WEIGHT of word 2; usage: wsched run [--workers N] [SPEC]... or wsched storm [--cycles C] [--binders B] [--flaky] [SPEC]... or wsched check MODULE; a SPEC is NAME:WEIGHT:FUEL:FILE\n",
+            "wsched: 1 BadWords WEIGHT of word 2; usage: wsched run [--workers N] [SPEC]... or wsched explain [--workers N] [SPEC]... or wsched storm [--cycles C] [--binders B] [--flaky] [SPEC]... or wsched check MODULE; a SPEC is NAME:WEIGHT:FUEL:FILE\n",
         ),
         (
             ["r:11:1:missing.wasm"].as_slice(),
             2,
-            "wsched: 1 BadWords WEIGHT of word 2; usage: wsched run [--workers N] [SPEC]... or wsched storm [--cycles C] [--binders B] [--flaky] [SPEC]... or wsched check MODULE; a SPEC is NAME:WEIGHT:FUEL:FILE\n",
+            "wsched: 1 BadWords WEIGHT of word 2; usage: wsched run [--workers N] [SPEC]... or wsched explain [--workers N] [SPEC]... or wsched storm [--cycles C] [--binders B] [--flaky] [SPEC]... or wsched check MODULE; a SPEC is NAME:WEIGHT:FUEL:FILE\n",
         ),
         (
             ["r:1:0:missing.wasm"].as_slice(),
             2,
-            "wsched: 1 BadWords FUEL of word 2; usage: wsched run [--workers N] [SPEC]... or wsched storm [--cycles C] [--binders B] [--flaky] [SPEC]... or wsched check MODULE; a SPEC is NAME:WEIGHT:FUEL:FILE\n",
+            "wsched: 1 BadWords FUEL of word 2; usage: wsched run [--workers N] [SPEC]... or wsched explain [--workers N] [SPEC]... or wsched storm [--cycles C] [--binders B] [--flaky] [SPEC]... or wsched check MODULE; a SPEC is NAME:WEIGHT:FUEL:FILE\n",
         ),
         (
             ["r:1:1:broken.wasm", "--workers", "65"].as_slice(),
             2,
-            "wsched: 1 BadWords N of word 4; usage: wsched run [--workers N] [SPEC]... or wsched storm [--cycles C] [--binders B] [--flaky] [SPEC]... or wsched check MODULE; a SPEC is NAME:WEIGHT:FUEL:FILE\n",
+            "wsched: 1 BadWords N of word 4; usage: wsched run [--workers N] [SPEC]... or wsched explain [--workers N] [SPEC]... or wsched storm [--cycles C] [--binders B] [--flaky] [SPEC]... or wsched check MODULE; a SPEC is NAME:WEIGHT:FUEL:FILE\n",
         ),
         (
             ["r:1:1:broken.wasm", "--help"].as_slice(),
             2,
-            "wsched: 1 BadWords SPEC of word 3; usage: wsched run [--workers N] [SPEC]... or wsched storm [--cycles C] [--binders B] [--flaky] [SPEC]... or wsched check MODULE; a SPEC is NAME:WEIGHT:FUEL:FILE\n",
+            "wsched: 1 BadWords SPEC of word 3; usage: wsched run [--workers N] [SPEC]... or wsched explain [--workers N] [SPEC]... or wsched storm [--cycles C] [--binders B] [--flaky] [SPEC]... or wsched check MODULE; a SPEC is NAME:WEIGHT:FUEL:FILE\n",
         ),
         (
-            ["r:1:1:broken.wasm", "s:1:1:missing.wasm"].as_slice(),
+            ["r:1:1:broken.wasm", "s:1:1:missing.wasm", "t:1:1:gone.wasm"].as_slice(),
             4,
-            "wsched: 3 Read\n",
+            "wsched: plugin s: 3 Read\n",
         ),
         (
             ["r:1:1:importing.wasm", "s:1:1:broken.wasm"].as_slice(),

@@ -324,7 +324,7 @@ fn scripts_are_answered_alike_by_any_number_of_workers(rt: HostRuntime) -> Resul
         ),
     ];
     for (name, script, out) in rows {
-        assert_answers(&rt, rt.alloc(), keys, &[], script, out, name)?;
+        assert_answers(&rt, rt.alloc(), keys, false, &[], script, out, name)?;
     }
     Ok(())
 }

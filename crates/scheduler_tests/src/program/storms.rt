@@ -149,7 +149,7 @@ fn a_storm_that_fails_writes_nothing(rt: HostRuntime) -> Result<(), Fail> {
                 plugins: &["r:1:1:nowhere.wasm"],
                 ..storm
             },
-            (4, "", "wsched: 3 Read\n"),
+            (4, "", "wsched: plugin r: 3 Read\n"),
         ),
         (
             "a read fails",
@@ -176,7 +176,7 @@ fn a_storm_that_fails_writes_nothing(rt: HostRuntime) -> Result<(), Fail> {
             (
                 2,
                 "",
-                "wsched: 1 BadWords C of word 3; usage: wsched run [--workers N] [SPEC]... or wsched storm [--cycles C] [--binders B] [--flaky] [SPEC]... or wsched check MODULE; a SPEC is NAME:WEIGHT:FUEL:FILE\n",
+                "wsched: 1 BadWords C of word 3; usage: wsched run [--workers N] [SPEC]... or wsched explain [--workers N] [SPEC]... or wsched storm [--cycles C] [--binders B] [--flaky] [SPEC]... or wsched check MODULE; a SPEC is NAME:WEIGHT:FUEL:FILE\n",
             ),
         ),
     ];

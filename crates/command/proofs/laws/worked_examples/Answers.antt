@@ -36,6 +36,10 @@ returns c = record {
   one_name_twice = refl;
   most_plugins = refl;
   too_many_plugins = refl;
+  an_explanation = refl;
+  explained_by_workers = refl;
+  explained_by_too_many = refl;
+  one_name_twice_in_an_explanation = refl;
   a_storm = refl;
   most_threads = refl;
   a_flaky_storm = refl;
@@ -82,4 +86,5 @@ returns c = record {
   of_flaky_twice = refl;
   of_workers_of_a_storm = refl;
   of_cycles_of_a_run = refl;
+  of_an_explanation = refl;
 }

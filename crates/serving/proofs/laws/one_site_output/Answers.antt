@@ -1,4 +1,4 @@
-use Rattle.serving.proofs.SameSite.{files_give_modules, one_site_output, site_fronts_agree, site_fronts_begin}
+use Rattle.serving.proofs.SameSite.{files_give_modules, one_site_output, site_explained, site_fronts_agree, site_fronts_begin, site_plain}
 use Rattle.serving.proofs.laws.one_site_output.Goals as goal
 
 pub returns-clause-whole : goal.returns-clause-whole
@@ -12,3 +12,9 @@ returns-clause-fronts c = site_fronts_agree c.one_module.ensures c.one_image.ens
 
 pub returns-clause-files : goal.returns-clause-files
 returns-clause-files c = files_give_modules
+
+pub returns-clause-explained : goal.returns-clause-explained
+returns-clause-explained c = site_explained
+
+pub returns-clause-plain : goal.returns-clause-plain
+returns-clause-plain c = site_plain

@@ -16,7 +16,7 @@ returns-in-Err-clause-storm g c =
 
 pub returns-in-Err-clause-failures : goal.returns-in-Err-clause-failures
 returns-in-Err-clause-failures g c =
-    no_site_told _ _ _ _ _ _ _ _ c.in-Err.refused c.in-Err.ensures.refused c.report.ensures.status c.report.ensures.told refl refl
+    no_site_told _ _ (λ _. ⊥) _ _ _ _ _ _ c.in-Err.refused c.in-Err.ensures.refused c.report.ensures.status c.report.ensures.told refl refl
 
 -- ---- there is no room for those that decide
 
@@ -24,7 +24,7 @@ pub returns-in_default-clause-storm : goal.returns-in_default-clause-storm
 returns-in_default-clause-storm g c = storm_not_begun _ _ _ _ _ _ _ _ (inl c.report-in_default.ensures.status) refl
 
 pub returns-in_default-clause-failures : goal.returns-in_default-clause-failures
-returns-in_default-clause-failures g c = told _ _ _ _ _ _ (Run NoMemory) c.report-in_default.ensures.status c.report-in_default.ensures.told (refl, refl)
+returns-in_default-clause-failures g c = told _ _ (λ _. ⊥) _ _ _ _ (Run NoMemory) c.report-in_default.ensures.status c.report-in_default.ensures.told (refl, refl)
 
 -- ---- the audit answered
 
@@ -37,7 +37,7 @@ returns-in-Ok-storm_by-clause-storm g c =
 
 pub returns-in-Ok-storm_by-clause-failures : goal.returns-in-Ok-storm_by-clause-failures
 returns-in-Ok-storm_by-clause-failures g c =
-    audit_told _ _ _ _ _ _ c.in-Ok-storm_by.is_right c.status_for.ensures refl (c.in-Ok-storm_by.ensures.read_told (λ e. cc)) (c.in-Ok-storm_by.ensures.write_told (λ e. cc))
+    audit_told _ _ (λ _. ⊥) _ _ _ _ c.in-Ok-storm_by.is_right c.status_for.ensures refl (c.in-Ok-storm_by.ensures.read_told (λ e. cc)) (c.in-Ok-storm_by.ensures.write_told (λ e. cc))
 
 -- ---- it did not
 
@@ -49,5 +49,5 @@ returns-in-Err-storm_by-clause-storm g c =
 
 pub returns-in-Err-storm_by-clause-failures : goal.returns-in-Err-storm_by-clause-failures
 returns-in-Err-storm_by-clause-failures g c =
-    told _ _ _ _ _ _ (Run c.in-Err-storm_by.fault) c.report-in-Err-storm_by.ensures.status c.report-in-Err-storm_by.ensures.told
-    (besides_storm _ (λ d. d.kits) c.in-Ok-deciders_of.deciders.items c.args.plan.now.binders _ _ c.in-Err-storm_by.fault c.in-Err-storm_by.ensures)
+    told _ _ (λ _. ⊥) _ _ _ _ (Run c.in-Err-storm_by.fault) c.report-in-Err-storm_by.ensures.status c.report-in-Err-storm_by.ensures.told
+    (besides_storm _ (λ _. ⊥) (λ d. d.kits) c.in-Ok-deciders_of.deciders.items c.args.plan.now.binders _ _ c.in-Err-storm_by.fault c.in-Err-storm_by.ensures)

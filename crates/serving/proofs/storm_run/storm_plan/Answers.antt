@@ -1,9 +1,7 @@
-use Rattle.std.proofs.Common.{◌≡◌, ◌∙◌, ℕ, List, map, inl, inr, refl, sym, subst, ap}
+use Rattle.std.proofs.Common.{◌≡◌, ◌∙◌, ℕ, List, map, inl, inr, refl, sym, subst}
 use Rattle.command.specs.Words.{syntax_of}
-use Rattle.serving.specs.declared.faults.Fault.TheVariants.{Run}
-use Rattle.serving.specs.Fault.{status_of}
 use Rattle.serving.specs.Site.{AreFromFiles}
-use Rattle.serving.proofs.Ends.{failures_given}
+use Rattle.serving.proofs.Ends.{failures_given, modules_status, no_file_failed, no_modules_told}
 use Rattle.serving.proofs.Sites.{many_modules}
 use Rattle.serving.proofs.StormEnds.{storm_given, storm_not_begun}
 use Rattle.serving.proofs.storm_run.storm_plan.Goals as goal
@@ -31,12 +29,26 @@ returns-in-Ok-clause-storm g c =
     storm_given _ _ _ _ _ _ _ _ _ weaker c.serve_storm.ensures.storm
 
 pub returns-in-Ok-clause-failures : goal.returns-in-Ok-clause-failures
-returns-in-Ok-clause-failures g c = failures_given _ _ _ _ _ _ _ (λ none. absurd none) c.serve_storm.ensures.failures
+returns-in-Ok-clause-failures g c = failures_given _ _ _ (λ _. ⊥) _ _ _ _ _ (λ none. absurd none) (λ name none. absurd none) c.serve_storm.ensures.failures
 
 -- ---- they weren't
 
 pub returns-in-Err-clause-storm : goal.returns-in-Err-clause-storm
-returns-in-Err-clause-storm g c = elim c.in-Err.ensures.faults [
-  | inl read ↦ storm_not_begun _ _ _ _ _ _ _ _ (inr (c.report-in-Err.ensures.status ∙ ap (λ f. status_of (Run f)) read)) refl
-  | inr memory ↦ storm_not_begun _ _ _ _ _ _ _ _ (inl (c.report-in-Err.ensures.status ∙ ap (λ f. status_of (Run f)) memory)) refl
-]
+returns-in-Err-clause-storm g c =
+    let why = rw c.as_slice.ensures.value at c.in-Err.ensures.failed in
+    elim (modules_status (map syntax_of c.args.plan.now.specs.items) (g.F.Files.failure_count c.args.files.now) (g.F.Files.failure_count c.modules_in.new.files) c.in-Err.unread why) [
+      | inl memory ↦ storm_not_begun _ _ _ _ _ _ _ _ (inl (c.report-in-Err.ensures.status ∙ memory)) refl
+      | inr unread ↦ storm_not_begun _ _ _ _ _ _ _ _ (inr (c.report-in-Err.ensures.status ∙ unread)) refl
+    ]
+
+pub returns-in-Err-clause-failures : goal.returns-in-Err-clause-failures
+returns-in-Err-clause-failures g c =
+    let why = rw c.as_slice.ensures.value at c.in-Err.ensures.failed in
+    no_modules_told _ _ _ _ _ _ (map syntax_of c.args.plan.now.specs.items) (g.F.Files.failure_count c.args.files.now) (g.F.Files.failure_count c.modules_in.new.files) c.in-Err.unread why
+    c.report-in-Err.ensures.status c.report-in-Err.ensures.told refl refl refl refl
+
+pub returns-in-Err-clause-files_told : goal.returns-in-Err-clause-files_told
+returns-in-Err-clause-files_told g c = λ other.
+    let why = rw c.as_slice.ensures.value at c.in-Err.ensures.failed in
+    no_file_failed (map syntax_of c.args.plan.now.specs.items) (g.F.Files.failure_count c.args.files.now) (g.F.Files.failure_count c.modules_in.new.files) c.in-Err.unread why
+    (λ four. other (c.report-in-Err.ensures.status ∙ four))

@@ -1,0 +1,274 @@
+-- The lines of the output are whole lines: those of nodes are indented, and the others aren't.
+use Rattle.std.proofs.Common.{◌≡◌, ℕ, ◌==◌, ◌&&◌, Bool, true, false, not, List, [], ◌∷◌, ◌++◌, Result, Ok, Err, OnOk, IsTrue, refl, sym, subst, ap, codes, decimal, slice_index_or}
+use Rattle.std.specs.List.{list_all}
+use Rattle.quant.specs.Name.{is_name}
+use Rattle.quant.specs.declared.name.Name.{Name}
+use Rattle.quant.specs.declared.amount.Res.{Res}
+use Rattle.quant.specs.declared.objects.Node.{Node}
+use Rattle.book.specs.declared.refusal.Refusal.{Refusal}
+use Rattle.book.specs.declared.refusal.Refusal.TheVariants as refusal
+use Rattle.book.specs.Refusal as book
+use Rattle.wmach.specs.declared.outcome.Trap.{Trap}
+use Rattle.wmach.specs.declared.outcome.Trap.TheVariants as traps
+use Rattle.wmach.specs.Trap as trap
+use Rattle.plugin.specs.declared.verdict.Cause.{Cause}
+use Rattle.plugin.specs.declared.verdict.Cause.TheVariants as cause
+use Rattle.choose.specs.declared.decision.Counts.{Counts}
+use Rattle.choose.specs.declared.decision.Reason.{Reason}
+use Rattle.choose.specs.declared.decision.Reason.TheVariants as reason
+use Rattle.choose.specs.declared.decision.Verdict.{Verdict}
+use Rattle.choose.specs.declared.decision.Verdict.TheVariants as verdict
+use Rattle.choose.specs.Choice.{Judged, total}
+use Rattle.desk.specs.declared.step.Reply.{Reply}
+use Rattle.desk.specs.declared.step.Reply.TheVariants as replies
+use Rattle.engine.specs.Lines.{IsLine}
+use Rattle.engine.specs.Indented.{is_indented, AreLines}
+use Rattle.engine.specs.Text.{line_of, share_text, node_line, counts, ok_line, idle_line, refused_line, places_line, queue_line, clock_line, assumed_line, reasons_text, unschedulable_line, cause_text, error_line, lost_line}
+use Rattle.engine.specs.Telling.{reason_text, code_of, verdict_text, verdict_line}
+use Rattle.desk.specs.Machine as machine
+use Rattle.desk.specs.declared.step.Step.{Step}
+use Rattle.desk.specs.declared.step.Step.TheVariants as steps
+use Rattle.engine.specs.Answers.{State, look_lines, reply_lines, snapshot_lines, text_of}
+use Rattle.engine.proofs.Indented.{IsLine-by, IsLine-both, IsLine-decimal, IsLine-signed, IsLine-name, is_flush, name_is_flush, not_true, one_line, more_lines, no_lines, stands_in_line}
+
+-- what holds anyway holds where a result is good
+pub always : {T E P : Type 0} (r : Result T E) → P → OnOk r P
+always (Ok x) p = p
+always (Err e) p = tt
+
+-- where a result is good, what follows from something follows
+pub on_ok : {T E P Q : Type 0} (r : Result T E) → (P → Q) → OnOk r P → OnOk r Q
+on_ok (Ok x) f p = f p
+on_ok (Err e) f p = tt
+
+-- ---- parts of lines
+
+-- a part of a line has no newline, and where it stands in front it is flush
+record Part (front : Bool) (text : List ℕ) : Type 0 where
+  is : IsLine text
+  flush : front ≡ true → is_flush text ≡ true
+
+flush_more : (one other : List ℕ) → is_flush one ≡ true → is_flush (one ++ other) ≡ true
+flush_more [] other e = absurd (cc)
+flush_more (b ∷ one) other e = e
+
+-- a part, and one behind it
+infixl 64 ◌&◌
+◌&◌ : {front behind : Bool} {one other : List ℕ} → Part front one → Part behind other → Part front (one ++ other)
+◌&◌ {one = one} {other = other} a b = record { is = IsLine-both one other a.is b.is; flush = λ e. flush_more one other (a.flush e) }
+
+-- words of ours
+front : (text : List ℕ) → list_all stands_in_line text ≡ true → is_flush text ≡ true → Part true text
+front text stands flush = record { is = IsLine-by text stands; flush = λ e. flush }
+
+words : (text : List ℕ) → list_all stands_in_line text ≡ true → Part false text
+words text stands = record { is = IsLine-by text stands; flush = λ e. absurd (cc) }
+
+behind : {text : List ℕ} → IsLine text → Part false text
+behind is = record { is = is; flush = λ e. absurd (cc) }
+
+number : (n : ℕ) → Part false (decimal n)
+number n = behind (IsLine-decimal n)
+
+-- a name in front, and one that stands behind something
+named : (name : List ℕ) → IsTrue (is_name name) → Part true name
+named name is = record { is = IsLine-name name is; flush = λ e. name_is_flush name is }
+
+name_behind : (name : List ℕ) → IsTrue (is_name name) → Part false name
+name_behind name is = behind (IsLine-name name is)
+
+-- ---- lines of them
+
+flush_line : (text : List ℕ) → is_flush text ≡ true → is_indented text ≡ false
+flush_line [] e = absurd (cc)
+flush_line (b ∷ []) e = refl
+flush_line (b ∷ c ∷ text) e = ap (λ t. t && (c == 32)) (not_true (b == 32) e)
+
+line : {text : List ℕ} → Part true text → AreLines false (line_of text)
+line {text = text} part = one_line false text part.is (flush_line text (part.flush refl))
+
+-- ---- what stands in them
+
+-- counts behind a label each
+counted : {one : Bool} (first : List ℕ) (m : ℕ) (second : List ℕ) (n : ℕ) → Part one first → Part false second → Part one (counts first m second n)
+unfolding counts
+counted first m second n a b = a & number m & b & number n
+
+share : (used whole : ℕ) → Part false (share_text used whole)
+unfolding share_text
+share used whole = number used & words (codes "/") refl & number whole
+
+refusal_name : (why : Refusal) → Part false (book.name_of why)
+refusal_name refusal.Old = words (codes "Old") refl
+refusal_name refusal.Full = words (codes "Full") refl
+refusal_name refusal.NotInFlight = words (codes "NotInFlight") refl
+refusal_name refusal.Placed = words (codes "Placed") refl
+refusal_name refusal.NoNode = words (codes "NoNode") refl
+refusal_name refusal.NoRoom = words (codes "NoRoom") refl
+refusal_name refusal.StaleTicket = words (codes "StaleTicket") refl
+refusal_name refusal.Gone = words (codes "Gone") refl
+refusal_name refusal.ClockBack = words (codes "ClockBack") refl
+refusal_name refusal.Known = words (codes "Known") refl
+refusal_name refusal.Confirmed = words (codes "Confirmed") refl
+
+trap_name : (why : Trap) → Part false (trap.name_of why)
+trap_name traps.Unreachable = words (codes "Unreachable") refl
+trap_name traps.DivideByZero = words (codes "DivideByZero") refl
+trap_name traps.IntegerOverflow = words (codes "IntegerOverflow") refl
+trap_name traps.MemoryOutOfBounds = words (codes "MemoryOutOfBounds") refl
+trap_name traps.UndefinedElement = words (codes "UndefinedElement") refl
+trap_name traps.UninitializedElement = words (codes "UninitializedElement") refl
+trap_name traps.SignatureMismatch = words (codes "SignatureMismatch") refl
+trap_name traps.CallDepth = words (codes "CallDepth") refl
+trap_name traps.HostOutOfBounds = words (codes "HostOutOfBounds") refl
+trap_name traps.NoRecord = words (codes "NoRecord") refl
+
+cause_of : (why : Cause) → Part false (cause_text why)
+unfolding cause_text
+cause_of (cause.Code code) = words (codes "code ") refl & behind (IsLine-signed code)
+cause_of (cause.Score score) = words (codes "score ") refl & behind (IsLine-signed score)
+cause_of (cause.Trap why) = words (codes "trap ") refl & number (trap.number_of why) & words (codes " ") refl & trap_name why
+cause_of cause.Exhausted = words (codes "exhausted") refl
+
+pairs : (first : List ℕ) (m : ℕ) (second : List ℕ) (n : ℕ) → list_all stands_in_line first ≡ true → list_all stands_in_line second ≡ true → Part false (counts first m second n)
+pairs first m second n one other = counted first m second n (words first one) (words second other)
+
+reasons : (n : Counts) → Part false (reasons_text n)
+unfolding reasons_text
+reasons n =
+    pairs (codes " marked ") n.marked (codes " taint ") n.taint refl refl
+    & pairs (codes " cpu ") n.cpu (codes " memory ") n.memory refl refl
+    & pairs (codes " pods ") n.pods (codes " plugin ") n.plugin refl refl
+    & words (codes " final ") refl
+    & number n.plugin_final
+
+-- ---- the lines that answer a step
+
+ok_lines : AreLines false ok_line
+ok_lines = line (front (codes "ok") refl refl)
+
+refused_lines : (why : Refusal) → AreLines false (refused_line why)
+unfolding refused_line
+refused_lines why = line (front (codes "refused ") refl refl & number (book.number_of why) & words (codes " ") refl & refusal_name why)
+
+places_lines : (bound assumed : ℕ) → AreLines false (places_line bound assumed)
+places_lines bound assumed = line (counted (codes "places bound ") bound (codes " assumed ") assumed (front (codes "places bound ") refl refl) (words (codes " assumed ") refl))
+
+queue_lines : (active backoff unschedulable inflight : ℕ) → AreLines false (queue_line active backoff unschedulable inflight)
+queue_lines active backoff unschedulable inflight =
+    line
+    (counted (codes "queue active ") active (codes " backoff ") backoff (front (codes "queue active ") refl refl) (words (codes " backoff ") refl)
+    & pairs (codes " unschedulable ") unschedulable (codes " inflight ") inflight refl refl)
+
+clock_lines : (clock version : ℕ) → AreLines false (clock_line clock version)
+clock_lines clock version = line (counted (codes "clock ") clock (codes " version ") version (front (codes "clock ") refl refl) (words (codes " version ") refl))
+
+pub replied_lines : (reply : Reply) → AreLines false (reply_lines reply)
+unfolding reply_lines
+replied_lines replies.Done = ok_lines
+replied_lines replies.Idle = ok_lines
+replied_lines (replies.Popped pod) = ok_lines
+replied_lines (replies.Ticket ticket) = ok_lines
+replied_lines (replies.Counts n) =
+    more_lines false (places_line n.bound n.assumed ++ queue_line n.active n.backoff n.unschedulable n.in_flight) (clock_line n.clock.0 n.version.0)
+    (more_lines false (places_line n.bound n.assumed) (queue_line n.active n.backoff n.unschedulable n.in_flight)
+    (places_lines n.bound n.assumed) (queue_lines n.active n.backoff n.unschedulable n.in_flight))
+    (clock_lines n.clock.0 n.version.0)
+replied_lines (replies.Refused why) = refused_lines why
+
+-- what is shown in front, and the answer
+pub text_lines : (s : State) (step : Step) → AreLines false (look_lines s step) → AreLines false (text_of s step)
+unfolding text_of
+text_lines s step look = more_lines false (look_lines s step) (reply_lines (machine.reply s 0 step)) look (replied_lines (machine.reply s 0 step))
+
+-- what is shown where the desk's numbers are asked for
+pub counted_lines : (s : State) (step : Step) → step ≡ steps.Count → AreLines false (snapshot_lines (machine.snapshot s.cluster)) → AreLines false (look_lines s step)
+counted_lines s step is lines = subst (λ (one : Step). AreLines false (look_lines s one)) (sym is) lines
+
+-- and nothing otherwise
+pub uncounted_lines : (s : State) (step : Step) → (step ≡ steps.Count → ⊥) → AreLines false (look_lines s step)
+uncounted_lines s steps.Count isnt = absurd (isnt refl)
+uncounted_lines s (steps.Event event) isnt = no_lines false
+uncounted_lines s steps.Pop isnt = no_lines false
+uncounted_lines s (steps.Assume uid node) isnt = no_lines false
+uncounted_lines s (steps.BindDone uid ticket) isnt = no_lines false
+uncounted_lines s (steps.Forget uid ticket) isnt = no_lines false
+uncounted_lines s (steps.Fail uid how) isnt = no_lines false
+uncounted_lines s (steps.Tick now) isnt = no_lines false
+
+pub node_lines : (node : Node) (used : Res) → IsTrue (is_name node.name) → AreLines false (node_line node used)
+unfolding node_line
+node_lines node used name =
+    line
+    (front (codes "node ") refl refl
+    & name_behind node.name name
+    & words (codes " cpu ") refl
+    & share used.cpu.0 node.allocatable.cpu.0
+    & words (codes " mem ") refl
+    & share used.mem.0 node.allocatable.mem.0
+    & words (codes " pods ") refl
+    & share used.pods node.allocatable.pods)
+
+-- ---- the line of a cycle
+
+pub idle_lines : AreLines false idle_line
+idle_lines = line (front (codes "idle") refl refl)
+
+pub assumed_lines : (uid node : Name) (total ticket : ℕ) → IsTrue (is_name uid) → IsTrue (is_name node) → AreLines false (assumed_line uid node total ticket)
+unfolding assumed_line
+assumed_lines uid node total ticket one other =
+    line (named uid one & words (codes " on ") refl & name_behind node other & pairs (codes " total ") total (codes " ticket ") ticket refl refl)
+
+pub unschedulable_lines : (uid : Name) (n : Counts) → IsTrue (is_name uid) → AreLines false (unschedulable_line uid n)
+unschedulable_lines uid n one = line (named uid one & words (codes " unschedulable") refl & reasons n)
+
+pub error_lines : (uid rule node : Name) (why : Cause) → IsTrue (is_name uid) → IsLine rule → IsTrue (is_name node) → AreLines false (error_line uid rule node why)
+unfolding error_line
+error_lines uid rule node why one stands other =
+    line
+    ((named uid one & words (codes " error plugin ") refl)
+    & (behind {text = rule} stands & words (codes " node ") refl)
+    & (name_behind node other & words (codes " ") refl)
+    & cause_of why)
+
+pub lost_lines : (uid : Name) (why : Refusal) → IsTrue (is_name uid) → AreLines false (lost_line uid why)
+unfolding lost_line
+lost_lines uid why one = line (named uid one & words (codes " lost ") refl & number (book.number_of why) & words (codes " ") refl & refusal_name why)
+
+-- ---- the line of a node that a cycle saw
+
+reason_of : (why : Reason) → Part false (reason_text why)
+unfolding reason_text
+reason_of reason.Marked = words (codes "marked") refl
+reason_of reason.Taint = words (codes "taint") refl
+reason_of reason.Cpu = words (codes "cpu") refl
+reason_of reason.Memory = words (codes "memory") refl
+reason_of reason.Pods = words (codes "pods") refl
+reason_of reason.Plugin = words (codes "plugin") refl
+reason_of reason.Final = words (codes "final") refl
+
+-- the name of a rule that a verdict tells has no newline
+abbrev pub NameStands : List Name → Verdict → Type 0
+NameStands names (verdict.Rejected why) = Unit {0}
+NameStands names (verdict.RejectedBy place how) = IsLine (slice_index_or names place [])
+NameStands names (verdict.Errs place why) = IsLine (slice_index_or names place [])
+NameStands names (verdict.Passes count score) = Unit {0}
+
+told : (names : List Name) (most : ℕ) (v : Verdict) → NameStands names v → Part false (verdict_text names most v)
+unfolding verdict_text
+told names most (verdict.Rejected why) stands = reason_of why
+told names most (verdict.RejectedBy place how) stands =
+    words (codes "plugin ") refl & behind {text = slice_index_or names place []} stands & (words (codes " ") refl & number (code_of how))
+told names most (verdict.Errs place why) stands =
+    words (codes "error plugin ") refl & behind {text = slice_index_or names place []} stands & (words (codes " ") refl & cause_of why)
+told names most (verdict.Passes count score) stands = words (codes "total ") refl & number (total most count score)
+
+pub verdict_is_line : (names : List Name) (most : ℕ) (v : Verdict) → NameStands names v → IsLine (verdict_text names most v)
+verdict_is_line names most v stands = (told names most v stands).is
+
+pub verdict_lines_of : (names : List Name) (most : ℕ) (node : Judged) → IsTrue (is_name node.name) → IsLine (verdict_text names most node.verdict) → AreLines true (verdict_line names most node)
+unfolding verdict_line
+verdict_lines_of names most node name stands =
+    one_line true (codes "  " ++ node.name ++ (codes " " ++ verdict_text names most node.verdict))
+    (words (codes "  ") refl & name_behind node.name name & (words (codes " ") refl & behind {text = verdict_text names most node.verdict} stands)).is
+    refl

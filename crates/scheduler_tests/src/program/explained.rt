@@ -1,0 +1,114 @@
+//! Scripts whose cycles are explained, by any number of workers. What is expected was worked out by hand from the rules.
+use super::modules::{MINUS_ONE, NEVER, PASSES, REJECTS};
+use super::{assert_answers, remove_files, write_files};
+use std::hash::RandomState;
+use std::test::Fail;
+
+// A node for each of the built-in filters, told out of the order of their names, and one that passes; a pod, and two cycles.
+const EACH_FILTER: &str =
+    "{\"op\":\"node\",\"v\":1,\"name\":\"f\",\"cpu\":\"4\",\"mem\":\"8Gi\",\"pods\":0}
+{\"op\":\"node\",\"v\":2,\"name\":\"e\",\"cpu\":\"4\",\"mem\":\"1Mi\",\"pods\":110}
+{\"op\":\"node\",\"v\":3,\"name\":\"d\",\"cpu\":\"50m\",\"mem\":\"8Gi\",\"pods\":110}
+{\"op\":\"node\",\"v\":4,\"name\":\"c\",\"cpu\":\"4\",\"mem\":\"8Gi\",\"pods\":110,\"taints\":[[\"k\",\"\",\"NoSchedule\"]]}
+{\"op\":\"node\",\"v\":5,\"name\":\"b\",\"cpu\":\"4\",\"mem\":\"8Gi\",\"pods\":110,\"unschedulable\":true}
+{\"op\":\"node\",\"v\":6,\"name\":\"a\",\"cpu\":\"4\",\"mem\":\"8Gi\",\"pods\":110}
+{\"op\":\"pod\",\"v\":7,\"uid\":\"p1\",\"containers\":[[\"100m\",\"64Mi\"]]}
+{\"op\":\"cycle\"}
+{\"op\":\"cycle\"}
+";
+
+const EACH_FILTER_EXPLAINED: &str = "ok
+ok
+ok
+ok
+ok
+ok
+ok
+  a total 198
+  b marked
+  c taint
+  d cpu
+  e memory
+  f pods
+p1 on a total 198 ticket 1
+idle
+";
+
+// Two nodes, one of which has a taint that is to be avoided: it comes to a hundred less.
+const AVOIDED: &str =
+    "{\"op\":\"node\",\"v\":1,\"name\":\"a\",\"cpu\":\"4\",\"mem\":\"8Gi\",\"pods\":110,\"taints\":[[\"k\",\"\",\"PreferNoSchedule\"]]}
+{\"op\":\"node\",\"v\":2,\"name\":\"b\",\"cpu\":\"4\",\"mem\":\"8Gi\",\"pods\":110}
+{\"op\":\"pod\",\"v\":3,\"uid\":\"p1\",\"containers\":[[\"100m\",\"64Mi\"]]}
+{\"op\":\"cycle\"}
+";
+
+const TWO: &str =
+    "{\"op\":\"node\",\"v\":1,\"name\":\"a\",\"cpu\":\"4\",\"mem\":\"8Gi\",\"pods\":110}
+{\"op\":\"node\",\"v\":2,\"name\":\"b\",\"cpu\":\"50m\",\"mem\":\"8Gi\",\"pods\":110}
+{\"op\":\"pod\",\"v\":3,\"uid\":\"p1\",\"containers\":[[\"100m\",\"64Mi\"]]}
+{\"op\":\"cycle\"}
+";
+
+const ASKED: [(&str, &[u8]); 4] = [
+    ("explained_passes.wasm", PASSES),
+    ("explained_rejects.wasm", REJECTS),
+    ("explained_never.wasm", NEVER),
+    ("explained_minus_one.wasm", MINUS_ONE),
+];
+
+// The name, the plugins, the script, and what is told of it.
+const ROWS: [(&str, &[&str], &str, &str); 6] = [
+    (
+        "the built-in filters",
+        &[],
+        EACH_FILTER,
+        EACH_FILTER_EXPLAINED,
+    ),
+    (
+        "a taint to be avoided",
+        &[],
+        AVOIDED,
+        "ok\nok\nok\n  a total 98\n  b total 198\np1 on b total 198 ticket 1\n",
+    ),
+    (
+        "no node",
+        &[],
+        "{\"op\":\"pod\",\"v\":1,\"uid\":\"p1\",\"containers\":[[\"1\",\"1\"]]}\n{\"op\":\"cycle\"}\n",
+        "ok\np1 unschedulable marked 0 taint 0 cpu 0 memory 0 pods 0 plugin 0 final 0\n",
+    ),
+    (
+        "the second plugin rejects for now",
+        &[
+            "x:1:1:explained_passes.wasm",
+            "y:1:1:explained_rejects.wasm",
+            "z:1:1:explained_never.wasm",
+        ],
+        TWO,
+        "ok\nok\nok\n  a plugin y 2\n  b cpu
+p1 unschedulable marked 0 taint 0 cpu 1 memory 0 pods 0 plugin 1 final 0\n",
+    ),
+    (
+        "the first plugin rejects for good",
+        &["z:1:1:explained_never.wasm", "y:1:1:explained_rejects.wasm"],
+        TWO,
+        "ok\nok\nok\n  a plugin z 3\n  b cpu
+p1 unschedulable marked 0 taint 0 cpu 1 memory 0 pods 0 plugin 0 final 1\n",
+    ),
+    (
+        "a plugin errs",
+        &["m:1:1:explained_minus_one.wasm"],
+        TWO,
+        "ok\nok\nok\n  a error plugin m code -1\n  b cpu\np1 error plugin m node a code -1\n",
+    ),
+];
+
+#[test]
+fn each_node_is_told_before_the_line_of_a_cycle(rt: HostRuntime) -> Result<(), Fail> {
+    let keys = RandomState::new(&rt)?;
+    write_files(&rt, &ASKED)?;
+    for (name, plugins, script, out) in ROWS {
+        assert_answers(&rt, rt.alloc(), keys, true, plugins, script, out, name)?;
+    }
+    remove_files(&rt, &ASKED)?;
+    Ok(())
+}
