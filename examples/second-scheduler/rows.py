@@ -43,6 +43,17 @@ def memory(text):
     return amount(text, 0, 2**44)
 
 
+def spelled_cpu(size):
+    return f"{size}m" if size % 1000 else str(size // 1000)
+
+
+def spelled_memory(size):
+    for suffix in ("Gi", "Mi", "Ki"):
+        if size and size % 2 ** TWOS[suffix] == 0:
+            return f"{size >> TWOS[suffix]}{suffix}"
+    return str(size)
+
+
 def is_name(text):
     return NAME.fullmatch(text) is not None
 
@@ -74,7 +85,7 @@ def node_line(node):
     if why:
         return None, why
     left_out += sorted(it for it in has if it not in sizes and has[it] != "0")
-    line = {"op": "node", "name": name, "cpu": f"{sizes['cpu']}m", "mem": str(sizes["memory"]), "pods": sizes["pods"]}
+    line = {"op": "node", "name": name, "cpu": spelled_cpu(sizes["cpu"]), "mem": spelled_memory(sizes["memory"]), "pods": sizes["pods"]}
     line["labels"], line["taints"], line["unschedulable"] = labels_of(node, left_out), taints, bool(spec.get("unschedulable"))
     return line, left_out
 
@@ -119,7 +130,7 @@ def wants(pod, why):
 
 
 def spelled(pair):
-    return [f"{pair[0]}m", str(pair[1])]
+    return [spelled_cpu(pair[0]), spelled_memory(pair[1])]
 
 
 def bound_line(pod):
