@@ -1,10 +1,10 @@
-# Turns what `wsched run` writes into JSON, one object a line, for whoever wants to go on with it:
+# Turns what `wsched run`, `explain` or `storm` writes into JSON, one object a line, for whoever wants to go on with it:
 #
 #   wsched run < cluster.jsonl | jq -R -c -f examples/to-json.jq
 #
-# "line" says what the line is: ok, refused, idle, placed, unschedulable, error, lost, node, places, queue or clock. Amounts
-# are numbers: thousandths of a core, bytes, pods. docs/FORMATS.md has the lines. A uid may be any word, `refused` too, so a
-# line is known by its shape.
+# "line" says what the line is: ok, refused, idle, placed, unschedulable, error, lost, node, places, queue, clock or audit; and
+# verdict for what `explain` says of one node, before the cycle's line. Amounts are numbers: thousandths of a core, bytes, pods.
+# docs/FORMATS.md has the lines. A uid may be any word, `refused` too, so a line is known by its shape.
 
 def numbers: map_values(tonumber);
 def amount: split("/") | {used: (.[0] | tonumber), of: (.[1] | tonumber)};
@@ -16,7 +16,16 @@ def cause:
     elif .[0] == "exhausted" then {cause: "exhausted"}
     else {cause: .[0], value: (.[1] | tonumber)} end;
 
+# What was decided of a node: its total, the plugin that rejects it or says nothing, or the filter that rejects it.
+def verdict:
+  if test("^total [0-9]+$") then {total: (ltrimstr("total ") | tonumber)}
+  elif test("^plugin [^ ]+ [23]$") then capture("^plugin (?<plugin>[^ ]+) (?<code>[23])$") | {rejected: "plugin", plugin, code: (.code | tonumber)}
+  elif test("^error plugin ") then capture("^error plugin (?<plugin>[^ ]+) (?<why>.*)$") | {plugin, error: (.why | cause)}
+  else {rejected: .} end;
+
 if . == "ok" or . == "idle" then {line: .}
+elif test("^  [^ ]+ (total|marked|taint|cpu|memory|pods|plugin|error)") then
+  capture("^  (?<node>[^ ]+) (?<verdict>.*)$") | {line: "verdict", node} + (.verdict | verdict)
 elif test("^refused [0-9]+ [A-Za-z]+$") then capture("^refused (?<number>[0-9]+) (?<name>.*)$") | {line: "refused", number: (.number | tonumber), name}
 elif test("^[^ ]+ on [^ ]+ total [0-9]+ ticket [0-9]+$") then
   capture("^(?<uid>[^ ]+) on (?<node>[^ ]+) total (?<total>[0-9]+) ticket (?<ticket>[0-9]+)$")
@@ -37,4 +46,5 @@ elif test("^queue active ") then
   capture("^queue active (?<active>[0-9]+) backoff (?<backoff>[0-9]+) unschedulable (?<unschedulable>[0-9]+) inflight (?<inflight>[0-9]+)$")
   | {line: "queue"} + numbers
 elif test("^clock [0-9]+ version ") then capture("^clock (?<clock>[0-9]+) version (?<version>[0-9]+)$") | {line: "clock"} + numbers
+elif test("^audit (ok|failed)$") then {line: "audit", ok: (. == "audit ok")}
 else error("no line of wsched: \(.)") end
