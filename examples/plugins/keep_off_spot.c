@@ -1,7 +1,7 @@
 // A filter: nodes with a taint `spot` are for pods that tolerate it, also where the taint's effect is PreferNoSchedule, by which
 // wsched alone only likes other nodes better.
 //
-//   clang --target=wasm32 -mcpu=mvp -O2 -ffreestanding -nostdlib -Wl,--no-entry,--strip-all,--max-memory=65536,-z,stack-size=4096 -o keep_off_spot.wasm keep_off_spot.c
+//   examples/plugins/build keep_off_spot.c
 #include "sched.h"
 
 FILTER

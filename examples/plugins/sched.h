@@ -16,7 +16,7 @@ enum { PASS = 0, UNSCHEDULABLE = 2, UNSCHEDULABLE_AND_UNRESOLVABLE = 3 };
 #define IMPORTED(name) __attribute__((import_module("sched"), import_name(name)))
 #define IMPORTED2(name) __attribute__((import_module("sched2"), import_name(name)))
 #else
-// On a machine of its own a rule is an ordinary program, and its test gives the two records: see keep_region_test.c.
+// On a machine of its own a plugin is an ordinary program, and its test gives the two records: see keep_region_test.c.
 #define EXPORTED(name)
 #define IMPORTED(name)
 #define IMPORTED2(name)
@@ -28,12 +28,12 @@ enum { PASS = 0, UNSCHEDULABLE = 2, UNSCHEDULABLE_AND_UNRESOLVABLE = 3 };
 IMPORTED("pod") u32 sched_pod(void *to, u32 limit);
 IMPORTED("node") u32 sched_node(void *to, u32 limit);
 // The same in version 2, whose records have a pod's tolerations and a node's taints as well. A module imports what it calls: a
-// rule that asks for version 1 alone has nothing of version 2.
+// plugin that asks for version 1 alone has nothing of version 2.
 IMPORTED2("pod") u32 sched2_pod(void *to, u32 limit);
 IMPORTED2("node") u32 sched2_node(void *to, u32 limit);
 
 // No record is longer. A layout of another version would be misread, so it traps. All fields but the tolerations and taints are
-// read alike from both versions; a rule asks for one of them.
+// read alike from both versions; a plugin asks for one of them.
 struct pod { u8 bytes[8192]; };
 struct node { u8 bytes[8192]; };
 static inline const struct pod *read_pod(void)

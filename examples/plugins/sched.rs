@@ -1,5 +1,5 @@
-//! What wsched tells a plugin of a pod and of a node, and what a plugin answers, for rules in Rust: what sched.h is for C.
-//! "Records" in docs/FORMATS.md has the layout that is read here. A rule has it as a module:
+//! What wsched tells a plugin of a pod and of a node, and what a plugin answers, for plugins in Rust: what sched.h is for C.
+//! "Records" in docs/FORMATS.md has the layout that is read here. A plugin has it as a module:
 //!
 //!     mod sched;
 //!     use sched::{node, PASS, UNSCHEDULABLE};
@@ -23,19 +23,19 @@ pub const PASS: i32 = 0;
 pub const UNSCHEDULABLE: i32 = 2;
 pub const UNSCHEDULABLE_AND_UNRESOLVABLE: i32 = 3;
 
-mod host2 {
-    #[link(wasm_import_module = "sched2")]
+mod host {
+    #[link(wasm_import_module = "sched")]
     extern "C" {
-        // The same in version 2.
+        // Each writes its record, where that has at most `limit` bytes, and answers how many it has.
         pub fn pod(to: *mut u8, limit: usize) -> usize;
         pub fn node(to: *mut u8, limit: usize) -> usize;
     }
 }
 
-mod host {
-    #[link(wasm_import_module = "sched")]
+mod host2 {
+    #[link(wasm_import_module = "sched2")]
     extern "C" {
-        // Each writes its record, where that has at most `limit` bytes, and answers how many it has.
+        // The same in version 2.
         pub fn pod(to: *mut u8, limit: usize) -> usize;
         pub fn node(to: *mut u8, limit: usize) -> usize;
     }
@@ -70,7 +70,7 @@ pub fn node() -> Node {
     }
 }
 
-/// The same pod in version 2, which has its tolerations as well. A module imports what it calls: a rule that asks for version 1
+/// The same pod in version 2, which has its tolerations as well. A module imports what it calls: a plugin that asks for version 1
 /// alone has nothing of version 2.
 pub fn pod2() -> Pod {
     unsafe {
