@@ -5,3 +5,4 @@ pub mod TableLemmas
 pub mod SumLemmas
 pub mod TotalLemmas
 pub mod FinishLemmas
+pub mod Beside

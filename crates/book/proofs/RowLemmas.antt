@@ -11,9 +11,8 @@ use Rattle.std.specs.Prelude.{T}
 use Rattle.std.proofs.lemmas.List.{length-map}
 use Rattle.std.proofs.lemmas.Bool.{cases_lt}
 use Rattle.quant.specs.declared.objects.Node.{Node}
-use Rattle.book.specs.Cluster.{name_cmp, Nodes}
+use Rattle.book.specs.Cluster.{name_cmp}
 use Rattle.book.specs.Rows.{Rows, named_row, named, IsInOrder, compared, IsRowOf, IsGapFor}
-use Rattle.book.specs.Tables.{Held}
 use Rattle.book.proofs.Put.{index_rises, earlier_less, put_gap, put_here, find_absent, find_here, find_at, sorted_fewer, find_fewer}
 
 -- names in the order of their bytes are in one order, and only equal ones tie
@@ -97,18 +96,6 @@ module _ (rows : Rows) (sorted : IsInOrder rows) where
             ∙ ap (cond (eq_by_cmp name_cmp q name) None) (sym (get-from_sorted name_cmp (named rows) q (subst T (sym sorted) tt)))
             ∙ sym (fin.get-remove nat_list_cmp_total (from_sorted (named rows)) name q)),
       )
-
--- a table after a row is taken out
-abbrev pub after_gone : List ℕ → Held Node → Held Node
-after_gone name t = record t { map = fin.remove t.map name }
-
--- a table with other nodes
-abbrev pub with_nodes : Nodes → ℕ → Held Node
-with_nodes nodes room = record { map = nodes; room = room }
-
--- a table after a row is put
-abbrev pub after_put : Node → Held Node → Held Node
-after_put row t = record t { map = fin.insert t.map row.name row }
 
 -- no rows stand for the empty map
 pub no_rows : from_sorted {R = name_cmp} (named []) ≡ fin.empty

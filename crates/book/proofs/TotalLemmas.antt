@@ -15,6 +15,7 @@ use Rattle.book.specs.declared.place.Status.{Status}
 use Rattle.book.specs.declared.place.Status.TheVariants.{Assumed, Bound}
 use Rattle.book.specs.Cluster.{name_cmp, Places}
 use Rattle.book.specs.Step.{finished_status}
+use Rattle.book.specs.Tables.{IsAlikeBut}
 use Rattle.book.specs.Used.{nothing, share, used_by, used, assumed_in, assumed, bound_in, bound}
 use Rattle.book.specs.Totals.{Totals, total_at, plus, one_pod, adds, IsWithin, most_of, idle_if, idle, idle_in, pods_in, IsCounted}
 use Rattle.book.proofs.TableLemmas.{same_test, test_turned}
@@ -106,6 +107,23 @@ total_gone m k q =
     ap (λ o. unwrap_or o nothing) (fin.get-remove nat_list_cmp_total m k q)
     ∙ ap (λ b. unwrap_or (cond b None (fin.get m q)) nothing) (same_test q k ∙ test_turned q k)
     ∙ elim (bytes_eq k q) as (λ b. unwrap_or (cond b None (fin.get m q)) nothing ≡ cond b nothing (total_at m q)) [ true ↦ refl | false ↦ refl ]
+
+-- the total that is put is there
+pub total_here : (m : Totals) (k : List ℕ) (v : Res) → total_at (fin.insert m k v) k ≡ v
+total_here m k v = total_put m k v k ∙ ap (λ b. cond b v (total_at m k)) ((bytes_decides k k).1 refl)
+
+-- and one that goes isn't
+pub total_away : (m : Totals) (k : List ℕ) → total_at (fin.remove m k) k ≡ nothing
+total_away m k = total_gone m k k ∙ ap (λ b. cond b nothing (total_at m k)) ((bytes_decides k k).1 refl)
+
+module _ (f g : List ℕ → Res) (k : List ℕ) (request : Request) where
+  -- a pod more changes the amount of its own node alone
+  pub alike_more : ((q : List ℕ) → g q ≡ plus (f q) (adds k request q)) → IsAlikeBut k f g
+  alike_more e q other = e q ∙ ap (λ b. plus (f q) (if b then one_pod request else nothing)) other ∙ plus_nothing (f q)
+
+  -- and so does a pod less
+  pub alike_less : ((q : List ℕ) → plus (g q) (adds k request q) ≡ f q) → IsAlikeBut k f g
+  alike_less e q other = sym (plus_nothing (g q)) ∙ ap (λ b. plus (g q) (if b then one_pod request else nothing)) (sym other) ∙ e q
 
 -- a total that is gone was one pod's
 pub total_last : (m : Totals) (k : List ℕ) (request : Request) → total_at m k ≡ one_pod request → (q : List ℕ) → plus (total_at (fin.remove m k) q) (adds k request q) ≡ total_at m q

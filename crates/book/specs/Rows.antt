@@ -1,10 +1,12 @@
 -- The rows of the node table, as the code keeps them.
-use Rattle.std.specs.Prelude.{◌≡◌, ℕ, ◌<◌, List, map, length, IsTrue}
+use Rattle.std.specs.Prelude.{◌≡◌, ℕ, ◌<◌, ◌≤◌, List, map, length, IsTrue, vec_len, vec_capacity}
 use Rattle.std.specs.declared.cmp.Ordering.{Ordering}
 use Rattle.std.specs.declared.cmp.Ordering.TheVariants.{Less, Equal, Greater}
 use Rattle.std.specs.List.{HoldsAt}
 use Rattle.std.specs.List.Sorted.{IsPartitionPoint}
 use Rattle.std.specs.FinMap.{is_sorted}
+use Rattle.std.specs.Global.{Vec}
+use Rattle.quant.specs.declared.amount.Res.{Res}
 use Rattle.quant.specs.declared.objects.Node.{Node}
 use Rattle.book.specs.Cluster.{name_cmp}
 
@@ -36,3 +38,11 @@ pub record IsRowOf (rows : Rows) (name : List ℕ) (at : ℕ) : Type 0 where
 -- no row has the name, and it would go to this place
 abbrev pub IsGapFor : Rows → List ℕ → ℕ → Type 0
 IsGapFor rows name at = IsPartitionPoint (λ row. compared name row ≡ Less) (λ row. compared name row ≡ Greater) rows at
+
+-- the rows are in order, with as many amounts beside them, and there is room for as many as there may be
+pub record IsListed (rows : Vec Node) (used : Vec Res) (room : ℕ) : Type 0 where
+  pub in_order : IsInOrder rows.items
+  pub in_room : vec_len rows ≤ room
+  pub reserved : room ≤ vec_capacity rows
+  pub beside : vec_len used ≡ vec_len rows
+  pub reserved_beside : room ≤ vec_capacity used

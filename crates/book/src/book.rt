@@ -1,5 +1,5 @@
 //! The book: the nodes, the places, the version of the last event and the last ticket.
-ghost use Rattle.std.specs.Prelude.{◌≡◌, IfOk, IfSome, IfNone, nat_le, Bool, not, ◌∷◌, [], Ok, Err, if◌then◌else◌};
+ghost use Rattle.std.specs.Prelude.{◌≡◌, IfOk, IfSome, IfNone, map, nat_le, Bool, not, ◌∷◌, [], Ok, Err, if◌then◌else◌};
 ghost use Rattle.std.specs.Result.{result_err};
 ghost use Rattle.std.specs.FinMap as fin;
 
@@ -42,10 +42,12 @@ impl Model for Book {
     ghost coded = { cluster_code };
 
     ghost use Rattle.std.specs.Prelude.{◌≡◌};
+    ghost use Rattle.book.specs.Tables.{IsShown};
+    ghost use Rattle.book.specs.Used.{used};
 
     ghost view = { λ b. record { limits = b.limits; version = b.version.0; nodes = b.nodes.map; places = b.places.map; ticket = b.ticket.0 } };
 
-    ghost invariant = { λ b. (b.nodes.room ≡ b.limits.nodes) × (b.places.room ≡ b.limits.placed) };
+    ghost invariant = { λ b. (b.nodes.room ≡ b.limits.nodes) × (b.places.room ≡ b.limits.placed) × IsShown (used b.places.map) b.nodes };
 }
 
 impl Book {
@@ -137,7 +139,8 @@ impl Book {
         ensures { (queued queue_full : Bool) → IsTaken self.old (steps.Event (event.NodeSet version node) queued queue_full) result self.new }
     {
         self.check_version(version)?;
-        self.nodes.set(node)?;
+        let used = self.places.used(&node.name);
+        self.nodes.set(node, used)?;
         self.version = version;
         Ok(Reply::Done)
     }
@@ -187,7 +190,7 @@ impl Book {
             request,
             status: Status::Bound,
         };
-        self.places.put(uid, place)?;
+        self.places.put(&mut self.nodes, uid, place)?;
         self.version = version;
         Ok(Reply::Done)
     }
@@ -196,7 +199,7 @@ impl Book {
         ensures { (queue_full : Bool) → IsTaken self.old (steps.Event (event.PodGone version uid.now) queued queue_full) result self.new }
     {
         self.check_version(version)?;
-        if !self.places.remove(uid) && !queued {
+        if !self.places.remove(&mut self.nodes, uid) && !queued {
             return Err(Refusal::Gone);
         }
         self.version = version;
@@ -221,6 +224,7 @@ impl Book {
         }
         let ticket = Ticket(self.ticket.0 + 1);
         self.places.put(
+            &mut self.nodes,
             uid,
             Place {
                 node,
@@ -274,7 +278,7 @@ impl Book {
         ensures { IsTaken self.old (steps.Forget uid.now ticket queued) result self.new }
     {
         self.check_ticket(uid, ticket, queued)?;
-        self.places.remove(uid);
+        self.places.remove(&mut self.nodes, uid);
         Ok(Reply::Done)
     }
 
@@ -290,7 +294,7 @@ impl Book {
         ensures none { IfNone result (NoneExpired self.old.places now) }
         ensures unchanged { IfNone result (self.new ≡ self.old) }
     {
-        self.places.expire(now)
+        self.places.expire(&mut self.nodes, now)
     }
 
     /// Whether a pod has a place.
@@ -319,6 +323,13 @@ impl Book {
         ensures { named result.now ≡ fin.entries self.now.nodes }
     {
         self.nodes.rows()
+    }
+
+    /// What the pods on each node use together, in the order of the rows.
+    pub fn used_of_rows(&self) -> &[Res]
+        ensures { result.now ≡ map (λ e. used self.now.places e.0) (fin.entries self.now.nodes) }
+    {
+        self.nodes.used()
     }
 
     /// What the pods on a node use together, whether the node is there or not.

@@ -1,13 +1,14 @@
-//! The nodes of a cluster, by name.
-ghost use Rattle.std.specs.Prelude.{◌≡◌, ◌≤◌, length, IfOk, IfErr, OnOk, OnErr, true, false};
+//! The nodes of a cluster, by name, each with what the pods on it use together.
+ghost use Rattle.std.specs.Prelude.{◌≡◌, ◌≤◌, [], List, ℕ, length, IfOk, IfErr, OnOk, OnErr, true, false};
 ghost use Rattle.std.specs.Option.{option_copied};
 ghost use Rattle.std.specs.FinMap as fin;
+ghost use Rattle.quant.specs.declared.amount.Res.{Res};
 ghost use Rattle.book.specs.Rows.{named, IsInOrder, IsRowOf, IsGapFor};
-ghost use Rattle.book.specs.Tables.{is_full_for};
+ghost use Rattle.book.specs.Tables.{is_full_for, IsShown, IsAlikeBut};
 
 use crate::NoMemory;
 use crate::refusal::Refusal;
-use quant::{Name, SharedNode};
+use quant::{Name, Res, SharedNode};
 use std::alloc::Global;
 use std::marker::Model;
 
@@ -15,36 +16,45 @@ use std::marker::Model;
 #[derive(Drop)]
 pub(crate) struct Nodes {
     rows: Vec<SharedNode>,
+    // What is used of each, in the same order.
+    used: Vec<Res>,
+    // Where the row of a node was last found, by the slot of the node's total. Each is a guess.
+    guesses: Vec<usize>,
     room: usize,
 }
 
 impl Model for Nodes {
-    ghost use Rattle.book.specs.Tables.{Held};
-    ghost use Rattle.quant.specs.declared.objects.Node.{Node};
+    ghost use Rattle.book.specs.Tables.{NodeTable};
 
-    ghost Value = { Held Node };
+    ghost Value = { NodeTable };
 
-    ghost use Rattle.book.specs.Codes.{held_code};
-    ghost use Rattle.quant.specs.contracts.objects.Node as node;
+    ghost use Rattle.book.specs.Codes.{nodes_code};
 
-    ghost coded = { held_code node.the_row.coded };
+    ghost coded = { nodes_code };
 
     ghost use Rattle.std.specs.Prelude.{◌≤◌, vec_len, vec_capacity};
     ghost use Rattle.std.specs.FinMap.{from_sorted};
-    ghost use Rattle.book.specs.Rows.{named, IsInOrder};
+    ghost use Rattle.book.specs.Rows.{named, IsListed};
 
-    ghost view = { λ t. record { map = from_sorted (named t.rows.items); room = t.room } };
+    ghost view = { λ t. record { map = from_sorted (named t.rows.items); room = t.room; used = t.used.items } };
 
-    ghost invariant = { λ t. IsInOrder t.rows.items × (vec_len t.rows ≤ t.room) × (t.room ≤ vec_capacity t.rows) };
+    ghost invariant = { λ t. IsListed t.rows t.used t.room };
 }
 
 impl Nodes {
     /// No nodes, with room for as many.
     pub(crate) fn new(alloc: Global, room: usize) -> Result<Self, NoMemory>
-        ensures { IfOk result (λ t. t ≡ record { map = fin.empty; room = room }) }
+        ensures { IfOk result (λ t. t ≡ record { map = fin.empty; room = room; used = [] }) }
     {
         let rows = Vec::with_capacity(alloc, room)?;
-        Ok(Nodes { rows, room })
+        let used = Vec::with_capacity(alloc, room)?;
+        let guesses = Vec::from_elem(alloc, 0, room)?;
+        Ok(Nodes {
+            rows,
+            used,
+            guesses,
+            room,
+        })
     }
 
     /// The rows, in the order of their names' bytes.
@@ -52,6 +62,13 @@ impl Nodes {
         ensures { named result.now ≡ fin.entries self.now.map }
     {
         &self.rows
+    }
+
+    /// What is used of each, in the same order.
+    pub(crate) fn used(&self) -> &[Res]
+        ensures { result.now ≡ self.now.used }
+    {
+        &self.used
     }
 
     /// The node's row.
@@ -64,11 +81,13 @@ impl Nodes {
         }
     }
 
-    /// Puts a row, in place of one with its name.
+    /// Puts a row, in place of one with its name. So much is used of the node.
     ///
     /// Errors: `Full` where no row has the name and there is no room for one more; nothing changes.
-    pub(crate) fn set(&mut self, node: SharedNode) -> Result<(), Refusal>
-        ensures set { OnOk result (self.new ≡ record self.old { map = fin.insert self.old.map node.name node }) }
+    pub(crate) fn set(&mut self, node: SharedNode, used: Res) -> Result<(), Refusal>
+        ensures set { OnOk result (self.new.map ≡ fin.insert self.old.map node.name node) }
+        ensures shown { OnOk result ((f : List ℕ → Res) → IsShown f self.old → used ≡ f node.name → IsShown f self.new) }
+        ensures same { self.new.room ≡ self.old.room }
         ensures room { OnOk result (is_full_for self.old.map self.old.room node.name ≡ false) }
         ensures full { OnErr result (is_full_for self.old.map self.old.room node.name ≡ true) }
         ensures why { IfErr result (λ why. why ≡ Refusal.Full) }
@@ -81,6 +100,7 @@ impl Nodes {
                     return Err(Refusal::Full);
                 }
                 self.rows.insert(at, node).unwrap();
+                self.used.insert(at, used).unwrap();
             }
         }
         Ok(())
@@ -90,7 +110,9 @@ impl Nodes {
     ///
     /// Errors: `NoNode` where no row has the name; nothing changes.
     pub(crate) fn remove(&mut self, name: &Name) -> Result<(), Refusal>
-        ensures gone { OnOk result (self.new ≡ record self.old { map = fin.remove self.old.map name.now }) }
+        ensures gone { OnOk result (self.new.map ≡ fin.remove self.old.map name.now) }
+        ensures shown { OnOk result ((f : List ℕ → Res) → IsShown f self.old → IsShown f self.new) }
+        ensures same { self.new.room ≡ self.old.room }
         ensures there { OnOk result (fin.contains_key self.old.map name.now ≡ true) }
         ensures missing { OnErr result (fin.contains_key self.old.map name.now ≡ false) }
         ensures why { IfErr result (λ why. why ≡ Refusal.NoNode) }
@@ -99,11 +121,41 @@ impl Nodes {
         match place_of(&self.rows, name) {
             Ok(at) => {
                 self.rows.remove(at);
+                self.used.remove(at);
                 Ok(())
             }
             Err(_) => Err(Refusal::NoNode),
         }
     }
+
+    /// So much is used of a node from now on, if it is there. The slot tells names apart, as far as it can: where it had this name
+    /// at the last call and no rows came or went since, the row is found at once.
+    pub(crate) fn keep(&mut self, name: &Name, used: Res, slot: usize)
+        ensures map { self.new.map ≡ self.old.map }
+        ensures room { self.new.room ≡ self.old.room }
+        ensures shown { (f g : List ℕ → Res) → IsShown f self.old → used ≡ g name.now → IsAlikeBut name.now f g → IsShown g self.new }
+    {
+        let guess = self.guesses.get(slot).copied().unwrap_or(0);
+        let Ok(at) = place_near(&self.rows, name, guess) else {
+            return;
+        };
+        self.used[at] = used;
+        if slot < self.guesses.len() {
+            self.guesses[slot] = at;
+        }
+    }
+}
+
+// Where the row of this name is, or where it would go. The guess is tried first.
+fn place_near(rows: &[SharedNode], name: &Name, guess: usize) -> Result<usize, usize>
+    requires { IsInOrder rows.now }
+    ensures found { IfOk result (IsRowOf rows.now name.now) }
+    ensures absent { IfErr result (IsGapFor rows.now name.now) }
+{
+    if guess < rows.len() && &rows[guess].name == name {
+        return Ok(guess);
+    }
+    place_of(rows, name)
 }
 
 // Where the row of this name is, or where it would go.

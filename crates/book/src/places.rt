@@ -3,7 +3,7 @@ ghost use Rattle.std.specs.Prelude.{◌≡◌, ℕ, ◌+◌, ◌<◌, ◌≤◌,
 ghost use Rattle.std.specs.Option.{option_copied};
 ghost use Rattle.std.specs.FinMap as fin;
 ghost use Rattle.name_table.specs.Slots.{map_of};
-ghost use Rattle.book.specs.Tables.{is_full_for};
+ghost use Rattle.book.specs.Tables.{is_full_for, IsShown};
 ghost use Rattle.book.specs.Used.{used, assumed, bound, assumed_in};
 ghost use Rattle.book.specs.Totals.{total_at, plus, adds, one_pod, most_of, IsWithin, idle_in, pods_in};
 ghost use Rattle.quant.specs.declared.limits.TheConstants.{MAX_PLACED};
@@ -13,6 +13,7 @@ mod slots;
 use crate::NoMemory;
 use crate::finishes::{Finishes, NEVER};
 use crate::limits::EXPIRY;
+use crate::nodes::Nodes;
 use crate::overdue::Overdue;
 use crate::place::{Place, Status};
 use crate::refusal::Refusal;
@@ -21,6 +22,13 @@ use quant::{Bytes, Cpu, MAX_PLACED, Moment, Name, Request, Res};
 use std::alloc::Global;
 use std::hash::RandomState;
 use std::marker::Model;
+
+// What is used of a node without pods.
+const NOTHING: Res = Res {
+    cpu: Cpu(0),
+    mem: Bytes(0),
+    pods: 0,
+};
 
 /// The places of pods, by uid. What the pods on a node use is kept, so that neither a look-up nor a change
 /// depends on how many places there are.
@@ -97,12 +105,7 @@ impl Places {
     pub(crate) fn used(&self, node: &Name) -> Res
         ensures { result ≡ used self.now.map node.now }
     {
-        let nothing = Res {
-            cpu: Cpu(0),
-            mem: Bytes(0),
-            pods: 0,
-        };
-        self.totals.get(node).copied().unwrap_or(nothing)
+        self.totals.get(node).copied().unwrap_or(NOTHING)
     }
 
     /// Whether a pod has a place.
@@ -119,10 +122,12 @@ impl Places {
         self.by_uid.get(uid)
     }
 
-    /// Gives a pod a place, instead of the one that it may have.
+    /// Gives a pod a place, instead of the one that it may have. What is used of nodes is shown beside their rows.
     ///
     /// Errors: `Full` where it has none and there is no room for one more; nothing changes.
-    pub(crate) fn put(&mut self, uid: Name, place: Place) -> Result<(), Refusal>
+    pub(crate) fn put(&mut self, nodes: &mut Nodes, uid: Name, place: Place) -> Result<(), Refusal>
+        ensures nodes { (nodes.new.map ≡ nodes.old.map) × (nodes.new.room ≡ nodes.old.room) }
+        ensures shown { IsShown (used self.old.map) nodes.old → IsShown (used self.new.map) nodes.new }
         ensures put { OnOk result (self.new ≡ record self.old { map = fin.insert self.old.map uid place }) }
         ensures room { OnOk result (is_full_for self.old.map self.old.room uid ≡ false) }
         ensures full { OnErr result (is_full_for self.old.map self.old.room uid ≡ true) }
@@ -133,30 +138,36 @@ impl Places {
         match self.by_uid.find(&uid) {
             Some(slot) => {
                 let old = self.by_uid.value_at(slot);
-                take(&mut self.totals, &old.node, &old.request);
+                let (slot_before, left) = take(&mut self.totals, &old.node, &old.request);
+                nodes.keep(&old.node, left, slot_before);
                 self.assumed -= assumed_count(&old.status);
-                add(&mut self.totals, &place.node, &place.request);
+                let (slot_now, total) = add(&mut self.totals, &place.node, &place.request);
+                nodes.keep(&place.node, total, slot_now);
                 self.assumed += assumed_count(&place.status);
                 self.by_uid.replace_at(slot, place);
                 self.finishes.set(slot, finish);
                 self.overdue.limit = None;
+                Ok(())
             }
             None => {
                 if self.by_uid.is_full() {
                     return Err(Refusal::Full);
                 }
-                add(&mut self.totals, &place.node, &place.request);
+                let (slot_now, total) = add(&mut self.totals, &place.node, &place.request);
+                nodes.keep(&place.node, total, slot_now);
                 self.assumed += assumed_count(&place.status);
                 let slot = self.by_uid.insert(uid, place);
                 self.finishes.set(slot, finish);
                 self.overdue.limit = None;
+                Ok(())
             }
         }
-        Ok(())
     }
 
-    /// Takes a pod's place away, and tells whether it had one.
-    pub(crate) fn remove(&mut self, uid: &Name) -> bool
+    /// Takes a pod's place away, and tells whether it had one. What is used of its node is shown beside the node's row.
+    pub(crate) fn remove(&mut self, nodes: &mut Nodes, uid: &Name) -> bool
+        ensures nodes { (nodes.new.map ≡ nodes.old.map) × (nodes.new.room ≡ nodes.old.room) }
+        ensures shown { IsShown (used self.old.map) nodes.old → IsShown (used self.new.map) nodes.new }
         ensures there { result ≡ fin.contains_key self.old.map uid.now }
         ensures gone { self.new ≡ record self.old { map = fin.remove self.old.map uid.now } }
         ensures kept { result ≡ false → self.new ≡ self.old }
@@ -166,7 +177,8 @@ impl Places {
         };
         let old = self.by_uid.remove_at(slot).value;
         self.finishes.set(slot, NEVER);
-        take(&mut self.totals, &old.node, &old.request);
+        let (slot_before, left) = take(&mut self.totals, &old.node, &old.request);
+        nodes.keep(&old.node, left, slot_before);
         self.assumed -= assumed_count(&old.status);
         true
     }
@@ -175,6 +187,7 @@ impl Places {
     pub(crate) fn finish(&mut self, uid: &Name, at: Moment)
         requires { IsSome (fin.get self.old.map uid.now) }
         ensures room { self.new.room ≡ self.old.room }
+        ensures alike { used self.new.map ≡ used self.old.map }
         ensures finished { (place : Place) → fin.get self.old.map uid.now ≡ Some place
             → self.new ≡ record self.old { map = fin.insert self.old.map uid.now (record place { status = finished_status at place.status }) } }
     {
@@ -196,7 +209,9 @@ impl Places {
     ///
     /// The first call for a moment finds what expires, passing over all blocks of slots that have none, and puts it in order. The
     /// next ones for that moment take it from there, until a place is put or finished.
-    pub(crate) fn expire(&mut self, now: Moment) -> Option<Name>
+    pub(crate) fn expire(&mut self, nodes: &mut Nodes, now: Moment) -> Option<Name>
+        ensures nodes { (nodes.new.map ≡ nodes.old.map) × (nodes.new.room ≡ nodes.old.room) }
+        ensures shown { IsShown (used self.old.map) nodes.old → IsShown (used self.new.map) nodes.new }
         ensures first { IfSome result (IsFirstExpired self.old.map now) }
         ensures gone { IfSome result (λ uid. self.new ≡ record self.old { map = fin.remove self.old.map uid }) }
         ensures none { IfNone result (NoneExpired self.old.map now) }
@@ -208,7 +223,7 @@ impl Places {
         let limit = now.0 - EXPIRY;
         self.overdue.gather(&self.by_uid, &self.finishes, limit);
         let uid = self.overdue.first(&self.by_uid, limit)?;
-        self.remove(&uid);
+        self.remove(nodes, &uid);
         Some(uid)
     }
 }
@@ -223,13 +238,14 @@ fn assumed_count(status: &Status) -> usize
     }
 }
 
-// Adds a pod to its node's total.
-fn add(totals: &mut NameTable<Res>, node: &Name, request: &Request)
+// Adds a pod to its node's total. The slot of that total, and what it is now.
+fn add(totals: &mut NameTable<Res>, node: &Name, request: &Request) -> (usize, Res)
     requires room { pods_in (map_of totals.old) < length totals.old }
     requires small { length totals.old ≤ MAX_PLACED }
     requires within { IsWithin (total_at (map_of totals.old) node.now) (most_of MAX_PLACED) }
     requires in_use { idle_in (map_of totals.old) ≡ 0 }
     ensures each { (other : List ℕ) → total_at (map_of totals.new) other ≡ plus (total_at (map_of totals.old) other) (adds node.now request.now other) }
+    ensures now { result.1 ≡ total_at (map_of totals.new) node.now }
     ensures pods { pods_in (map_of totals.new) ≡ pods_in (map_of totals.old) + 1 }
     ensures in_use { idle_in (map_of totals.new) ≡ 0 }
     ensures room { length totals.new ≡ length totals.old }
@@ -243,6 +259,7 @@ fn add(totals: &mut NameTable<Res>, node: &Name, request: &Request)
                 pods: had.pods + 1,
             };
             totals.replace_at(slot, more);
+            (slot, more)
         }
         None => {
             let first = Res {
@@ -250,17 +267,18 @@ fn add(totals: &mut NameTable<Res>, node: &Name, request: &Request)
                 mem: request.mem,
                 pods: 1,
             };
-            totals.insert(node.copied(), first);
+            (totals.insert(node.copied(), first), first)
         }
     }
 }
 
-// Takes a pod out of its node's total, which goes with the last pod.
-fn take(totals: &mut NameTable<Res>, node: &Name, request: &Request)
+// Takes a pod out of its node's total, which goes with the last pod. The slot of that total, and what it is now.
+fn take(totals: &mut NameTable<Res>, node: &Name, request: &Request) -> (usize, Res)
     requires within { IsWithin (one_pod request.now) (total_at (map_of totals.old) node.now) }
     requires last { (total_at (map_of totals.old) node.now).pods ≡ 1 → total_at (map_of totals.old) node.now ≡ one_pod request.now }
     requires in_use { idle_in (map_of totals.old) ≡ 0 }
     ensures each { (other : List ℕ) → plus (total_at (map_of totals.new) other) (adds node.now request.now other) ≡ total_at (map_of totals.old) other }
+    ensures now { result.1 ≡ total_at (map_of totals.new) node.now }
     ensures pods { pods_in (map_of totals.new) + 1 ≡ pods_in (map_of totals.old) }
     ensures in_use { idle_in (map_of totals.new) ≡ 0 }
     ensures room { length totals.new ≡ length totals.old }
@@ -271,7 +289,7 @@ fn take(totals: &mut NameTable<Res>, node: &Name, request: &Request)
     let had = *totals.value_at(slot);
     if had.pods == 1 {
         totals.remove_at(slot);
-        return;
+        return (slot, NOTHING);
     }
     let less = Res {
         cpu: Cpu(had.cpu.0 - request.cpu.0),
@@ -279,4 +297,5 @@ fn take(totals: &mut NameTable<Res>, node: &Name, request: &Request)
         pods: had.pods - 1,
     };
     totals.replace_at(slot, less);
+    (slot, less)
 }

@@ -1,7 +1,8 @@
 -- What a look shows of the book's rows.
-use Rattle.std.proofs.Common.{◌≡◌, List, [], ◌∷◌, map, length, refl, sym, ap, ◌∙◌}
-use Rattle.std.proofs.lemmas.List.{length-map}
+use Rattle.std.proofs.Common.{◌≡◌, ℕ, ◌+◌, ◌<◌, List, [], ◌∷◌, ◌++◌, get_or, map, take, length, refl, sym, ap, ◌∙◌}
+use Rattle.std.proofs.lemmas.List.{length-map, get_or-map, map_more}
 use Rattle.std.specs.FinMap as fin
+use Rattle.quant.specs.declared.amount.Res.{Res}
 use Rattle.quant.specs.declared.objects.Node.{Node}
 use Rattle.book.specs.Cluster.{Nodes, Places}
 use Rattle.book.specs.Used.{used}
@@ -24,6 +25,29 @@ shown_each places (node ∷ nodes) = ap (λ r. shown_of places node ∷ r) (show
 -- rows that list the entries of a map show it
 pub shown_all : (nodes : List Node) (m : Nodes) (places : Places) → named nodes ≡ fin.entries m → map (shown_of places) nodes ≡ shows m places
 shown_all nodes m places h = sym (shown_each places nodes) ∙ ap (map (λ e. record { node = e.1; used = used places e.0 })) h
+
+-- what is used of each entry of a map is what is used of each row
+used_each : (places : Places) (nodes : List Node) → map (λ e. used places e.0) (named nodes) ≡ map (λ node. used places node.name) nodes
+used_each places [] = refl
+used_each places (node ∷ nodes) = ap (λ r. used places node.name ∷ r) (used_each places nodes)
+
+-- so amounts that list it stand beside the rows
+pub beside_rows : (nodes : List Node) (m : Nodes) (places : Places) (totals : List Res) → named nodes ≡ fin.entries m → totals ≡ map (λ e. used places e.0) (fin.entries m) → totals ≡ map (λ node. used places node.name) nodes
+beside_rows nodes m places totals h t = t ∙ ap (map (λ e. used places e.0)) (sym h) ∙ used_each places nodes
+
+-- as many as there are
+pub as_many_rows : (nodes : List Node) (m : Nodes) (places : Places) (totals : List Res) → named nodes ≡ fin.entries m → totals ≡ map (λ e. used places e.0) (fin.entries m) → length totals ≡ length nodes
+as_many_rows nodes m places totals h t = ap length (beside_rows nodes m places totals h t) ∙ length-map nodes (λ node. used places node.name)
+
+-- and one row more is shown with the amount beside it
+pub shown_more : (nodes : List Node) (m : Nodes) (places : Places) (totals : List Res) → named nodes ≡ fin.entries m → totals ≡ map (λ e. used places e.0) (fin.entries m)
+    → (at : ℕ) (node : Node) (none : Res) → at < length nodes → node ≡ get_or nodes at node
+    → map (shown_of places) (take (at + 1) nodes) ≡ map (shown_of places) (take at nodes) ++ record { node = node; used = get_or totals at none } ∷ []
+shown_more nodes m places totals h t at node none lt is =
+    let total : get_or totals at none ≡ used places node.name = ap (λ l. get_or l at none) (beside_rows nodes m places totals h t) ∙ get_or-map (λ (n : Node). used places n.name) nodes at node none lt ∙ ap (λ (n : Node). used places n.name) (sym is) in
+    map_more (shown_of places) nodes at node lt
+    ∙ ap (λ (n : Node). map (shown_of places) (take at nodes) ++ shown_of places n ∷ []) (sym is)
+    ∙ ap (λ (u : Res). map (shown_of places) (take at nodes) ++ record { node = node; used = u } ∷ []) (sym total)
 
 -- and it has as many as there are rows
 pub len_all : (nodes : List Node) (m : Nodes) → named nodes ≡ fin.entries m → fin.len m ≡ length nodes

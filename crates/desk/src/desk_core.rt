@@ -388,9 +388,10 @@ impl Core {
         ensures no_memory { IsErr result → 1 ≤ len self.now.state.cluster.nodes }
     {
         let nodes = self.book.rows();
+        let totals = self.book.used_of_rows();
         let mut rows = Vec::with_capacity(self.alloc, nodes.len())?;
-        for node in nodes {
-            let used = self.book.used(&node.name);
+        for (at, node) in nodes.iter().enumerate() {
+            let used = totals[at];
             let node = node.share()?;
             rows.push(Row { node, used }).map_err(AllocError::from)?;
         }

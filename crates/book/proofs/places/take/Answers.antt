@@ -5,7 +5,7 @@ use Rattle.quant.specs.declared.amount.Res.{Res}
 use Rattle.name_table.specs.declared.entry.Entry.{Entry}
 use Rattle.name_table.specs.Slots.{map_of}
 use Rattle.book.specs.Totals.{total_at, plus, one_pod, adds, pods_in, idle_in}
-use Rattle.book.proofs.TotalLemmas.{total_taken, total_last, total_found, idle_again, idle_gone, pods_again, pods_gone, same_res}
+use Rattle.book.proofs.TotalLemmas.{total_here, total_away, total_taken, total_last, total_found, idle_again, idle_gone, pods_again, pods_gone, same_res}
 use Rattle.book.proofs.places.take.Goals as goal
 
 -- the entry of a slot that has this name has it
@@ -20,6 +20,12 @@ returns-then-had-eq1-clause-each c other =
     let found = total_found t c.args.node.now _ (c.value_at-had.ensures.by_name c.args.node.now c.in-Some.ensures.name) in
     ap (λ n. plus (total_at n other) (adds c.args.node.now c.args.request.now other)) (c.remove_at.ensures.map ∙ ap (fin.remove t) name)
     ∙ total_last t c.args.node.now c.args.request.now (c.requires.last (ap (λ r. r.pods) found ∙ c.if-had-eq1.true)) other
+
+pub returns-then-had-eq1-clause-now : goal.returns-then-had-eq1-clause-now
+returns-then-had-eq1-clause-now c =
+    let t = map_of c.args.totals.now in
+    let name = named _ c.remove_at.result c.args.node.now c.remove_at.ensures.entry c.in-Some.ensures.name in
+    sym (ap (λ n. total_at n c.args.node.now) (c.remove_at.ensures.map ∙ ap (fin.remove t) name) ∙ total_away t c.args.node.now)
 
 pub returns-then-had-eq1-clause-pods : goal.returns-then-had-eq1-clause-pods
 returns-then-had-eq1-clause-pods c =
@@ -50,6 +56,10 @@ returns-clause-each c other =
     same_res _ _ (omega (arith, cpu, c.requires.within.cpu)) (omega (arith, mem, c.requires.within.mem)) (omega (arith, pods, c.requires.within.pods)) in
     ap (λ n. plus (total_at n other) (adds c.args.node.now c.args.request.now other)) (c.replace_at.ensures.map c.args.node.now c.in-Some.ensures.name)
     ∙ total_taken t c.args.node.now v c.args.request.now e other
+
+pub returns-clause-now : goal.returns-clause-now
+returns-clause-now c =
+    sym (ap (λ n. total_at n c.args.node.now) (c.replace_at.ensures.map c.args.node.now c.in-Some.ensures.name) ∙ total_here (map_of c.args.totals.now) c.args.node.now _)
 
 pub returns-clause-pods : goal.returns-clause-pods
 returns-clause-pods c =

@@ -6,4 +6,4 @@ use Rattle.book.proofs.nodes.Nodes.rows.Goals as goal
 
 -- the map that the rows stand for lists them
 pub returns : goal.returns
-returns c = ap named c.deref.ensures.value ∙ sym (entries_rows c.self.inside.rows.items c.self.invariant.0 []) ∙ ap (λ t. entries t.map) c.self.view_is
+returns c = ap named c.deref.ensures.value ∙ sym (entries_rows c.self.inside.rows.items c.self.invariant.in_order []) ∙ ap (λ t. entries t.map) c.self.view_is

@@ -1,6 +1,7 @@
-use Rattle.std.proofs.Common.{length, refl, ap, ◌∙◌, arith}
+use Rattle.std.proofs.Common.{◌≡◌, length, refl, ap, sym, ◌∙◌, arith}
 use Rattle.name_table.specs.Slots.{map_of}
-use Rattle.book.specs.Used.{assumed_in}
+use Rattle.book.specs.Tables.{Held}
+use Rattle.book.specs.Used.{used, assumed_in}
 use Rattle.book.specs.declared.place.Place.{Place}
 use Rattle.book.proofs.FinishLemmas.{slot_timed, timed_put}
 use Rattle.book.proofs.TotalLemmas.{counted_alike, assumed_finished}
@@ -22,3 +23,14 @@ invariant_of-self c =
       room = omega (arith, c.self.invariant.room, c.replace_at.ensures.room);
       gathered = tt;
     }
+
+-- as much is used of each node
+pub returns-clause-alike : goal.returns-clause-alike
+returns-clause-alike c =
+    let old = c.value_at-place.result.now in
+    let p : Place = record { node = c.copied.result; request = old.request; status = c.finished.result } in
+    let counted = counted_alike (map_of c.self.inside.by_uid) (length c.self.inside.by_uid) _ _ _ c.self.invariant.counted (map_of c.replace_at.new.self) (length c.replace_at.new.self) c.replace_at.ensures.room c.args.uid.now old p
+    (c.replace_at.ensures.map c.args.uid.now c.in-Some.ensures.name) (c.value_at-place.ensures.by_name c.args.uid.now c.in-Some.ensures.name)
+    c.copied.ensures refl (ap assumed_in c.finished.ensures ∙ assumed_finished c.args.at old.status) in
+    let alike : used (map_of c.replace_at.new.self) ≡ used (map_of c.self.inside.by_uid) = λ i q. (sym (counted.each q) ∙ c.self.invariant.counted.each q) i in
+    alike ∙ ap (λ (t : Held Place). used t.map) c.self.view_is

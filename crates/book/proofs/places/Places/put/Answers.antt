@@ -1,23 +1,26 @@
-use Rattle.std.proofs.Common.{◌+◌, ◌-◌, length, Some, refl, ap, sym, ◌∙◌, arith}
+use Rattle.std.proofs.Common.{◌+◌, ◌-◌, length, Some, refl, ap, sym, subst, ◌∙◌, arith}
 use Rattle.std.specs.FinMap as fin
 use Rattle.std.proofs.lemmas.Bool.{leb-false}
 use Rattle.std.proofs.lemmas.List.{length-map}
 use Rattle.name_table.specs.Slots.{map_of}
+use Rattle.book.specs.declared.place.Place.{Place}
 use Rattle.book.specs.Finishes.{finish_in}
+use Rattle.book.specs.Tables.{Held, IsShown}
+use Rattle.book.specs.Used.{used}
 use Rattle.book.proofs.FinishLemmas.{slot_timed, timed_put, timed_set}
 use Rattle.book.proofs.SumLemmas.{get_removed, insert_over}
-use Rattle.book.proofs.TotalLemmas.{counted_more, counted_less, old_within, old_alone, most_used, assumed_le, assumed_less, assumed_one, each_less, len_less}
+use Rattle.book.proofs.TotalLemmas.{counted_more, counted_less, old_within, old_alone, most_used, assumed_le, assumed_less, assumed_one, each_less, each_more, len_less, alike_less, alike_more, used_apart, used_more}
 use Rattle.book.proofs.places.Places.put.Goals as goal
 
 -- the old place is in its node's total
-pub take-requires-clause-within : goal.take-requires-clause-within
-take-requires-clause-within c =
+pub take-slot_before-requires-clause-within : goal.take-slot_before-requires-clause-within
+take-slot_before-requires-clause-within c =
     let old = c.value_at-old.result.now in
     let had = c.value_at-old.ensures.by_name c.args.uid c.in-Some.ensures.name in
     old_within (map_of c.self.inside.by_uid) c.args.uid old had (map_of c.self.inside.totals) (c.self.invariant.counted.each old.node)
 
-pub take-requires-clause-last : goal.take-requires-clause-last
-take-requires-clause-last c =
+pub take-slot_before-requires-clause-last : goal.take-slot_before-requires-clause-last
+take-slot_before-requires-clause-last c =
     let old = c.value_at-old.result.now in
     let had = c.value_at-old.ensures.by_name c.args.uid c.in-Some.ensures.name in
     old_alone (map_of c.self.inside.by_uid) c.args.uid old had (map_of c.self.inside.totals) (c.self.invariant.counted.each old.node)
@@ -28,13 +31,13 @@ overflow_sub-self c =
     let had = c.value_at-old.ensures.by_name c.args.uid c.in-Some.ensures.name in
     omega (arith, assumed_less (map_of c.self.inside.by_uid) c.args.uid old had, c.self.invariant.counted.assumed, c.assumed_count.ensures)
 
-pub add-requires-clause-within : goal.add-requires-clause-within
-add-requires-clause-within c =
+pub add-slot_now-requires-clause-within : goal.add-slot_now-requires-clause-within
+add-slot_now-requires-clause-within c =
     let m = map_of c.self.inside.by_uid in
     let old = c.value_at-old.result.now in
     let had = c.value_at-old.ensures.by_name c.args.uid c.in-Some.ensures.name in
     most_used (fin.remove m c.args.uid) _ c.args.place.node
-    (each_less m c.args.uid old had (map_of c.self.inside.totals) (map_of c.take.new.totals) c.self.invariant.counted.each c.take.ensures.each c.args.place.node)
+    (each_less m c.args.uid old had (map_of c.self.inside.totals) (map_of c.take-slot_before.new.totals) c.self.invariant.counted.each c.take-slot_before.ensures.each c.args.place.node)
     (omega (arith, len_less m c.args.uid old had, c.self.invariant.counted.few, c.self.invariant.counted.small))
 
 pub overflow_add-self : goal.overflow_add-self
@@ -48,21 +51,21 @@ invariant_of-self c =
     let old = c.value_at-old.result.now in
     let had = c.value_at-old.ensures.by_name c.args.uid c.in-Some.ensures.name in
     let less = counted_less m most (map_of c.self.inside.totals) (length c.self.inside.totals) c.self.inside.assumed c.self.invariant.counted
-    (fin.remove m c.args.uid) most (map_of c.take.new.totals) (length c.take.new.totals) (c.self.inside.assumed - c.assumed_count.result) refl c.take.ensures.room c.take.ensures.in_use c.args.uid
-    old refl had c.take.ensures.each c.take.ensures.pods (ap (λ n. c.self.inside.assumed - n) c.assumed_count.ensures) in
+    (fin.remove m c.args.uid) most (map_of c.take-slot_before.new.totals) (length c.take-slot_before.new.totals) (c.self.inside.assumed - c.assumed_count.result) refl c.take-slot_before.ensures.room c.take-slot_before.ensures.in_use c.args.uid
+    old refl had c.take-slot_before.ensures.each c.take-slot_before.ensures.pods (ap (λ n. c.self.inside.assumed - n) c.assumed_count.ensures) in
     record {
-      counted = counted_more (fin.remove m c.args.uid) most (map_of c.take.new.totals) (length c.take.new.totals) (c.self.inside.assumed - c.assumed_count.result) less
-          _ _ _ _ _ c.replace_at.ensures.room c.add.ensures.room c.add.ensures.in_use c.args.uid
+      counted = counted_more (fin.remove m c.args.uid) most (map_of c.take-slot_before.new.totals) (length c.take-slot_before.new.totals) (c.self.inside.assumed - c.assumed_count.result) less
+          _ _ _ _ _ c.replace_at.ensures.room c.add-slot_now.ensures.room c.add-slot_now.ensures.in_use c.args.uid
           c.args.place (c.replace_at.ensures.map c.args.uid c.in-Some.ensures.name ∙ sym (insert_over m c.args.uid c.args.place)) (get_removed m c.args.uid)
-          (omega (arith, len_less m c.args.uid old had, c.self.invariant.counted.few)) c.add.ensures.each c.add.ensures.pods
+          (omega (arith, len_less m c.args.uid old had, c.self.invariant.counted.few)) c.add-slot_now.ensures.each c.add-slot_now.ensures.pods
           (ap (λ n. c.self.inside.assumed - c.assumed_count.result + n) c.assumed_count-in-Some.ensures);
       timed = timed_put c.self.inside.by_uid c.replace_at.new.self c.self.inside.finishes c.set.new.self c.in-Some.slot c.finish-finish.result c.args.place c.in-Some.ensures.filled c.self.invariant.timed c.replace_at.ensures.slots c.set.ensures c.finish-finish.ensures;
       room = omega (arith, c.self.invariant.room, c.replace_at.ensures.room);
       gathered = tt;
     }
 
-pub add-requires-in-None-clause-within : goal.add-requires-in-None-clause-within
-add-requires-in-None-clause-within c =
+pub add-slot_now-requires-in-None-clause-within : goal.add-slot_now-requires-in-None-clause-within
+add-slot_now-requires-in-None-clause-within c =
     most_used (map_of c.self.inside.by_uid) _ c.args.place.node (c.self.invariant.counted.each c.args.place.node) (omega (arith, c.self.invariant.counted.few, c.self.invariant.counted.small))
 
 pub overflow_add-self-in-None : goal.overflow_add-self-in-None
@@ -73,8 +76,8 @@ pub invariant_of-self-in-None : goal.invariant_of-self-in-None
 invariant_of-self-in-None c =
     record {
       counted = counted_more (map_of c.self.inside.by_uid) (length c.self.inside.by_uid) (map_of c.self.inside.totals) (length c.self.inside.totals) c.self.inside.assumed c.self.invariant.counted
-          _ _ _ _ _ c.insert-slot.ensures.room c.add-in-None.ensures.room c.add-in-None.ensures.in_use c.args.uid
-          c.args.place c.insert-slot.ensures.map c.in-None.ensures.value (let room = leb-false (length c.self.inside.by_uid) (fin.len (map_of c.self.inside.by_uid)) (sym c.is_full.ensures.full ∙ c.if-is_full.false) in omega (arith, room)) c.add-in-None.ensures.each c.add-in-None.ensures.pods
+          _ _ _ _ _ c.insert-slot.ensures.room c.add-slot_now-in-None.ensures.room c.add-slot_now-in-None.ensures.in_use c.args.uid
+          c.args.place c.insert-slot.ensures.map c.in-None.ensures.value (let room = leb-false (length c.self.inside.by_uid) (fin.len (map_of c.self.inside.by_uid)) (sym c.is_full.ensures.full ∙ c.if-is_full.false) in omega (arith, room)) c.add-slot_now-in-None.ensures.each c.add-slot_now-in-None.ensures.pods
           (ap (λ n. c.self.inside.assumed + n) c.assumed_count-in-None.ensures);
       timed = timed_set c.self.inside.by_uid c.insert-slot.new.self c.self.inside.finishes c.set-in-None.new.self c.insert-slot.result c.finish-finish.result (Some (record { name = c.args.uid; value = c.args.place })) c.self.invariant.timed c.insert-slot.ensures.slots c.set-in-None.ensures c.finish-finish.ensures;
       room = omega (arith, c.self.invariant.room, c.insert-slot.ensures.room);
@@ -87,3 +90,31 @@ set-requires c = slot_timed c.self.inside.by_uid c.self.inside.finishes c.in-Som
 
 pub set-requires-in-None : goal.set-requires-in-None
 set-requires-in-None c = let many = ap length c.self.invariant.timed in omega (arith, many, length-map c.self.inside.by_uid finish_in, c.insert-slot.ensures.a_slot)
+
+-- what is used of two nodes changes: of the old place's, and then of the new one's
+pub returns-in-Some-clause-shown : goal.returns-in-Some-clause-shown
+returns-in-Some-clause-shown c shown =
+    let m = map_of c.self.inside.by_uid in
+    let old = c.value_at-old.result.now in
+    let place = c.args.place in
+    let had = c.value_at-old.ensures.by_name c.args.uid c.in-Some.ensures.name in
+    let less = fin.remove m c.args.uid in
+    let each_left = each_less m c.args.uid old had (map_of c.self.inside.totals) (map_of c.take-slot_before.new.totals) c.self.invariant.counted.each c.take-slot_before.ensures.each in
+    let each_now = each_more less c.args.uid place (get_removed m c.args.uid) (map_of c.take-slot_before.new.totals) (map_of c.add-slot_now.new.totals) each_left c.add-slot_now.ensures.each in
+    let before = subst (λ (t : Held Place). IsShown (used t.map) c.args.nodes.now) (sym c.self.view_is) shown in
+    let left = c.keep.ensures.shown (used m) (used less) before (c.take-slot_before.ensures.now ∙ each_left old.node) (alike_less (used m) (used less) old.node old.request (λ q. sym (used_apart m c.args.uid old had q))) in
+    let after = c.keep-in-Some.ensures.shown (used less) (used (fin.insert less c.args.uid place)) left (c.add-slot_now.ensures.now ∙ each_now place.node)
+    (alike_more (used less) (used (fin.insert less c.args.uid place)) place.node place.request (used_more less c.args.uid place (get_removed m c.args.uid))) in
+    subst (λ n. IsShown (used n) c.keep-in-Some.new.self) (insert_over m c.args.uid place ∙ sym (c.replace_at.ensures.map c.args.uid c.in-Some.ensures.name)) after
+
+-- what is used of the new place's node changes
+pub returns-else-is_full-clause-shown : goal.returns-else-is_full-clause-shown
+returns-else-is_full-clause-shown c shown =
+    let m = map_of c.self.inside.by_uid in
+    let place = c.args.place in
+    let none = c.in-None.ensures.value in
+    let each_now = each_more m c.args.uid place none (map_of c.self.inside.totals) (map_of c.add-slot_now-in-None.new.totals) c.self.invariant.counted.each c.add-slot_now-in-None.ensures.each in
+    let before = subst (λ (t : Held Place). IsShown (used t.map) c.args.nodes.now) (sym c.self.view_is) shown in
+    let after = c.keep-in-None.ensures.shown (used m) (used (fin.insert m c.args.uid place)) before (c.add-slot_now-in-None.ensures.now ∙ each_now place.node)
+    (alike_more (used m) (used (fin.insert m c.args.uid place)) place.node place.request (used_more m c.args.uid place none)) in
+    subst (λ n. IsShown (used n) c.keep-in-None.new.self) (sym c.insert-slot.ensures.map) after

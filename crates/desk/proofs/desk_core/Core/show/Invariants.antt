@@ -4,5 +4,5 @@ use Rattle.desk.proofs.Rows.{shown_of}
 use Rattle.desk.proofs.desk_core.Core.show.Given as goal
 
 -- the rows so far show the nodes so far
-abbrev pub invariant-loop-node : goal.invariant-loop-node
-invariant-loop-node l = map shown l.rows.items ≡ map (shown_of l.self-inside.book.places) (take l.node-index l.nodes)
+abbrev pub invariant-loop-at : goal.invariant-loop-at
+invariant-loop-at l = map shown l.rows.items ≡ map (shown_of l.self.state.cluster.places) (take l.at l.nodes)
