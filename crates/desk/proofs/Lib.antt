@@ -17,3 +17,4 @@ pub mod Beginnings
 pub mod Adding
 pub mod Sharing
 pub mod Alone
+pub mod NodesStay

@@ -7,6 +7,7 @@ pub mod Laws
 pub mod Shared
 pub mod Codes
 pub mod SharedCodes
+pub mod NodeCalls
 pub mod BareReply
 pub mod Done
 pub mod Alone

@@ -116,8 +116,9 @@ impl<J: Naming> Desk<J> {
         answer
     }
 
-    /// Shows the nodes and what is used of them, as they are published. It takes no lock and waits for nobody. It copies a
-    /// pointer and the totals of each node.
+    /// Shows the nodes and what is used of them, as they are published. It takes no lock and waits for nobody. It copies the
+    /// totals of each node, and a pointer to each; but no pointer where the pass's last snapshot was dropped, and no call since
+    /// then told of a node.
     ///
     /// Errors: `NoMemory`; nothing changes.
     pub fn look(&self, pass: &mut Pass<J>) -> Result<Snapshot, NoMemory>

@@ -1,5 +1,5 @@
 //! The state of a desk, and each step on it. It has one owner: what passes share stands over two of these.
-ghost use Rattle.std.specs.Prelude.{◌≡◌, ◌≤◌, ◌<◌, ◌+◌, ℕ, IfOk, IsErr, MatchResult, slice_index};
+ghost use Rattle.std.specs.Prelude.{◌≡◌, ◌≤◌, ◌<◌, ◌+◌, ℕ, map, IfOk, IfSome, IsErr, MatchResult, slice_index};
 ghost use Rattle.std.specs.Bool.{IsTrue};
 ghost use Rattle.desk.specs.Caller.{HasNoCalls};
 ghost use Rattle.desk.specs.BareReply.{bare_reply};
@@ -8,7 +8,7 @@ ghost use Rattle.desk.specs.Machine.{after_expiry};
 
 use crate::bare_reply::BareReply;
 use crate::limits::{MAX_CALLS, MAX_PASSES};
-use crate::snapshot::{Row, Snapshot};
+use crate::snapshot::Row;
 use crate::step::{Counts, Reply, Step};
 use book::{Book, ClusterStep, Entry, Limits, NoMemory, Refusal};
 use quant::{Event, LATEST_MOMENT, Moment, Name, Request, SharedPod, Ticket, Version};
@@ -16,6 +16,7 @@ use queue::{Failure, PassNumber, Queue};
 use std::alloc::{AllocError, Global};
 use std::hash::RandomState;
 use std::marker::Model;
+use std::sync::Arc;
 
 /// Book, queue and clock, how many calls of each pass were answered, and of how many passes calls are taken. Each step is done
 /// or refused here.
@@ -54,6 +55,9 @@ impl Core {
     ghost use Rattle.desk.specs.Machine as machine;
     ghost use Rattle.desk.specs.Done.{IsTold, IsTaken, IsDone, IsSaid};
     ghost use Rattle.desk.specs.BareReply.{bare_reply, handed_by};
+    ghost use Rattle.desk.specs.Shown.{shown};
+    ghost use Rattle.desk.specs.NodeCalls.{nodes_in, nodes_of};
+    ghost use Rattle.std.specs.Arc.{arc_value};
     ghost use Rattle.std.specs.FinMap.{len};
     ghost use Rattle.queue.specs.Queue as queue;
 
@@ -382,9 +386,43 @@ impl Core {
         said
     }
 
-    // The rows of the nodes, with what is used of each.
-    pub(crate) fn show(&self) -> Result<Snapshot, NoMemory>
-        ensures snapshot { IfOk result (λ shown. shown ≡ snapshot self.now.state.cluster) }
+    /// The rows of the nodes, with what is used of each. Rows that have the same nodes are taken over, and what is used written
+    /// into them.
+    pub(crate) fn show(&self, before: Option<Vec<Row>>) -> Result<Arc<Vec<Row>>, NoMemory>
+        requires { IfSome before (λ rows. nodes_of rows.items ≡ nodes_in self.now.state.cluster) }
+        ensures { IfOk result (λ rows. map shown (arc_value rows).items ≡ snapshot self.now.state.cluster) }
+    {
+        let rows = self.rows_now(before)?;
+        let shared = Arc::new(self.alloc, rows).map_err(AllocError::from)?;
+        Ok(shared)
+    }
+
+    fn rows_now(&self, before: Option<Vec<Row>>) -> Result<Vec<Row>, NoMemory>
+        requires { IfSome before (λ rows. nodes_of rows.items ≡ nodes_in self.now.state.cluster) }
+        ensures { IfOk result (λ rows. map shown rows.items ≡ snapshot self.now.state.cluster) }
+    {
+        match before {
+            Some(rows) => Ok(self.show_in(rows)),
+            None => self.show_anew(),
+        }
+    }
+
+    // These rows, with what is used now.
+    fn show_in(&self, before: Vec<Row>) -> Vec<Row>
+        requires { nodes_of before.items ≡ nodes_in self.now.state.cluster }
+        ensures { map shown result.items ≡ snapshot self.now.state.cluster }
+    {
+        let totals = self.book.used_of_rows();
+        let mut rows = before;
+        for (at, row) in rows.iter_mut().enumerate() {
+            row.used = totals[at];
+        }
+        rows
+    }
+
+    // Rows of all nodes, each of which has an owner more then.
+    fn show_anew(&self) -> Result<Vec<Row>, NoMemory>
+        ensures snapshot { IfOk result (λ rows. map shown rows.items ≡ snapshot self.now.state.cluster) }
         ensures no_memory { IsErr result → 1 ≤ len self.now.state.cluster.nodes }
     {
         let nodes = self.book.rows();
@@ -395,7 +433,7 @@ impl Core {
             let node = node.share()?;
             rows.push(Row { node, used }).map_err(AllocError::from)?;
         }
-        Ok(Snapshot::new(rows))
+        Ok(rows)
     }
 }
 

@@ -4,6 +4,7 @@ ghost use Rattle.std.specs.Prelude.{◌≡◌, [], IfSome};
 ghost use Rattle.std.specs.Bool.{IsTrue};
 ghost use mathlib.Core.List.{IsPrefix};
 ghost use Rattle.desk.specs.Shared.{head_of, next_call, with_call};
+ghost use Rattle.desk.specs.NodeCalls.{calls_on_nodes};
 
 use crate::history_rule::{Adds, Entry, HistoryRule, Nothing};
 use crate::next_call::NextCall;
@@ -48,6 +49,8 @@ pub struct Head<J: Naming> {
 #[derive(Drop)]
 pub struct Prefix {
     calls: u64,
+    // How many of them tell of a node.
+    node_calls: u64,
     seen: Seen<Entry, u64, HistoryRule>,
 }
 
@@ -55,6 +58,7 @@ impl Model for Prefix {
     ghost use Rattle.std.specs.Prelude.{◌≡◌, length};
     ghost use Rattle.desk.specs.Shared.{Prefix as Begun};
     ghost use Rattle.desk.specs.SharedCodes.{prefix_code};
+    ghost use Rattle.desk.specs.NodeCalls.{calls_on_nodes};
 
     ghost Value = { Begun };
 
@@ -62,7 +66,7 @@ impl Model for Prefix {
 
     ghost view = { λ f. record { book = f.seen.book; list = f.seen.log } };
 
-    ghost invariant = { λ f. f.calls ≡ length f.seen.log };
+    ghost invariant = { λ f. (f.calls ≡ length f.seen.log) × (f.node_calls ≡ calls_on_nodes f.seen.log) };
 }
 
 impl Blank {
@@ -86,7 +90,11 @@ impl Blank {
                 word: head,
                 of: PhantomData,
             },
-            Prefix { calls: 0, seen },
+            Prefix {
+                calls: 0,
+                node_calls: 0,
+                seen,
+            },
         )
     }
 }
@@ -98,6 +106,7 @@ impl Prefix {
     {
         Prefix {
             calls: self.calls,
+            node_calls: self.node_calls,
             seen: self.seen.again(),
         }
     }
@@ -110,6 +119,15 @@ impl Prefix {
         let mut both = self.seen.again();
         both.learn(&other.seen);
         self.calls <= other.calls
+    }
+
+    /// Whether the other begins with this one, and none of its further calls tells of a node.
+    pub(crate) fn has_same_nodes(&self, other: &Prefix) -> bool
+        requires { other.now.book ≡ self.now.book }
+        ensures begins { IsTrue result → IsPrefix self.now.list other.now.list }
+        ensures same { IsTrue result → calls_on_nodes self.now.list ≡ calls_on_nodes other.now.list }
+    {
+        self.begins(other) && self.node_calls == other.node_calls
     }
 
     /// With one call more, if this is the whole history and there is room for a call in it.
@@ -136,6 +154,7 @@ impl Prefix {
         }
         Some(Prefix {
             calls: calls + 1,
+            node_calls: self.node_calls + u64::from(next.step.tells_of_node()),
             seen,
         })
     }

@@ -1,17 +1,21 @@
 //! Leave to use a desk.
-ghost use Rattle.std.specs.Prelude.{◌≡◌, ◌<◌, ◌≤◌, ◌+◌, ◌^◌, [], IfOk, OnErr};
+ghost use Rattle.std.specs.Prelude.{◌≡◌, ◌<◌, ◌≤◌, ◌+◌, ◌^◌, [], IfOk, IfSome, OnErr};
+ghost use Rattle.std.specs.Arc.{arc_value};
 ghost use Rattle.std.specs.Bool.{IsTrue};
-ghost use Rattle.desk.specs.History.{HasCallsOf};
+ghost use Rattle.desk.specs.History.{HasCallsOf, state_after};
+ghost use Rattle.desk.specs.Machine.{opening};
+ghost use Rattle.desk.specs.NodeCalls.{WereShown, nodes_in, nodes_of};
 ghost use Rattle.desk.specs.Shared.{Stands, IsAhead, IsLooked};
 ghost use Rattle.desk.specs.declared.limits.TheConstants.{MAX_PASSES};
 
 use crate::history::{Naming, Prefix};
 use crate::published::Published;
 use crate::published_rule::{PublishedRule, Sees};
-use crate::snapshot::Snapshot;
+use crate::snapshot::{Row, Snapshot};
 use book::NoMemory;
 use left_right::reader::Reader;
 use std::marker::Model;
+use std::sync::Arc;
 
 /// A caller's leave to use a desk, from one thread at a time: its number among the desk's passes, and how many of its
 /// calls were answered. Contracts see the history that it has seen too, of which memory has the length.
@@ -22,11 +26,21 @@ pub struct Pass<J: Naming> {
     prefix: Prefix,
     // It is there between calls.
     reader: Option<Reader<Published, (), PublishedRule<J>>>,
+    last: Option<Last>,
+}
+
+/// What a pass showed last: the history, and the rows of its nodes.
+#[derive(Drop)]
+pub(crate) struct Last {
+    pub(crate) prefix: Prefix,
+    pub(crate) rows: Arc<Vec<Row>>,
 }
 
 impl<J: Naming> Model for Pass<J> {
-    ghost use Rattle.std.specs.Prelude.{◌≡◌};
+    ghost use Rattle.std.specs.Prelude.{◌≡◌, IfSome};
+    ghost use Rattle.std.specs.Arc.{arc_value};
     ghost use Rattle.desk.specs.History.{HasCallsOf};
+    ghost use Rattle.desk.specs.NodeCalls.{WereShown};
     ghost use Rattle.desk.specs.Shared.{Pass as Seeing};
     ghost use Rattle.desk.specs.SharedCodes.{pass_code};
 
@@ -36,7 +50,8 @@ impl<J: Naming> Model for Pass<J> {
 
     ghost view = { λ p. record { caller = record { number = p.number; calls = p.calls }; seen = p.prefix.list } };
 
-    ghost invariant = { λ p. HasCallsOf (record { number = p.number; calls = p.calls }) p.prefix.list × (p.prefix.book ≡ J.book) };
+    ghost invariant = { λ p. HasCallsOf (record { number = p.number; calls = p.calls }) p.prefix.list × (p.prefix.book ≡ J.book)
+        × IfSome p.last (λ last. WereShown J.book J.limits last.prefix (arc_value last.rows).items) };
 }
 
 impl<J: Naming> Pass<J> {
@@ -54,6 +69,7 @@ impl<J: Naming> Pass<J> {
             calls: 0,
             prefix: nothing,
             reader: Some(reader),
+            last: None,
         }
     }
 
@@ -135,8 +151,27 @@ impl<J: Naming> Pass<J> {
         if !self.may_go_on(published, handed) {
             return Err(NoMemory);
         }
-        let shown = published.desk.show()?;
+        let before = rows_again::<J>(self.last.take(), &published.prefix);
+        let rows = published.desk.show(before)?;
+        let shown = Snapshot::new(rows.clone()?);
+        self.last = Some(Last {
+            prefix: published.prefix.again(),
+            rows,
+        });
         self.see(&published.prefix);
         Ok(shown)
     }
+}
+
+// The rows that were shown last, where nobody else owns them and no call since then tells of a node.
+fn rows_again<J: Naming>(last: Option<Last>, now: &Prefix) -> Option<Vec<Row>>
+    requires last { IfSome last (λ last. WereShown J.book J.limits last.prefix (arc_value last.rows).items) }
+    requires book { now.now.book ≡ J.book }
+    ensures { IfSome result (λ rows. nodes_of rows.items ≡ nodes_in (state_after (opening J.limits) now.now.list).cluster) }
+{
+    let Last { prefix, rows } = last?;
+    if !prefix.has_same_nodes(now) {
+        return None;
+    }
+    Arc::into_inner(rows)
 }

@@ -1,9 +1,11 @@
 //! What a look shows.
 ghost use Rattle.std.specs.Prelude.{◌≡◌, map};
+ghost use Rattle.std.specs.Arc.{arc_value};
 ghost use Rattle.desk.specs.Shown.{shown};
 
 use quant::{Res, SharedNode};
 use std::marker::Model;
+use std::sync::Arc;
 
 /// A node, with what the pods on it use together.
 #[derive(Drop)]
@@ -17,7 +19,8 @@ pub struct Row {
 /// The nodes that are there, in the order of their names' bytes, each with what the pods on it use.
 #[derive(Drop)]
 pub struct Snapshot {
-    rows: Vec<Row>,
+    // The pass that looked owns them too, so that its next look needn't make them anew.
+    rows: Arc<Vec<Row>>,
 }
 
 impl Model for Snapshot {
@@ -25,17 +28,18 @@ impl Model for Snapshot {
     ghost use Rattle.desk.specs.Shown.{Shown, shown};
     ghost use Rattle.desk.specs.Codes.{shown_code};
     ghost use Rattle.std.specs.Coded.{coded_list};
+    ghost use Rattle.std.specs.Arc.{arc_value};
 
     ghost Value = { List Shown };
 
     ghost coded = { coded_list shown_code };
 
-    ghost view = { λ s. map shown s.rows.items };
+    ghost view = { λ s. map shown (arc_value s.rows).items };
 }
 
 impl Snapshot {
-    pub(crate) fn new(rows: Vec<Row>) -> Self
-        ensures { result ≡ map shown rows.items }
+    pub(crate) fn new(rows: Arc<Vec<Row>>) -> Self
+        ensures { result ≡ map shown (arc_value rows).items }
     {
         Snapshot { rows }
     }

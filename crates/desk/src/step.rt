@@ -48,6 +48,18 @@ pub enum Step {
 }
 
 impl Step {
+    ghost use Rattle.desk.specs.NodeCalls.{tells_of_node};
+
+    // Whether it tells of a node.
+    pub(crate) fn tells_of_node(&self) -> bool
+        ensures { result ≡ tells_of_node self.now }
+    {
+        match self {
+            Step::Event(event) => matches!(event, Event::NodeSet { .. } | Event::NodeGone { .. }),
+            _ => false,
+        }
+    }
+
     /// The same step, with one more owner of the row or the pod that it tells of.
     ///
     /// Errors: `AllocError` where that can have no further owner.

@@ -11,7 +11,7 @@ compare_exchange-found-requires g c =
     let pen = c.no_pen-pen.ensures in
     let seen = c.again-seen.ensures in
     let book : c.again-seen.result.book ≡ c.args.head.now.word.book = ap (λ s. s.book) seen ∙ (ap (λ (k : Prefix). k.book) c.self.view_is ∙ c.requires ∙ sym (ap (λ w. w.book) h)) in
-    let len : length c.again-seen.result.log ≡ c.self.inside.calls = ap (λ s. length s.log) seen ∙ sym c.self.invariant in (
+    let len : length c.again-seen.result.log ≡ c.self.inside.calls = ap (λ s. length s.log) seen ∙ sym c.self.invariant.0 in (
       ap (λ w. w.tracked) h,
       book,
       pen.0 ∙ book,

@@ -1,23 +1,13 @@
-use Rattle.std.proofs.Common.{◌≡◌, ℕ, zero, suc, ◌≤◌, List, [], ◌∷◌, ◌++◌, get_or, is_ok, true, false, length, refl, sym, ap, subst, ◌∙◌, map, take, arith}
+use Rattle.std.proofs.Common.{◌≡◌, ℕ, zero, suc, ◌≤◌, List, [], ◌∷◌, ◌++◌, get_or, is_ok, true, false, length, refl, sym, ap, ◌∙◌, map, take, arith}
 use Rattle.std.proofs.lemmas.List.{take_all, map_push}
-use Rattle.std.specs.FinMap.{len, entries}
-use Rattle.quant.specs.declared.amount.Res.{Res}
+use Rattle.std.specs.FinMap.{len}
 use Rattle.quant.specs.declared.objects.Node.{Node}
-use Rattle.book.specs.Rows.{named}
-use Rattle.book.specs.Used.{nothing, used}
+use Rattle.book.specs.Used.{nothing}
 use Rattle.desk.specs.Caller.{Core}
 use Rattle.desk.specs.Shown.{Shown, shown}
 use Rattle.desk.specs.declared.snapshot.Row.{Row}
-use Rattle.desk.specs.Machine.{snapshot}
-use Rattle.desk.proofs.Rows.{shown_of, shown_all, shown_more, as_many_rows, len_all}
-use Rattle.desk.proofs.desk_core.Core.show.Goals as goal
-
--- the rows are those of the desk's nodes, and the amounts those of its places
-rows_of : (nodes : List Node) (inside now : Core) → inside ≡ now → named nodes ≡ entries inside.state.cluster.nodes → named nodes ≡ entries now.state.cluster.nodes
-rows_of nodes inside now is = subst (λ (d : Core). named nodes ≡ entries d.state.cluster.nodes) is
-
-totals_of : (totals : List Res) (inside now : Core) → inside ≡ now → totals ≡ map (λ e. used inside.state.cluster.places e.0) (entries inside.state.cluster.nodes) → totals ≡ map (λ e. used now.state.cluster.places e.0) (entries now.state.cluster.nodes)
-totals_of totals inside now is = subst (λ (d : Core). totals ≡ map (λ e. used d.state.cluster.places e.0) (entries d.state.cluster.nodes)) is
+use Rattle.desk.proofs.Rows.{shown_of, shown_all, shown_more, as_many_rows, rows_of, totals_of, len_all}
+use Rattle.desk.proofs.desk_core.Core.show_anew.Goals as goal
 
 -- there is an amount for each row
 pub bounds-totals-at : goal.bounds-totals-at
@@ -48,7 +38,7 @@ returns-clause-snapshot c =
     let nodes = c.rows-nodes.result.now in
     let cluster = c.args.self.now.state.cluster in
     let all : take c.loop-at.at nodes ≡ nodes = take_all c.loop-at.at nodes c.loop-at-test.false in
-    c.new.ensures ∙ c.loop-at.invariant ∙ ap (map (shown_of cluster.places)) all
+    c.loop-at.invariant ∙ ap (map (shown_of cluster.places)) all
     ∙ shown_all nodes cluster.nodes cluster.places (rows_of nodes _ _ c.self.view_is c.rows-nodes.ensures)
 
 -- a number that isn't 0 is at least 1
