@@ -1,11 +1,11 @@
 //! Modules at the borders of what is accepted.
 
 use crate::small_modules::{
-    FILTER, FILTER_ALONE, FILTER_BEHIND_IMPORT, ONE, PAGE, SCORE, TO_I32, filter_of, module,
+    FILTER, FILTER_BEHIND_IMPORT, HEADER, ONE, PAGE, SCORE, TO_I32, filter_of, module, repeated,
 };
-use std::alloc::{AllocError, Global};
-use std::test::Fail;
+use std::alloc::Global;
 use wbin::decode;
+use wcode::BinFault;
 use wtype::{TypeFault, validate};
 
 // One type: from nothing to nothing, and from an i32 to an i32.
@@ -81,16 +81,6 @@ const ELEMENT: &[u8] = b"\x09\x07\x01\x00\x41\x00\x0B\x01\x00";
 
 const DATA: &[u8] = b"\x0B\x08\x01\x00\x41\x00\x0B\x02hi";
 
-const UNTYPED: TypeFault = TypeFault::Untyped {
-    function: None,
-    place: 0,
-};
-
-const UNTYPED_SECOND: TypeFault = TypeFault::Untyped {
-    function: Some(1),
-    place: 57,
-};
-
 // Bodies without a typing: one whose `if` lacks an `else`, the same behind a branch, and a sum of nothing.
 const LACKS_ELSE: &[u8] = b"\x0A\x0B\x01\x09\x00\x41\x01\x04\x7F\x41\x00\x0B\x0B";
 
@@ -99,211 +89,130 @@ const LACKS_ELSE_BEHIND_A_BRANCH: &[u8] =
 
 const SUM_OF_NOTHING: &[u8] = b"\x0A\x05\x01\x03\x00\x6A\x0B";
 
-// The first function has no typing from this byte on.
-const UNTYPED_AT_24: TypeFault = TypeFault::Untyped {
-    function: Some(0),
-    place: 24,
-};
+// Sections of one module after the other.
+type Modules = &'static [&'static [&'static [u8]]];
 
-const UNTYPED_AT_36: TypeFault = TypeFault::Untyped {
-    function: Some(0),
-    place: 36,
-};
+// Modules that are accepted.
+const ACCEPTED: Modules = &[
+    &[TO_I32, ONE, FILTER, ZERO],
+    &[TO_I32, ONE, FILTER, ZERO_BEHIND_1023],
+    &[TWO_TYPES, TWO_FUNCTIONS, FILTER, EMPTY_BEHIND_1023],
+    &[
+        HOST_AND_FILTER,
+        IMPORTS_POD,
+        FUNCTION_OF_SECOND,
+        FILTER_BEHIND_IMPORT,
+        ZERO,
+    ],
+    &[
+        HOST_AND_FILTER,
+        IMPORTS_NODE_2,
+        FUNCTION_OF_SECOND,
+        FILTER_BEHIND_IMPORT,
+        ZERO,
+    ],
+    &[
+        TO_I32, ONE, TABLE, PAGE, GLOBAL, FILTER, ELEMENT, ZERO, DATA,
+    ],
+];
 
-const UNTYPED_AT_39: TypeFault = TypeFault::Untyped {
-    function: Some(0),
-    place: 39,
-};
+// Modules with a wrong import. The second one has a wrong body besides, which isn't told.
+const BAD_IMPORTS: Modules = &[
+    &[
+        HOST_AND_FILTER,
+        IMPORTS_POD_3,
+        FUNCTION_OF_SECOND,
+        FILTER_BEHIND_IMPORT,
+        ZERO,
+    ],
+    &[HOST_AND_FILTER, IMPORTS_PODS, FUNCTION_OF_SECOND, EMPTY],
+    &[TO_I32, IMPORTS_FUNCTION, ONE, FILTER, START, EMPTY],
+    &[TO_I32, IMPORTS_MEMORY, ONE, FILTER, ZERO],
+    &[
+        HOST_AND_FILTER,
+        IMPORTS_POD_OF_SECOND,
+        FUNCTION_OF_SECOND,
+        FILTER_BEHIND_IMPORT,
+        ZERO,
+    ],
+];
 
-const UNTYPED_AT_42: TypeFault = TypeFault::Untyped {
-    function: Some(0),
-    place: 42,
-};
+// Modules without the exports that are called. The third one has a memory over the limit besides, which isn't told.
+const BAD_EXPORTS: Modules = &[
+    &[],
+    &[TO_I32],
+    &[TO_I32, ONE, LARGE_MEMORY, OTHER, ZERO],
+    &[TO_I32, ONE, SCORE, ZERO],
+    &[GIVES_NOTHING, ONE, FILTER, EMPTY],
+];
 
-const UNTYPED_AT_44: TypeFault = TypeFault::Untyped {
-    function: Some(0),
-    place: 44,
-};
+// Modules with one thing over its limit.
+const OVER_LIMITS: Modules = &[
+    &[TO_I32, ONE, FILTER, ZERO_BEHIND_1024],
+    &[TO_I32, ONE, FILTER, ZERO_BEHIND_MANY],
+    &[TWO_TYPES, TWO_FUNCTIONS, FILTER, EMPTY_BEHIND_1024],
+    &[TO_I32, ONE, LARGE_TABLE, FILTER, ZERO],
+    &[TO_I32, ONE, LARGE_MEMORY, FILTER, ZERO],
+];
 
-const UNTYPED_AT_45: TypeFault = TypeFault::Untyped {
-    function: Some(0),
-    place: 45,
-};
+// Modules that break a rule outside the functions' bodies.
+const BROKEN: Modules = &[
+    &[TO_I32, ONE, FILTER_TWICE, ZERO],
+    &[TO_I32, ONE, FILTER_BEHIND_IMPORT, EMPTY],
+    &[TO_I32, ONE, LEAST_ABOVE_MOST, FILTER, ZERO],
+    &[TO_I32, ONE, GLOBAL_OF_ANOTHER, FILTER, ZERO],
+    &[TO_I32, ONE, FILTER, ELEMENT, ZERO],
+    &[TAKES_I32, ONE, FILTER, START, EMPTY],
+];
 
-// A module's sections, and its fault, if it has one.
-struct Row {
-    sections: &'static [&'static [u8]],
-    fault: Option<TypeFault>,
-}
-
-const ROWS: [Row; 32] = [
-    Row {
-        sections: &[TO_I32, ONE, FILTER, ZERO],
-        fault: None,
-    },
-    Row {
-        sections: &[TO_I32, ONE, FILTER, ZERO_BEHIND_1023],
-        fault: None,
-    },
-    Row {
-        sections: &[TWO_TYPES, TWO_FUNCTIONS, FILTER, EMPTY_BEHIND_1023],
-        fault: None,
-    },
-    Row {
-        sections: &[
-            HOST_AND_FILTER,
-            IMPORTS_POD,
-            FUNCTION_OF_SECOND,
-            FILTER_BEHIND_IMPORT,
-            ZERO,
-        ],
-        fault: None,
-    },
-    Row {
-        sections: &[
-            HOST_AND_FILTER,
-            IMPORTS_NODE_2,
-            FUNCTION_OF_SECOND,
-            FILTER_BEHIND_IMPORT,
-            ZERO,
-        ],
-        fault: None,
-    },
-    Row {
-        sections: &[
-            HOST_AND_FILTER,
-            IMPORTS_POD_3,
-            FUNCTION_OF_SECOND,
-            FILTER_BEHIND_IMPORT,
-            ZERO,
-        ],
-        fault: Some(TypeFault::BadImport),
-    },
-    Row {
-        sections: &[
-            TO_I32, ONE, TABLE, PAGE, GLOBAL, FILTER, ELEMENT, ZERO, DATA,
-        ],
-        fault: None,
-    },
-    Row {
-        sections: &[TO_I32, ONE, FILTER, ZERO_BEHIND_1024],
-        fault: Some(TypeFault::OverLimit),
-    },
-    Row {
-        sections: &[TO_I32, ONE, FILTER, ZERO_BEHIND_MANY],
-        fault: Some(TypeFault::OverLimit),
-    },
-    Row {
-        sections: &[TWO_TYPES, TWO_FUNCTIONS, FILTER, EMPTY_BEHIND_1024],
-        fault: Some(TypeFault::OverLimit),
-    },
-    Row {
-        sections: &[TO_I32, ONE, LARGE_TABLE, FILTER, ZERO],
-        fault: Some(TypeFault::OverLimit),
-    },
-    Row {
-        sections: &[TO_I32, ONE, LARGE_MEMORY, FILTER, ZERO],
-        fault: Some(TypeFault::OverLimit),
-    },
-    Row {
-        sections: &[],
-        fault: Some(TypeFault::BadExport),
-    },
-    Row {
-        sections: &[TO_I32],
-        fault: Some(TypeFault::BadExport),
-    },
-    // What is told of two faults: an import before a body, a body before the exports.
-    Row {
-        sections: &[HOST_AND_FILTER, IMPORTS_PODS, FUNCTION_OF_SECOND, EMPTY],
-        fault: Some(TypeFault::BadImport),
-    },
-    Row {
-        sections: &[TO_I32, ONE, EMPTY],
-        fault: Some(UNTYPED_AT_24),
-    },
-    Row {
-        sections: &[TO_I32, ONE, LARGE_MEMORY, OTHER, ZERO],
-        fault: Some(TypeFault::BadExport),
-    },
-    Row {
-        sections: &[TO_I32, ONE, SCORE, ZERO],
-        fault: Some(TypeFault::BadExport),
-    },
-    Row {
-        sections: &[GIVES_NOTHING, ONE, FILTER, EMPTY],
-        fault: Some(TypeFault::BadExport),
-    },
-    Row {
-        sections: &[TO_I32, IMPORTS_FUNCTION, ONE, FILTER, START, EMPTY],
-        fault: Some(TypeFault::BadImport),
-    },
-    Row {
-        sections: &[TO_I32, IMPORTS_MEMORY, ONE, FILTER, ZERO],
-        fault: Some(TypeFault::BadImport),
-    },
-    Row {
-        sections: &[
-            HOST_AND_FILTER,
-            IMPORTS_POD_OF_SECOND,
-            FUNCTION_OF_SECOND,
-            FILTER_BEHIND_IMPORT,
-            ZERO,
-        ],
-        fault: Some(TypeFault::BadImport),
-    },
-    Row {
-        sections: &[TO_I32, ONE, FILTER_TWICE, ZERO],
-        fault: Some(UNTYPED),
-    },
-    Row {
-        sections: &[TO_I32, ONE, FILTER_BEHIND_IMPORT, EMPTY],
-        fault: Some(UNTYPED),
-    },
-    Row {
-        sections: &[TO_I32, ONE, LEAST_ABOVE_MOST, FILTER, ZERO],
-        fault: Some(UNTYPED),
-    },
-    Row {
-        sections: &[TO_I32, ONE, GLOBAL_OF_ANOTHER, FILTER, ZERO],
-        fault: Some(UNTYPED),
-    },
-    Row {
-        sections: &[TO_I32, ONE, FILTER, ELEMENT, ZERO],
-        fault: Some(UNTYPED),
-    },
-    Row {
-        sections: &[TAKES_I32, ONE, FILTER, START, EMPTY],
-        fault: Some(UNTYPED),
-    },
-    Row {
-        sections: &[
+// Modules with a body without a typing: which function's it is, and from which byte on. The first one has no exports besides, which
+// isn't told.
+const UNTYPED: &[(&[&[u8]], usize, usize)] = &[
+    (&[TO_I32, ONE, EMPTY], 0, 24),
+    (
+        &[
             HOST_AND_FILTER,
             IMPORTS_POD,
             FUNCTION_OF_SECOND,
             FILTER_BEHIND_IMPORT,
             EMPTY,
         ],
-        fault: Some(UNTYPED_SECOND),
-    },
-    Row {
-        sections: &[TO_I32, ONE, FILTER, LACKS_ELSE],
-        fault: Some(UNTYPED_AT_42),
-    },
-    Row {
-        sections: &[TO_I32, ONE, FILTER, LACKS_ELSE_BEHIND_A_BRANCH],
-        fault: Some(UNTYPED_AT_44),
-    },
-    Row {
-        sections: &[TO_I32, ONE, FILTER, SUM_OF_NOTHING],
-        fault: Some(UNTYPED_AT_36),
-    },
+        1,
+        57,
+    ),
+    (&[TO_I32, ONE, FILTER, LACKS_ELSE], 0, 42),
+    (&[TO_I32, ONE, FILTER, LACKS_ELSE_BEHIND_A_BRANCH], 0, 44),
+    (&[TO_I32, ONE, FILTER, SUM_OF_NOTHING], 0, 36),
 ];
 
-// Bodies of `filter` without locals, whose instructions begin at the byte 36, and the fault of the module, if it has one: a padded number; branches to a
-// loop and behind operands that they drop; and what is free where the place isn't reached, which are operands that nothing in
-// the body left there, and they alone.
-const BODIES: [(&[u8], Option<TypeFault>); 11] = [
+fn accepted() -> Modules {
+    ACCEPTED
+}
+
+fn bad_imports() -> Modules {
+    BAD_IMPORTS
+}
+
+fn bad_exports() -> Modules {
+    BAD_EXPORTS
+}
+
+fn over_limits() -> Modules {
+    OVER_LIMITS
+}
+
+fn broken() -> Modules {
+    BROKEN
+}
+
+fn untyped() -> &'static [(&'static [&'static [u8]], usize, usize)] {
+    UNTYPED
+}
+
+// Bodies of `filter` without locals, whose instructions begin at the byte 36, and from which byte on it has no typing, if it has
+// none: a padded number; branches to a loop and behind operands that they drop; and what is free where the place isn't reached,
+// which are operands that nothing in the body left there, and they alone.
+const BODIES: &[(&[u8], Option<usize>)] = &[
     (b"\0\x41\x80\x80\x80\x80\x00\x0B", None),
     (b"\0\x03\x40\x0C\x00\x0B\x41\x00\x0B", None),
     (b"\0\x41\x07\x41\x08\x41\x00\x0C\x00\x0B", None),
@@ -311,108 +220,170 @@ const BODIES: [(&[u8], Option<TypeFault>); 11] = [
     (b"\0\x00\x0B", None),
     (b"\0\x00\x1B\x0B", None),
     (b"\0\x00\x1A\x1B\x0B", None),
-    (b"\0\x00\x42\x00\x1B\x0B", Some(UNTYPED_AT_39)),
-    (b"\0\x00\x42\x00\x41\x00\x1B\x0B", Some(UNTYPED_AT_42)),
+    (b"\0\x00\x42\x00\x1B\x0B", Some(39)),
+    (b"\0\x00\x42\x00\x41\x00\x1B\x0B", Some(42)),
     (b"\0\x41\x01\x04\x7F\x41\x00\x05\x41\x02\x0B\x0B", None),
+    (b"\0\x41\x01\x04\x7F\x41\x00\x05\x42\x02\x0B\x0B", Some(45)),
+];
+
+// 1,024 and 1,025 globals, and blocks that nest 256 deep.
+const GLOBALS_1024: &[u8] = b"\x06\x82\x28\x80\x08";
+
+const GLOBALS_1025: &[u8] = b"\x06\x87\x28\x81\x08";
+
+const ONE_GLOBAL: &[u8] = b"\x7F\x00\x41\x00\x0B";
+
+const BODY_OF_BLOCKS: &[u8] = b"\x0A\x87\x06\x01\x84\x06\x00";
+
+// What a module is made of, each part so many times, and its fault, if it has one. 1,024 globals are the most, and that there are
+// more is told behind the exports. Blocks nest 256 deep at most.
+const LARGE: &[(&[(usize, &[u8])], Option<TypeFault>)] = &[
     (
-        b"\0\x41\x01\x04\x7F\x41\x00\x05\x42\x02\x0B\x0B",
-        Some(UNTYPED_AT_45),
+        &[
+            (1, HEADER),
+            (1, TO_I32),
+            (1, ONE),
+            (1, GLOBALS_1024),
+            (1024, ONE_GLOBAL),
+            (1, FILTER),
+            (1, ZERO),
+        ],
+        None,
+    ),
+    (
+        &[
+            (1, HEADER),
+            (1, TO_I32),
+            (1, ONE),
+            (1, GLOBALS_1025),
+            (1025, ONE_GLOBAL),
+            (1, FILTER),
+            (1, ZERO),
+        ],
+        Some(TypeFault::OverLimit),
+    ),
+    (
+        &[
+            (1, HEADER),
+            (1, TO_I32),
+            (1, ONE),
+            (1, GLOBALS_1025),
+            (1025, ONE_GLOBAL),
+            (1, ZERO),
+        ],
+        Some(TypeFault::BadExport),
+    ),
+    (
+        &[
+            (1, HEADER),
+            (1, TO_I32),
+            (1, ONE),
+            (1, FILTER),
+            (1, BODY_OF_BLOCKS),
+            (256, b"\x02\x40"),
+            (256, b"\x0B"),
+            (1, b"\x41\x00\x0B"),
+        ],
+        None,
     ),
 ];
 
-// The fault of a module of these bytes, if it has one.
-fn fault_of(alloc: Global, bytes: &[u8]) -> Result<Option<TypeFault>, Fail> {
-    match validate(alloc, decode(alloc, bytes)?) {
-        Ok(_) => Ok(None),
-        Err(fault) => Ok(Some(fault)),
+fn bodies() -> &'static [(&'static [u8], Option<usize>)] {
+    BODIES
+}
+
+fn large() -> &'static [(&'static [(usize, &'static [u8])], Option<TypeFault>)] {
+    LARGE
+}
+
+// The fault of the module of these bytes, if it has one, or why they aren't read.
+fn fault_of(alloc: Global, bytes: &[u8]) -> Result<Option<TypeFault>, BinFault> {
+    Ok(validate(alloc, decode(alloc, bytes)?).err())
+}
+
+// The same of the module with these sections.
+fn fault_with(alloc: Global, sections: &[&[u8]]) -> Result<Option<TypeFault>, BinFault> {
+    match module(alloc, sections) {
+        Ok(bytes) => fault_of(alloc, &bytes),
+        Err(_) => Err(BinFault::NoMemory),
+    }
+}
+
+// The same of the module with these parts, each so many times.
+fn fault_of_parts(alloc: Global, parts: &[(usize, &[u8])]) -> Result<Option<TypeFault>, BinFault> {
+    match repeated(alloc, parts) {
+        Ok(bytes) => fault_of(alloc, &bytes),
+        Err(_) => Err(BinFault::NoMemory),
+    }
+}
+
+fn untyped_at(function: usize, place: usize) -> Option<TypeFault> {
+    Some(TypeFault::Untyped {
+        function: Some(function),
+        place,
+    })
+}
+
+// The first of the modules that has another fault.
+fn first_other(alloc: Global, modules: Modules, fault: Option<TypeFault>) -> Option<usize> {
+    for (index, sections) in modules.iter().enumerate() {
+        if fault_with(alloc, sections) != Ok(fault) {
+            return Some(index);
+        }
+    }
+    None
+}
+
+#[test]
+fn faults_in_their_order(rt: HostRuntime) {
+    let broken_rule = TypeFault::Untyped {
+        function: None,
+        place: 0,
+    };
+    for (modules, fault) in [
+        (accepted(), None),
+        (bad_imports(), Some(TypeFault::BadImport)),
+        (bad_exports(), Some(TypeFault::BadExport)),
+        (over_limits(), Some(TypeFault::OverLimit)),
+        (broken(), Some(broken_rule)),
+    ] {
+        assert_eq!(rt; first_other(rt.alloc(), modules, fault), None, "{fault:?}");
+    }
+    for (sections, function, place) in untyped() {
+        let fault = untyped_at(*function, *place);
+        assert_eq!(rt; fault_with(rt.alloc(), sections), Ok(fault));
+    }
+}
+
+// The fault of the module whose one function is `filter`, with this body.
+fn fault_of_filter(alloc: Global, body: &[u8]) -> Result<Option<TypeFault>, BinFault> {
+    match filter_of(alloc, body) {
+        Ok(bytes) => fault_of(alloc, &bytes),
+        Err(_) => Err(BinFault::NoMemory),
+    }
+}
+
+fn untyped_from(place: Option<usize>) -> Option<TypeFault> {
+    match place {
+        Some(place) => untyped_at(0, place),
+        None => None,
     }
 }
 
 #[test]
-fn faults_in_their_order(rt: HostRuntime) -> Result<(), Fail> {
-    for row in &ROWS {
-        let bytes = module(rt.alloc(), row.sections)?;
-        assert_eq!(rt; fault_of(rt.alloc(), bytes.as_slice())?, row.fault);
-    }
-    Ok(())
-}
-
-#[test]
-fn bodies_of_filter(rt: HostRuntime) -> Result<(), Fail> {
-    for (index, (body, fault)) in BODIES.iter().enumerate() {
-        let bytes = filter_of(rt.alloc(), body)?;
+fn bodies_of_filter(rt: HostRuntime) {
+    for (body, place) in bodies() {
         assert_eq!(rt;
-            fault_of(rt.alloc(), bytes.as_slice())?,
-            *fault,
-            "row {index}"
+            fault_of_filter(rt.alloc(), body),
+            Ok(untyped_from(*place)),
+            "{body:?}"
         );
     }
-    Ok(())
 }
 
-// Globals, as many as this number of two bytes in LEB128 says, in a section whose size is told so too.
-fn with_globals(
-    alloc: Global,
-    count: u16,
-    size: [u8; 2],
-    spelled: [u8; 2],
-    behind: &[&[u8]],
-) -> Result<Vec<u8>, AllocError> {
-    let mut bytes = module(alloc, &[TO_I32, ONE])?;
-    bytes.push(0x06)?;
-    bytes.extend_from_slice(&size)?;
-    bytes.extend_from_slice(&spelled)?;
-    for _ in 0..count {
-        bytes.extend_from_slice(b"\x7F\x00\x41\x00\x0B")?;
-    }
-    for section in behind {
-        bytes.extend_from_slice(section)?;
-    }
-    Ok(bytes)
-}
-
-// 1,024 globals are the most, and that there are more is told behind the exports.
 #[test]
-fn many_globals(rt: HostRuntime) -> Result<(), Fail> {
-    let most = with_globals(
-        rt.alloc(),
-        1024,
-        [0x82, 0x28],
-        [0x80, 0x08],
-        &[FILTER, ZERO],
-    )?;
-    assert_eq!(rt; fault_of(rt.alloc(), most.as_slice())?, None);
-    let more = with_globals(
-        rt.alloc(),
-        1025,
-        [0x87, 0x28],
-        [0x81, 0x08],
-        &[FILTER, ZERO],
-    )?;
-    assert_eq!(rt;
-        fault_of(rt.alloc(), more.as_slice())?,
-        Some(TypeFault::OverLimit)
-    );
-    let neither = with_globals(rt.alloc(), 1025, [0x87, 0x28], [0x81, 0x08], &[ZERO])?;
-    assert_eq!(rt;
-        fault_of(rt.alloc(), neither.as_slice())?,
-        Some(TypeFault::BadExport)
-    );
-    Ok(())
-}
-
-// Blocks nest 256 deep at most.
-#[test]
-fn deepest_blocks(rt: HostRuntime) -> Result<(), Fail> {
-    let mut bytes = module(rt.alloc(), FILTER_ALONE)?;
-    bytes.extend_from_slice(&[0x0A, 0x87, 0x06, 0x01, 0x84, 0x06, 0x00])?;
-    for _ in 0..256 {
-        bytes.extend_from_slice(&[0x02, 0x40])?;
+fn many_globals_and_deep_blocks(rt: HostRuntime) {
+    for (parts, fault) in large() {
+        assert_eq!(rt; fault_of_parts(rt.alloc(), parts), Ok(*fault));
     }
-    for _ in 0..256 {
-        bytes.push(0x0B)?;
-    }
-    bytes.extend_from_slice(&[0x41, 0x00, 0x0B])?;
-    assert_eq!(rt; fault_of(rt.alloc(), bytes.as_slice())?, None);
-    Ok(())
 }

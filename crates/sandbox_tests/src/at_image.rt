@@ -1,24 +1,22 @@
 //! Stores at the edge of what an image can be: data that ends with the memory, a start function that asks for a record, and calls
 //! that would tell whether the one before left something; and more segments than a small table would hold.
-ghost use Rattle.std.specs.Prelude.{IfOk};
+ghost use Rattle.std.specs.Prelude.{IfSome};
 ghost use Rattle.plugin.specs.Plugins.{IsWeight, IsFuel};
 
 use crate::small_modules::{
     COUNTS, FILTER, FILTER_AND_GLOBAL, FILTER_BEHIND_IMPORT, ONE, PAGE, POD, PODS, TO_I32,
-    TO_I32_AND_HOST, ZERO, module_with,
+    TO_I32_AND_HOST, ZERO, accepted_with, module_with,
 };
 use arrayvec::ArrayVec;
-use plugin::{FilterVerdict, Kit, Plugin, Plugins, Rules};
+use plugin::{FilterVerdict, Kit, Plugin, Plugins};
 use quant::{Bytes, Cpu, Name, Node, Res};
 use std::alloc::{AllocError, Global};
-use std::process::Abort;
-use std::sync::Arc;
 use std::test::Fail;
 use wbin::decode;
 use wcode::Value;
 use whost::{Instance, InstanceFault, Records};
 use wmach::{Export, Outcome, Trap};
-use wtype::{Checked, TypeFault, validate};
+use wtype::{TypeFault, validate};
 
 // A byte at the memory's last place, and two bytes from there on.
 const LAST_BYTE: &[u8] = b"\x0B\x09\x01\x00\x41\xFF\xFF\x03\x0B\x01\xAA";
@@ -64,34 +62,83 @@ fn fives(alloc: Global, count: u8) -> Result<Vec<u8>, AllocError> {
     Ok(bytes)
 }
 
-fn checked(alloc: Global, module: &[u8]) -> Result<Checked, Fail> {
-    Ok(validate(alloc, decode(alloc, module)?)?)
+// What there is of a module.
+#[derive(Clone, Copy, PartialEq, Eq)]
+enum Found {
+    Instance,
+    Refused(InstanceFault),
+    NotAccepted,
 }
 
-// Why no instance is made of the module with these parts, if none is.
-fn refused(
-    alloc: Global,
-    sections: &[&[u8]],
-    bodies: &[&[u8]],
-    data: &[u8],
-) -> Result<Option<InstanceFault>, Fail> {
-    let module = module_with(alloc, sections, bodies, data)?;
-    let shared = Arc::new(alloc, checked(alloc, &module)?)?;
-    Ok(Instance::new(alloc, shared, 1_000).err())
+// What there is of the module with these parts.
+fn made(alloc: Global, sections: &[&[u8]], bodies: &[&[u8]], data: &[u8]) -> Found {
+    let Some(checked) = accepted_with(alloc, sections, bodies, data) else {
+        return Found::NotAccepted;
+    };
+    match Instance::new(alloc, checked, 1_000) {
+        Ok(_) => Found::Instance,
+        Err(fault) => Found::Refused(fault),
+    }
+}
+
+// Modules: the sections in front of the code, the bodies and the data, and what there is of each.
+type Edges = &'static [(
+    &'static [&'static [u8]],
+    &'static [&'static [u8]],
+    &'static [u8],
+    Found,
+)];
+
+const EDGES: Edges = &[
+    (WITH_PAGE, &[ZERO], LAST_BYTE, Found::Instance),
+    (
+        WITH_PAGE,
+        &[ZERO],
+        TWO_BYTES_THERE,
+        Found::Refused(InstanceFault::DataOutOfBounds),
+    ),
+    (
+        WITH_START,
+        &[ZERO, ASKS],
+        b"",
+        Found::Refused(InstanceFault::StartTrap(Trap::NoRecord)),
+    ),
+];
+
+fn edges() -> Edges {
+    EDGES
+}
+
+// The first of them of which there is something else.
+fn first_other(alloc: Global) -> Option<usize> {
+    for (row, (sections, bodies, data, found)) in edges().iter().enumerate() {
+        if made(alloc, sections, bodies, data) != *found {
+            return Some(row);
+        }
+    }
+    None
+}
+
+// Why the module of these bytes isn't accepted, if it is read and isn't.
+fn refused(alloc: Global, bytes: &[u8]) -> Option<TypeFault> {
+    match decode(alloc, bytes) {
+        Ok(decoded) => validate(alloc, decoded).err(),
+        Err(_) => None,
+    }
+}
+
+// The same of the module that imports `sched.pods`.
+fn refused_with_pods(alloc: Global) -> Option<TypeFault> {
+    match module_with(alloc, WITH_PODS, &[ZERO], b"") {
+        Ok(bytes) => refused(alloc, &bytes),
+        Err(_) => None,
+    }
 }
 
 #[test]
-fn what_is_made_at_the_edge(rt: HostRuntime) -> Result<(), Fail> {
-    let last = refused(rt.alloc(), WITH_PAGE, &[ZERO], LAST_BYTE)?;
-    assert_eq!(rt; last, None);
-    let past = refused(rt.alloc(), WITH_PAGE, &[ZERO], TWO_BYTES_THERE)?;
-    assert_eq!(rt; past, Some(InstanceFault::DataOutOfBounds));
-    let asks = refused(rt.alloc(), WITH_START, &[ZERO, ASKS], b"")?;
-    assert_eq!(rt; asks, Some(InstanceFault::StartTrap(Trap::NoRecord)));
-    let pods = module_with(rt.alloc(), WITH_PODS, &[ZERO], b"")?;
-    let import = validate(rt.alloc(), decode(rt.alloc(), &pods)?).err();
-    assert_eq!(rt; import, Some(TypeFault::BadImport));
-    Ok(())
+fn what_is_made_at_the_edge(rt: HostRuntime) {
+    assert_eq!(rt; first_other(rt.alloc()), None);
+    assert_eq!(rt; refused_with_pods(rt.alloc()), Some(TypeFault::BadImport));
 }
 
 // How two calls of a filter end, one after the other.
@@ -104,33 +151,38 @@ fn two_ends(instance: &mut Instance) -> Option<(Outcome, Outcome)> {
     Some((first, instance.call(&records, Export::Filter, 1_000)))
 }
 
-// The same of a new instance of a module.
-fn two_ends_of(alloc: Global, module: &[u8]) -> Result<Option<(Outcome, Outcome)>, Fail> {
-    let shared = Arc::new(alloc, checked(alloc, module)?)?;
-    let mut instance = Instance::new(alloc, shared, 1_000)?;
-    Ok(two_ends(&mut instance))
+// The same of a new instance of the module with these parts.
+fn two_ends_of(
+    alloc: Global,
+    sections: &[&[u8]],
+    body: &[u8],
+    data: &[u8],
+) -> Option<(Outcome, Outcome)> {
+    let checked = accepted_with(alloc, sections, &[body], data)?;
+    let mut instance = Instance::new(alloc, checked, 1_000).ok()?;
+    two_ends(&mut instance)
 }
 
 #[test]
-fn a_call_costs_what_the_last_one_did(rt: HostRuntime) -> Result<(), Fail> {
-    let counts = module_with(rt.alloc(), FILTER_AND_GLOBAL, &[COUNTS], b"")?;
+fn a_call_costs_what_the_last_one_did(rt: HostRuntime) {
     let end = Outcome::Value(Some(Value::I32(0)), 5);
-    assert_eq!(rt; two_ends_of(rt.alloc(), &counts)?, Some((end, end)));
-    Ok(())
+    let ends = two_ends_of(rt.alloc(), FILTER_AND_GLOBAL, COUNTS, b"");
+    assert_eq!(rt; ends, Some((end, end)));
 }
 
 #[test]
 fn seventeen_segments_are_written(rt: HostRuntime) -> Result<(), Fail> {
     let data = fives(rt.alloc(), 17)?;
-    let module = module_with(rt.alloc(), WITH_PAGE, &[READS_BYTE_16], &data)?;
     let end = Outcome::Value(Some(Value::I32(5)), 1);
-    assert_eq!(rt; two_ends_of(rt.alloc(), &module)?, Some((end, end)));
+    let ends = two_ends_of(rt.alloc(), WITH_PAGE, READS_BYTE_16, &data);
+    assert_eq!(rt; ends, Some((end, end)));
     Ok(())
 }
 
-fn node(name: &[u8]) -> Result<Node, Fail> {
-    Ok(Node {
-        name: Name::new(name)?,
+// A node with nothing on it, and the totals of none.
+fn node(name: &[u8]) -> Option<Node> {
+    Some(Node {
+        name: Name::new(name).ok()?,
         allocatable: Res {
             cpu: Cpu(1_000),
             mem: Bytes(0),
@@ -142,40 +194,54 @@ fn node(name: &[u8]) -> Result<Node, Fail> {
     })
 }
 
+const NO_USE: Res = Res {
+    cpu: Cpu(0),
+    mem: Bytes(0),
+    pods: 0,
+};
+
 // The one plugin of a site.
-fn counts() -> Result<Plugin, Fail>
-    ensures weight { IfOk result (λ p. IsWeight p.weight) }
-    ensures fuel { IfOk result (λ p. IsFuel p.fuel) }
+fn counts() -> Option<Plugin>
+    ensures weight { IfSome result (λ p. IsWeight p.weight) }
+    ensures fuel { IfSome result (λ p. IsFuel p.fuel) }
 {
-    Ok(Plugin {
-        name: Name::new(b"counts")?,
+    Some(Plugin {
+        name: Name::new(b"counts").ok()?,
         weight: 1,
         fuel: 1_000,
     })
 }
 
-// The first plugin lets each of these nodes pass, one after the other.
-fn check_nodes<R: Abort>(rt: &R, mut kit: Kit, nodes: &[Node]) {
-    let mut records = Records::new();
-    for node in nodes {
-        let used = Res {
-            cpu: Cpu(0),
-            mem: Bytes(0),
-            pods: 0,
-        };
-        records.show_node(node, &used);
-        assert!(rt; kit.count() == 1);
-        assert_eq!(rt; kit.filter(0, &records), FilterVerdict::Passes);
+fn site(alloc: Global) -> Option<Plugins> {
+    let mut plugins = Plugins::new(alloc);
+    let checked = accepted_with(alloc, FILTER_AND_GLOBAL, &[COUNTS], b"")?;
+    plugins.add(counts()?, checked).ok()?;
+    Some(plugins)
+}
+
+fn kit(alloc: Global) -> Option<Kit> {
+    Kit::new(alloc, &site(alloc)?).ok()
+}
+
+// What the first of a kit's plugins says of a node of this name, where there is one plugin.
+fn said(kit: &mut Kit, records: &mut Records, name: &[u8]) -> Option<FilterVerdict> {
+    records.show_node(&node(name)?, &NO_USE);
+    if kit.count() != 1 {
+        return None;
     }
+    Some(kit.filter(0, records))
+}
+
+// The same of two nodes, one after the other.
+fn said_of_two(alloc: Global) -> Option<(FilterVerdict, FilterVerdict)> {
+    let mut kit = kit(alloc)?;
+    let mut records = Records::new();
+    let first = said(&mut kit, &mut records, b"a")?;
+    Some((first, said(&mut kit, &mut records, b"b")?))
 }
 
 #[test]
-fn a_kit_says_the_same_of_each_node(rt: HostRuntime) -> Result<(), Fail> {
-    let mut plugins = Plugins::new(rt.alloc());
-    let module = module_with(rt.alloc(), FILTER_AND_GLOBAL, &[COUNTS], b"")?;
-    let shared = Arc::new(rt.alloc(), checked(rt.alloc(), &module)?)?;
-    plugins.add(counts()?, shared)?;
-    let kit = Kit::new(rt.alloc(), &plugins)?;
-    check_nodes(&rt, kit, &[node(b"a")?, node(b"b")?]);
-    Ok(())
+fn a_kit_says_the_same_of_each_node(rt: HostRuntime) {
+    let passes = FilterVerdict::Passes;
+    assert_eq!(rt; said_of_two(rt.alloc()), Some((passes, passes)));
 }

@@ -1,19 +1,17 @@
 //! Modules that are made instances, or can't be, and two calls of each. Values are those that `node` gives; costs were counted by
 //! hand from the table of fuel in docs/WEBASSEMBLY.md.
-use crate::records::pod_of;
-use crate::records::rows::PODS;
+use crate::records::small_pod;
 use crate::small_modules::{
     FILTER, FILTER_BEHIND_IMPORT, ONE, ONE_OF_EACH, PAGE, POD, POD_2, SCORE_ALONE, TO_I32,
-    TO_I32_AND_HOST, TO_I32_AND_START, ZERO, module_with,
+    TO_I32_AND_HOST, TO_I32_AND_START, ZERO, accepted_with,
 };
 use std::alloc::Global;
 use std::sync::Arc;
 use std::test::Fail;
-use wbin::decode;
 use wcode::Value;
 use whost::{Instance, InstanceFault, Records};
 use wmach::{Export, Outcome, Trap};
-use wtype::validate;
+use wtype::Checked;
 
 // Two functions of the first type, and a table of two places.
 const TWO: &[u8] = b"\x03\x03\x02\x00\x00";
@@ -74,19 +72,105 @@ const ENDLESS: &[u8] = b"\0\x03\x40\x0C\x00\x0B\x0B";
 const FIFTY: &[u8] = b"\0\x42\x32\x0B";
 
 // A filter that can call the host's function.
-const ASKING: &[&[u8]] = &[TO_I32_AND_HOST, POD, ONE, PAGE, FILTER_BEHIND_IMPORT];
+const ASKS: &[&[u8]] = &[TO_I32_AND_HOST, POD, ONE, PAGE, FILTER_BEHIND_IMPORT];
 
 // The same of version 2.
-const ASKING_2: &[&[u8]] = &[TO_I32_AND_HOST, POD_2, ONE, PAGE, FILTER_BEHIND_IMPORT];
+const ASKS_2: &[&[u8]] = &[TO_I32_AND_HOST, POD_2, ONE, PAGE, FILTER_BEHIND_IMPORT];
 
 // What there is of a module.
-#[derive(Clone, Copy, PartialEq, Eq, Debug)]
+#[derive(Clone, Copy, PartialEq, Eq)]
 enum Found {
     // Both calls ended so.
     Ends(Outcome),
     // They ended otherwise than each other, or there was none.
     Differs,
     Refused(InstanceFault),
+    NotAccepted,
+}
+
+// Which of the host's functions a filter can call.
+#[derive(Clone, Copy)]
+enum Version {
+    First,
+    Second,
+}
+
+// Filters that ask for a record: the version, the body, the fuel of each call, and how both calls end.
+const ASKING: &[(&str, Version, &[u8], u64, Outcome)] = &[
+    (
+        "a limit below the record's length",
+        Version::First,
+        LIMIT_25,
+        1_000,
+        Outcome::Value(Some(Value::I32(26)), 1),
+    ),
+    (
+        "nothing is written",
+        Version::First,
+        LIMIT_25_READ,
+        1_000,
+        Outcome::Value(Some(Value::I32(0)), 3),
+    ),
+    (
+        "a limit that is the record's length",
+        Version::First,
+        LIMIT_26,
+        1_000,
+        Outcome::Value(Some(Value::I32(26)), 2),
+    ),
+    (
+        "the record is written",
+        Version::First,
+        LIMIT_26_READ,
+        1_000,
+        Outcome::Value(Some(Value::I32(0x7002_0101)), 4),
+    ),
+    (
+        "no fuel for the writing",
+        Version::First,
+        LIMIT_26,
+        1,
+        Outcome::Exhausted(1),
+    ),
+    (
+        "the record would pass the memory's end",
+        Version::First,
+        PAST_THE_END,
+        1_000,
+        Outcome::Trap(Trap::HostOutOfBounds, 1),
+    ),
+    (
+        "version 2, and a limit below the record's length",
+        Version::Second,
+        LIMIT_26,
+        1_000,
+        Outcome::Value(Some(Value::I32(27)), 1),
+    ),
+    (
+        "nothing of version 2 is written",
+        Version::Second,
+        LIMIT_26_READ,
+        1_000,
+        Outcome::Value(Some(Value::I32(0)), 3),
+    ),
+    (
+        "version 2, and a limit that is the record's length",
+        Version::Second,
+        LIMIT_27,
+        1_000,
+        Outcome::Value(Some(Value::I32(27)), 2),
+    ),
+    (
+        "the record of version 2 is written",
+        Version::Second,
+        LIMIT_27_READ,
+        1_000,
+        Outcome::Value(Some(Value::I32(0x7002_0102)), 4),
+    ),
+];
+
+fn asking() -> &'static [(&'static str, Version, &'static [u8], u64, Outcome)] {
+    ASKING
 }
 
 struct Row {
@@ -98,87 +182,7 @@ struct Row {
     found: Found,
 }
 
-const ROWS: [Row; 17] = [
-    Row {
-        row: "a limit below the record's length",
-        sections: ASKING,
-        bodies: &[LIMIT_25],
-        data: b"",
-        fuel: 1_000,
-        found: Found::Ends(Outcome::Value(Some(Value::I32(26)), 1)),
-    },
-    Row {
-        row: "nothing is written",
-        sections: ASKING,
-        bodies: &[LIMIT_25_READ],
-        data: b"",
-        fuel: 1_000,
-        found: Found::Ends(Outcome::Value(Some(Value::I32(0)), 3)),
-    },
-    Row {
-        row: "a limit that is the record's length",
-        sections: ASKING,
-        bodies: &[LIMIT_26],
-        data: b"",
-        fuel: 1_000,
-        found: Found::Ends(Outcome::Value(Some(Value::I32(26)), 2)),
-    },
-    Row {
-        row: "the record is written",
-        sections: ASKING,
-        bodies: &[LIMIT_26_READ],
-        data: b"",
-        fuel: 1_000,
-        found: Found::Ends(Outcome::Value(Some(Value::I32(0x7002_0101)), 4)),
-    },
-    Row {
-        row: "no fuel for the writing",
-        sections: ASKING,
-        bodies: &[LIMIT_26],
-        data: b"",
-        fuel: 1,
-        found: Found::Ends(Outcome::Exhausted(1)),
-    },
-    Row {
-        row: "the record would pass the memory's end",
-        sections: ASKING,
-        bodies: &[PAST_THE_END],
-        data: b"",
-        fuel: 1_000,
-        found: Found::Ends(Outcome::Trap(Trap::HostOutOfBounds, 1)),
-    },
-    Row {
-        row: "version 2, and a limit below the record's length",
-        sections: ASKING_2,
-        bodies: &[LIMIT_26],
-        data: b"",
-        fuel: 1_000,
-        found: Found::Ends(Outcome::Value(Some(Value::I32(27)), 1)),
-    },
-    Row {
-        row: "nothing of version 2 is written",
-        sections: ASKING_2,
-        bodies: &[LIMIT_26_READ],
-        data: b"",
-        fuel: 1_000,
-        found: Found::Ends(Outcome::Value(Some(Value::I32(0)), 3)),
-    },
-    Row {
-        row: "version 2, and a limit that is the record's length",
-        sections: ASKING_2,
-        bodies: &[LIMIT_27],
-        data: b"",
-        fuel: 1_000,
-        found: Found::Ends(Outcome::Value(Some(Value::I32(27)), 2)),
-    },
-    Row {
-        row: "the record of version 2 is written",
-        sections: ASKING_2,
-        bodies: &[LIMIT_27_READ],
-        data: b"",
-        fuel: 1_000,
-        found: Found::Ends(Outcome::Value(Some(Value::I32(0x7002_0102)), 4)),
-    },
+const CALLED: &[Row] = &[
     Row {
         row: "data, then start, and each call from there",
         sections: &[TO_I32_AND_START, ONE_OF_EACH, PAGE, FILTER, START],
@@ -203,6 +207,13 @@ const ROWS: [Row; 17] = [
         fuel: 0,
         found: Found::Ends(Outcome::Value(Some(Value::I64(50)), 0)),
     },
+];
+
+fn called() -> &'static [Row] {
+    CALLED
+}
+
+const REFUSED: &[Row] = &[
     Row {
         row: "both segments are out of bounds",
         sections: &[TO_I32, ONE, TABLE, PAGE, FILTER, ELEMENT_PAST_THE_END],
@@ -237,6 +248,10 @@ const ROWS: [Row; 17] = [
     },
 ];
 
+fn refused() -> &'static [Row] {
+    REFUSED
+}
+
 // How a call ends of the function that the instance has.
 fn outcome(instance: &mut Instance, records: &Records, fuel: u64) -> Option<Outcome> {
     if instance.has(Export::Filter) {
@@ -248,29 +263,85 @@ fn outcome(instance: &mut Instance, records: &Records, fuel: u64) -> Option<Outc
     }
 }
 
-fn tried(alloc: Global, row: &Row, records: &Records) -> Result<Found, Fail> {
-    let bytes = module_with(alloc, row.sections, row.bodies, row.data)?;
-    let checked = validate(alloc, decode(alloc, &bytes)?)?;
-    let mut instance = match Instance::new(alloc, Arc::new(alloc, checked)?, row.fuel) {
-        Ok(instance) => instance,
-        Err(fault) => return Ok(Found::Refused(fault)),
-    };
-    let first = outcome(&mut instance, records, row.fuel);
-    let second = outcome(&mut instance, records, row.fuel);
-    Ok(match first {
+fn two_calls(instance: &mut Instance, records: &Records, fuel: u64) -> Found {
+    let first = outcome(instance, records, fuel);
+    let second = outcome(instance, records, fuel);
+    match first {
         Some(ends) if first == second => Found::Ends(ends),
         _ => Found::Differs,
-    })
+    }
+}
+
+// What there is of a module that is accepted, if it is, where its start function and each call have so much fuel.
+fn made(alloc: Global, checked: Option<Arc<Checked>>, records: &Records, fuel: u64) -> Found {
+    let Some(checked) = checked else {
+        return Found::NotAccepted;
+    };
+    match Instance::new(alloc, checked, fuel) {
+        Ok(mut instance) => two_calls(&mut instance, records, fuel),
+        Err(fault) => Found::Refused(fault),
+    }
+}
+
+fn made_of(alloc: Global, row: &Row, records: &Records) -> Found {
+    let checked = accepted_with(alloc, row.sections, row.bodies, row.data);
+    made(alloc, checked, records, row.fuel)
+}
+
+fn made_asking(
+    alloc: Global,
+    version: Version,
+    body: &[u8],
+    records: &Records,
+    fuel: u64,
+) -> Found {
+    let sections = match version {
+        Version::First => ASKS,
+        Version::Second => ASKS_2,
+    };
+    let checked = accepted_with(alloc, sections, &[body], b"");
+    made(alloc, checked, records, fuel)
+}
+
+// The first row of which there is something else.
+fn first_other(alloc: Global, rows: &'static [Row], records: &Records) -> Option<&'static str> {
+    for row in rows {
+        if made_of(alloc, row, records) != row.found {
+            return Some(row.row);
+        }
+    }
+    None
+}
+
+// The records of a small pod.
+fn records() -> Option<Records> {
+    let mut records = Records::new();
+    records.show_pod(&small_pod()?);
+    Some(records)
+}
+
+// The first filter that ends otherwise.
+fn first_other_asking(alloc: Global, records: &Records) -> Option<&'static str> {
+    for (row, version, body, fuel, ends) in asking() {
+        if made_asking(alloc, *version, body, records, *fuel) != Found::Ends(*ends) {
+            return Some(row);
+        }
+    }
+    None
 }
 
 #[test]
-fn instances_and_refusals(rt: HostRuntime) -> Result<(), Fail> {
-    let mut records = Records::new();
-    records.show_pod(&pod_of(&PODS[0])?);
-    for row in &ROWS {
-        let found = tried(rt.alloc(), row, &records)?;
-        assert_eq!(rt; found, row.found, "{}", row.row);
-    }
+fn instances_and_refusals(rt: HostRuntime) {
+    let Some(records) = records() else {
+        panic!(rt; "no pod");
+    };
+    assert_eq!(rt; first_other_asking(rt.alloc(), &records), None);
+    assert_eq!(rt; first_other(rt.alloc(), called(), &records), None);
+    assert_eq!(rt; first_other(rt.alloc(), refused(), &records), None);
+}
+
+#[test]
+fn a_refusal_is_printed(rt: HostRuntime) -> Result<(), Fail> {
     let fault = InstanceFault::StartTrap(Trap::Unreachable);
     let text = format!(in rt.alloc(); "{fault}")?;
     assert_eq!(rt; text.as_str(), "3 StartTrap Unreachable");

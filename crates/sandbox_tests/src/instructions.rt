@@ -1,9 +1,9 @@
 //! Instructions and lists of them, read from their bytes. The faults' kinds and places are those of docs/WEBASSEMBLY.md.
 mod spelled;
 
-use spelled::SPELLED;
+use crate::small_modules::repeated;
+use spelled::Spelled;
 use std::alloc::Global;
-use std::process::Abort;
 use std::test::Fail;
 use wcode::ValueType::{I32, I64};
 use wcode::{
@@ -11,269 +11,392 @@ use wcode::{
     read_op, skip_expr,
 };
 
-fn malformed(kind: Kind, place: usize) -> OpFault {
-    OpFault::Malformed { kind, place }
+// The bytes spell the instruction, and each front of them is cut off.
+fn is_spelled(bytes: &[u8], op: Op) -> bool {
+    for end in 0..bytes.len() {
+        let cut = OpFault::Malformed {
+            kind: Kind::Truncated,
+            place: end,
+        };
+        if read_op(&bytes[..end], 0) != Err(cut) {
+            return false;
+        }
+    }
+    read_op(bytes, 0) == Ok((op, bytes.len()))
 }
 
-// The bytes spell the instruction, and each front of them is cut off.
-fn spells(rt: &impl Abort, bytes: &[u8], op: Op) {
-    assert_eq!(rt; read_op(bytes, 0), Ok((op, bytes.len())), "{bytes:?}");
-    for end in 0..bytes.len() {
-        let cut = Err(malformed(Kind::Truncated, end));
-        assert_eq!(rt; read_op(&bytes[..end], 0), cut, "{bytes:?}");
+// The first of these bytes that spells another instruction or none.
+fn first_misread(spelled: Spelled) -> Option<&'static [u8]> {
+    for (bytes, op) in spelled {
+        if !is_spelled(bytes, *op) {
+            return Some(bytes);
+        }
     }
+    None
 }
 
 #[test]
 fn instructions_and_their_fronts(rt: HostRuntime) {
-    for (bytes, op) in &SPELLED {
-        spells(&rt, bytes, *op);
+    assert_eq!(rt; first_misread(spelled::control()), None);
+    assert_eq!(rt; first_misread(spelled::of_memory()), None);
+    assert_eq!(rt; first_misread(spelled::constants()), None);
+    assert_eq!(rt; first_misread(spelled::comparisons()), None);
+    assert_eq!(rt; first_misread(spelled::of_i32()), None);
+    assert_eq!(rt; first_misread(spelled::of_i64()), None);
+    assert_eq!(rt; first_misread(spelled::conversions()), None);
+    assert_eq!(rt; first_misread(spelled::blocks()), None);
+}
+
+// What an opcode alone is: that of an integer instruction, which is read or cut off behind it, that of a float, or no opcode.
+#[derive(Clone, Copy, PartialEq, Eq, Debug)]
+enum Opcode {
+    Integer,
+    Float,
+    Unknown,
+}
+
+fn opcode_read(opcode: u8) -> Opcode {
+    match read_op(&[opcode], 0) {
+        Err(OpFault::Float) => Opcode::Float,
+        Err(
+            OpFault::Malformed {
+                kind: Kind::BadOpcode,
+                place: 0,
+            },
+        ) => Opcode::Unknown,
+        _ => Opcode::Integer,
     }
 }
 
-#[test]
-fn every_other_byte(rt: HostRuntime) -> Result<(), Fail> {
-    for opcode in 0..=255u8 {
-        let known = match opcode {
-            0x00..=0x05 | 0x0B..=0x11 | 0x1A | 0x1B | 0x20..=0x24 | 0x28 | 0x29 | 0x2C..=0x37 =>
-                true,
-            0x3A..=0x42 | 0x45..=0x5A | 0x67..=0x8A | 0xA7 | 0xAC | 0xAD | 0xC0..=0xC4 => true,
-            _ => false,
-        };
-        let float = match opcode {
-            0x2A | 0x2B | 0x38 | 0x39 | 0x43 | 0x44 | 0x5B..=0x66 | 0x8B..=0xA6 => true,
-            0xA8..=0xAB | 0xAE..=0xBF => true,
-            _ => false,
-        };
-        let found = read_op(&[opcode], 0);
-        if float {
-            assert_eq!(rt; found, Err(OpFault::Float), "{opcode}");
-        } else if !known {
-            assert_eq!(rt; found, Err(malformed(Kind::BadOpcode, 0)), "{opcode}");
-        } else {
-            assert_ne!(rt; found, Err(malformed(Kind::BadOpcode, 0)), "{opcode}");
-            assert_ne!(rt; found, Err(OpFault::Float), "{opcode}");
+// The last opcode of each run of opcodes of a kind, from 0 to 255.
+const RUNS: [(u8, Opcode); 24] = [
+    (0x05, Opcode::Integer),
+    (0x0A, Opcode::Unknown),
+    (0x11, Opcode::Integer),
+    (0x19, Opcode::Unknown),
+    (0x1B, Opcode::Integer),
+    (0x1F, Opcode::Unknown),
+    (0x24, Opcode::Integer),
+    (0x27, Opcode::Unknown),
+    (0x29, Opcode::Integer),
+    (0x2B, Opcode::Float),
+    (0x37, Opcode::Integer),
+    (0x39, Opcode::Float),
+    (0x42, Opcode::Integer),
+    (0x44, Opcode::Float),
+    (0x5A, Opcode::Integer),
+    (0x66, Opcode::Float),
+    (0x8A, Opcode::Integer),
+    (0xA6, Opcode::Float),
+    (0xA7, Opcode::Integer),
+    (0xAB, Opcode::Float),
+    (0xAD, Opcode::Integer),
+    (0xBF, Opcode::Float),
+    (0xC4, Opcode::Integer),
+    (0xFF, Opcode::Unknown),
+];
+
+fn opcode_wanted(opcode: u8) -> Option<Opcode> {
+    for (last, kind) in RUNS {
+        if opcode <= last {
+            return Some(kind);
         }
     }
-    Ok(())
+    None
 }
+
+#[test]
+fn every_opcode(rt: HostRuntime) {
+    for opcode in 0..=255u8 {
+        assert_eq!(rt;
+            Some(opcode_read(opcode)),
+            opcode_wanted(opcode),
+            "{opcode}"
+        );
+    }
+}
+
+// Bytes, where the instruction begins in them, and what is wrong with it, and where.
+const IMMEDIATES: [(&[u8], usize, Kind, usize); 9] = [
+    (&[0x11, 0x00, 0x01], 0, Kind::BadOpcode, 0),
+    (&[0x11, 0x00, 0x80, 0x00], 0, Kind::BadOpcode, 0),
+    (&[0x3F, 0x80, 0x00], 0, Kind::BadOpcode, 0),
+    (&[0x40, 0x01], 0, Kind::BadOpcode, 0),
+    (
+        &[0x0C, 0x80, 0x80, 0x80, 0x80, 0x80, 0x00],
+        0,
+        Kind::BadNumber,
+        1,
+    ),
+    (
+        &[0x28, 0x02, 0xFF, 0xFF, 0xFF, 0xFF, 0x1F],
+        0,
+        Kind::BadNumber,
+        2,
+    ),
+    (
+        &[0x0E, 0xFF, 0xFF, 0xFF, 0xFF, 0x0F, 0x00],
+        0,
+        Kind::Truncated,
+        7,
+    ),
+    (
+        &[0x0E, 0x01, 0x80, 0x80, 0x80, 0x80, 0x80, 0x00],
+        0,
+        Kind::BadNumber,
+        2,
+    ),
+    (&[0x01, 0x03, 0x7B], 1, Kind::BadType, 2),
+];
+
+const FLOATS: [&[u8]; 2] = [&[0x02, 0x7D], &[0x02, 0x7C]];
 
 #[test]
 fn faults_of_immediates(rt: HostRuntime) {
-    let rows: [(&[u8], OpFault); 10] = [
-        (&[0x02, 0x7D], OpFault::Float),
-        (&[0x02, 0x7C], OpFault::Float),
-        (&[0x11, 0x00, 0x01], malformed(Kind::BadOpcode, 0)),
-        (&[0x11, 0x00, 0x80, 0x00], malformed(Kind::BadOpcode, 0)),
-        (&[0x3F, 0x80, 0x00], malformed(Kind::BadOpcode, 0)),
-        (&[0x40, 0x01], malformed(Kind::BadOpcode, 0)),
-        (
-            &[0x0C, 0x80, 0x80, 0x80, 0x80, 0x80, 0x00],
-            malformed(Kind::BadNumber, 1),
+    for (bytes, begin, kind, place) in IMMEDIATES {
+        let fault = OpFault::Malformed { kind, place };
+        assert!(rt; read_op(bytes, begin) == Err(fault), "{bytes:?}");
+    }
+    for bytes in FLOATS {
+        assert!(rt; read_op(bytes, 0) == Err(OpFault::Float), "{bytes:?}");
+    }
+}
+
+// What an expression is read as.
+#[derive(Clone, Copy, PartialEq, Eq, Debug)]
+enum Shape {
+    // The i32 0 alone.
+    Zero,
+    // A block that gives an i32, with so many instructions.
+    Block(usize),
+    // An `if` that gives an i64, with so many instructions in each arm.
+    If(usize, usize),
+    // An `if` that gives nothing, with so many in each arm, and a loop that is a branch to its begin.
+    IfAndLoop(usize, usize),
+    // A branch by three labels and the default one.
+    Table([u32; 3], u32),
+    Other,
+}
+
+fn shape_of_table(labels: &[u32], default: u32) -> Shape {
+    match labels {
+        [first, second, third] => Shape::Table([*first, *second, *third], default),
+        _ => Shape::Other,
+    }
+}
+
+fn shape_of_one(instruction: &Instr) -> Shape {
+    match instruction {
+        Instr::Plain(Plain::Const(Value::I32(0))) => Shape::Zero,
+        Instr::Block(BlockType::Result(I32), inner) => Shape::Block(inner.len()),
+        Instr::If(BlockType::Result(I64), yes_arm, no_arm) => Shape::If(
+            yes_arm.len(),
+            no_arm.len(),
         ),
-        (
-            &[0x28, 0x02, 0xFF, 0xFF, 0xFF, 0xFF, 0x1F],
-            malformed(Kind::BadNumber, 2),
-        ),
-        (
-            &[0x0E, 0xFF, 0xFF, 0xFF, 0xFF, 0x0F, 0x00],
-            malformed(Kind::Truncated, 7),
-        ),
-        (
-            &[0x0E, 0x01, 0x80, 0x80, 0x80, 0x80, 0x80, 0x00],
-            malformed(Kind::BadNumber, 2),
-        ),
-    ];
-    for (bytes, want) in rows {
-        assert_eq!(rt; read_op(bytes, 0), Err(want), "{bytes:?}");
+        Instr::BrTable(labels, default) => shape_of_table(labels, *default),
+        _ => Shape::Other,
     }
-    assert_eq!(rt;
-        read_op(&[0x01, 0x03, 0x7B], 1),
-        Err(malformed(Kind::BadType, 2))
-    );
 }
 
-#[test]
-fn a_padded_number(rt: HostRuntime) -> Result<(), Fail> {
-    let padded = [0x41, 0x80, 0x80, 0x80, 0x80, 0x00, 0x0B];
-    let (body, next) = read_expr(rt.alloc(), &padded, 0)?;
-    assert_eq!(rt; next, 7);
-    assert!(rt; matches!(body.as_slice(), [Instr::Plain(Plain::Const(Value::I32(0)))]));
-    Ok(())
+fn is_endless(body: &[Instr]) -> bool {
+    matches!(body, [Instr::Plain(Plain::Br(0))])
 }
 
-// The fault of an expression, if it has one.
-fn fault_of(alloc: Global, bytes: &[u8]) -> Option<BinFault> {
-    read_expr(alloc, bytes, 0).err()
+fn shape_of_two(first: &Instr, second: &Instr) -> Shape {
+    match (first, second) {
+        (Instr::If(BlockType::Empty, yes_arm, no_arm), Instr::Loop(BlockType::Empty, inner))
+            if is_endless(inner) => Shape::IfAndLoop(yes_arm.len(), no_arm.len()),
+        _ => Shape::Other,
+    }
 }
 
-fn at(kind: Kind, place: usize) -> BinFault {
-    BinFault::Malformed { kind, place }
-}
-
-fn assert_block(rt: &impl Abort, body: &[Instr]) {
+fn shape_of(body: &[Instr]) -> Shape {
     match body {
-        [Instr::Block(BlockType::Result(I32), inner)] => assert_eq!(rt; inner.len(), 3),
-        _ => panic!(rt; "not a block"),
+        [only] => shape_of_one(only),
+        [first, second] => shape_of_two(first, second),
+        _ => Shape::Other,
     }
 }
 
-#[test]
-fn a_block_within_a_block(rt: HostRuntime) -> Result<(), Fail> {
-    let sum = [
-        0x01, 0x02, 0x7F, 0x41, 0x07, 0x41, 0x08, 0x6A, 0x0B, 0x0B, 0x0B,
-    ];
-    let (body, next) = read_expr(rt.alloc(), &sum, 1)?;
-    assert_eq!(rt; next, 10);
-    assert_block(&rt, &body);
-    Ok(())
+// What the expression that begins there is read as, and the place behind it.
+fn shape_read(alloc: Global, bytes: &[u8], begin: usize) -> Result<(Shape, usize), BinFault> {
+    if begin > bytes.len() {
+        return Ok((Shape::Other, begin));
+    }
+    let (body, next) = read_expr(alloc, bytes, begin)?;
+    Ok((shape_of(&body), next))
 }
 
-fn assert_if_and_loop(rt: &impl Abort, body: &[Instr]) {
-    match body {
-        [
-            Instr::If(BlockType::Empty, yes_arm, no_arm),
-            Instr::Loop(BlockType::Empty, inner),
-        ] => {
-            assert_eq!(rt; yes_arm.len(), 1);
-            assert_eq!(rt; no_arm.len(), 2);
-            assert!(rt; matches!(inner.as_slice(), [Instr::Plain(Plain::Br(0))]));
-        }
-        _ => panic!(rt; "not an if and a loop"),
+// Bytes, where the expression begins in them, what it is read as, and the place behind it.
+const EXPRESSIONS: [(&[u8], usize, Shape, usize); 5] = [
+    // a padded number
+    (b"\x41\x80\x80\x80\x80\x00\x0B", 0, Shape::Zero, 7),
+    // a block within a block
+    (
+        b"\x01\x02\x7F\x41\x07\x41\x08\x6A\x0B\x0B\x0B",
+        1,
+        Shape::Block(3),
+        10,
+    ),
+    // an `if` with two arms and a loop
+    (
+        b"\x04\x40\x01\x05\x01\x01\x0B\x03\x40\x0C\x00\x0B\x0B",
+        0,
+        Shape::IfAndLoop(1, 2),
+        13,
+    ),
+    // an `if` with one arm
+    (b"\x04\x7E\x42\x32\x0B\x0B", 0, Shape::If(1, 0), 6),
+    // a table of labels
+    (
+        b"\x0E\x03\x05\x86\x00\x07\x08\x0B",
+        0,
+        Shape::Table([5, 6, 7], 8),
+        8,
+    ),
+];
+
+#[test]
+fn shapes_of_expressions(rt: HostRuntime) {
+    for (bytes, begin, shape, next) in EXPRESSIONS {
+        assert_eq!(rt;
+            shape_read(rt.alloc(), bytes, begin),
+            Ok((shape, next)),
+            "{bytes:?}"
+        );
     }
 }
 
-#[test]
-fn an_if_with_two_arms_and_a_loop(rt: HostRuntime) -> Result<(), Fail> {
-    let choice = [
-        0x04, 0x40, 0x01, 0x05, 0x01, 0x01, 0x0B, 0x03, 0x40, 0x0C, 0x00, 0x0B, 0x0B,
-    ];
-    let (body, next) = read_expr(rt.alloc(), &choice, 0)?;
-    assert_eq!(rt; next, 13);
-    assert_if_and_loop(&rt, &body);
-    Ok(())
-}
+// Bytes, what is wrong with the expression in them, and where.
+const MALFORMED: [(&[u8], Kind, usize); 7] = [
+    (b"", Kind::Truncated, 0),
+    (b"\x01\x02\x40\x0B", Kind::Truncated, 4),
+    (b"\x01\x05\x0B", Kind::BadOpcode, 1),
+    (b"\x02\x40\x05\x0B\x0B", Kind::BadOpcode, 2),
+    (b"\x04\x40\x05\x05\x0B\x0B", Kind::BadOpcode, 3),
+    (b"\x02\x40\xC5\x0B\x0B", Kind::BadOpcode, 2),
+    (b"\x41\x80\x80\x80\x80\x80\x00\x0B", Kind::BadNumber, 1),
+];
 
-fn assert_if(rt: &impl Abort, body: &[Instr]) {
-    match body {
-        [Instr::If(BlockType::Result(I64), yes_arm, no_arm)] => {
-            assert_eq!(rt; yes_arm.len(), 1);
-            assert_eq!(rt; no_arm.len(), 0);
-        }
-        _ => panic!(rt; "not an if"),
-    }
-}
-
-#[test]
-fn an_if_with_one_arm(rt: HostRuntime) -> Result<(), Fail> {
-    let (body, next) = read_expr(rt.alloc(), &[0x04, 0x7E, 0x42, 0x32, 0x0B, 0x0B], 0)?;
-    assert_eq!(rt; next, 6);
-    assert_if(&rt, &body);
-    Ok(())
-}
-
-fn assert_table(rt: &impl Abort, body: &[Instr]) {
-    match body {
-        [Instr::BrTable(labels, 8)] => assert_eq!(rt; labels.as_slice(), [5, 6, 7].as_slice()),
-        _ => panic!(rt; "not a table"),
-    }
-}
-
-#[test]
-fn a_table_of_labels(rt: HostRuntime) -> Result<(), Fail> {
-    let table = [0x0E, 0x03, 0x05, 0x86, 0x00, 0x07, 0x08, 0x0B];
-    let (body, _) = read_expr(rt.alloc(), &table, 0)?;
-    assert_table(&rt, &body);
-    Ok(())
-}
-
-// The places of the blocks, counted by hand and as `wasm-objdump -d` shows the opcodes.
-#[test]
-fn blocks_of_expressions(rt: HostRuntime) -> Result<(), Fail> {
-    let bytes = [
-        0x02, 0x40, 0x0B, // a block
-        0x04, 0x40, 0x01, 0x05, 0x03, 0x40, 0x0B, 0x0B, // an if with a loop in its else arm
-        0x0B,
-    ];
-    let wanted = [(None, 3), (Some(7), 11), (None, 10)];
-    let (blocks, end) = skip_expr(rt.alloc(), &bytes, 0)?;
-    assert_eq!(rt; end, 12);
-    assert_eq!(rt; blocks.len(), 3);
-    for (i, (else_arm, after)) in wanted.into_iter().enumerate() {
-        assert_eq!(rt; blocks.get(i).copied(), Some(Block { else_arm, after }));
-    }
-    Ok(())
-}
-
-#[test]
-fn constants_alone(rt: HostRuntime) -> Result<(), Fail> {
-    assert_eq!(rt; read_constant(&[0x41, 0x07, 0x0B], 0), Some(Value::I32(7)));
-    assert_eq!(rt;
-        read_constant(&[0x0B, 0x42, 0x7F, 0x0B], 1),
-        Some(Value::I64(u64::MAX))
-    );
-    assert_eq!(rt; read_constant(&[0x0B], 0), None);
-    assert_eq!(rt; read_constant(&[0x23, 0x00, 0x0B], 0), None);
-    assert_eq!(rt; read_constant(&[0x41, 0x07, 0x01, 0x0B], 0), None);
-    Ok(())
-}
+const WITH_A_FLOAT: &[u8] = b"\x02\x40\x92\x0B\x0B";
 
 #[test]
 fn faults_of_expressions(rt: HostRuntime) {
-    let rows: [(&[u8], BinFault); 8] = [
-        (b"", at(Kind::Truncated, 0)),
-        (b"\x01\x02\x40\x0B", at(Kind::Truncated, 4)),
-        (b"\x01\x05\x0B", at(Kind::BadOpcode, 1)),
-        (b"\x02\x40\x05\x0B\x0B", at(Kind::BadOpcode, 2)),
-        (b"\x04\x40\x05\x05\x0B\x0B", at(Kind::BadOpcode, 3)),
-        (b"\x02\x40\xC5\x0B\x0B", at(Kind::BadOpcode, 2)),
-        (b"\x02\x40\x92\x0B\x0B", BinFault::Float),
-        (b"\x41\x80\x80\x80\x80\x80\x00\x0B", at(Kind::BadNumber, 1)),
-    ];
-    for (bytes, want) in rows {
-        assert_eq!(rt; fault_of(rt.alloc(), bytes), Some(want), "{bytes:?}");
+    for (bytes, kind, place) in MALFORMED {
+        let fault = BinFault::Malformed { kind, place };
+        assert_eq!(rt; shape_read(rt.alloc(), bytes, 0), Err(fault), "{bytes:?}");
+    }
+    assert_eq!(rt;
+        shape_read(rt.alloc(), WITH_A_FLOAT, 0),
+        Err(BinFault::Float)
+    );
+}
+
+// Whether the expression has these blocks, and this place behind it.
+fn has_blocks(alloc: Global, bytes: &[u8], blocks: &[Block], next: usize) -> bool {
+    match skip_expr(alloc, bytes, 0) {
+        Ok((found, end)) => found.as_slice() == blocks && end == next,
+        Err(_) => false,
     }
 }
 
+// A block, and an `if` with a loop in its else arm.
+const NESTED: &[u8] = b"\x02\x40\x0B\x04\x40\x01\x05\x03\x40\x0B\x0B\x0B";
+
+// Its blocks, whose places were counted by hand and as `wasm-objdump -d` shows the opcodes.
+const BLOCKS: [Block; 3] = [
+    Block {
+        else_arm: None,
+        after: 3,
+    },
+    Block {
+        else_arm: Some(7),
+        after: 11,
+    },
+    Block {
+        else_arm: None,
+        after: 10,
+    },
+];
+
 #[test]
-fn nesting(rt: HostRuntime) -> Result<(), Fail> {
-    let mut bytes = Vec::new(rt.alloc());
-    for _i in 0..256 {
-        bytes.push(0x02)?;
-        bytes.push(0x40)?;
-    }
-    let deepest = bytes.len();
-    for _i in 0..257 {
-        bytes.push(0x0B)?;
-    }
-    let (body, next) = read_expr(rt.alloc(), &bytes, 0)?;
-    assert_eq!(rt; body.len(), 1);
-    assert_eq!(rt; next, 769);
-    let (blocks, end) = skip_expr(rt.alloc(), &bytes, 0)?;
-    assert_eq!(rt; blocks.len(), 256);
-    assert_eq!(rt; end, 769);
-    let mut deeper = Vec::new(rt.alloc());
-    deeper.push(0x02)?;
-    deeper.push(0x40)?;
-    deeper.extend_from_slice(&bytes)?;
-    deeper.push(0x0B)?;
-    let fault = Some(at(Kind::TooDeep, deepest));
-    assert_eq!(&rt; fault_of(rt.alloc(), &deeper), fault);
-    assert_eq!(&rt; skip_expr(rt.alloc(), &deeper, 0).err(), fault);
-    Ok(())
+fn blocks_of_expressions(rt: HostRuntime) {
+    assert!(rt; has_blocks(rt.alloc(), NESTED, &BLOCKS, 12));
 }
+
+// Bytes, where the constant expression begins in them, and its value, if it is one.
+const CONSTANTS: [(&[u8], usize, Option<Value>); 5] = [
+    (b"\x41\x07\x0B", 0, Some(Value::I32(7))),
+    (b"\x0B\x42\x7F\x0B", 1, Some(Value::I64(u64::MAX))),
+    (b"\x0B", 0, None),
+    (b"\x23\x00\x0B", 0, None),
+    (b"\x41\x07\x01\x0B", 0, None),
+];
+
+#[test]
+fn constants_alone(rt: HostRuntime) {
+    for (bytes, begin, value) in CONSTANTS {
+        assert_eq!(rt; read_constant(bytes, begin), value, "{bytes:?}");
+    }
+}
+
+// How many there are, and the place behind them.
+type Count = Result<(usize, usize), BinFault>;
+
+// The instructions of the expression, those within its blocks apart.
+fn instructions(alloc: Global, bytes: &[u8]) -> Count {
+    let (body, next) = read_expr(alloc, bytes, 0)?;
+    Ok((body.len(), next))
+}
+
+// Its blocks, those within blocks as well.
+fn blocks(alloc: Global, bytes: &[u8]) -> Count {
+    let (blocks, end) = skip_expr(alloc, bytes, 0)?;
+    Ok((blocks.len(), end))
+}
+
+// Both of the expression with these parts, each so many times.
+fn counts(alloc: Global, parts: &[(usize, &[u8])]) -> (Count, Count) {
+    match repeated(alloc, parts) {
+        Ok(bytes) => (instructions(alloc, &bytes), blocks(alloc, &bytes)),
+        Err(_) => (Err(BinFault::NoMemory), Err(BinFault::NoMemory)),
+    }
+}
+
+// Blocks that nest 256 and 257 deep.
+const DEEPEST: [(usize, &[u8]); 2] = [(256, b"\x02\x40"), (257, b"\x0B")];
+
+const DEEPER: [(usize, &[u8]); 2] = [(257, b"\x02\x40"), (258, b"\x0B")];
+
+#[test]
+fn nesting(rt: HostRuntime) {
+    assert_eq!(rt;
+        counts(rt.alloc(), &DEEPEST),
+        (Ok((1, 769)), Ok((256, 769)))
+    );
+    let fault = Err(BinFault::Malformed {
+        kind: Kind::TooDeep,
+        place: 512,
+    });
+    assert_eq!(rt; counts(rt.alloc(), &DEEPER), (fault, fault));
+}
+
+const PRINTED: [(BinFault, &str); 3] = [
+    (
+        BinFault::Malformed {
+            kind: Kind::Truncated,
+            place: 4,
+        },
+        "1 Malformed 1 Truncated at 4",
+    ),
+    (BinFault::Float, "2 Float"),
+    (BinFault::NoMemory, "3 NoMemory"),
+];
 
 #[test]
 fn printed_faults(rt: HostRuntime) -> Result<(), Fail> {
-    let cut = at(Kind::Truncated, 4);
-    assert_eq!(rt;
-        cut.to_string(rt.alloc())?.as_str(),
-        "1 Malformed 1 Truncated at 4"
-    );
-    assert_eq!(rt; BinFault::Float.to_string(rt.alloc())?.as_str(), "2 Float");
-    assert_eq!(rt;
-        BinFault::NoMemory.to_string(rt.alloc())?.as_str(),
-        "3 NoMemory"
-    );
+    for (fault, text) in PRINTED {
+        assert_eq!(rt; fault.to_string(rt.alloc())?.as_str(), text);
+    }
     Ok(())
 }

@@ -2,26 +2,27 @@
 //! every field of both records.
 mod every_field;
 
-ghost use Rattle.std.specs.Prelude.{◌≡◌, ◌<◌, length, slice_get, IfOk};
+ghost use Rattle.std.specs.Prelude.{◌≡◌, ◌<◌, length, slice_get, IfSome};
 ghost use Rattle.plugin.specs.Plugins.{IsWeight, IsFuel};
 
+use crate::records::labels_of;
 use crate::small_modules::{
     COUNTS, FILTER, FILTER_ALONE, FILTER_AND_GLOBAL, ONE_OF_EACH, SCORE_ALONE, TO_I32_AND_START,
-    ZERO, module_with,
+    ZERO, accepted, accepted_with,
 };
 use arrayvec::ArrayVec;
 use plugin::{
-    AddFault, Cause, FilterVerdict, Kit, KitRules, Plugin, Plugins, Rejection, Rules, ScoreVerdict,
+    AddFault, Cause, FilterVerdict, Kit, KitFault, KitRules, Plugin, Plugins, Rejection, Rules,
+    ScoreVerdict,
 };
-use quant::{Bytes, Cpu, Label, MAX_LABELS, Name, Node, Pod, Request, Res, Text};
+use quant::{Bytes, Cpu, Name, Node, Pod, Request, Res};
 use std::alloc::Global;
 use std::sync::Arc;
 use std::test::Fail;
 use std::thread;
-use wbin::decode;
 use whost::Records;
 use wmach::Trap;
-use wtype::validate;
+use wtype::Checked;
 
 // Bodies of a score: 50, and 101.
 const FIFTY: &[u8] = b"\0\x42\x32\x0B";
@@ -38,7 +39,6 @@ const NEVER: &[u8] = b"\0\x41\x03\x0B";
 // A filter beside a start function that is cut off.
 const WITH_START: &[&[u8]] = &[TO_I32_AND_START, ONE_OF_EACH, FILTER, b"\x08\x01\x01"];
 
-#[derive(Drop)]
 struct Row {
     name: &'static str,
     sections: &'static [&'static [u8]],
@@ -48,7 +48,7 @@ struct Row {
     score: ScoreVerdict,
 }
 
-const ROWS: [Row; 6] = [
+const ROWS: &[Row] = &[
     Row {
         name: "counts",
         sections: FILTER_AND_GLOBAL,
@@ -99,8 +99,12 @@ const ROWS: [Row; 6] = [
     },
 ];
 
+fn rows() -> &'static [Row] {
+    ROWS
+}
+
 // Sixteen names that are added, one more, and one that is taken.
-const NAMES: [(&str, Option<AddFault>); 18] = [
+const NAMES: &[(&str, Option<AddFault>)] = &[
     ("a", None),
     ("b", None),
     ("c", None),
@@ -121,67 +125,104 @@ const NAMES: [(&str, Option<AddFault>); 18] = [
     ("p", Some(AddFault::Twice)),
 ];
 
+fn names() -> &'static [(&'static str, Option<AddFault>)] {
+    NAMES
+}
+
 // A plugin whose score counts so much, but at least once and at most 10 times.
-fn plugin(name: &str, weight: u8) -> Result<Plugin, Fail>
-    ensures weight { IfOk result (λ p. IsWeight p.weight) }
-    ensures fuel { IfOk result (λ p. IsFuel p.fuel) }
+fn plugin(name: &str, weight: u8) -> Option<Plugin>
+    ensures weight { IfSome result (λ p. IsWeight p.weight) }
+    ensures fuel { IfSome result (λ p. IsFuel p.fuel) }
 {
-    Ok(Plugin {
-        name: Name::new(name.as_bytes())?,
+    Some(Plugin {
+        name: Name::new(name.as_bytes()).ok()?,
         weight: weight.max(1).min(10),
         fuel: 100_000,
     })
 }
 
-// Why the plugin isn't added, if it isn't.
-fn refused(
-    alloc: Global,
-    plugins: &mut Plugins,
-    plugin: Plugin,
-    module: &[u8],
-) -> Result<Option<AddFault>, Fail>
-    requires weight { IsWeight plugin.weight }
-    requires fuel { IsFuel plugin.fuel }
-{
-    let checked = validate(alloc, decode(alloc, module)?)?;
-    Ok(plugins.add(plugin, Arc::new(alloc, checked)?).err())
+// What comes of adding a plugin.
+#[derive(Clone, Copy, PartialEq, Eq)]
+enum Added {
+    Yes,
+    No(AddFault),
+    // It has no such name, or its module isn't accepted.
+    NoPlugin,
 }
 
-// The first row, in two rounds over all of them, of which the kit says something else.
-fn differs(mut kit: Kit) -> Option<&'static str> {
-    let records = Records::new();
-    for place in [0, 1, 2, 3, 4, 5, 0, 1, 2, 3, 4, 5] {
-        let row = &ROWS[place];
-        if kit.count() != ROWS.len()
-            || kit.weight(place) != row.weight
-            || kit.filter(place, &records) != row.filter
-            || kit.score(place, &records) != row.score
-        {
+fn add(plugins: &mut Plugins, name: &str, weight: u8, checked: Option<Arc<Checked>>) -> Added {
+    let Some(checked) = checked else {
+        return Added::NoPlugin;
+    };
+    let Some(plugin) = plugin(name, weight) else {
+        return Added::NoPlugin;
+    };
+    match plugins.add(plugin, checked) {
+        Ok(()) => Added::Yes,
+        Err(fault) => Added::No(fault),
+    }
+}
+
+fn add_row(alloc: Global, plugins: &mut Plugins, row: &Row) -> Added {
+    let checked = accepted_with(alloc, row.sections, &[row.body], b"");
+    add(plugins, row.name, row.weight, checked)
+}
+
+// Adds a plugin for each row, if it can.
+fn add_rows(alloc: Global, plugins: &mut Plugins) -> bool {
+    for row in rows() {
+        if add_row(alloc, plugins, row) != Added::Yes {
+            return false;
+        }
+    }
+    true
+}
+
+// Two kits of them.
+fn two_kits(alloc: Global) -> Option<(Kit, Kit)> {
+    let mut plugins = Plugins::new(alloc);
+    if !add_rows(alloc, &mut plugins) {
+        return None;
+    }
+    let first = Kit::new(alloc, &plugins).ok()?;
+    let second = Kit::new(alloc, &plugins).ok()?;
+    Some((first, second))
+}
+
+// Whether a kit's plugin at this place says what is in its row.
+fn is_row(kit: &mut Kit, place: usize, row: &Row, records: &Records) -> bool {
+    place < kit.count()
+        && kit.weight(place) == row.weight
+        && kit.filter(place, records) == row.filter
+        && kit.score(place, records) == row.score
+}
+
+// The first row of which the kit says something else.
+fn first_other(kit: &mut Kit, records: &Records) -> Option<&'static str> {
+    for (place, row) in rows().iter().enumerate() {
+        if !is_row(kit, place, row, records) {
             return Some(row.name);
         }
     }
     None
 }
 
+// The same of two rounds over all rows, and whether there are as many plugins.
+fn two_rounds(mut kit: Kit) -> (Option<&'static str>, Option<&'static str>, bool) {
+    let records = Records::new();
+    let first = first_other(&mut kit, &records);
+    let second = first_other(&mut kit, &records);
+    (first, second, kit.count() == rows().len())
+}
+
 #[test]
-fn kits_say_the_same_in_two_threads(rt: HostRuntime) -> Result<(), Fail> {
-    let mut plugins = Plugins::new(rt.alloc());
-    for row in &ROWS {
-        let module = module_with(rt.alloc(), row.sections, &[row.body], b"")?;
-        let fault = refused(
-            rt.alloc(),
-            &mut plugins,
-            plugin(row.name, row.weight)?,
-            &module,
-        )?;
-        assert_eq!(rt; fault, None, "{}", row.name);
-    }
-    let first = Kit::new(rt.alloc(), &plugins)?;
-    let second = Kit::new(rt.alloc(), &plugins)?;
-    let (one, other) = thread::join(&rt, move || differs(first), move || differs(second));
-    assert_eq!(rt; one, None);
-    assert_eq!(rt; other, None);
-    Ok(())
+fn kits_say_the_same_in_two_threads(rt: HostRuntime) {
+    let Some((first, second)) = two_kits(rt.alloc()) else {
+        panic!(rt; "no kits");
+    };
+    let (one, other) = thread::join(&rt, move || two_rounds(first), move || two_rounds(second));
+    assert_eq!(rt; one, (None, None, true));
+    assert_eq!(rt; other, (None, None, true));
 }
 
 // Asks the first plugin's filter, which leaves the second one's instance as it was, its store too.
@@ -193,105 +234,130 @@ fn ask_the_first(kit: &mut Kit, records: &Records) -> FilterVerdict
 }
 
 // What the second plugin's filter says before the first one's is asked and after it, if there are two.
-fn around_a_call(mut kit: Kit) -> Option<(FilterVerdict, FilterVerdict)> {
+fn around_a_call(kit: &mut Kit) -> Option<(FilterVerdict, FilterVerdict)> {
     let records = Records::new();
     if kit.count() != 2 {
         return None;
     }
     let before = kit.filter(1, &records);
-    ask_the_first(&mut kit, &records);
+    ask_the_first(kit, &records);
     Some((before, kit.filter(1, &records)))
 }
 
-#[test]
-fn a_call_changes_no_other_instance(rt: HostRuntime) -> Result<(), Fail> {
-    let counts = module_with(rt.alloc(), FILTER_AND_GLOBAL, &[COUNTS], b"")?;
-    let mut plugins = Plugins::new(rt.alloc());
+// Adds two plugins that have one module, if it can.
+fn add_pair(alloc: Global, plugins: &mut Plugins) -> bool {
     for name in ["one", "other"] {
-        let fault = refused(rt.alloc(), &mut plugins, plugin(name, 1)?, &counts)?;
-        assert_eq!(rt; fault, None, "{name}");
+        let checked = accepted_with(alloc, FILTER_AND_GLOBAL, &[COUNTS], b"");
+        if add(plugins, name, 1, checked) != Added::Yes {
+            return false;
+        }
     }
-    let said = around_a_call(Kit::new(rt.alloc(), &plugins)?);
-    let passes = FilterVerdict::Passes;
-    assert_eq!(rt; said, Some((passes, passes)));
-    Ok(())
+    true
 }
 
-// What is told where there is no kit of the plugins, and nothing where there is one.
-fn told(alloc: Global, plugins: &Plugins) -> Result<String, Fail> {
-    match Kit::new(alloc, plugins) {
-        Ok(_kit) => Ok(String::new(alloc)),
-        Err(fault) => Ok(format!(in alloc; "{fault}")?),
+fn pair(alloc: Global) -> Option<Kit> {
+    let mut plugins = Plugins::new(alloc);
+    if !add_pair(alloc, &mut plugins) {
+        return None;
     }
+    Kit::new(alloc, &plugins).ok()
+}
+
+fn said_around_a_call(alloc: Global) -> Option<(FilterVerdict, FilterVerdict)> {
+    around_a_call(&mut pair(alloc)?)
+}
+
+#[test]
+fn a_call_changes_no_other_instance(rt: HostRuntime) {
+    let passes = FilterVerdict::Passes;
+    assert_eq!(rt; said_around_a_call(rt.alloc()), Some((passes, passes)));
+}
+
+// The module of the first plugin, and of each other one: a score, and a filter whose start is cut off.
+fn module_at(alloc: Global, place: usize) -> Option<Arc<Checked>> {
+    if place == 0 {
+        accepted_with(alloc, SCORE_ALONE, &[FIFTY], b"")
+    } else {
+        accepted_with(alloc, WITH_START, &[ZERO, TRAPS], b"")
+    }
+}
+
+// The first name with which something else comes of adding a plugin.
+fn first_other_name(alloc: Global, plugins: &mut Plugins) -> Option<&'static str> {
+    for (name, fault) in names() {
+        let checked = module_at(alloc, plugins.count());
+        let wanted = match fault {
+            Some(fault) => Added::No(*fault),
+            None => Added::Yes,
+        };
+        if add(plugins, name, 1, checked) != wanted {
+            return Some(name);
+        }
+    }
+    None
+}
+
+// Why there is no kit of the plugins, if there is none.
+fn no_kit(alloc: Global, plugins: &Plugins) -> Option<KitFault> {
+    Kit::new(alloc, plugins).err()
+}
+
+// Why there is no kit of the plugins with the names, of which each is added that can be.
+fn no_kit_of_names(alloc: Global) -> (Option<&'static str>, Option<KitFault>) {
+    let mut plugins = Plugins::new(alloc);
+    let other = first_other_name(alloc, &mut plugins);
+    (other, no_kit(alloc, &plugins))
 }
 
 #[test]
 fn plugins_and_kits_are_refused(rt: HostRuntime) -> Result<(), Fail> {
-    let scores = module_with(rt.alloc(), SCORE_ALONE, &[FIFTY], b"")?;
-    let no_start = module_with(rt.alloc(), WITH_START, &[ZERO, TRAPS], b"")?;
-    let mut plugins = Plugins::new(rt.alloc());
-    for row in &NAMES {
-        let module = if plugins.count() == 0 {
-            &scores
-        } else {
-            &no_start
-        };
-        let fault = refused(rt.alloc(), &mut plugins, plugin(row.0, 1)?, module)?;
-        assert_eq!(rt; fault, row.1, "{}", row.0);
-    }
-    let text = told(rt.alloc(), &plugins)?;
+    let (other, fault) = no_kit_of_names(rt.alloc());
+    assert_eq!(rt; other, None);
+    let Some(fault) = fault else {
+        panic!(rt; "a kit");
+    };
+    let text = format!(in rt.alloc(); "{fault}")?;
     assert_eq!(rt; text.as_str(), "b 3 StartTrap Unreachable");
     Ok(())
 }
 
-fn labels(pairs: &[(&str, &str)]) -> Result<ArrayVec<Label, MAX_LABELS>, Fail> {
-    let mut labels = ArrayVec::new();
-    for (key, value) in pairs {
-        let label = Label {
-            key: Name::new(key.as_bytes())?,
-            value: Text::new(value.as_bytes())?,
-        };
-        if !labels.is_full() {
-            labels.push(label);
-        }
-    }
-    Ok(labels)
-}
-
 // The pod and the node of tests/every_field.mjs.
-fn pod() -> Result<Pod, Fail> {
-    Ok(Pod {
-        uid: Name::new(b"ns/web-0")?,
+fn pod() -> Option<Pod> {
+    Some(Pod {
+        uid: Name::new(b"ns/web-0").ok()?,
         priority: -2,
-        request: Request::new(Cpu(1 << 30), Bytes(1 << 44))?,
-        labels: labels(&[("b", "1"), ("a.b", ""), ("a", "x")])?,
+        request: Request::new(Cpu(1 << 30), Bytes(1 << 44)).ok()?,
+        labels: labels_of(&[("b", "1"), ("a.b", ""), ("a", "x")])?,
         tolerations: ArrayVec::new(),
     })
 }
 
-fn node() -> Result<Node, Fail> {
-    Ok(Node {
-        name: Name::new(b"n.1")?,
+fn node() -> Option<Node> {
+    Some(Node {
+        name: Name::new(b"n.1").ok()?,
         allocatable: Res {
             cpu: Cpu(1_000),
             mem: Bytes(0x01_0203_0405),
             pods: 150_000,
         },
-        labels: labels(&[("zone", "b"), ("disk", "ssd")])?,
+        labels: labels_of(&[("zone", "b"), ("disk", "ssd")])?,
         taints: ArrayVec::new(),
         unschedulable: true,
     })
 }
 
-fn show(records: &mut Records) -> Result<(), Fail> {
-    let used = Res {
-        cpu: Cpu(0x0102_0304_0506),
-        mem: Bytes(1 << 61),
-        pods: 149_999,
-    };
+const USED: Res = Res {
+    cpu: Cpu(0x0102_0304_0506),
+    mem: Bytes(1 << 61),
+    pods: 149_999,
+};
+
+// The records of both.
+fn records() -> Option<Records> {
+    let mut records = Records::new();
     records.show_pod(&pod()?);
-    records.show_node(&node()?, &used);
-    Ok(())
+    records.show_node(&node()?, &USED);
+    Some(records)
 }
 
 // What the first rule's score says.
@@ -302,17 +368,26 @@ fn first_score<R: Rules>(rules: &mut R, records: &Records) -> Option<ScoreVerdic
     Some(rules.score(0, records))
 }
 
+fn reader_module() -> &'static [u8] {
+    every_field::MODULE
+}
+
+// The rules of a site whose one plugin is the module made of C.
+fn reader(alloc: Global) -> Option<KitRules> {
+    let mut plugins = Plugins::new(alloc);
+    let checked = accepted(alloc, reader_module());
+    if add(&mut plugins, "reader", 1, checked) != Added::Yes {
+        return None;
+    }
+    Some(KitRules::new(Kit::new(alloc, &plugins).ok()?))
+}
+
+fn told_by_reader(alloc: Global) -> Option<ScoreVerdict> {
+    first_score(&mut reader(alloc)?, &records()?)
+}
+
 #[test]
-fn a_module_reads_every_field(rt: HostRuntime) -> Result<(), Fail> {
-    let mut records = Records::new();
-    show(&mut records)?;
-    let mut plugins = Plugins::new(rt.alloc());
-    let reader = plugin("reader", 1)?;
-    let fault = refused(rt.alloc(), &mut plugins, reader, every_field::MODULE)?;
-    let mut rules = KitRules::new(Kit::new(rt.alloc(), &plugins)?);
-    let told = first_score(&mut rules, &records);
+fn a_module_reads_every_field(rt: HostRuntime) {
     let field = ScoreVerdict::Errs(Cause::Score(every_field::TOLD));
-    assert_eq!(rt; fault, None);
-    assert_eq!(rt; told, Some(field));
-    Ok(())
+    assert_eq!(rt; told_by_reader(rt.alloc()), Some(field));
 }

@@ -5,19 +5,28 @@ use wmem::{Load, MAX_PAGES, Memory, Trap, Width};
 
 mod accesses;
 
+// Whether each load of what was stored gives what the engine loads.
+fn loads_are(memory: &Memory, loaded: &[u64; 12]) -> bool {
+    for (load, want) in LOADS.iter().zip(loaded) {
+        if memory.load(3, 5, *load) != Ok(*want) {
+            return false;
+        }
+    }
+    true
+}
+
+// Whether the store is made, and leaves this byte below it.
+fn stores(memory: &mut Memory, width: Width, value: u64, before: u8) -> bool {
+    memory.copy_in(0, &[0x55; 24]).is_ok()
+        && memory.store(5, 3, width, value).is_ok()
+        && memory.load(7, 0, Load::I32Unsigned8) == Ok(u64::from(before))
+}
+
 // The first row at which a load gives another answer than the engine that made the rows.
 fn first_difference(memory: &mut Memory) -> Option<usize> {
-    for (row, (width, value, before, loaded)) in ROWS.into_iter().enumerate() {
-        let cleared = memory.copy_in(0, &[0x55; 24]);
-        let stored = memory.store(5, 3, width, value);
-        let below = memory.load(7, 0, Load::I32Unsigned8);
-        if cleared.is_err() || stored.is_err() || below != Ok(u64::from(before)) {
+    for (row, (width, value, before, loaded)) in ROWS.iter().enumerate() {
+        if !stores(memory, *width, *value, *before) || !loads_are(memory, loaded) {
             return Some(row);
-        }
-        for (load, want) in LOADS.into_iter().zip(loaded) {
-            if memory.load(3, 5, load) != Ok(want) {
-                return Some(row);
-            }
         }
     }
     None
@@ -39,8 +48,8 @@ enum Access {
     Copy(u32),
 }
 
-// How many pages of 4,096 bytes are noted after it, and after a reset.
-fn pages_noted(memory: &mut Memory, access: Access) -> (usize, usize) {
+// How many pages of 4,096 bytes are noted after it, and after a reset, and how large the memory is then.
+fn pages_noted(memory: &mut Memory, access: Access) -> (usize, usize, u32) {
     match access {
         Access::Store(at, width, value) => {
             let _ = memory.store(at, 0, width, value);
@@ -57,23 +66,25 @@ fn pages_noted(memory: &mut Memory, access: Access) -> (usize, usize) {
     }
     let noted = memory.touched();
     memory.reset();
-    (noted, memory.touched())
+    (noted, memory.touched(), memory.size())
 }
+
+// What is done, and how many pages are noted after it.
+const NOTED: &[(Access, usize)] = &[
+    (Access::Store(4_092, Width::Eight, 1), 2),
+    (Access::Store(0, Width::Four, 0), 1),
+    (Access::Store(65_533, Width::Four, 1), 0),
+    (Access::Load(0), 0),
+    (Access::Grow, 0),
+    (Access::Copy(4_095), 2),
+    (Access::Copy(61_440), 0),
+];
 
 #[test]
 fn writes_note_their_pages(rt: HostRuntime) -> Result<(), Fail> {
     let mut memory = Memory::new(rt.alloc(), 1, MAX_PAGES)?;
-    for (access, noted) in [
-        (Access::Store(4_092, Width::Eight, 1), 2),
-        (Access::Store(0, Width::Four, 0), 1),
-        (Access::Store(65_533, Width::Four, 1), 0),
-        (Access::Load(0), 0),
-        (Access::Grow, 0),
-        (Access::Copy(4_095), 2),
-        (Access::Copy(61_440), 0),
-    ] {
-        assert_eq!(rt; pages_noted(&mut memory, access), (noted, 0));
-        assert_eq!(rt; memory.size(), 1);
+    for (access, noted) in NOTED {
+        assert_eq!(rt; pages_noted(&mut memory, *access), (*noted, 0, 1));
     }
     Ok(())
 }

@@ -1,395 +1,496 @@
 //! Whole modules. The kinds and places of faults are those of docs/WEBASSEMBLY.md; what is spelled was compared with
 //! wabt's `wasm-objdump -x`.
 
-use crate::small_modules::{FILTER, ONE, TO_I32, ZERO, filter_of, module, module_with};
+use crate::small_modules::{
+    FILTER, HEADER, ONE, TO_I32, ZERO, filter_of, module, module_with, repeated,
+};
 use std::alloc::Global;
-use std::process::Abort;
 use std::test::Fail;
 use wbin::{
     DataSegment, ExportKind, GlobalType, ImportKind, Limits, LocalRun, Place, Tables, decode,
 };
 use wcode::{BinFault, Kind, ValueType};
 
-fn refused(rt: &impl Abort, alloc: Global, bytes: &[u8], want: BinFault) {
-    match decode(alloc, bytes) {
-        Ok(_) => panic!(rt; "decoded"),
-        Err(fault) => assert_eq!(rt; fault, want),
+// Why a module isn't read, if it isn't.
+type Fault = Option<BinFault>;
+
+fn malformed(kind: Kind, place: usize) -> Fault {
+    Some(BinFault::Malformed { kind, place })
+}
+
+fn fault_of(alloc: Global, bytes: &[u8]) -> Fault {
+    decode(alloc, bytes).err()
+}
+
+// The same of the module with these sections.
+fn fault_with(alloc: Global, sections: &[&[u8]]) -> Fault {
+    match module(alloc, sections) {
+        Ok(bytes) => fault_of(alloc, &bytes),
+        Err(_) => Some(BinFault::NoMemory),
     }
 }
 
-fn malformed(kind: Kind, place: usize) -> BinFault {
-    BinFault::Malformed { kind, place }
+// The same of these parts, each so many times.
+fn fault_of_parts(alloc: Global, parts: &[(usize, &[u8])]) -> Fault {
+    match repeated(alloc, parts) {
+        Ok(bytes) => fault_of(alloc, &bytes),
+        Err(_) => Some(BinFault::NoMemory),
+    }
+}
+
+// The fault of the small module's front of this length.
+fn fault_of_front(length: usize) -> Fault {
+    match length {
+        8 | 15 => None,
+        19 | 31 => malformed(Kind::CountMismatch, length),
+        _ => malformed(Kind::Truncated, length),
+    }
+}
+
+// The first front of the bytes, shorter than they are, that is read otherwise than that of the small module.
+fn first_front(alloc: Global, bytes: &[u8]) -> Option<usize> {
+    for length in 0..bytes.len() {
+        if fault_of(alloc, &bytes[..length]) != fault_of_front(length) {
+            return Some(length);
+        }
+    }
+    None
 }
 
 // What is in the module that isn't cut.
-fn assert_zero(rt: &impl Abort, tables: &Tables) {
-    assert_eq!(rt; tables.signatures.as_slice(), &[0][..]);
-    assert_eq!(rt; tables.codes.len(), 1);
-    assert_eq!(rt; tables.codes[0].body, Place { begin: 36, end: 39 });
-    assert_eq!(rt; tables.codes[0].blocks.len(), 0);
-    assert_eq!(rt; tables.exports.len(), 1);
-    assert_eq!(rt; tables.exports[0].name.as_slice(), b"filter".as_slice());
+fn is_zero(tables: &Tables) -> bool {
+    tables.signatures.as_slice() == [0].as_slice()
+        && tables.codes.len() == 1
+        && tables.codes[0].body == Place { begin: 36, end: 39 }
+        && tables.codes[0].blocks.is_empty()
+        && tables.exports.len() == 1
+        && tables.exports[0].name.as_slice() == b"filter".as_slice()
+}
+
+fn reads_zero(alloc: Global, bytes: &[u8]) -> bool {
+    match decode(alloc, bytes) {
+        Ok(whole) => whole.bytes() == bytes && is_zero(whole.tables()),
+        Err(_) => false,
+    }
 }
 
 #[test]
 fn cut_modules(rt: HostRuntime) -> Result<(), Fail> {
     let zero = filter_of(rt.alloc(), ZERO)?;
-    assert_eq!(&rt; zero.len(), 39);
-    for (k, _) in zero.iter().enumerate() {
-        let bytes = &zero[..k];
-        match k {
-            8 | 15 => {
-                decode(rt.alloc(), bytes)?;
-            }
-            19 | 31 => refused(&rt, rt.alloc(), bytes, malformed(Kind::CountMismatch, k)),
-            _ => refused(&rt, rt.alloc(), bytes, malformed(Kind::Truncated, k)),
-        }
-    }
-    let whole = decode(rt.alloc(), &zero)?;
-    assert_eq!(&rt; whole.bytes(), zero.as_slice());
-    assert_zero(&rt, whole.tables());
+    let told = (
+        zero.len(),
+        first_front(rt.alloc(), &zero),
+        reads_zero(rt.alloc(), &zero),
+    );
+    assert_eq!(rt; told, (39, None, true));
     Ok(())
 }
 
-#[test]
-fn header(rt: HostRuntime) -> Result<(), Fail> {
-    refused(
-        &rt,
-        rt.alloc(),
-        &[0x00, 0x62],
-        malformed(Kind::Truncated, 2),
-    );
-    refused(&rt, rt.alloc(), b"\0asn", malformed(Kind::BadMagic, 0));
-    refused(
-        &rt,
-        rt.alloc(),
-        b"\0asm\x02\0\0",
-        malformed(Kind::Truncated, 7),
-    );
-    refused(
-        &rt,
-        rt.alloc(),
-        b"\0asm\x02\0\0\0",
-        malformed(Kind::BadVersion, 4),
-    );
-    Ok(())
-}
+// What the module begins with, what is wrong with it, and where.
+const HEADERS: &[(&[u8], Kind, usize)] = &[
+    (&[0x00, 0x62], Kind::Truncated, 2),
+    (b"\0asn", Kind::BadMagic, 0),
+    (b"\0asm\x02\0\0", Kind::Truncated, 7),
+    (b"\0asm\x02\0\0\0", Kind::BadVersion, 4),
+];
 
-// A custom section of so many bytes in all makes the module as long as wanted.
-#[test]
-fn length(rt: HostRuntime) -> Result<(), Fail> {
-    let mut bytes = module(rt.alloc(), &[b"\x00\xF4\xFF\x3F\x00"])?;
-    for _ in 13..1_048_576 {
-        bytes.push(0)?;
-    }
-    decode(rt.alloc(), bytes.as_slice())?;
-    bytes.push(0)?;
-    refused(
-        &rt,
-        rt.alloc(),
-        bytes.as_slice(),
-        malformed(Kind::TooLong, 0),
-    );
-    bytes[0] = 1;
-    refused(
-        &rt,
-        rt.alloc(),
-        bytes.as_slice(),
-        malformed(Kind::TooLong, 0),
-    );
-    Ok(())
+fn headers() -> &'static [(&'static [u8], Kind, usize)] {
+    HEADERS
 }
 
 #[test]
-fn faults(rt: HostRuntime) -> Result<(), Fail> {
-    let rows: [(&[u8], BinFault); 31] = [
-        // A name that isn't UTF-8, a float, and a byte too many.
-        (&[0x00, 0x02, 0x01, 0xFF], malformed(Kind::BadName, 10)),
-        (&[0x01, 0x05, 0x01, 0x60, 0x01, 0x7D, 0x00], BinFault::Float),
-        (&[0x01, 0x05, 0x01, 0x60, 0x00, 0x01, 0x7C], BinFault::Float),
-        (
-            &[0x01, 0x05, 0x01, 0x60, 0x00, 0x00, 0x00],
-            malformed(Kind::BadSection, 8),
-        ),
-        // Unknown and falling numbers, a section twice, a size past the end.
-        (&[0x0C], malformed(Kind::BadSection, 8)),
-        (
-            &[0x02, 0x01, 0x00, 0x01, 0x01, 0x00],
-            malformed(Kind::BadSection, 11),
-        ),
-        (
-            &[0x01, 0x01, 0x00, 0x01, 0x01, 0x00],
-            malformed(Kind::BadSection, 11),
-        ),
-        (
-            &[0x08, 0x01, 0x00, 0x08, 0x01, 0x00],
-            malformed(Kind::BadSection, 11),
-        ),
-        (&[0x01], malformed(Kind::Truncated, 9)),
-        (&[0x01, 0x07, 0x01, 0x61], malformed(Kind::Truncated, 12)),
-        (
-            &[0x01, 0x80, 0x80, 0x80, 0x80, 0x80, 0x00],
-            malformed(Kind::BadNumber, 9),
-        ),
-        // Contents that want more than the size, with more behind them and without.
-        (&[0x01, 0x00], malformed(Kind::BadSection, 8)),
-        (
-            &[0x01, 0x01, 0x01, 0x03, 0x01, 0x00],
-            malformed(Kind::BadSection, 8),
-        ),
-        (&[0x00, 0x02, 0x05, 0x61], malformed(Kind::BadSection, 8)),
-        // Four thousand million types in ten bytes.
-        (
-            &[0x01, 0x06, 0xFF, 0xFF, 0xFF, 0xFF, 0x0F, 0x60],
-            malformed(Kind::BadSection, 8),
-        ),
-        // The fault of an earlier section first, counts last.
-        (
-            &[0x01, 0x02, 0x01, 0x61, 0x0C],
-            malformed(Kind::BadType, 11),
-        ),
-        (
-            &[0x03, 0x02, 0x01, 0x00, 0x0B, 0x01, 0x01],
-            malformed(Kind::BadSection, 12),
-        ),
-        (
-            &[0x0A, 0x04, 0x01, 0x02, 0x00, 0x0B],
-            malformed(Kind::CountMismatch, 14),
-        ),
-        // Types.
-        (&[0x01, 0x02, 0x01, 0x40], malformed(Kind::BadType, 11)),
-        (
-            &[0x01, 0x06, 0x01, 0x60, 0x00, 0x02, 0x7F, 0x7F],
-            malformed(Kind::BadType, 13),
-        ),
-        (
-            &[0x04, 0x04, 0x01, 0x7D, 0x00, 0x00],
-            malformed(Kind::BadType, 11),
-        ),
-        (
-            &[0x05, 0x03, 0x01, 0x02, 0x00],
-            malformed(Kind::BadType, 11),
-        ),
-        (
-            &[0x06, 0x06, 0x01, 0x7F, 0x02, 0x41, 0x00, 0x0B],
-            malformed(Kind::BadType, 12),
-        ),
-        (
-            &[0x02, 0x05, 0x01, 0x00, 0x00, 0x04, 0x00],
-            malformed(Kind::BadType, 13),
-        ),
-        (
-            &[0x07, 0x04, 0x01, 0x00, 0x04, 0x00],
-            malformed(Kind::BadType, 12),
-        ),
-        // A body without its end, with a byte too many, and past its section and the module's end.
-        (
-            &[0x0A, 0x04, 0x01, 0x02, 0x00, 0x01],
-            malformed(Kind::BadSection, 11),
-        ),
-        (
-            &[0x0A, 0x05, 0x01, 0x03, 0x00, 0x0B, 0x0B],
-            malformed(Kind::BadSection, 11),
-        ),
-        (
-            &[0x0A, 0x04, 0x01, 0x03, 0x00, 0x0B, 0x0B, 0x01, 0x00],
-            malformed(Kind::BadSection, 8),
-        ),
-        (
-            &[0x0A, 0x04, 0x01, 0x03, 0x00, 0x0B],
-            malformed(Kind::Truncated, 14),
-        ),
-        // Instructions.
-        (
-            &[0x0A, 0x06, 0x01, 0x04, 0x00, 0x01, 0x06, 0x0B],
-            malformed(Kind::BadOpcode, 14),
-        ),
-        (
-            &[0x0A, 0x06, 0x01, 0x04, 0x00, 0x01, 0x92, 0x0B],
-            BinFault::Float,
-        ),
-    ];
-    for (rest, want) in rows {
-        let bytes = module(rt.alloc(), &[rest])?;
-        refused(&rt, rt.alloc(), bytes.as_slice(), want);
+fn header(rt: HostRuntime) {
+    for (bytes, kind, place) in headers() {
+        assert_eq!(rt;
+            fault_of(rt.alloc(), bytes),
+            malformed(*kind, *place),
+            "{bytes:?}"
+        );
     }
-    Ok(())
+}
+
+// The front of a custom section of so many bytes in all that its module is as long as one may be.
+const LONGEST: &[u8] = b"\x00\xF4\xFF\x3F\x00";
+
+// That module, one with a byte more, and one with a wrong header besides.
+const LONG: &[(&[(usize, &[u8])], Fault)] = &[
+    (&[(1, HEADER), (1, LONGEST), (1_048_563, b"\0")], None),
+    (&[(1, HEADER), (1, LONGEST), (1_048_564, b"\0")], TOO_LONG),
+    (
+        &[(1, b"\x01asm\x01\0\0\0"), (1, LONGEST), (1_048_564, b"\0")],
+        TOO_LONG,
+    ),
+];
+
+const TOO_LONG: Fault = Some(BinFault::Malformed {
+    kind: Kind::TooLong,
+    place: 0,
+});
+
+fn long() -> &'static [(&'static [(usize, &'static [u8])], Fault)] {
+    LONG
+}
+
+#[test]
+fn length(rt: HostRuntime) {
+    for (parts, fault) in long() {
+        assert_eq!(rt; fault_of_parts(rt.alloc(), parts), *fault);
+    }
+}
+
+// Sections, what is wrong with a module of them, and where.
+const FAULTS: &[(&[u8], Kind, usize)] = &[
+    // A name that isn't UTF-8, and a byte too many.
+    (&[0x00, 0x02, 0x01, 0xFF], Kind::BadName, 10),
+    (
+        &[0x01, 0x05, 0x01, 0x60, 0x00, 0x00, 0x00],
+        Kind::BadSection,
+        8,
+    ),
+    // Unknown and falling numbers, a section twice, a size past the end.
+    (&[0x0C], Kind::BadSection, 8),
+    (&[0x02, 0x01, 0x00, 0x01, 0x01, 0x00], Kind::BadSection, 11),
+    (&[0x01, 0x01, 0x00, 0x01, 0x01, 0x00], Kind::BadSection, 11),
+    (&[0x08, 0x01, 0x00, 0x08, 0x01, 0x00], Kind::BadSection, 11),
+    (&[0x01], Kind::Truncated, 9),
+    (&[0x01, 0x07, 0x01, 0x61], Kind::Truncated, 12),
+    (
+        &[0x01, 0x80, 0x80, 0x80, 0x80, 0x80, 0x00],
+        Kind::BadNumber,
+        9,
+    ),
+    // Contents that want more than the size, with more behind them and without.
+    (&[0x01, 0x00], Kind::BadSection, 8),
+    (&[0x01, 0x01, 0x01, 0x03, 0x01, 0x00], Kind::BadSection, 8),
+    (&[0x00, 0x02, 0x05, 0x61], Kind::BadSection, 8),
+    // Four thousand million types in ten bytes.
+    (
+        &[0x01, 0x06, 0xFF, 0xFF, 0xFF, 0xFF, 0x0F, 0x60],
+        Kind::BadSection,
+        8,
+    ),
+    // The fault of an earlier section first, counts last.
+    (&[0x01, 0x02, 0x01, 0x61, 0x0C], Kind::BadType, 11),
+    (
+        &[0x03, 0x02, 0x01, 0x00, 0x0B, 0x01, 0x01],
+        Kind::BadSection,
+        12,
+    ),
+    (
+        &[0x0A, 0x04, 0x01, 0x02, 0x00, 0x0B],
+        Kind::CountMismatch,
+        14,
+    ),
+    // Types.
+    (&[0x01, 0x02, 0x01, 0x40], Kind::BadType, 11),
+    (
+        &[0x01, 0x06, 0x01, 0x60, 0x00, 0x02, 0x7F, 0x7F],
+        Kind::BadType,
+        13,
+    ),
+    (&[0x04, 0x04, 0x01, 0x7D, 0x00, 0x00], Kind::BadType, 11),
+    (&[0x05, 0x03, 0x01, 0x02, 0x00], Kind::BadType, 11),
+    (
+        &[0x06, 0x06, 0x01, 0x7F, 0x02, 0x41, 0x00, 0x0B],
+        Kind::BadType,
+        12,
+    ),
+    (
+        &[0x02, 0x05, 0x01, 0x00, 0x00, 0x04, 0x00],
+        Kind::BadType,
+        13,
+    ),
+    (&[0x07, 0x04, 0x01, 0x00, 0x04, 0x00], Kind::BadType, 12),
+    // A body without its end, with a byte too many, and past its section and the module's end.
+    (&[0x0A, 0x04, 0x01, 0x02, 0x00, 0x01], Kind::BadSection, 11),
+    (
+        &[0x0A, 0x05, 0x01, 0x03, 0x00, 0x0B, 0x0B],
+        Kind::BadSection,
+        11,
+    ),
+    (
+        &[0x0A, 0x04, 0x01, 0x03, 0x00, 0x0B, 0x0B, 0x01, 0x00],
+        Kind::BadSection,
+        8,
+    ),
+    (&[0x0A, 0x04, 0x01, 0x03, 0x00, 0x0B], Kind::Truncated, 14),
+    // An instruction.
+    (
+        &[0x0A, 0x06, 0x01, 0x04, 0x00, 0x01, 0x06, 0x0B],
+        Kind::BadOpcode,
+        14,
+    ),
+];
+
+// Types and an instruction of floats.
+const FLOATS: &[&[u8]] = &[
+    &[0x01, 0x05, 0x01, 0x60, 0x01, 0x7D, 0x00],
+    &[0x01, 0x05, 0x01, 0x60, 0x00, 0x01, 0x7C],
+    &[0x0A, 0x06, 0x01, 0x04, 0x00, 0x01, 0x92, 0x0B],
+];
+
+fn sections_with_faults() -> &'static [(&'static [u8], Kind, usize)] {
+    FAULTS
+}
+
+fn sections_with_floats() -> &'static [&'static [u8]] {
+    FLOATS
+}
+
+#[test]
+fn faults(rt: HostRuntime) {
+    for (rest, kind, place) in sections_with_faults() {
+        assert_eq!(rt;
+            fault_with(rt.alloc(), &[*rest]),
+            malformed(*kind, *place),
+            "{rest:?}"
+        );
+    }
+    for rest in sections_with_floats() {
+        assert_eq!(rt;
+            fault_with(rt.alloc(), &[*rest]),
+            Some(BinFault::Float),
+            "{rest:?}"
+        );
+    }
+}
+
+// The fault of the module whose one function is `filter`, with this body.
+fn fault_of_filter(alloc: Global, body: &[u8]) -> Fault {
+    match filter_of(alloc, body) {
+        Ok(bytes) => fault_of(alloc, &bytes),
+        Err(_) => Some(BinFault::NoMemory),
+    }
 }
 
 // A constant of five bytes, padded, and one of six.
+const OF_FIVE: &[u8] = b"\0\x41\x80\x80\x80\x80\x00\x0B";
+
+const OF_SIX: &[u8] = b"\0\x41\x80\x80\x80\x80\x80\x00\x0B";
+
 #[test]
-fn padded_constants(rt: HostRuntime) -> Result<(), Fail> {
-    let five = filter_of(rt.alloc(), b"\0\x41\x80\x80\x80\x80\x00\x0B")?;
-    decode(rt.alloc(), &five)?;
-    let six = filter_of(rt.alloc(), b"\0\x41\x80\x80\x80\x80\x80\x00\x0B")?;
-    refused(&rt, rt.alloc(), &six, malformed(Kind::BadNumber, 37));
-    Ok(())
+fn padded_constants(rt: HostRuntime) {
+    assert_eq!(rt; fault_of_filter(rt.alloc(), OF_FIVE), None);
+    assert_eq!(rt;
+        fault_of_filter(rt.alloc(), OF_SIX),
+        malformed(Kind::BadNumber, 37)
+    );
 }
 
-// Each section empty, and a custom section before it and behind it.
-#[test]
-fn empty_sections(rt: HostRuntime) -> Result<(), Fail> {
-    for id in 1..12u8 {
-        let empty = [id, 0x01, 0x00];
-        let custom = b"\x00\x01\x00".as_slice();
-        let bytes = module(rt.alloc(), &[custom, &empty, custom])?;
-        let found = decode(rt.alloc(), bytes.as_slice())?;
-        assert_eq!(&rt; found.tables().start.is_some(), id == 8);
+// Whether the module of these bytes, if it is read, calls a function at the start.
+fn has_start(alloc: Global, bytes: &[u8]) -> Option<bool> {
+    match decode(alloc, bytes) {
+        Ok(found) => Some(found.tables().start.is_some()),
+        Err(_) => None,
     }
-    Ok(())
 }
 
-// Each section twice.
-#[test]
-fn doubled_sections(rt: HostRuntime) -> Result<(), Fail> {
-    for id in 1..12u8 {
-        // A start section has the index of a function, and each other one a vector, here an empty one.
-        let bytes = module(rt.alloc(), &[&[id, 0x01, 0x00], &[id, 0x01, 0x00]])?;
-        refused(&rt, rt.alloc(), &bytes, malformed(Kind::BadSection, 11));
+// The same where this section is empty, with a custom section before it and behind it.
+fn has_start_with(alloc: Global, id: u8) -> Option<bool> {
+    let empty = [id, 0x01, 0x00];
+    let custom = b"\x00\x01\x00".as_slice();
+    match module(alloc, &[custom, &empty, custom]) {
+        Ok(bytes) => has_start(alloc, &bytes),
+        Err(_) => None,
     }
-    Ok(())
+}
+
+#[test]
+fn empty_sections(rt: HostRuntime) {
+    for id in 1..12u8 {
+        assert_eq!(rt; has_start_with(rt.alloc(), id), Some(id == 8));
+    }
+}
+
+// The fault of the module with this section twice. A start section has the index of a function, and each other one a vector, here an
+// empty one.
+fn fault_of_doubled(alloc: Global, id: u8) -> Fault {
+    fault_with(alloc, &[&[id, 0x01, 0x00], &[id, 0x01, 0x00]])
+}
+
+#[test]
+fn doubled_sections(rt: HostRuntime) {
+    for id in 1..12u8 {
+        assert_eq!(rt;
+            fault_of_doubled(rt.alloc(), id),
+            malformed(Kind::BadSection, 11)
+        );
+    }
+}
+
+// How many types, bodies and exports there are, and whether the first export is `filter`.
+type Counts = (usize, usize, usize, bool);
+
+fn counts_in(tables: &Tables) -> Counts {
+    let is_filter = !tables.exports.is_empty()
+        && tables.exports[0].name.as_slice() == b"filter".as_slice();
+    (
+        tables.types.len(),
+        tables.codes.len(),
+        tables.exports.len(),
+        is_filter,
+    )
+}
+
+fn counts_of(alloc: Global, bytes: &[u8]) -> Option<Counts> {
+    match decode(alloc, bytes) {
+        Ok(found) => Some(counts_in(found.tables())),
+        Err(_) => None,
+    }
 }
 
 #[test]
 fn a_custom_section_leaves_no_trace(rt: HostRuntime) -> Result<(), Fail> {
-    let zero = filter_of(rt.alloc(), ZERO)?;
+    let without = filter_of(rt.alloc(), ZERO)?;
     let sections = [b"\x00\x05\x04name".as_slice(), TO_I32, ONE, FILTER];
-    let bytes = module_with(rt.alloc(), &sections, &[ZERO], b"")?;
-    assert_eq!(&rt; bytes.len(), 46);
-    let with = decode(rt.alloc(), &bytes)?;
-    let without = decode(rt.alloc(), &zero)?;
-    let (with, without) = (with.tables(), without.tables());
-    assert_eq!(&rt; with.types.len(), without.types.len());
-    assert_eq!(&rt; with.codes.len(), without.codes.len());
-    assert_eq!(&rt; with.exports.len(), 1);
-    assert_eq!(&rt; with.exports[0].name.as_slice(), b"filter".as_slice());
+    let with = module_with(rt.alloc(), &sections, &[ZERO], b"")?;
+    assert_eq!(rt; with.len(), 46);
+    assert_eq!(rt; counts_of(rt.alloc(), &with), Some((1, 1, 1, true)));
+    assert_eq!(rt; counts_of(rt.alloc(), &without), Some((1, 1, 1, true)));
     Ok(())
 }
 
 // The types and the import of the whole module.
-fn assert_types(rt: &impl Abort, found: &Tables) {
-    assert_eq!(rt; found.types.len(), 2);
-    assert_eq!(rt;
-        found.types[1].parameters.as_slice(),
-        &[ValueType::I32, ValueType::I64][..]
-    );
-    assert_eq!(rt; found.types[1].result, Some(ValueType::I32));
-    assert_eq!(rt; found.types[0].result, None);
-    assert_eq!(rt; found.imports.len(), 1);
-    assert_eq!(rt; found.imports[0].module.as_slice(), b"a".as_slice());
-    assert_eq!(rt; found.imports[0].name.as_slice(), b"b".as_slice());
-    assert_eq!(rt; found.imports[0].kind, ImportKind::Function(1));
+fn has_types(found: &Tables) -> bool {
+    found.types.len() == 2
+        && found.types[1].parameters.as_slice() == [ValueType::I32, ValueType::I64].as_slice()
+        && found.types[1].result == Some(ValueType::I32)
+        && found.types[0].result.is_none()
+        && found.imports.len() == 1
+        && found.imports[0].module.as_slice() == b"a".as_slice()
+        && found.imports[0].name.as_slice() == b"b".as_slice()
+        && found.imports[0].kind == ImportKind::Function(1)
 }
 
+const TABLE: Limits = Limits {
+    least: 5,
+    most: None,
+};
+
+const MEMORY: Limits = Limits {
+    least: 2,
+    most: Some(3),
+};
+
+const GLOBAL: GlobalType = GlobalType {
+    value: ValueType::I32,
+    mutable: true,
+};
+
 // Its table, its memory and its global.
-fn assert_store(rt: &impl Abort, found: &Tables) {
-    let table = Limits {
-        least: 5,
-        most: None,
-    };
-    let memory = Limits {
-        least: 2,
-        most: Some(3),
-    };
-    assert_eq!(rt; found.tables.len(), 1);
-    assert_eq!(rt; found.tables[0], table);
-    assert_eq!(rt; found.memories.len(), 1);
-    assert_eq!(rt; found.memories[0], memory);
-    let kind = GlobalType {
-        value: ValueType::I32,
-        mutable: true,
-    };
-    assert_eq!(rt; found.globals.len(), 1);
-    assert_eq!(rt; found.globals[0].kind, kind);
-    assert_eq!(rt; found.globals[0].first, Place { begin: 57, end: 60 });
+fn has_store(found: &Tables) -> bool {
+    found.tables.as_slice() == [TABLE].as_slice()
+        && found.memories.as_slice() == [MEMORY].as_slice()
+        && found.globals.len() == 1
+        && found.globals[0].kind == GLOBAL
+        && found.globals[0].first == Place { begin: 57, end: 60 }
 }
 
 // What it exports, calls at the start and puts into its table.
-fn assert_exports(rt: &impl Abort, found: &Tables) {
-    assert_eq!(rt; found.exports.len(), 1);
-    assert_eq!(rt; found.exports[0].name.as_slice(), b"m".as_slice());
-    assert_eq!(rt; found.exports[0].kind, ExportKind::Memory);
-    assert_eq!(rt; found.start, Some(1));
-    assert_eq!(rt; found.element_segments.len(), 1);
-    assert_eq!(rt; found.element_segments[0].functions.as_slice(), &[1, 0][..]);
+fn has_exports(found: &Tables) -> bool {
+    found.exports.len() == 1
+        && found.exports[0].name.as_slice() == b"m".as_slice()
+        && found.exports[0].kind == ExportKind::Memory
+        && found.start == Some(1)
+        && found.element_segments.len() == 1
+        && found.element_segments[0].functions.as_slice() == [1, 0].as_slice()
 }
+
+const LOCALS: LocalRun = LocalRun {
+    count: 2,
+    value: ValueType::I64,
+};
 
 // Its function.
-fn assert_function(rt: &impl Abort, found: &Tables) {
-    let run = LocalRun {
-        count: 2,
-        value: ValueType::I64,
-    };
-    assert_eq!(rt; found.signatures.as_slice(), &[0][..]);
-    assert_eq!(rt; found.codes.len(), 1);
-    assert_eq!(rt; found.codes[0].locals.len(), 1);
-    assert_eq!(rt; found.codes[0].locals[0], run);
-    assert_eq!(rt; found.codes[0].body, Place { begin: 87, end: 88 });
+fn has_function(found: &Tables) -> bool {
+    found.signatures.as_slice() == [0].as_slice()
+        && found.codes.len() == 1
+        && found.codes[0].locals.as_slice() == [LOCALS].as_slice()
+        && found.codes[0].body == Place { begin: 87, end: 88 }
 }
 
+const SEGMENT: DataSegment = DataSegment {
+    memory: 0,
+    offset: Place { begin: 92, end: 95 },
+    contents: Place { begin: 96, end: 98 },
+};
+
 // Its segment of data.
-fn assert_data(rt: &impl Abort, found: &Tables) {
-    let segment = DataSegment {
-        memory: 0,
-        offset: Place { begin: 92, end: 95 },
-        contents: Place { begin: 96, end: 98 },
-    };
-    assert_eq!(rt; found.data_segments.len(), 1);
-    assert_eq!(rt; found.data_segments[0], segment);
+fn has_data(found: &Tables) -> bool {
+    found.data_segments.as_slice() == [SEGMENT].as_slice()
 }
 
 // An entry of each section, and custom sections, which leave no trace.
+const WHOLE: &[&[u8]] = &[
+    b"\x00\x05\x04name",
+    // from nothing to nothing, and from an i32 and an i64 to an i32
+    b"\x01\x0A\x02\x60\x00\x00\x60\x02\x7F\x7E\x01\x7F",
+    // the function `a.b`, and one of the module's own
+    b"\x02\x07\x01\x01a\x01b\x00\x01",
+    b"\x03\x02\x01\x00",
+    // a table of 5, a memory of 2 pages to 3, and a global of 7
+    b"\x04\x04\x01\x70\x00\x05",
+    b"\x05\x04\x01\x01\x02\x03",
+    b"\x06\x06\x01\x7F\x01\x41\x07\x0B",
+    // the memory is exported as `m`, and the function 1 is called at the start
+    b"\x07\x05\x01\x01m\x02\x00",
+    b"\x08\x01\x01",
+    // both functions at 1, two locals of i64, and `hi` at 2
+    b"\x09\x08\x01\x00\x41\x01\x0B\x02\x01\x00",
+    b"\x0A\x06\x01\x04\x01\x02\x7E\x0B",
+    b"\x0B\x08\x01\x00\x41\x02\x0B\x02hi",
+];
+
+fn whole() -> &'static [&'static [u8]] {
+    WHOLE
+}
+
+fn is_whole(tables: &Tables) -> [bool; 5] {
+    [
+        has_types(tables),
+        has_store(tables),
+        has_exports(tables),
+        has_function(tables),
+        has_data(tables),
+    ]
+}
+
+fn reads_whole(alloc: Global, bytes: &[u8]) -> Option<[bool; 5]> {
+    match decode(alloc, bytes) {
+        Ok(decoded) => Some(is_whole(decoded.tables())),
+        Err(_) => None,
+    }
+}
+
 #[test]
 fn whole_module(rt: HostRuntime) -> Result<(), Fail> {
-    let bytes = module(
-        rt.alloc(),
-        &[
-            b"\x00\x05\x04name",
-            // from nothing to nothing, and from an i32 and an i64 to an i32
-            b"\x01\x0A\x02\x60\x00\x00\x60\x02\x7F\x7E\x01\x7F",
-            // the function `a.b`, and one of the module's own
-            b"\x02\x07\x01\x01a\x01b\x00\x01",
-            b"\x03\x02\x01\x00",
-            // a table of 5, a memory of 2 pages to 3, and a global of 7
-            b"\x04\x04\x01\x70\x00\x05",
-            b"\x05\x04\x01\x01\x02\x03",
-            b"\x06\x06\x01\x7F\x01\x41\x07\x0B",
-            // the memory is exported as `m`, and the function 1 is called at the start
-            b"\x07\x05\x01\x01m\x02\x00",
-            b"\x08\x01\x01",
-            // both functions at 1, two locals of i64, and `hi` at 2
-            b"\x09\x08\x01\x00\x41\x01\x0B\x02\x01\x00",
-            b"\x0A\x06\x01\x04\x01\x02\x7E\x0B",
-            b"\x0B\x08\x01\x00\x41\x02\x0B\x02hi",
-        ],
-    )?;
-    let decoded = decode(rt.alloc(), bytes.as_slice())?;
-    assert_types(&rt, decoded.tables());
-    assert_store(&rt, decoded.tables());
-    assert_exports(&rt, decoded.tables());
-    assert_function(&rt, decoded.tables());
-    assert_data(&rt, decoded.tables());
-    assert_eq!(&rt; bytes.len(), 98);
-    assert_eq!(&rt; &bytes[96..98], b"hi".as_slice());
+    let bytes = module(rt.alloc(), whole())?;
+    assert_eq!(rt; reads_whole(rt.alloc(), &bytes), Some([true; 5]));
+    assert!(rt; bytes.ends_with(b"hi") && bytes.len() == 98);
     Ok(())
 }
 
 // What is in the plugin below.
-fn assert_plugin(rt: &impl Abort, found: &Tables) {
-    assert_eq!(rt; found.imports.len(), 1);
-    assert_eq!(rt; found.exports.len(), 2);
-    assert_eq!(rt; found.imports[0].module.as_slice(), b"sched".as_slice());
-    assert_eq!(rt; found.imports[0].name.as_slice(), b"node".as_slice());
-    assert_eq!(rt; found.codes.len(), 1);
-    assert_eq!(rt; found.exports[1].name.as_slice(), b"filter".as_slice());
+fn is_plugin(found: &Tables) -> bool {
+    found.imports.len() == 1
+        && found.exports.len() == 2
+        && found.imports[0].module.as_slice() == b"sched".as_slice()
+        && found.imports[0].name.as_slice() == b"node".as_slice()
+        && found.codes.len() == 1
+        && found.exports[1].name.as_slice() == b"filter".as_slice()
+}
+
+fn reads_plugin(alloc: Global, bytes: &[u8]) -> bool {
+    match decode(alloc, bytes) {
+        Ok(decoded) => is_plugin(decoded.tables()),
+        Err(_) => false,
+    }
 }
 
 // A filter as a compiler and a linker leave it: one import, and its memory and `filter` as exports.
 #[test]
-fn plugin(rt: HostRuntime) -> Result<(), Fail> {
-    let decoded = decode(rt.alloc(), &PLUGIN)?;
-    assert_plugin(&rt, decoded.tables());
-    Ok(())
+fn plugin(rt: HostRuntime) {
+    assert!(rt; reads_plugin(rt.alloc(), &PLUGIN));
 }
 
 const PLUGIN: [u8; 167] = [

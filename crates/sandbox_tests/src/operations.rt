@@ -7,17 +7,25 @@ use edge_values::{
 };
 use wnum::{Trap, convert, int32, int64};
 
+// -2147483648, -1 and -8 as bits
+const LEAST: u32 = 0x8000_0000;
+
+const MINUS_ONE: u32 = 0xFFFF_FFFF;
+
+const MINUS_EIGHT: u32 = 0xFFFF_FFF8;
+
 #[test]
 fn standards_examples(rt: HostRuntime) {
-    // -2147483648, -1 and -8 as bits
-    let least = 0x8000_0000;
-    let minus_one = 0xFFFF_FFFF;
-    let minus_eight = 0xFFFF_FFF8;
-    assert_eq!(rt; int32::div_s(least, minus_one), Err(Trap::IntegerOverflow));
-    assert_eq!(rt; int32::rem_s(least, minus_one), Ok(0));
-    assert_eq!(rt; int32::div_u(1, 0), Err(Trap::DivideByZero));
+    let told = [
+        told_32(int32::div_s(LEAST, MINUS_ONE)),
+        told_32(int32::rem_s(LEAST, MINUS_ONE)),
+        told_32(int32::div_u(1, 0)),
+    ];
+    let overflow = u32::from(Trap::IntegerOverflow.number());
+    let by_zero = u32::from(Trap::DivideByZero.number());
+    assert_eq!(rt; told, [(0, overflow), (0, 0), (0, by_zero)]);
     assert_eq!(rt; int32::rotl(2_147_483_649, 33), 3);
-    assert_eq!(rt; int32::shr_s(minus_eight, 33), 0xFFFF_FFFC);
+    assert_eq!(rt; int32::shr_s(MINUS_EIGHT, 33), 0xFFFF_FFFC);
 }
 
 // Each of these says at which row, if at any, an operation gives another answer than the engine.

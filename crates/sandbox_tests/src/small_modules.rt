@@ -1,8 +1,12 @@
 //! Modules in their bytes (WebAssembly Core 1.0, 5.5), put together out of their sections.
 
 use std::alloc::{AllocError, Global};
+use std::sync::Arc;
+use wbin::decode;
+use wtype::{Checked, validate};
 
-const HEADER: &[u8] = b"\0asm\x01\0\0\0";
+/// What a module begins with.
+pub const HEADER: &[u8] = b"\0asm\x01\0\0\0";
 
 /// One type: from nothing to an i32, and to an i64.
 pub const TO_I32: &[u8] = b"\x01\x05\x01\x60\x00\x01\x7F";
@@ -61,6 +65,22 @@ pub fn module(alloc: Global, sections: &[&[u8]]) -> Result<Vec<u8>, AllocError> 
     Ok(bytes)
 }
 
+/// These parts one behind the other, each so many times.
+pub fn repeated(alloc: Global, parts: &[(usize, &[u8])]) -> Result<Vec<u8>, AllocError> {
+    let mut bytes = Vec::new(alloc);
+    for (times, part) in parts {
+        put_times(&mut bytes, *times, part)?;
+    }
+    Ok(bytes)
+}
+
+fn put_times(bytes: &mut Vec<u8>, times: usize, part: &[u8]) -> Result<(), AllocError> {
+    for _ in 0..times {
+        bytes.extend_from_slice(part)?;
+    }
+    Ok(())
+}
+
 // A number below 16,384, in as few bytes as spell it.
 fn put_number(bytes: &mut Vec<u8>, number: usize) -> Result<(), AllocError> {
     if number < 128 {
@@ -102,4 +122,22 @@ pub fn module_with(
 /// The module whose one function is `filter`, with this body.
 pub fn filter_of(alloc: Global, body: &[u8]) -> Result<Vec<u8>, AllocError> {
     module_with(alloc, FILTER_ALONE, &[body], b"")
+}
+
+/// The module of these bytes, to be shared, if it is accepted.
+pub fn accepted(alloc: Global, bytes: &[u8]) -> Option<Arc<Checked>> {
+    let decoded = decode(alloc, bytes).ok()?;
+    let checked = validate(alloc, decoded).ok()?;
+    Arc::new(alloc, checked).ok()
+}
+
+/// The same of the module with these parts.
+pub fn accepted_with(
+    alloc: Global,
+    sections: &[&[u8]],
+    bodies: &[&[u8]],
+    behind: &[u8],
+) -> Option<Arc<Checked>> {
+    let bytes = module_with(alloc, sections, bodies, behind).ok()?;
+    accepted(alloc, &bytes)
 }

@@ -1,11 +1,8 @@
 //! A small module's store: what it is at first, and through segments, writes, an image, more writes and back.
 
-use crate::small_modules::{FILTER, ONE, TO_I32, ZERO, module_with};
-use std::sync::Arc;
-use std::test::Fail;
-use wbin::decode;
+use crate::small_modules::{FILTER, ONE, TO_I32, ZERO, accepted_with};
+use std::alloc::Global;
 use wstore::{Load, Store, Width};
-use wtype::validate;
 
 // A function `filter`; a table of three; a memory of one page that may have two; an i32 of 7 and an i64 of 5; element
 // segments: the function at 1, none at 3, one at 3, none at 4; data segments: `hi` at 8, nothing at 65,536 and at 65,537,
@@ -35,7 +32,7 @@ enum Step {
 }
 
 // The byte at 8, the pages, both globals, and the element at 1.
-#[derive(Clone, Copy, PartialEq, Eq, Debug)]
+#[derive(Clone, Copy, PartialEq, Eq)]
 struct Seen {
     byte: u64,
     pages: u32,
@@ -139,20 +136,30 @@ fn first_difference(store: &mut Store) -> Option<usize> {
     None
 }
 
+// Which of the first segments are there and fit.
+fn fits(store: &Store) -> ([bool; 5], [bool; 6]) {
+    let mut elements = [false; 5];
+    for (segment, fits) in elements.iter_mut().enumerate() {
+        *fits = elements_fit(store, segment);
+    }
+    let mut data = [false; 6];
+    for (segment, fits) in data.iter_mut().enumerate() {
+        *fits = data_fits(store, segment);
+    }
+    (elements, data)
+}
+
+// Those of the module's store, and the first row after which something else is seen of it.
+fn told(alloc: Global) -> Option<(([bool; 5], [bool; 6]), Option<usize>)> {
+    let checked = accepted_with(alloc, SECTIONS, &[ZERO], DATA)?;
+    let mut store = Store::new(alloc, checked).ok()?;
+    let fits = fits(&store);
+    Some((fits, first_difference(&mut store)))
+}
+
 #[test]
-fn a_store_is_written_kept_and_brought_back(rt: HostRuntime) -> Result<(), Fail> {
-    let bytes = module_with(rt.alloc(), SECTIONS, &[ZERO], DATA)?;
-    let checked = validate(rt.alloc(), decode(rt.alloc(), bytes.as_slice())?)?;
-    let mut store = Store::new(rt.alloc(), Arc::new(rt.alloc(), checked)?)?;
-    for (segment, fits) in [true, true, false, false, false].into_iter().enumerate() {
-        assert_eq!(rt; elements_fit(&store, segment), fits);
-    }
-    for (segment, fits) in [true, true, false, true, false, false]
-        .into_iter()
-        .enumerate()
-    {
-        assert_eq!(rt; data_fits(&store, segment), fits);
-    }
-    assert_eq!(rt; first_difference(&mut store), None);
-    Ok(())
+fn a_store_is_written_kept_and_brought_back(rt: HostRuntime) {
+    let elements = [true, true, false, false, false];
+    let data = [true, true, false, true, false, false];
+    assert_eq!(rt; told(rt.alloc()), Some(((elements, data), None)));
 }

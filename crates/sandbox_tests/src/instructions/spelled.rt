@@ -23,9 +23,11 @@ const BR_TABLE_OF_0: Op = Op::BrTable {
     labels_at: 2,
 };
 
-/// What bytes spell.
-pub const SPELLED: [(&[u8], Op); 123] = [
-    // control and variables
+/// Bytes, and the instruction that they spell.
+pub type Spelled = &'static [(&'static [u8], Op)];
+
+// Control and variables.
+const CONTROL: Spelled = &[
     (b"\x00", Op::Plain(Plain::Unreachable)),
     (b"\x01", Op::Plain(Plain::Nop)),
     (b"\x0C\x00", Op::Plain(Plain::Br(0))),
@@ -40,7 +42,10 @@ pub const SPELLED: [(&[u8], Op); 123] = [
     (b"\x22\x00", Op::Plain(Plain::LocalTee(0))),
     (b"\x23\x00", Op::Plain(Plain::GlobalGet(0))),
     (b"\x24\x00", Op::Plain(Plain::GlobalSet(0))),
-    // the memory, each with an offset of 300
+];
+
+// The memory, each with an offset of 300.
+const OF_MEMORY: Spelled = &[
     (
         b"\x28\x00\xAC\x02",
         Op::Plain(Plain::Load(LoadOp::Whole(I32), AT_300)),
@@ -119,7 +124,10 @@ pub const SPELLED: [(&[u8], Op); 123] = [
     ),
     (b"\x3F\x00", Op::Plain(Plain::MemorySize)),
     (b"\x40\x00", Op::Plain(Plain::MemoryGrow)),
-    // constants
+];
+
+// Constants.
+const CONSTANTS: Spelled = &[
     (b"\x41\x00", Op::Plain(Plain::Const(Value::I32(0)))),
     (b"\x41\x01", Op::Plain(Plain::Const(Value::I32(1)))),
     (b"\x41\x02", Op::Plain(Plain::Const(Value::I32(2)))),
@@ -155,7 +163,10 @@ pub const SPELLED: [(&[u8], Op); 123] = [
         b"\x42\xFF\xFF\xFF\xFF\xFF\xFF\xFF\xFF\xFF\x00",
         Op::Plain(Plain::Const(Value::I64(9223372036854775807))),
     ),
-    // comparisons
+];
+
+// Comparisons.
+const COMPARISONS: Spelled = &[
     (b"\x45", Op::Plain(Plain::Test(I32, TestOp::Eqz))),
     (b"\x46", Op::Plain(Plain::Relation(I32, RelOp::Eq))),
     (b"\x47", Op::Plain(Plain::Relation(I32, RelOp::Ne))),
@@ -178,7 +189,10 @@ pub const SPELLED: [(&[u8], Op); 123] = [
     (b"\x58", Op::Plain(Plain::Relation(I64, RelOp::LeU))),
     (b"\x59", Op::Plain(Plain::Relation(I64, RelOp::GeS))),
     (b"\x5A", Op::Plain(Plain::Relation(I64, RelOp::GeU))),
-    // operators of i32
+];
+
+// Operators of i32.
+const OF_I32: Spelled = &[
     (b"\x67", Op::Plain(Plain::Unary(I32, UnOp::Clz))),
     (b"\x68", Op::Plain(Plain::Unary(I32, UnOp::Ctz))),
     (b"\x69", Op::Plain(Plain::Unary(I32, UnOp::Popcnt))),
@@ -197,7 +211,10 @@ pub const SPELLED: [(&[u8], Op); 123] = [
     (b"\x76", Op::Plain(Plain::Binary(I32, BinOp::ShrU))),
     (b"\x77", Op::Plain(Plain::Binary(I32, BinOp::Rotl))),
     (b"\x78", Op::Plain(Plain::Binary(I32, BinOp::Rotr))),
-    // operators of i64
+];
+
+// Operators of i64.
+const OF_I64: Spelled = &[
     (b"\x79", Op::Plain(Plain::Unary(I64, UnOp::Clz))),
     (b"\x7A", Op::Plain(Plain::Unary(I64, UnOp::Ctz))),
     (b"\x7B", Op::Plain(Plain::Unary(I64, UnOp::Popcnt))),
@@ -216,7 +233,10 @@ pub const SPELLED: [(&[u8], Op); 123] = [
     (b"\x88", Op::Plain(Plain::Binary(I64, BinOp::ShrU))),
     (b"\x89", Op::Plain(Plain::Binary(I64, BinOp::Rotl))),
     (b"\x8A", Op::Plain(Plain::Binary(I64, BinOp::Rotr))),
-    // conversions
+];
+
+// Conversions.
+const CONVERSIONS: Spelled = &[
     (b"\xA7", Op::Plain(Plain::Convert(CvtOp::WrapI64))),
     (b"\xAC", Op::Plain(Plain::Convert(CvtOp::ExtendI32S))),
     (b"\xAD", Op::Plain(Plain::Convert(CvtOp::ExtendI32U))),
@@ -225,7 +245,10 @@ pub const SPELLED: [(&[u8], Op); 123] = [
     (b"\xC2", Op::Plain(Plain::Convert(CvtOp::Extend8S(I64)))),
     (b"\xC3", Op::Plain(Plain::Convert(CvtOp::Extend16S(I64)))),
     (b"\xC4", Op::Plain(Plain::Convert(CvtOp::Extend32S))),
-    // blocks and tables of labels
+];
+
+// Blocks and tables of labels.
+const BLOCKS: Spelled = &[
     (b"\x02\x40", Op::Block(BlockType::Empty)),
     (b"\x02\x7F", Op::Block(BlockType::Result(I32))),
     (b"\x03\x7E", Op::Loop(BlockType::Result(I64))),
@@ -235,3 +258,35 @@ pub const SPELLED: [(&[u8], Op); 123] = [
     (b"\x0E\x04\x00\x01\x01\x00\x01", BR_TABLE_OF_4),
     (b"\x0E\x00\x81\x00", BR_TABLE_OF_0),
 ];
+
+pub fn control() -> Spelled {
+    CONTROL
+}
+
+pub fn of_memory() -> Spelled {
+    OF_MEMORY
+}
+
+pub fn constants() -> Spelled {
+    CONSTANTS
+}
+
+pub fn comparisons() -> Spelled {
+    COMPARISONS
+}
+
+pub fn of_i32() -> Spelled {
+    OF_I32
+}
+
+pub fn of_i64() -> Spelled {
+    OF_I64
+}
+
+pub fn conversions() -> Spelled {
+    CONVERSIONS
+}
+
+pub fn blocks() -> Spelled {
+    BLOCKS
+}
