@@ -1,4 +1,4 @@
--- A call of a module's own function, where there is room for a frame.
+-- A call of an imported function, and one of a module's own function, where there is room for a frame.
 use Rattle.std.proofs.Common.{◌≡◌, ℕ, ◌-◌, ◌<◌, ◌≤◌, List, true, false, Option, ap, ◌∙◌, arith}
 use Rattle.std.specs.Prelude.{slice_get, option_and_then, nat_lt, if◌then◌else◌}
 use Rattle.std.proofs.lemmas.Bool.{lt-ltb, le-ltb}
@@ -23,3 +23,9 @@ module _ (setting : Setting) (store : Store) (locals values : List Value) (rest 
       let first : reduce_invoke setting frames store locals values function rest ≡ by_room = ap (λ b. if b then reduce_import setting store locals values function rest else by_room) mine in
       let second : by_room ≡ own_at (function - imported_count setting.module_syntax) = ap (λ b. if b then own_at (function - imported_count setting.module_syntax) else leads_to 0 store locals (trap CallDepth)) roomy in
       first ∙ second ∙ ap (λ k. own_at (function - k)) count
+
+  pub invoked_import : (frames function n : ℕ) → imported_count setting.module_syntax ≡ n → function < n → reduce_invoke setting frames store locals values function rest ≡ reduce_import setting store locals values function rest
+  invoked_import frames function n count before =
+      let imported : nat_lt function (imported_count setting.module_syntax) ≡ true = lt-ltb function (imported_count setting.module_syntax) (omega (arith, count, before)) in
+      let by_room = if nat_lt frames most_frames then own_at (function - imported_count setting.module_syntax) else leads_to 0 store locals (trap CallDepth) in
+      ap (λ b. if b then reduce_import setting store locals values function rest else by_room) imported

@@ -1,4 +1,3 @@
-pub mod Steps
 pub mod Reached
 pub mod Places
 pub mod Invoked

@@ -7,7 +7,7 @@ use Rattle.wmach.specs.Outcome.{next, Chain, call_of, HasOutcome}
 use Rattle.wplain.specs.declared.evaluation.Running.{Running}
 use Rattle.wplain.specs.Running.{configuration_of, EndsAs, EndsFor, Reduces}
 use Rattle.wplain.specs.Seen.{execution_of, reduction_of, written}
-use Rattle.wplain.specs.declared.execution.Step.{Step}
+use Rattle.wplain.specs.declared.execution.Effect.{Effect}
 use Rattle.wcode.specs.Syntax.{done}
 use Rattle.wmach.specs.Configuration.{instructions, trap}
 use Rattle.wmach.specs.Outcome.{values_of}
@@ -76,12 +76,12 @@ ends setting fuel before function store r (outcome.Exhausted cost) k e = (
 )
 
 -- a reduction that is taken, with what it writes
-pub one_more : (setting : Setting) (fuel : ℕ) (before after : Store) (from : Running) (s : Step) → next setting (configuration_of before from) ≡ Some (reduction_of before s) → after ≡ written before s.write → from.cost + s.cost ≤ fuel → Reduces setting fuel before from after (record { locals = s.locals; execution = s.execution; cost = from.cost + s.cost })
-one_more setting fuel before after from s is applied within = record {
-  reduction = reduction_of before s;
+pub one_more : (setting : Setting) (fuel : ℕ) (before after : Store) (from to : Running) (e : Effect) → next setting (configuration_of before from) ≡ Some (reduction_of before to.locals.items (execution_of to.execution) e) → after ≡ written before e.write → to.cost ≡ from.cost + e.cost → to.cost ≤ fuel → Reduces setting fuel before from after to
+one_more setting fuel before after from to e is applied cost within = record {
+  reduction = reduction_of before to.locals.items (execution_of to.execution) e;
   is = is;
-  leads_there = ap (λ x. record { store = x; locals = s.locals.items; execution = execution_of s.execution }) (sym applied);
-  cost = refl;
+  leads_there = ap (λ x. record { store = x; locals = to.locals.items; execution = execution_of to.execution }) (sym applied);
+  cost = cost;
   within = within;
 }
 

@@ -1,4 +1,5 @@
 pub mod Seen
 pub mod Stores
+pub mod Standing
 pub mod Done
 pub mod Running

@@ -1,5 +1,5 @@
 -- What one reduction more of a call comes to.
-use Rattle.std.specs.Prelude.{◌≡◌, ℕ, ◌+◌, ◌<◌, ◌≤◌, [], Some}
+use Rattle.std.specs.Prelude.{◌≡◌, ℕ, ◌+◌, ◌<◌, ◌≤◌, [], Option, Some, None}
 use Rattle.wcode.specs.Syntax.{done}
 use Rattle.wmach.specs.declared.outcome.Outcome.{Outcome}
 use Rattle.wmach.specs.declared.outcome.Outcome.TheVariants as outcome
@@ -7,8 +7,6 @@ use Rattle.wmach.specs.Configuration.{Setting, Store, Configuration, Reduction, 
 use Rattle.wmach.specs.Outcome.{next, values_of}
 use Rattle.wplain.specs.Seen.{execution_of}
 use Rattle.wplain.specs.declared.evaluation.Running.{Running}
-use Rattle.wplain.specs.declared.evaluation.Went.{Went}
-use Rattle.wplain.specs.declared.evaluation.Went.TheVariants as went
 
 -- where a call stands that has this store
 abbrev pub configuration_of : Store → Running → Configuration
@@ -34,8 +32,7 @@ pub record Reduces (setting : Setting) (fuel : ℕ) (before : Store) (from : Run
   pub cost : to.cost ≡ from.cost + reduction.cost
   pub within : to.cost ≤ fuel
 
--- what came of one reduction more
-abbrev pub Goes : Setting → (fuel : ℕ) → (before : Store) → Running → (after : Store) → Went → Type 0
-Goes setting fuel before r after (went.On s) = Reduces setting fuel before r after s
-Goes setting fuel before r after (went.Ended o) = EndsFor setting fuel before r o × (after ≡ before)
-Goes setting fuel before r after went.GaveUp = Unit {0}
+-- the outcome of a call that goes no further, or one reduction more
+abbrev pub Goes : Setting → (fuel : ℕ) → (before : Store) → (from : Running) → (after : Store) → (to : Running) → Option Outcome → Type 0
+Goes setting fuel before from after to (Some o) = EndsFor setting fuel before from o × (after ≡ before)
+Goes setting fuel before from after to None = Reduces setting fuel before from after to

@@ -1,101 +1,186 @@
-//! Labels and branches (WebAssembly Core 1.0, 4.4.5 and 4.4.6).
+//! What stands inside labels and frames, and how they are left (WebAssembly Core 1.0, 4.4.5 and 4.4.6).
 
-ghost use Rattle.std.specs.Prelude.{◌≡◌, ◌+◌, ℕ, List, Some, Bool, true, false, Option, IfOk, IfSome};
-ghost use Rattle.std.specs.Option.{is_some};
-ghost use Rattle.wcode.specs.declared.value.Value.{Value};
-ghost use Rattle.wmach.specs.Configuration.{Store};
-ghost use Rattle.wmach.specs.Reduction.{branching, returning, branch as branch_rule, return_from as return_rule};
-ghost use Rattle.wplain.specs.Seen.{body_of_code, execution_of, reduction_of};
+ghost use Rattle.std.specs.Prelude.{◌≡◌, ℕ, List, IfOk, option_map};
+ghost use Rattle.wcode.specs.declared.value.Value.{Value as one_value};
+ghost use Rattle.wmach.specs.Configuration.{instructions};
+ghost use Rattle.wmach.specs.Reduction.{branching, returning, followed_by};
+ghost use Rattle.wplain.specs.Seen.{body_of_code, continuation_of, place_of, execution_of};
+ghost use Rattle.wplain.specs.Standing.{branched, returned, EndedAs};
+ghost use Rattle.wplain.specs.Done.{LeavesLabel, LeavesFrame};
 
-use crate::code::{Code, followed_by};
-use crate::execution::{Execution, Step, go_on};
-use crate::values::keep_topmost;
-use std::alloc::{AllocError, Global};
+use crate::code::Code;
+use crate::execution::{Continuation, Execution, Frame, Label, Move, Next, Place};
+use crate::stop::Stop;
+use crate::values::joined;
+use std::alloc::Global;
 use wcode::{Plain, Value};
+use wmach::Trap;
 
-/// Whether a branch to the label so many labels outwards comes next. It gives up where labels can't be counted.
-pub fn is_branching(depth: u64, execution: &Execution) -> Option<bool>
-    ensures { IfSome result (λ b. is_some (branching depth (execution_of execution.now)) ≡ b) }
+/// What came of a place.
+#[derive(Drop)]
+pub enum Went<'a> {
+    On(Move<'a>),
+    /// Into a label or a frame, at this cost.
+    Into(u64, Execution<'a>),
+}
+
+/// What came of a label or a frame.
+#[derive(Drop)]
+pub enum Left<'a> {
+    /// What is inside goes on.
+    Open,
+    /// It is left at this cost, and this is there in its place.
+    To(u64, Place<'a>),
+}
+
+// Whether a branch or a return comes next.
+#[derive(Clone, Copy)]
+pub enum Comes {
+    Branch(u32),
+    Return,
+    Other,
+}
+
+// What is inside a label or a frame, once it has ended.
+#[derive(Clone, Copy)]
+pub enum Ended<'b> {
+    No,
+    Values(&'b [Value]),
+    Trap(Trap),
+}
+
+fn what_comes(next: Next<'_>) -> Comes
+    ensures branches { (values : List one_value) (depth : ℕ) → branching depth (place_of values next.entry) ≡ branched depth values result }
+    ensures returns { (values : List one_value) → returning (place_of values next.entry) ≡ returned values result }
+{
+    match next {
+        Next::Code(Code::Plain(Plain::Br(l), _)) => Comes::Branch(*l),
+        Next::Code(Code::Plain(Plain::Return, _)) => Comes::Return,
+        Next::Plain(Plain::Br(l), _) => Comes::Branch(l),
+        Next::Plain(Plain::Return, _) => Comes::Return,
+        _ => Comes::Other,
+    }
+}
+
+// The values that stand before a branch to the label so many labels outwards, if that comes next.
+fn before_branch<'b>(depth: u64, execution: &'b Execution<'_>) -> Result<Option<&'b [Value]>, Stop>
+    ensures { IfOk result (λ o. branching depth (execution_of execution.now) ≡ option_map (λ vs. vs.now) o) }
 {
     match execution {
-        Execution::Instructions(_, Code::Plain(Plain::Br(l), _)) => Some(u64::from(*l) == depth),
-        Execution::Label(_, _, _, inside, _) => is_branching(depth.checked_add(1)?, inside),
-        _ => Some(false),
+        Execution::Here(place) => match what_comes(place.next) {
+            Comes::Branch(l) => {
+                if u64::from(l) == depth {
+                    Ok(Some(place.values.as_slice()))
+                } else {
+                    Ok(None)
+                }
+            }
+            _ => Ok(None),
+        },
+        Execution::Label(label) => {
+            let outwards = depth.checked_add(1).ok_or(Stop::Stuck)?;
+            before_branch(outwards, &label.inside)
+        }
+        Execution::Frame(_) => Ok(None),
     }
 }
 
-/// The values that stand before a branch that comes next.
-pub fn before_branch(execution: Execution) -> Option<Vec<Value>>
-    ensures { IfSome result (λ vs. (depth : ℕ) → is_some (branching depth (execution_of execution)) ≡ true → branching depth (execution_of execution) ≡ Some vs.items) }
+// The values that stand before a return, if that comes next.
+fn before_return<'b>(execution: &'b Execution<'_>) -> Option<&'b [Value]>
+    ensures { returning (execution_of execution.now) ≡ option_map (λ vs. vs.now) result }
 {
     match execution {
-        Execution::Instructions(values, Code::Plain(Plain::Br(_), _)) => Some(values),
-        Execution::Label(_, _, _, inside, _) => before_branch(Box::into_inner(inside)),
-        _ => None,
+        Execution::Here(place) => match what_comes(place.next) {
+            Comes::Return => Some(place.values.as_slice()),
+            _ => None,
+        },
+        Execution::Label(label) => before_return(&label.inside),
+        Execution::Frame(_) => None,
     }
 }
 
-/// To the continuation of a label, with as many of the values that stand before the branch.
-pub fn branch(
-    alloc: Global,
-    locals: Vec<Value>,
-    below: Vec<Value>,
-    arity: usize,
-    continuation: Code,
-    rest: Code,
-    values: Vec<Value>,
-) -> Result<Option<Step>, AllocError>
-    ensures { IfOk result (λ o. IfSome o (λ s. (store : Store)
-        → branch_rule store locals.items below.items arity (body_of_code continuation) (body_of_code rest) values.items ≡ Some (reduction_of store s))) }
-{
-    let mut carried = values;
-    let mut below = below;
-    if !keep_topmost(&mut carried, arity) {
-        return Ok(None);
-    }
-    carried.append(&mut below)?;
-    let next = followed_by(alloc, continuation, rest)?;
-    Ok(Some(go_on(1, locals, carried, next)))
-}
-
-/// Whether a return comes next.
-pub fn is_returning(execution: &Execution) -> bool
-    ensures { is_some (returning (execution_of execution.now)) ≡ result }
+// It has ended, with values or by a trap.
+fn end_in<'b>(execution: &'b Execution<'_>) -> Ended<'b>
+    ensures { EndedAs (execution_of execution.now) result }
 {
     match execution {
-        Execution::Instructions(_, Code::Plain(Plain::Return, _)) => true,
-        Execution::Label(_, _, _, inside, _) => is_returning(inside),
-        _ => false,
+        Execution::Here(place) => match place.next {
+            Next::Code(Code::Done) => Ended::Values(place.values.as_slice()),
+            Next::Trap(why) => Ended::Trap(why),
+            _ => Ended::No,
+        },
+        _ => Ended::No,
     }
 }
 
-/// The values that stand before a return that comes next.
-pub fn before_return(execution: Execution) -> Option<Vec<Value>>
-    ensures { IfSome result (λ vs. is_some (returning (execution_of execution)) ≡ true → returning (execution_of execution) ≡ Some vs.items) }
+// What comes after a label that is branched to.
+fn continued<'a>(continuation: Continuation<'a>, rest: &'a Code) -> Next<'a>
+    ensures { (values : List one_value) → place_of values result ≡ instructions values (followed_by (continuation_of continuation.entry) (body_of_code rest.now)) }
 {
-    match execution {
-        Execution::Instructions(values, Code::Plain(Plain::Return, _)) => Some(values),
-        Execution::Label(_, _, _, inside, _) => before_return(Box::into_inner(inside)),
-        _ => None,
+    match continuation {
+        Continuation::Nothing => Next::Code(rest),
+        Continuation::Loop(t, inside) => Next::Loop(t, inside, rest),
     }
 }
 
-/// Out of a frame, with as many of the values that stand before the return.
-pub fn return_from(
-    outer: Vec<Value>,
-    below: Vec<Value>,
-    arity: usize,
-    rest: Code,
-    values: Vec<Value>,
-) -> Result<Option<Step>, AllocError>
-    ensures { IfOk result (λ o. IfSome o (λ s. (store : Store)
-        → return_rule store outer.items below.items arity (body_of_code rest) values.items ≡ Some (reduction_of store s))) }
+/// A label, unless what is inside goes on.
+pub fn leave_label<'a>(alloc: Global, label: &Label<'a>) -> Result<Left<'a>, Stop>
+    ensures { IfOk result (LeavesLabel label.now.below.items label.now.arity (continuation_of label.now.continuation)
+        (body_of_code label.now.rest.now) (execution_of label.now.inside.value)) }
 {
-    let mut carried = values;
-    let mut below = below;
-    if !keep_topmost(&mut carried, arity) {
-        return Ok(None);
+    let inside = &label.inside;
+    let below = label.below.as_slice();
+    match end_in(inside) {
+        Ended::Values(values) => {
+            let values = joined(alloc, values, below)?;
+            let next = Next::Code(label.rest);
+            Ok(Left::To(0, Place { values, next }))
+        }
+        Ended::Trap(why) => {
+            let values = Vec::new(alloc);
+            let next = Next::Trap(why);
+            Ok(Left::To(0, Place { values, next }))
+        }
+        Ended::No => {
+            let Some(values) = before_branch(0, inside)? else {
+                return Ok(Left::Open);
+            };
+            let carried = values.get(..label.arity).ok_or(Stop::Stuck)?;
+            let values = joined(alloc, carried, below)?;
+            let next = continued(label.continuation, label.rest);
+            Ok(Left::To(1, Place { values, next }))
+        }
     }
-    carried.append(&mut below)?;
-    Ok(Some(go_on(1, outer, carried, rest)))
+}
+
+/// A frame, unless what is inside goes on.
+pub fn leave_frame<'a>(alloc: Global, frame: &Frame<'a>) -> Result<Left<'a>, Stop>
+    ensures { IfOk result (LeavesFrame frame.now.below.items frame.now.arity (body_of_code frame.now.rest.now) (execution_of frame.now.inside.value)) }
+{
+    let inside = &frame.inside;
+    let below = frame.below.as_slice();
+    match end_in(inside) {
+        Ended::Values(values) => {
+            if values.len() != frame.arity {
+                return Err(Stop::Stuck);
+            }
+            let values = joined(alloc, values, below)?;
+            let next = Next::Code(frame.rest);
+            Ok(Left::To(0, Place { values, next }))
+        }
+        Ended::Trap(why) => {
+            let values = Vec::new(alloc);
+            let next = Next::Trap(why);
+            Ok(Left::To(0, Place { values, next }))
+        }
+        Ended::No => {
+            let Some(values) = before_return(inside) else {
+                return Ok(Left::Open);
+            };
+            let carried = values.get(..frame.arity).ok_or(Stop::Stuck)?;
+            let values = joined(alloc, carried, below)?;
+            let next = Next::Code(frame.rest);
+            Ok(Left::To(1, Place { values, next }))
+        }
+    }
 }

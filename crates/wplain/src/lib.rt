@@ -12,6 +12,7 @@ mod numeric;
 mod plain;
 mod reduce;
 mod setting;
+mod stop;
 mod store;
 mod values;
 mod variables;

@@ -1,19 +1,20 @@
 //! The memory instructions (WebAssembly Core 1.0, 4.4.4).
 
-ghost use Rattle.std.specs.Prelude.{◌≡◌, Some, IfOk, IfSome};
+ghost use Rattle.std.specs.Prelude.{◌≡◌, List, IfOk};
+ghost use Rattle.wcode.specs.declared.value.Value.{Value as one_value};
 ghost use Rattle.wcode.specs.Operators.{load_type, store_type};
 ghost use Rattle.wmach.specs.Access.{load_of as defined_load, stored_width as defined_width, cap_of as defined_cap, reduce_load, reduce_store, reduce_size, reduce_grow};
 ghost use Rattle.wmach.specs.Operands.{value_of};
 ghost use Rattle.wplain.specs.Done.{bits};
-ghost use Rattle.wplain.specs.Seen.{syntax_of, body_of_code, reduction_of};
+ghost use Rattle.wplain.specs.Seen.{syntax_of, body_of_code, moved};
 ghost use Rattle.wplain.specs.Stores.{store_of};
 
 use crate::code::Code;
-use crate::execution::{Execution, Step, Write, cut_off, go_on};
+use crate::execution::{Effect, Move, Next, Write, quiet};
 use crate::setting::Program;
+use crate::stop::Stop;
 use crate::store::{Store, byte_size};
 use crate::values::{pop, pop_i32, push};
-use std::alloc::AllocError;
 use wbin::Limits;
 use wcode::{LoadOp, MemArg, Sign, StoreOp, Value, ValueType};
 use wmach::Trap;
@@ -68,18 +69,18 @@ fn width_stored(op: StoreOp) -> Width
 }
 
 // A number as a value of this type, if it holds it.
-fn value_with(t: ValueType, number: u64) -> Option<Value>
-    ensures { IfSome result (λ v. v ≡ value_of t number) }
+fn value_with(t: ValueType, number: u64) -> Result<Value, Stop>
+    ensures { IfOk result (λ v. v ≡ value_of t number) }
 {
     match t {
         ValueType::I32 => {
             if number <= 0xFFFF_FFFF {
-                Some(Value::I32(number as u32))
+                Ok(Value::I32(number as u32))
             } else {
-                None
+                Err(Stop::Stuck)
             }
         }
-        ValueType::I64 => Some(Value::I64(number)),
+        ValueType::I64 => Ok(Value::I64(number)),
     }
 }
 
@@ -93,85 +94,74 @@ fn number_in(v: Value) -> u64
 }
 
 // t.load
-pub fn load(
+pub fn load<'a>(
     program: &Program,
     store: &Store,
-    locals: Vec<Value>,
-    values: Vec<Value>,
+    values: &mut Vec<Value>,
     op: LoadOp,
     arg: MemArg,
-    rest: Code,
-) -> Result<Option<Step>, AllocError>
-    ensures { IfOk result (λ o. IfSome o (λ s. reduce_load (syntax_of program.now)
-        (store_of store.now) locals.items values.items op arg (body_of_code rest) ≡ Some (reduction_of (store_of store.now) s))) }
+    rest: &'a Code,
+) -> Result<Move<'a>, Stop>
+    ensures { (locals : List one_value) → IfOk result (λ m. reduce_load (syntax_of program.now)
+        (store_of store.now) locals values.old.items op arg (body_of_code rest.now) ≡ moved (store_of store.now) locals values.new.items m) }
 {
-    let mut values = values;
     if program.memories.is_empty() {
-        return Ok(None);
+        return Err(Stop::Stuck);
     }
-    let Some(base) = pop_i32(&mut values) else {
-        return Ok(None);
-    };
+    let base = pop_i32(values)?;
     match store.memory.load(base, arg.offset, load_of(op)) {
         Ok(number) => {
-            let Some(v) = value_with(type_loaded(op), number) else {
-                return Ok(None);
-            };
-            push(&mut values, v)?;
-            Ok(Some(go_on(1, locals, values, rest)))
+            push(values, value_with(type_loaded(op), number)?)?;
+            Ok(quiet(1, Next::Code(rest)))
         }
-        Err(_) => Ok(Some(cut_off(1, locals, Trap::MemoryOutOfBounds))),
+        Err(_) => Ok(quiet(1, Next::Trap(Trap::MemoryOutOfBounds))),
     }
 }
 
 // t.store
-pub fn store(
+pub fn store<'a>(
     program: &Program,
     store: &Store,
-    locals: Vec<Value>,
-    values: Vec<Value>,
+    values: &mut Vec<Value>,
     op: StoreOp,
     arg: MemArg,
-    rest: Code,
-) -> Option<Step>
-    ensures { IfSome result (λ s. reduce_store (syntax_of program.now) (store_of store.now) locals.items values.items op arg
-        (body_of_code rest) ≡ Some (reduction_of (store_of store.now) s)) }
+    rest: &'a Code,
+) -> Result<Move<'a>, Stop>
+    ensures { (locals : List one_value) → IfOk result (λ m. reduce_store (syntax_of program.now)
+        (store_of store.now) locals values.old.items op arg (body_of_code rest.now) ≡ moved (store_of store.now) locals values.new.items m) }
 {
-    let mut values = values;
     if program.memories.is_empty() {
-        return None;
+        return Err(Stop::Stuck);
     }
-    let v = pop(&mut values, type_stored(op))?;
-    let base = pop_i32(&mut values)?;
+    let v = pop(values, type_stored(op))?;
+    let base = pop_i32(values)?;
     let width = width_stored(op);
     if base as usize + arg.offset as usize + width.bytes() > byte_size(&store.memory) {
-        return Some(cut_off(1, locals, Trap::MemoryOutOfBounds));
+        return Ok(quiet(1, Next::Trap(Trap::MemoryOutOfBounds)));
     }
-    Some(Step {
-        cost: 1,
-        write: Write::Number(base, arg.offset, width, number_in(v)),
-        locals,
-        execution: Execution::Instructions(values, rest),
+    let write = Write::Number(base, arg.offset, width, number_in(v));
+    let effect = Effect { cost: 1, write };
+    Ok(Move {
+        effect,
+        next: Next::Code(rest),
     })
 }
 
 // memory.size
-pub fn size(
+pub fn size<'a>(
     program: &Program,
     store: &Store,
-    locals: Vec<Value>,
-    values: Vec<Value>,
-    rest: Code,
-) -> Result<Option<Step>, AllocError>
-    ensures { IfOk result (λ o. IfSome o (λ s. reduce_size (syntax_of program.now)
-        (store_of store.now) locals.items values.items (body_of_code rest) ≡ Some (reduction_of (store_of store.now) s))) }
+    values: &mut Vec<Value>,
+    rest: &'a Code,
+) -> Result<Move<'a>, Stop>
+    ensures { (locals : List one_value) → IfOk result (λ m. reduce_size (syntax_of program.now)
+        (store_of store.now) locals values.old.items (body_of_code rest.now) ≡ moved (store_of store.now) locals values.new.items m) }
 {
-    let mut values = values;
     if program.memories.is_empty() {
-        return Ok(None);
+        return Err(Stop::Stuck);
     }
-    push(&mut values, Value::I32(store.memory.size()))?;
-    Ok(Some(go_on(1, locals, values, rest)))
+    push(values, Value::I32(store.memory.size()))?;
+    Ok(quiet(1, Next::Code(rest)))
 }
 
 // The most pages that a memory of these limits grows to.
@@ -188,33 +178,29 @@ fn cap_of(memories: &[Limits]) -> u32
 }
 
 // memory.grow
-pub fn grow(
+pub fn grow<'a>(
     program: &Program,
     store: &Store,
-    locals: Vec<Value>,
-    values: Vec<Value>,
-    rest: Code,
-) -> Result<Option<Step>, AllocError>
-    ensures { IfOk result (λ o. IfSome o (λ s. reduce_grow (syntax_of program.now)
-        (store_of store.now) locals.items values.items (body_of_code rest) ≡ Some (reduction_of (store_of store.now) s))) }
+    values: &mut Vec<Value>,
+    rest: &'a Code,
+) -> Result<Move<'a>, Stop>
+    ensures { (locals : List one_value) → IfOk result (λ m. reduce_grow (syntax_of program.now)
+        (store_of store.now) locals values.old.items (body_of_code rest.now) ≡ moved (store_of store.now) locals values.new.items m) }
 {
-    let mut values = values;
     if program.memories.is_empty() {
-        return Ok(None);
+        return Err(Stop::Stuck);
     }
-    let Some(delta) = pop_i32(&mut values) else {
-        return Ok(None);
-    };
+    let delta = pop_i32(values)?;
     let pages = store.memory.size();
     if u64::from(pages) + u64::from(delta) > u64::from(cap_of(program.memories.as_slice())) {
-        push(&mut values, Value::I32(0xFFFF_FFFF))?;
-        return Ok(Some(go_on(1, locals, values, rest)));
+        push(values, Value::I32(0xFFFF_FFFF))?;
+        return Ok(quiet(1, Next::Code(rest)));
     }
-    push(&mut values, Value::I32(pages))?;
-    Ok(Some(Step {
-        cost: 1,
-        write: Write::Pages(delta),
-        locals,
-        execution: Execution::Instructions(values, rest),
-    }))
+    push(values, Value::I32(pages))?;
+    let write = Write::Pages(delta);
+    let effect = Effect { cost: 1, write };
+    Ok(Move {
+        effect,
+        next: Next::Code(rest),
+    })
 }

@@ -24,8 +24,8 @@ pub fn byte_size(memory: &Memory) -> usize
 }
 
 /// Writes it, or tells that it can't be written.
-pub fn apply(store: &mut Store, write: Write) -> bool
-    ensures { result ≡ true → store_of store.new ≡ written (store_of store.old) write }
+pub fn apply(store: &mut Store, write: Write<'_>) -> bool
+    ensures { result ≡ true → store_of store.new ≡ written (store_of store.old) write.entry }
 {
     match write {
         Write::Nothing => true,
@@ -40,7 +40,7 @@ pub fn apply(store: &mut Store, write: Write) -> bool
         Write::Number(base, offset, width, number) => {
             store.memory.store(base, offset, width, number).is_ok()
         }
-        Write::Bytes(at, bytes) => store.memory.copy_in(at, bytes.as_slice()).is_ok(),
+        Write::Bytes(at, bytes) => store.memory.copy_in(at, bytes).is_ok(),
         Write::Pages(delta) => store.memory.grow(delta).is_some(),
     }
 }

@@ -1,176 +1,140 @@
 //! The parametric and the variable instructions (WebAssembly Core 1.0, 4.4.2 and 4.4.3), and branches that ask.
 
-ghost use Rattle.std.specs.Prelude.{◌≡◌, Some, IfOk, IfSome};
+ghost use Rattle.std.specs.Prelude.{◌≡◌, ◌==◌, List, IfOk, if◌then◌else◌};
+ghost use Rattle.wcode.specs.Syntax.{plain};
+ghost use Rattle.wmach.specs.Configuration.{Setting as machine_setting, Store as machine_store, instructions, leads_to};
+ghost use Rattle.wcode.specs.declared.value.Value.{Value as one_value};
 ghost use Rattle.wcode.specs.declared.instruction.Plain.TheVariants as instruction;
-ghost use Rattle.wmach.specs.Variables.{reduce_drop, reduce_select, reduce_global_get, reduce_global_set};
-ghost use Rattle.wplain.specs.Seen.{body_of_code, reduction_of};
+ghost use Rattle.wmach.specs.Variables.{reduce_drop, reduce_select, reduce_local_get, reduce_local_set, reduce_local_tee, reduce_global_get, reduce_global_set};
+ghost use Rattle.wmach.specs.Plain.{reduce_plain as defined_plain};
+ghost use Rattle.wplain.specs.Seen.{body_of_code, moved};
 ghost use Rattle.wplain.specs.Stores.{store_of};
 ghost use Rattle.wplain.specs.Done.{DoneBy};
-ghost use Rattle.wmach.specs.Configuration.{Setting as machine_setting, Store as machine_store};
-ghost use Rattle.wmach.specs.Plain.{reduce_plain as defined_plain};
 
-use crate::code::{Code, plain_then};
-use crate::execution::{Execution, Step, Write, go_on};
+use crate::code::Code;
+use crate::execution::{Effect, Move, Next, Write, quiet};
 use crate::numeric::Worked;
+use crate::stop::Stop;
 use crate::store::Store;
 use crate::values::{pop_any, pop_i32, push};
-use std::alloc::{AllocError, Global};
 use wcode::{Plain, Value};
 
 // drop
-pub fn drop_one(values: &mut Vec<Value>) -> Worked
-    ensures { DoneBy (λ store locals values rest. reduce_drop store locals values rest) values.old.items values.new.items result }
+pub fn drop_one(values: &mut Vec<Value>) -> Result<Worked, Stop>
+    ensures { IfOk result (DoneBy (λ store locals values rest. reduce_drop store locals values rest) values.old.items values.new.items) }
 {
-    match pop_any(values) {
-        Some(_) => Worked::Values,
-        None => Worked::GaveUp,
-    }
+    let _dropped = pop_any(values)?;
+    Ok(Worked::Values)
 }
 
 // select
-pub fn select(values: &mut Vec<Value>) -> Result<Worked, AllocError>
+pub fn select(values: &mut Vec<Value>) -> Result<Worked, Stop>
     ensures { IfOk result (DoneBy (λ store locals values rest. reduce_select store locals values rest) values.old.items values.new.items) }
 {
-    let Some(condition) = pop_i32(values) else {
-        return Ok(Worked::GaveUp);
-    };
-    let Some(second) = pop_any(values) else {
-        return Ok(Worked::GaveUp);
-    };
-    let Some(first) = pop_any(values) else {
-        return Ok(Worked::GaveUp);
-    };
+    let condition = pop_i32(values)?;
+    let second = pop_any(values)?;
+    let first = pop_any(values)?;
     push(values, if condition == 0 { second } else { first })?;
     Ok(Worked::Values)
 }
 
 // local.get x
-pub fn local_get(
-    locals: Vec<Value>,
-    values: Vec<Value>,
+pub fn local_get<'a>(
+    locals: &[Value],
+    values: &mut Vec<Value>,
     x: u32,
-    rest: Code,
-) -> Result<Option<Step>, AllocError>
-    ensures { (setting : machine_setting) (store : machine_store)
-        → IfOk result (λ o. IfSome o (λ s. defined_plain setting store locals.items values.items
-        (instruction.LocalGet x) (body_of_code rest) ≡ Some (reduction_of store s))) }
+    rest: &'a Code,
+) -> Result<Move<'a>, Stop>
+    ensures { (store : machine_store) → IfOk result (λ m. reduce_local_get store locals.now values.old.items x (body_of_code rest.now) ≡ moved store locals.now values.new.items m) }
 {
-    let mut values = values;
-    match locals.get(x as usize) {
-        Some(v) => {
-            let v = *v;
-            push(&mut values, v)?;
-            Ok(Some(go_on(1, locals, values, rest)))
-        }
-        None => Ok(None),
-    }
+    let v = *locals.get(x as usize).ok_or(Stop::Stuck)?;
+    push(values, v)?;
+    Ok(quiet(1, Next::Code(rest)))
 }
 
 // local.set x
-pub fn local_set(locals: Vec<Value>, values: Vec<Value>, x: u32, rest: Code) -> Option<Step>
-    ensures { (setting : machine_setting) (store : machine_store)
-        → IfSome result (λ s. defined_plain setting store locals.items values.items
-        (instruction.LocalSet x) (body_of_code rest) ≡ Some (reduction_of store s)) }
+pub fn local_set<'a>(
+    locals: &mut Vec<Value>,
+    values: &mut Vec<Value>,
+    x: u32,
+    rest: &'a Code,
+) -> Result<Move<'a>, Stop>
+    ensures { (store : machine_store) → IfOk result (λ m. reduce_local_set store locals.old.items values.old.items x (body_of_code rest.now) ≡ moved store locals.new.items values.new.items m) }
 {
-    let mut values = values;
-    let mut locals = locals;
-    let v = pop_any(&mut values)?;
+    let v = pop_any(values)?;
     let place = x as usize;
-    if place < locals.len() {
-        locals[place] = v;
-        Some(go_on(1, locals, values, rest))
-    } else {
-        None
+    if place >= locals.len() {
+        return Err(Stop::Stuck);
     }
+    locals[place] = v;
+    Ok(quiet(1, Next::Code(rest)))
 }
 
 // local.tee x
-pub fn local_tee(
-    alloc: Global,
-    locals: Vec<Value>,
-    values: Vec<Value>,
-    x: u32,
-    rest: Code,
-) -> Result<Option<Step>, AllocError>
-    ensures { (setting : machine_setting) (store : machine_store)
-        → IfOk result (λ o. IfSome o (λ s. defined_plain setting store locals.items values.items
-        (instruction.LocalTee x) (body_of_code rest) ≡ Some (reduction_of store s))) }
+pub fn local_tee<'a>(values: &mut Vec<Value>, x: u32, rest: &'a Code) -> Result<Move<'a>, Stop>
+    ensures { (store : machine_store) (locals : List one_value) → IfOk result (λ m. reduce_local_tee store locals values.old.items x (body_of_code rest.now) ≡ moved store locals values.new.items m) }
 {
-    let mut values = values;
-    let Some(v) = pop_any(&mut values) else {
-        return Ok(None);
-    };
-    push(&mut values, v)?;
-    push(&mut values, v)?;
-    let next = plain_then(alloc, Plain::LocalSet(x), rest)?;
-    Ok(Some(go_on(1, locals, values, next)))
+    let v = pop_any(values)?;
+    push(values, v)?;
+    push(values, v)?;
+    Ok(quiet(1, Next::Plain(Plain::LocalSet(x), rest)))
 }
 
 // global.get x
-pub fn global_get(
+pub fn global_get<'a>(
     store: &Store,
-    locals: Vec<Value>,
-    values: Vec<Value>,
+    values: &mut Vec<Value>,
     x: u32,
-    rest: Code,
-) -> Result<Option<Step>, AllocError>
-    ensures { IfOk result (λ o. IfSome o (λ s. reduce_global_get (store_of store.now) locals.items values.items x
-        (body_of_code rest) ≡ Some (reduction_of (store_of store.now) s))) }
+    rest: &'a Code,
+) -> Result<Move<'a>, Stop>
+    ensures { (locals : List one_value) → IfOk result (λ m. reduce_global_get (store_of store.now) locals values.old.items x (body_of_code rest.now) ≡ moved (store_of store.now) locals values.new.items m) }
 {
-    let mut values = values;
-    match store.globals.get(x as usize) {
-        Some(v) => {
-            push(&mut values, *v)?;
-            Ok(Some(go_on(1, locals, values, rest)))
-        }
-        None => Ok(None),
-    }
+    let v = *store.globals.get(x as usize).ok_or(Stop::Stuck)?;
+    push(values, v)?;
+    Ok(quiet(1, Next::Code(rest)))
 }
 
 // global.set x
-pub fn global_set(
+pub fn global_set<'a>(
     store: &Store,
-    locals: Vec<Value>,
-    values: Vec<Value>,
+    values: &mut Vec<Value>,
     x: u32,
-    rest: Code,
-) -> Option<Step>
-    ensures { IfSome result (λ s. reduce_global_set (store_of store.now) locals.items values.items x (body_of_code rest) ≡ Some (reduction_of (store_of store.now) s)) }
+    rest: &'a Code,
+) -> Result<Move<'a>, Stop>
+    ensures { (locals : List one_value) → IfOk result (λ m. reduce_global_set (store_of store.now) locals values.old.items x (body_of_code rest.now) ≡ moved (store_of store.now) locals values.new.items m) }
 {
-    let mut values = values;
-    let v = pop_any(&mut values)?;
+    let v = pop_any(values)?;
     let place = x as usize;
-    if place < store.globals.len() {
-        Some(Step {
-            cost: 1,
-            write: Write::Global(place, v),
-            locals,
-            execution: Execution::Instructions(values, rest),
-        })
+    if place >= store.globals.len() {
+        return Err(Stop::Stuck);
+    }
+    let write = Write::Global(place, v);
+    let effect = Effect { cost: 1, write };
+    Ok(Move {
+        effect,
+        next: Next::Code(rest),
+    })
+}
+
+// On by a branch, unless the condition is zero.
+fn branch_where<'a>(condition: u32, l: u32, rest: &'a Code) -> Move<'a>
+    ensures { (store : machine_store) (locals values : List one_value) → (if condition == 0
+        then leads_to 1 store locals (instructions values (body_of_code rest.now))
+        else leads_to 1 store locals (instructions values (plain (instruction.Br l) (body_of_code rest.now)))) ≡ moved store locals values result }
+{
+    if condition == 0 {
+        quiet(1, Next::Code(rest))
     } else {
-        None
+        quiet(1, Next::Plain(Plain::Br(l), rest))
     }
 }
 
 // br_if l
-pub fn br_if(
-    alloc: Global,
-    locals: Vec<Value>,
-    values: Vec<Value>,
-    l: u32,
-    rest: Code,
-) -> Result<Option<Step>, AllocError>
-    ensures { (setting : machine_setting) (store : machine_store)
-        → IfOk result (λ o. IfSome o (λ s. defined_plain setting store locals.items values.items
-        (instruction.BrIf l) (body_of_code rest) ≡ Some (reduction_of store s))) }
+pub fn br_if<'a>(values: &mut Vec<Value>, l: u32, rest: &'a Code) -> Result<Move<'a>, Stop>
+    ensures { (setting : machine_setting) (store : machine_store) (locals : List one_value)
+        → IfOk result (λ m. defined_plain setting store locals values.old.items
+        (instruction.BrIf l) (body_of_code rest.now) ≡ moved store locals values.new.items m) }
 {
-    let mut values = values;
-    let Some(condition) = pop_i32(&mut values) else {
-        return Ok(None);
-    };
-    if condition == 0 {
-        return Ok(Some(go_on(1, locals, values, rest)));
-    }
-    let next = plain_then(alloc, Plain::Br(l), rest)?;
-    Ok(Some(go_on(1, locals, values, next)))
+    let condition = pop_i32(values)?;
+    Ok(branch_where(condition, l, rest))
 }
