@@ -1,5 +1,5 @@
 -- Whole lines that begin with two spaces, and those that don't.
-use Rattle.std.proofs.Common.{◌≡◌, ◌≢◌, ◌+◌, ℤ, pos, negsuc, nat_le, ◌∙◌, ℕ, zero, suc, ◌<◌, ◌/◌, ◌%◌, ◌==◌, ◌&&◌, Bool, true, false, cond, eqb, not, List, [], ◌∷◌, ◌++◌, refl, sym, ap, subst, arith, append-nil, append_assoc, codes, decimal, length}
+use Rattle.std.proofs.Common.{◌≡◌, ◌+◌, ℤ, pos, negsuc, nat_le, ◌∙◌, ℕ, zero, suc, ◌<◌, ◌/◌, ◌%◌, ◌==◌, ◌&&◌, Bool, true, false, cond, not, List, [], ◌∷◌, ◌++◌, refl, sym, ap, subst, arith, append-nil, append_assoc, decimal, length}
 use Rattle.std.specs.List.{All, flat_map, list_all}
 use Rattle.std.specs.Fmt.{digit_glyph, digits, digits_onto, signed_decimal}
 use Rattle.std.proofs.lemmas.List.Elements.{All-nil, All-cons, All-head, All-tail, All-append}
@@ -93,9 +93,6 @@ name_is_flush (b ∷ name) e = ap not (not_that 32 b refl (and_parts (is_name_by
 -- ---- whole lines
 
 module _ (indented : Bool) where
-  IsOne : List ℕ → Type 0
-  IsOne line = IsLine line × (is_indented line ≡ indented)
-
   pub no_lines : AreLines indented []
   no_lines = ([], refl, All-nil (λ line. IsLine line × (is_indented line ≡ indented)))
 
@@ -109,9 +106,6 @@ module _ (indented : Bool) where
     (λ i. is i ++ is_other i) ∙ sym (flat_map-append line_of lines others),
     All-append (λ line. IsLine line × (is_indented line ≡ indented)) lines others all all_others,
   )
-
-  pub same_lines : (one other : List ℕ) → one ≡ other → AreLines indented one → AreLines indented other
-  same_lines one other e are = subst (AreLines indented) e are
 
 -- ---- a text without its indented lines
 

@@ -1,5 +1,5 @@
 -- What is told of the nodes that a cycle saw.
-use Rattle.std.proofs.Common.{◌≡◌, ℕ, zero, suc, ◌+◌, ◌<◌, Bool, true, false, List, [], ◌∷◌, ◌++◌, length, map, take, get_or, refl, sym, ap, subst, ◌∙◌, arith}
+use Rattle.std.proofs.Common.{◌≡◌, ℕ, zero, suc, ◌<◌, Bool, true, false, List, [], ◌∷◌, ◌++◌, length, map, take, get_or, refl, sym, ap, subst, ◌∙◌, arith}
 use Rattle.std.proofs.lemmas.List.{length-map}
 use Rattle.quant.specs.declared.name.Name.{Name}
 use Rattle.desk.specs.declared.step.Step.TheVariants.{Pop}
@@ -13,7 +13,7 @@ use Rattle.plugin.specs.RuleSet.{RuleSet}
 use Rattle.choose.specs.declared.decision.Decision.{Decision}
 use Rattle.choose.specs.declared.decision.Decision.TheVariants as decisions
 use Rattle.choose.specs.declared.decision.Verdict.{Verdict}
-use Rattle.choose.specs.Choice.{Judged, judged}
+use Rattle.choose.specs.Choice.{judged}
 use Rattle.choose.proofs.Verdicts.{all_zip_length}
 use Rattle.engine.specs.declared.one_cycle.Cycled.{Cycled}
 use Rattle.engine.specs.CycleAlone.{AfterAssumeAlone, EndsAlone, AfterPopAlone, IsCycleAlone, DecideAlone, is_idle}

@@ -1,5 +1,5 @@
 -- The lines of the output are whole lines: those of nodes are indented, and the others aren't.
-use Rattle.std.proofs.Common.{◌≡◌, ℕ, ◌==◌, ◌&&◌, Bool, true, false, not, List, [], ◌∷◌, ◌++◌, Result, Ok, Err, OnOk, IsTrue, refl, sym, subst, ap, codes, decimal, slice_index_or}
+use Rattle.std.proofs.Common.{◌≡◌, ℕ, ◌==◌, ◌&&◌, Bool, true, false, List, [], ◌∷◌, ◌++◌, Result, Ok, Err, OnOk, IsTrue, refl, sym, subst, ap, codes, decimal, slice_index_or}
 use Rattle.std.specs.List.{list_all}
 use Rattle.quant.specs.Name.{is_name}
 use Rattle.quant.specs.declared.name.Name.{Name}

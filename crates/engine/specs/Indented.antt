@@ -1,5 +1,5 @@
 -- Lines that begin with two spaces, and a text without them.
-use Rattle.std.specs.Prelude.{◌≡◌, ℕ, ◌==◌, ◌&&◌, Bool, false, List, [], ◌∷◌, ◌++◌, if◌then◌else◌}
+use Rattle.std.specs.Prelude.{◌≡◌, ℕ, ◌==◌, ◌&&◌, Bool, false, List, [], ◌∷◌, if◌then◌else◌}
 use Rattle.std.specs.List.{All, flat_map}
 use Rattle.engine.specs.Lines.{lines_of, IsLine}
 use Rattle.engine.specs.Text.{line_of}

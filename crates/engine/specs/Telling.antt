@@ -24,10 +24,6 @@ pub record Telling : Type 0 where
 abbrev pub telling : (names : List Name) → (explains : Bool) → Telling
 telling names explains = record { names = names; explains = explains }
 
--- the same, but for the verdicts
-abbrev pub without_verdicts : Telling → Telling
-without_verdicts told = telling told.names false
-
 -- ---- a verdict
 
 -- why a built-in filter rejects

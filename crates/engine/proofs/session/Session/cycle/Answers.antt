@@ -1,4 +1,4 @@
-use Rattle.std.proofs.Common.{◌≡◌, ◌∙◌, ◌++◌, ap, append_assoc, refl}
+use Rattle.std.proofs.Common.{◌∙◌, ◌++◌, ap, append_assoc, refl}
 use Rattle.engine.specs.Text.{cycle_line}
 use Rattle.engine.proofs.session.Session.cycle.Goals as goal
 

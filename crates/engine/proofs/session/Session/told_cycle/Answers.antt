@@ -1,10 +1,8 @@
-use Rattle.std.proofs.Common.{◌≡◌, ◌∙◌, List, ℕ, true, false, [], map, length, sym, ap, subst, refl, rules, append-nil}
+use Rattle.std.proofs.Common.{◌≡◌, ◌∙◌, true, false, [], map, length, sym, ap, subst, refl, rules, append-nil}
 use Rattle.desk.specs.Shown.{shown}
-use Rattle.desk.specs.Machine as machine
-use Rattle.desk.specs.declared.step.Step.TheVariants.{Pop}
 use Rattle.choose.specs.Choice.{judged}
 use Rattle.fleet.specs.Team.{rules_of}
-use Rattle.engine.specs.CycleAlone.{DecideAlone, is_idle}
+use Rattle.engine.specs.CycleAlone.{is_idle}
 use Rattle.engine.specs.Telling.{TellsNodes, verdict_lines}
 use Rattle.engine.proofs.Indented.{no_lines}
 use Rattle.engine.proofs.Nodes.{many_before, told_before, untold_before}
