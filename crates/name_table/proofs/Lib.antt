@@ -1,3 +1,4 @@
+pub mod WrittenLemmas
 pub mod ChainLemmas
 pub mod MoveLemmas
 pub mod SumLemmas

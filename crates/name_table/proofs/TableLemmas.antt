@@ -1,10 +1,10 @@
 -- What a table's slots, filed by their buckets, say of a search and of a change.
-use Rattle.std.proofs.Common.{◌≡◌, ℕ, zero, suc, ◌+◌, ◌-◌, ◌<◌, ◌≤◌, cond, List, ◌∷◌, length, get_or, set, map, replicate, Option, None, Some, is_some, IsSome, IfSome, IfNone, MatchOption, count_by, vec_len, refl, sym, ap, subst, ◌∙◌, arith}
+use Rattle.std.proofs.Common.{◌≡◌, ℕ, zero, suc, ◌+◌, ◌-◌, ◌<◌, ◌≤◌, cond, List, ◌∷◌, length, get_or, set, map, replicate, Option, None, Some, is_some, IsSome, IfSome, IfNone, MatchOption, count_by, refl, sym, ap, subst, ◌∙◌, arith}
 use Rattle.std.specs.Option.{option_map}
 use Rattle.std.specs.declared.hash.RandomState.{RandomState}
 use Rattle.std.specs.FinMap as fin
 use Rattle.std.proofs.lemmas.Nat.{and_le_r}
-use Rattle.std.proofs.lemmas.List.{get_or-map, length-map, map-set, set-get_or, get_or_read}
+use Rattle.std.proofs.lemmas.List.{get_or-map, length-map, map-set, set-get_or}
 use Rattle.std.proofs.lemmas.List.Sums.{sum_by-set}
 use Rattle.name_table.specs.declared.chains.Chains.{Chains}
 use Rattle.name_table.specs.declared.entry.Entry.{Entry}
@@ -14,7 +14,7 @@ use Rattle.name_table.specs.Buckets.{bucket_of, home_of, IsFiled}
 use Rattle.name_table.proofs.ChainLemmas.{begins, ends_step, times_here}
 use Rattle.name_table.proofs.MoveLemmas.{home_there, one_at}
 use Rattle.name_table.proofs.SlotLemmas.{within, entry_named, map_named, map_lacks, slot_of_at, slot_of_none, some_free, len_map, once_insert, once_remove, once_put}
-use Rattle.name_table.proofs.WovenLemmas.{kept_of, as_many_of}
+use Rattle.name_table.proofs.WovenLemmas.{kept_of}
 
 module _ (keys : RandomState) (mask : ℕ) where
   -- a bucket is at most the mask
@@ -35,63 +35,63 @@ module _ (keys : RandomState) (mask : ℕ) where
 
     module _ (c : Chains) (s : Slots X) (len : ℕ) (f : IsFiled keys mask c s len) where
       -- as many homes as slots
-      pub homes_many : length c.homes.items ≡ length s
+      pub homes_many : length c.links.homes ≡ length s
       homes_many = ap length f.homes ∙ length-map s (home_of keys mask)
 
       -- and as many links
-      pub links_many : length c.links.items ≡ length s
-      links_many = sym (as_many_of c f.woven) ∙ homes_many
+      pub links_many : length c.links.nexts ≡ length s
+      links_many = sym f.woven.as_many ∙ homes_many
 
       -- as many heads as buckets, and one more
-      pub heads_many : length c.heads.items ≡ mask + 2
-      heads_many = sym c.heads.ok.0 ∙ f.heads
+      pub heads_many : length c.heads ≡ mask + 2
+      heads_many = f.heads
 
       -- the home of a slot
-      pub home_at : (i : ℕ) → i < length s → get_or c.homes.items i nowhere ≡ home_of keys mask (entry_in s i)
+      pub home_at : (i : ℕ) → i < length s → get_or c.links.homes i nowhere ≡ home_of keys mask (entry_in s i)
       home_at i lt = ap (λ hs. get_or hs i nowhere) f.homes ∙ get_or-map (home_of keys mask) s i None nowhere lt
 
       -- it is a chain
-      pub home_chain : (i : ℕ) → i < length s → get_or c.homes.items i nowhere < vec_len c.heads
+      pub home_chain : (i : ℕ) → i < length s → get_or c.links.homes i nowhere < length c.heads
       home_chain i lt = let few = home_few (entry_in s i) in let home = home_at i lt in let heads = f.heads in omega arith
 
       -- a slot with a name stands in the chain of the name's bucket
-      in_bucket : (i : ℕ) (q : List ℕ) → name_in s i ≡ Some q → times i (chain c.links.items (get_or c.heads.items (bucket_of keys mask q) 0)) ≡ 1
+      in_bucket : (i : ℕ) (q : List ℕ) → name_in s i ≡ Some q → times i (chain c.links.nexts (get_or c.heads (bucket_of keys mask q) 0)) ≡ 1
       in_bucket i q h =
           let e = entry_named (entry_in s i) q h in
-          let home : get_or c.homes.items i nowhere ≡ bucket_of keys mask q = home_at i (within s i e.0 e.1) ∙ ap (home_of keys mask) e.1 ∙ ap (bucket_of keys mask) e.2 in
+          let home : get_or c.links.homes i nowhere ≡ bucket_of keys mask q = home_at i (within s i e.0 e.1) ∙ ap (home_of keys mask) e.1 ∙ ap (bucket_of keys mask) e.2 in
           (kept_of c f.woven (bucket_of keys mask q) (let few = bucket_few q in let many = heads_many in omega arith)).1 i
-          ∙ one_at (get_or c.homes.items i nowhere) (bucket_of keys mask q) home
+          ∙ one_at (get_or c.links.homes i nowhere) (bucket_of keys mask q) home
 
       -- where a name is in no slot of its bucket's chain, it is in none
-      pub absent : (q : List ℕ) → ((i : ℕ) → name_in s i ≡ Some q → times i (chain c.links.items (get_or c.heads.items (bucket_of keys mask q) 0)) ≡ 0) → (i : ℕ) → name_in s i ≡ Some q → ⊥
+      pub absent : (q : List ℕ) → ((i : ℕ) → name_in s i ≡ Some q → times i (chain c.links.nexts (get_or c.heads (bucket_of keys mask q) 0)) ≡ 0) → (i : ℕ) → name_in s i ≡ Some q → ⊥
       absent q none i h = omega (arith, none i h, in_bucket i q h)
 
       -- the first slot of the last chain is free, where one is
-      pub free_first : (slot : ℕ) → slot ≡ get_or c.heads.items (mask + 1) 0 → fin.len (map_of s) < length s → (slot < length s) × (entry_in s slot ≡ None)
+      pub free_first : (slot : ℕ) → slot ≡ get_or c.heads (mask + 1) 0 → fin.len (map_of s) < length s → (slot < length s) × (entry_in s slot ≡ None)
       free_first slot is lt =
-          let links = c.links.items in
+          let links = c.links.nexts in
           let a = mask + 1 in
-          let head = get_or c.heads.items a 0 in
+          let head = get_or c.heads a 0 in
           let kept = kept_of c f.woven a (let many = heads_many in omega arith) in
           let one = some_free s (let l = len_map s f.once in omega arith) in
-          let home : get_or c.homes.items one.0 nowhere ≡ a = home_at one.0 one.1 ∙ ap (home_of keys mask) one.2 in
-          let there : times one.0 (chain links head) ≡ 1 = kept.1 one.0 ∙ one_at (get_or c.homes.items one.0 nowhere) a home in
+          let home : get_or c.links.homes one.0 nowhere ≡ a = home_at one.0 one.1 ∙ ap (home_of keys mask) one.2 in
+          let there : times one.0 (chain links head) ≡ 1 = kept.1 one.0 ∙ one_at (get_or c.links.homes one.0 nowhere) a home in
           let first : head < length links = begins links head one.0 there in
           let step = ends_step links head kept.0 first in
           let some : times head (chain links head) ≡ 1 + times head (chain links (get_or links head 0)) = ap (times head) step.1 ∙ times_here head head (chain links (get_or links head 0)) refl in
-          let its : get_or c.homes.items head nowhere ≡ a = home_there c.homes.items a head (chain links head) kept.1 (omega arith) in
+          let its : get_or c.links.homes head nowhere ≡ a = home_there c.links.homes a head (chain links head) kept.1 (omega arith) in
           let in_s : head < length s = let many = links_many in omega arith in
           let free : entry_in s head ≡ None = free_home (entry_in s head) (sym (home_at head in_s) ∙ its) in
           ((let e = is in omega arith), ap (entry_in s) is ∙ free)
 
       -- so it is where it was read as such
-      pub free_head : (now : Slots X) → s ≡ now → (slot : ℕ) → slot ≡ get_or c.heads.items (mask + 1) slot → fin.len (map_of now) < length now → (slot < length s) × (entry_in s slot ≡ None)
+      pub free_head : (now : Slots X) → s ≡ now → (slot : ℕ) → slot ≡ get_or c.heads (mask + 1) 0 → fin.len (map_of now) < length now → (slot < length s) × (entry_in s slot ≡ None)
       free_head now is slot read room =
-          free_first slot (get_or_read c.heads.items (mask + 1) slot (let many = heads_many in omega arith) read 0)
+          free_first slot read
           (subst (λ (t : Slots X). fin.len (map_of t) < length t) (sym is) room)
 
       -- chains and slots after one slot is given an entry or freed
-      refiled : (d : Chains) (slot : ℕ) (o : Option (Entry X)) (n : ℕ) → IsWoven d → vec_len d.heads ≡ vec_len c.heads → d.homes.items ≡ set c.homes.items slot (home_of keys mask o) → n ≡ count_by is_some (set s slot o) → NamesOnce (set s slot o) → IsFiled keys mask d (set s slot o) n
+      refiled : (d : Chains) (slot : ℕ) (o : Option (Entry X)) (n : ℕ) → IsWoven d → length d.heads ≡ length c.heads → d.links.homes ≡ set c.links.homes slot (home_of keys mask o) → n ≡ count_by is_some (set s slot o) → NamesOnce (set s slot o) → IsFiled keys mask d (set s slot o) n
       refiled d slot o n woven heads homes counted once = record {
         woven = woven;
         heads = heads ∙ f.heads;
@@ -105,14 +105,14 @@ module _ (keys : RandomState) (mask : ℕ) where
       recounted slot o lt = sum_by-set (λ (p : Option (Entry X)). cond {A = ℕ} (is_some p) 1 0) s slot o None lt
 
       -- a new name in a free slot
-      pub filed_insert : (d : Chains) (slot : ℕ) (q : List ℕ) (v : X) → IsWoven d → vec_len d.heads ≡ vec_len c.heads → d.homes.items ≡ set c.homes.items slot (bucket_of keys mask q) → slot < length s → entry_in s slot ≡ None → fin.get (map_of s) q ≡ None → IsFiled keys mask d (set s slot (Some (record { name = q; value = v }))) (len + 1)
+      pub filed_insert : (d : Chains) (slot : ℕ) (q : List ℕ) (v : X) → IsWoven d → length d.heads ≡ length c.heads → d.links.homes ≡ set c.links.homes slot (bucket_of keys mask q) → slot < length s → entry_in s slot ≡ None → fin.get (map_of s) q ≡ None → IsFiled keys mask d (set s slot (Some (record { name = q; value = v }))) (len + 1)
       filed_insert d slot q v woven heads homes lt free none =
           let e : Entry X = record { name = q; value = v } in
           let before : cond {A = ℕ} (is_some (entry_in s slot)) 1 0 ≡ 0 = ap (λ (o : Option (Entry X)). cond {A = ℕ} (is_some o) 1 0) free in
           refiled d slot (Some e) (len + 1) woven heads homes (let n = recounted slot (Some e) lt in let l = f.counted in omega arith) (once_insert s slot q v lt f.once none)
 
       -- a slot is freed
-      pub filed_remove : (d : Chains) (slot : ℕ) → IsWoven d → vec_len d.heads ≡ vec_len c.heads → d.homes.items ≡ set c.homes.items slot (mask + 1) → IsSome (entry_in s slot) → slot < length s → IsFiled keys mask d (set s slot None) (len - 1)
+      pub filed_remove : (d : Chains) (slot : ℕ) → IsWoven d → length d.heads ≡ length c.heads → d.links.homes ≡ set c.links.homes slot (mask + 1) → IsSome (entry_in s slot) → slot < length s → IsFiled keys mask d (set s slot None) (len - 1)
       filed_remove d slot woven heads homes some lt =
           let before : cond {A = ℕ} (is_some (entry_in s slot)) 1 0 ≡ 1 = elim (entry_in s slot) as (λ o. IsSome o → cond {A = ℕ} (is_some o) 1 0 ≡ 1) [ None ↦ λ h. absurd (cc) | Some e ↦ λ h. refl ] some in
           refiled d slot None (len - 1) woven heads homes (let n = recounted slot None lt in let l = f.counted in omega arith) (once_remove s slot lt f.once)
@@ -125,7 +125,7 @@ module _ (keys : RandomState) (mask : ℕ) where
           let same_some : cond {A = ℕ} (is_some (with_value o v)) 1 0 ≡ cond {A = ℕ} (is_some o) 1 0 = elim o as (λ p. cond {A = ℕ} (is_some (with_value p v)) 1 0 ≡ cond {A = ℕ} (is_some p) 1 0) [ None ↦ refl | Some e ↦ refl ] in
           let same_name : option_map (λ (e : Entry X). e.name) (with_value o v) ≡ name_in s slot = elim o as (λ p. option_map (λ (e : Entry X). e.name) (with_value p v) ≡ option_map (λ (e : Entry X). e.name) p) [ None ↦ refl | Some e ↦ refl ] in
           refiled c slot (with_value o v) len f.woven refl
-          (sym (ap (set c.homes.items slot) (same_home ∙ sym (home_at slot lt)) ∙ set-get_or c.homes.items slot nowhere))
+          (sym (ap (set c.links.homes slot) (same_home ∙ sym (home_at slot lt)) ∙ set-get_or c.links.homes slot nowhere))
           (let n = recounted slot (with_value o v) lt in let l = f.counted in omega arith)
           (once_put s slot (with_value o v) lt f.once same_name)
 
@@ -144,7 +144,7 @@ module _ (keys : RandomState) (mask : ℕ) where
 
   module _ {X : Type 0} where
     -- all slots free
-    pub filed_free : (c : Chains) (room : ℕ) → IsWoven c → vec_len c.heads ≡ mask + 2 → c.homes.items ≡ replicate room (mask + 1) → IsFiled {X = X} keys mask c (replicate room None) 0
+    pub filed_free : (c : Chains) (room : ℕ) → IsWoven c → length c.heads ≡ mask + 2 → c.links.homes ≡ replicate room (mask + 1) → IsFiled {X = X} keys mask c (replicate room None) 0
     unfolding NamesOnce
     filed_free c room woven heads homes = record {
       woven = woven;
@@ -179,20 +179,17 @@ module _ {X : Type 0} where
       record { slot = sym (slot_of_at s i q once found); there = sym (ap is_some (has ∙ ap (option_map (λ (f : Entry X). f.value)) e.1)); value = has }
 
   -- and from the search along the chain of the name's bucket
-  pub found_by : (keys : RandomState) (mask : ℕ) (c : Chains) (s now : Slots X) (len : ℕ) → s ≡ now → IsFiled keys mask c s len → (q : List ℕ) (r : Option ℕ) (b : ℕ) → b ≡ bucket_of keys mask q → b ≤ mask → (first : ℕ) → first ≡ get_or c.heads.items b first → (links : List ℕ) → links ≡ c.links.items → (t : Slots X) → t ≡ s
-      → IfSome r (λ i. name_in t i ≡ Some q) → IfNone r ((i : ℕ) → name_in t i ≡ Some q → times i (chain links first) ≡ 0) → FoundAs now q r
-  found_by keys mask c s now len is f q r b b_is b_few first read links links_is t t_is found none =
-      let lt : b < length c.heads.items = let many = heads_many keys mask c s len f in omega arith in
-      let head : first ≡ get_or c.heads.items (bucket_of keys mask q) 0 = get_or_read c.heads.items b first lt read 0 ∙ ap (λ k. get_or c.heads.items k 0) b_is in
-      let same : chain links first ≡ chain c.links.items (get_or c.heads.items (bucket_of keys mask q) 0) = λ j. chain (links_is j) (head j) in
-      let found_s : IfSome r (λ i. name_in s i ≡ Some q) = subst (λ (z : Slots X). IfSome r (λ i. name_in z i ≡ Some q)) t_is found in
-      let none_s : IfNone r ((i : ℕ) → name_in s i ≡ Some q → times i (chain links first) ≡ 0) = subst (λ (z : Slots X). IfNone r ((i : ℕ) → name_in z i ≡ Some q → times i (chain links first) ≡ 0)) t_is none in
+  pub found_by : (keys : RandomState) (mask : ℕ) (c : Chains) (s now : Slots X) (len : ℕ) → s ≡ now → IsFiled keys mask c s len → (q : List ℕ) (r : Option ℕ) (b : ℕ) → b ≡ bucket_of keys mask q → (first : ℕ) → first ≡ get_or c.heads b 0
+      → IfSome r (λ i. name_in s i ≡ Some q) → IfNone r ((i : ℕ) → name_in s i ≡ Some q → times i (chain c.links.nexts first) ≡ 0) → FoundAs now q r
+  found_by keys mask c s now len is f q r b b_is first read found none =
+      let head : first ≡ get_or c.heads (bucket_of keys mask q) 0 = read ∙ ap (λ k. get_or c.heads k 0) b_is in
+      let same : chain c.links.nexts first ≡ chain c.links.nexts (get_or c.heads (bucket_of keys mask q) 0) = ap (chain c.links.nexts) head in
       subst (λ (z : Slots X). FoundAs z q r) is
       (
-      found_as s q r f.once found_s
+      found_as s q r f.once found
       (
-      if_none r ((i : ℕ) → name_in s i ≡ Some q → times i (chain links first) ≡ 0) ((i : ℕ) → name_in s i ≡ Some q → ⊥)
+      if_none r ((i : ℕ) → name_in s i ≡ Some q → times i (chain c.links.nexts first) ≡ 0) ((i : ℕ) → name_in s i ≡ Some q → ⊥)
       (λ zero_at. absent keys mask c s len f q (λ i h. ap (times i) (sym same) ∙ zero_at i h))
-      none_s
+      none
       )
       )

@@ -1,5 +1,5 @@
 -- For proofs alone: which bucket a name belongs to, and how a table's slots are filed by it.
-use Rattle.std.specs.Prelude.{◌≡◌, ℕ, ◌+◌, List, None, Some, Option, bit_and, map, count_by, is_some, vec_len}
+use Rattle.std.specs.Prelude.{◌≡◌, ℕ, ◌+◌, List, None, Some, Option, bit_and, map, count_by, is_some, length}
 use Rattle.std.specs.declared.hash.RandomState.{RandomState}
 use Rattle.std.specs.RandomState.{initial_hasher}
 use Rattle.std.specs.Hash.DefaultHasher as sip
@@ -20,7 +20,7 @@ home_of keys mask (Some e) = bucket_of keys mask e.name
 -- each slot hangs in its chain, no two have one name, and so many have one
 pub record IsFiled {X : Type 0} (keys : RandomState) (mask : ℕ) (chains : Chains) (s : Slots X) (len : ℕ) : Type 0 where
   pub woven : IsWoven chains
-  pub heads : vec_len chains.heads ≡ mask + 2
-  pub homes : chains.homes.items ≡ map (home_of keys mask) s
+  pub heads : length chains.heads ≡ mask + 2
+  pub homes : chains.links.homes ≡ map (home_of keys mask) s
   pub counted : len ≡ count_by is_some s
   pub once : NamesOnce s

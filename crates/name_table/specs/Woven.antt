@@ -1,5 +1,5 @@
 -- For proofs alone: how the chains of a table's slots hang together.
-use Rattle.std.specs.Prelude.{◌≡◌, ℕ, ◌+◌, ◌<◌, ◌≤◌, ◌==◌, zero, suc, nat_lt, cond, List, [], ◌∷◌, length, slice_index_or, vec_len}
+use Rattle.std.specs.Prelude.{◌≡◌, ℕ, ◌+◌, ◌<◌, ◌≤◌, ◌==◌, zero, suc, nat_lt, cond, List, [], ◌∷◌, length, slice_index_or}
 use Rattle.name_table.specs.declared.chains.Chains.{Chains}
 
 -- the home of no slot
@@ -35,8 +35,8 @@ Ends links s = IsSpelled links s (chain links s)
 
 -- each chain has just the slots of its home
 pub record IsWoven (c : Chains) : Type 0 where
-  pub as_many : vec_len c.homes ≡ vec_len c.links
-  pub few_slots : vec_len c.links < nowhere
-  pub few_heads : vec_len c.heads < nowhere
-  pub ends : (k : ℕ) → k < vec_len c.heads → Ends c.links.items (slice_index_or c.heads.items k 0)
-  pub all : (k : ℕ) → k < vec_len c.heads → IsAllOf c.homes.items k (chain c.links.items (slice_index_or c.heads.items k 0))
+  pub as_many : length c.links.homes ≡ length c.links.nexts
+  pub few_slots : length c.links.nexts < nowhere
+  pub few_heads : length c.heads < nowhere
+  pub ends : (k : ℕ) → k < length c.heads → Ends c.links.nexts (slice_index_or c.heads k 0)
+  pub all : (k : ℕ) → k < length c.heads → IsAllOf c.links.homes k (chain c.links.nexts (slice_index_or c.heads k 0))

@@ -11,6 +11,7 @@ ghost use Rattle.name_table.specs.Buckets.{bucket_of};
 use crate::chains::Chains;
 use crate::entries::Entries;
 use crate::entry::Entry;
+use crate::links::Links;
 use quant::Name;
 use std::alloc::{AllocError, Global};
 use std::hash::{BuildHasher, Hasher, RandomState};
@@ -110,7 +111,7 @@ impl<V: Drop> NameTable<V> {
         find_from(
             &self.chains.links,
             &self.entries,
-            self.chains.heads[bucket] as usize,
+            self.chains.heads.get(bucket) as usize,
             name,
         )
     }
@@ -166,7 +167,7 @@ impl<V: Drop> NameTable<V> {
         ensures once { NamesOnce self.new }
     {
         let bucket = bucket(&self.keys, self.mask, &name);
-        let slot = self.chains.heads[self.mask as usize + 1] as usize;
+        let slot = self.chains.heads.get(self.mask as usize + 1) as usize;
         self.chains.transfer(slot, bucket);
         self.entries.put(slot, Entry { name, value });
         self.len += 1;
@@ -233,21 +234,21 @@ fn bucket(keys: &RandomState, mask: u64, name: &Name) -> usize
 
 // The slot of a name in the chain that begins with a slot.
 fn find_from<V: Drop>(
-    links: &[u32],
+    links: &Links,
     entries: &Entries<V>,
     first: usize,
     name: &Name,
 ) -> Option<usize>
-    requires ends { Ends links.now first }
+    requires ends { Ends links.now.nexts first }
     ensures found { IfSome result (λ i. name_in entries.now i ≡ Some name.now) }
-    ensures none { IfNone result ((i : ℕ) → name_in entries.now i ≡ Some name.now → times i (chain links.now first) ≡ 0) }
+    ensures none { IfNone result ((i : ℕ) → name_in entries.now i ≡ Some name.now → times i (chain links.now.nexts first) ≡ 0) }
 {
     let mut at = first;
-    while at < links.len() {
+    while at < links.room() {
         if entries.holds(at, name) {
             return Some(at);
         }
-        at = links[at] as usize;
+        at = links.next(at) as usize;
     }
     None
 }

@@ -1,10 +1,11 @@
 -- The slot comes first in its new chain, and the others stay.
-use Rattle.std.proofs.Common.{◌≡◌, ℕ, ◌<◌, length, get_or, set, refl, sym, subst}
-use Rattle.std.proofs.lemmas.List.{get_or_read}
-use Rattle.std.specs.Vec.{with_item}
-use Rattle.name_table.specs.Woven.{nowhere}
+use Rattle.std.proofs.Common.{◌≡◌, ℕ, set, sym, ap, subst, ◌∙◌}
+use Rattle.std.proofs.lemmas.List.{length-set}
+use Rattle.name_table.specs.declared.chains.Chains.{Chains}
+use Rattle.name_table.specs.Written.{Hung}
+use Rattle.name_table.specs.Woven.{IsWoven}
 use Rattle.name_table.proofs.MoveLemmas.{hooked, AreKept}
-use Rattle.name_table.proofs.WovenLemmas.{kept_of, as_many_of, woven_after}
+use Rattle.name_table.proofs.WovenLemmas.{kept_of, woven_after}
 use Rattle.name_table.proofs.chains.Chains.hook.Goals as goal
 
 pub returns-clause-woven : goal.returns-clause-woven
@@ -13,12 +14,17 @@ returns-clause-woven c =
     let w = c.requires.woven in
     let slot = c.args.slot in
     let chain = c.args.chain in
-    let heads = self.heads.items in
-    let links = self.links.items in
-    let homes = self.homes.items in
-    let a_slot : slot < length homes = subst (λ (n : ℕ). slot < n) self.homes.ok.0 c.requires.a_slot in
-    let a_chain : chain < length heads = subst (λ (n : ℕ). chain < n) self.heads.ok.0 c.requires.a_chain in
-    let few : length heads < nowhere = subst (λ (n : ℕ). n < nowhere) self.heads.ok.0 w.few_heads in
-    let first : c.index.result.now ≡ get_or heads chain 0 = get_or_read heads chain c.index.result.now a_chain c.index.ensures 0 in
-    woven_after self (record { heads = with_item self.heads chain slot; links = with_item self.links slot c.index.result.now; homes = with_item self.homes slot chain }) w refl refl refl
-    (subst (λ (n : ℕ). AreKept (set heads chain slot) (set links slot n) (set homes slot chain)) (sym first) (hooked heads links homes slot chain (as_many_of self w) a_slot a_chain few (kept_of self w) c.requires.loose))
+    let heads = self.heads in
+    let nexts = self.links.nexts in
+    let homes = self.links.homes in
+    let first = c.get-first.result in
+    let links : Hung = record { nexts = set nexts slot first; homes = set homes slot chain } in
+    let links_are : c.set_home.new.self ≡ links = c.set_home.ensures ∙ ap (λ (h : Hung). record h { homes = set h.homes slot chain }) c.set_next.ensures in
+    let d : Chains = record { heads = set heads chain slot; links = links } in
+    let made : Chains = record { heads = c.set.new.self; links = c.set_home.new.self } in
+    let is : made ≡ d = λ t. record { heads = c.set.ensures t; links = links_are t } in
+    subst IsWoven (sym is)
+    (
+    woven_after self d w (length-set heads chain slot) (length-set nexts slot first) (length-set homes slot chain)
+    (subst (λ (n : ℕ). AreKept (set heads chain slot) (set nexts slot n) (set homes slot chain)) (sym c.get-first.ensures) (hooked heads nexts homes slot chain w.as_many c.requires.a_slot c.requires.a_chain w.few_heads (kept_of self w) c.requires.loose))
+    )

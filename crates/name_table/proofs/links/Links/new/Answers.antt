@@ -1,0 +1,8 @@
+-- None is written.
+use Rattle.std.proofs.Common.{ap, ◌∙◌}
+use Rattle.name_table.specs.Written.{hung}
+use Rattle.name_table.proofs.WrittenLemmas.{hung_new}
+use Rattle.name_table.proofs.links.Links.new.Goals as goal
+
+pub returns : goal.returns
+returns c = ap (λ w. hung w c.args.room c.args.free) c.in_ok-written.ensures.items ∙ hung_new c.args.free c.args.room
