@@ -2,6 +2,7 @@
 use Rattle.std.proofs.Common.{◌≡◌, ℕ, ◌+◌, ◌-◌, ◌^◌, ◌<◌, ◌≤◌, Bool, true, false, cond, List, length, map, get_or, set, Option, None, Some, IsSome, refl, sym, ap, subst, ◌∙◌, inl, inr, ◌++◌, ◌∷◌, [], arith}
 use Rattle.std.specs.Prelude.{IfSome, Contains}
 use Rattle.std.specs.Ordering.{is_lt, eq_by_cmp}
+use Rattle.std.specs.Option.{option_map}
 use Rattle.std.specs.Cmp.Lexicographic.{nat_list_cmp_total}
 use Rattle.std.specs.FinMap as fin
 use Rattle.std.proofs.lemmas.Bool.{cases_eq, cases_lt, eqb-true, leb-true, le-leb, lt-leb, false_from_ne_true}
@@ -9,8 +10,8 @@ use Rattle.std.proofs.lemmas.List.{get_or-map, length-map, map-set, get_or_defau
 use Rattle.std.proofs.lemmas.List.Elements.{Contains-append_left, Contains-push}
 use Rattle.std.proofs.lemmas.List.Sorted.{sorted_far, ranks_by}
 use Rattle.name_table.specs.declared.entry.Entry.{Entry}
-use Rattle.name_table.specs.Slots.{Slots, entry_in, name_in, with_value, put_in, map_of, NamesOnce}
-use Rattle.name_table.proofs.SlotLemmas.{slot_with, within, some_within}
+use Rattle.name_table.specs.Slots.{Slots, entry_in, name_in, value_in, with_value, put_in, map_of, NamesOnce}
+use Rattle.name_table.proofs.SlotLemmas.{slot_with, within, some_within, map_named}
 use Rattle.quant.specs.declared.amount.Moment.{Moment}
 use Rattle.book.specs.declared.finishes.TheConstants.{NEVER}
 use Rattle.book.specs.declared.limits.TheConstants.{EXPIRY}
@@ -126,7 +127,39 @@ finished_slot s finishes limit uid once timed e = by (fin.get (map_of s) uid) re
         let lt : at.0 < length s = within s at.0 _ at.1 in
         let ms : get_or finishes at.0 0 ≡ finish_of place.status = finish_at s finishes at.0 timed lt ∙ ap finish_in at.1 in
         let le = leb-true _ _ h in
-        (at.0, lt, omega (arith, ms, le), ap (Rattle.std.specs.Option.option_map (λ (k : Entry Place). k.name)) at.1)
+        (at.0, lt, omega (arith, ms, le), ap (option_map (λ (k : Entry Place). k.name)) at.1)
+
+-- the millisecond of a place, if there is one
+abbrev finish_by : Option Place → ℕ
+finish_by None = NEVER
+finish_by (Some place) = finish_of place.status
+
+finish_in_is : (o : Option (Entry Place)) → finish_in o ≡ finish_by (option_map (λ (k : Entry Place). k.value) o)
+finish_in_is None = refl
+finish_in_is (Some e) = refl
+
+-- a place in a slot that has a millisecond up to a limit is finished
+pub finished_here : (s : Slots Place) (finishes : List ℕ) (limit i : ℕ) (uid : List ℕ) → NamesOnce s → limit < NEVER → finishes ≡ map finish_in s → i < length finishes → get_or finishes i 0 ≤ limit
+    → name_in s i ≡ Some uid → is_finished_by limit (fin.get (map_of s) uid) ≡ true
+finished_here s finishes limit i uid once early timed lt le named =
+    let many : length finishes ≡ length s = ap length timed ∙ length-map s finish_in in
+    let ms : get_or finishes i 0 ≡ finish_by (value_in s i) = finish_at s finishes i timed (omega (arith, lt, many)) ∙ finish_in_is (entry_in s i) in
+    ap (is_finished_by limit) (map_named s i uid once named) ∙ by (value_in s i) (omega (arith, ms, le))
+  where
+    by : (o : Option Place) → finish_by o ≤ limit → is_finished_by limit o ≡ true
+    by None le = absurd (omega arith)
+    by (Some place) le = le-leb (finish_of place.status) limit le
+
+-- where no slot has a millisecond up to a limit, no place is finished
+pub none_in_slots : (s : Slots Place) (finishes : List ℕ) (limit : ℕ) → NamesOnce s → finishes ≡ map finish_in s → ((i : ℕ) → 0 ≤ i → i < length finishes → limit < get_or finishes i 0)
+    → (uid : List ℕ) → is_finished_by limit (fin.get (map_of s) uid) ≡ false
+none_in_slots s finishes limit once timed none uid = elim (is_finished_by limit (fin.get (map_of s) uid)) as (λ b. is_finished_by limit (fin.get (map_of s) uid) ≡ b → b ≡ false) [
+  | true ↦ λ e.
+      let at = finished_slot s finishes limit uid once timed e in
+      let many : length finishes ≡ length s = ap length timed ∙ length-map s finish_in in
+      absurd (omega (arith, none at.0 (omega arith) (omega (arith, at.1, many)), at.2))
+  | false ↦ λ e. refl
+] refl
 
 -- a slot's millisecond is in range
 pub slot_timed : (s : Slots Place) (finishes : List ℕ) (i : ℕ) → finishes ≡ map finish_in s → IsSome (entry_in s i) → i < length finishes

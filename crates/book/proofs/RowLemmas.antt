@@ -1,5 +1,5 @@
 -- What a search among rows in order finds, and what an edit there does to the map that they stand for.
-use Rattle.std.proofs.Common.{◌≡◌, ℕ, ◌≤◌, ◌&&◌, Bool, true, false, cond, not, List, [], length, get_or, set, Option, None, Some, is_some, Result, Ok, Err, IfOk, IfErr, refl, sym, ap, subst, ◌∙◌, inl, inr, arith}
+use Rattle.std.proofs.Common.{◌≡◌, ℕ, ◌≤◌, ◌&&◌, Bool, true, false, cond, not, List, [], ◌∷◌, map, length, get_or, set, Option, None, Some, is_some, Result, Ok, Err, IfOk, IfErr, refl, sym, ap, subst, ◌∙◌, inl, inr, arith}
 use Rattle.std.specs.declared.cmp.Ordering.TheVariants.{Equal}
 use Rattle.std.specs.Ordering.{is_eq, eq_by_cmp, ordering_index, ordering_reverse}
 use Rattle.std.specs.Cmp.Lexicographic.{nat_list_cmp_total}
@@ -12,7 +12,7 @@ use Rattle.std.proofs.lemmas.List.{length-map}
 use Rattle.std.proofs.lemmas.Bool.{cases_lt}
 use Rattle.quant.specs.declared.objects.Node.{Node}
 use Rattle.book.specs.Cluster.{name_cmp}
-use Rattle.book.specs.Rows.{Rows, named_row, named, IsInOrder, compared, IsRowOf, IsGapFor}
+use Rattle.book.specs.Rows.{Rows, named_row, named, rows_in, IsInOrder, compared, IsRowOf, IsGapFor}
 use Rattle.book.proofs.Put.{index_rises, earlier_less, put_gap, put_here, find_absent, find_here, find_at, sorted_fewer, find_fewer}
 
 -- names in the order of their bytes are in one order, and only equal ones tie
@@ -108,3 +108,16 @@ no_gap has full e = rw e refl
 -- and a new one has room exactly where the table isn't full
 pub in_gap : (has : Bool) (full : Bool) (b : Bool) → has ≡ false → full ≡ b → (not has && full) ≡ b
 in_gap has full b e f = rw (e, f) refl
+
+-- rows with their names, without these
+unnamed : (rows : Rows) → map (λ e. e.1) (named rows) ≡ rows
+unnamed [] = refl
+unnamed (row ∷ rows) = ap (λ l. row ∷ l) (unnamed rows)
+
+-- rows in order are those of the map that they stand for
+pub rows_are : (rows : Rows) → IsInOrder rows → rows_in (from_sorted (named rows)) ≡ rows
+rows_are rows sorted = ap (map (λ e. e.1)) (entries_rows rows sorted []) ∙ unnamed rows
+
+-- and their names are its keys
+pub rows_listed : (rows : Rows) → IsInOrder rows → named (rows_in (from_sorted (named rows))) ≡ entries (from_sorted {R = name_cmp} (named rows))
+rows_listed rows sorted = ap named (rows_are rows sorted) ∙ sym (entries_rows rows sorted [])

@@ -4,11 +4,11 @@ use Rattle.std.specs.declared.cmp.Ordering.{Ordering}
 use Rattle.std.specs.declared.cmp.Ordering.TheVariants.{Less, Equal, Greater}
 use Rattle.std.specs.List.{HoldsAt}
 use Rattle.std.specs.List.Sorted.{IsPartitionPoint}
-use Rattle.std.specs.FinMap.{is_sorted}
+use Rattle.std.specs.FinMap.{is_sorted, entries}
 use Rattle.std.specs.Global.{Vec}
 use Rattle.quant.specs.declared.amount.Res.{Res}
 use Rattle.quant.specs.declared.objects.Node.{Node}
-use Rattle.book.specs.Cluster.{name_cmp}
+use Rattle.book.specs.Cluster.{name_cmp, Nodes}
 
 -- rows, wherever they lie in memory
 abbrev pub Rows : Type 0
@@ -21,6 +21,10 @@ named_row row = (row.name, row)
 -- the rows with their names
 abbrev pub named : Rows → List (List ℕ × Node)
 named rows = map named_row rows
+
+-- the rows of a node table, in the order of their names' bytes
+abbrev pub rows_in : Nodes → Rows
+rows_in nodes = map (λ e. e.1) (entries nodes)
 
 -- the names strictly rise
 abbrev pub IsInOrder : Rows → Type 0

@@ -1,5 +1,7 @@
 //! The book: the nodes, the places, the version of the last event and the last ticket.
-ghost use Rattle.std.specs.Prelude.{◌≡◌, IfOk, IfSome, IfNone, map, nat_le, Bool, not, ◌∷◌, [], Ok, Err, if◌then◌else◌};
+ghost use Rattle.std.specs.Prelude.{◌≡◌, ℕ, ◌≤◌, List, IfOk, IfErr, IfSome, IfNone, map, length, nat_le, Bool, true, false, not, ◌∷◌, [], Ok, Err, if◌then◌else◌};
+ghost use Rattle.std.specs.Bool.{IsTrue};
+ghost use Rattle.std.specs.Option.{option_copied};
 ghost use Rattle.std.specs.Result.{result_err};
 ghost use Rattle.std.specs.FinMap as fin;
 
@@ -53,10 +55,10 @@ impl Model for Book {
 impl Book {
     ghost use Rattle.quant.specs.declared.event.Event.TheVariants as event;
     ghost use Rattle.book.specs.Cluster.{opening};
-    ghost use Rattle.book.specs.Rows.{named};
+    ghost use Rattle.book.specs.Rows.{named, rows_in, IsRowOf, IsGapFor};
     ghost use Rattle.book.specs.Used.{used, assumed, bound};
     ghost use Rattle.book.specs.Step.{after, reply, IsTaken, first_of, is_placed, is_there, fits_row, refusal_by_ticket, without_place};
-    ghost use Rattle.book.specs.Expiry.{IsFirstExpired, NoneExpired};
+    ghost use Rattle.book.specs.Expiry.{is_expired, IsFirstExpired, NoneExpired};
     ghost use Rattle.book.specs.declared.step.ClusterStep.TheVariants as steps;
 
     /// An empty book, with room for as much as the limits say. It is the one call of a book that takes memory.
@@ -295,6 +297,32 @@ impl Book {
         ensures unchanged { IfNone result (self.new ≡ self.old) }
     {
         self.places.expire(&mut self.nodes, now)
+    }
+
+    /// Whether a place expires at this moment, so that `expire` would answer a uid. The time is as there where nothing expires.
+    pub fn expires(&self, now: Moment) -> bool
+        ensures some { IsTrue result → (uid : List ℕ) × (is_expired self.now.places now uid ≡ true) }
+        ensures none { result ≡ false → NoneExpired self.now.places now }
+    {
+        self.places.expires(now)
+    }
+
+    /// A pod's place.
+    pub fn place_of(&self, uid: &Name) -> Option<&Place>
+        ensures { option_copied result ≡ fin.get self.now.places uid.now }
+    {
+        self.places.get(uid)
+    }
+
+    /// Where a node's row is among the rows, or where it would go. A node with pods is found at once, where no rows came or went
+    /// since the last step that placed or took one there.
+    pub fn find_row(&self, node: &Name) -> Result<usize, usize>
+        ensures found { IfOk result (IsRowOf (rows_in self.now.nodes) node.now) }
+        ensures absent { IfErr result (IsGapFor (rows_in self.now.nodes) node.now) }
+        ensures in_range { IfErr result (λ at. at ≤ length (rows_in self.now.nodes)) }
+        ensures listed { named (rows_in self.now.nodes) ≡ fin.entries self.now.nodes }
+    {
+        self.nodes.find(node, self.places.total_slot(node))
     }
 
     /// Whether a pod has a place.

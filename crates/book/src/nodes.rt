@@ -3,7 +3,7 @@ ghost use Rattle.std.specs.Prelude.{◌≡◌, ◌≤◌, [], List, ℕ, length,
 ghost use Rattle.std.specs.Option.{option_copied};
 ghost use Rattle.std.specs.FinMap as fin;
 ghost use Rattle.quant.specs.declared.amount.Res.{Res};
-ghost use Rattle.book.specs.Rows.{named, IsInOrder, IsRowOf, IsGapFor};
+ghost use Rattle.book.specs.Rows.{named, rows_in, IsInOrder, IsRowOf, IsGapFor};
 ghost use Rattle.book.specs.Tables.{is_full_for, IsShown, IsAlikeBut};
 
 use crate::NoMemory;
@@ -81,6 +81,20 @@ impl Nodes {
         }
     }
 
+    /// Where the row of this name is, or where it would go. The slot tells names apart as in `keep`, if it is known.
+    pub(crate) fn find(&self, name: &Name, slot: Option<usize>) -> Result<usize, usize>
+        ensures found { IfOk result (IsRowOf (rows_in self.now.map) name.now) }
+        ensures absent { IfErr result (IsGapFor (rows_in self.now.map) name.now) }
+        ensures in_range { IfErr result (λ at. at ≤ length (rows_in self.now.map)) }
+        ensures listed { named (rows_in self.now.map) ≡ fin.entries self.now.map }
+    {
+        let guess = match slot {
+            Some(slot) => self.guesses.get(slot).copied().unwrap_or(0),
+            None => 0,
+        };
+        place_near(&self.rows, name, guess)
+    }
+
     /// Puts a row, in place of one with its name. So much is used of the node.
     ///
     /// Errors: `Full` where no row has the name and there is no room for one more; nothing changes.
@@ -151,6 +165,7 @@ fn place_near(rows: &[SharedNode], name: &Name, guess: usize) -> Result<usize, u
     requires { IsInOrder rows.now }
     ensures found { IfOk result (IsRowOf rows.now name.now) }
     ensures absent { IfErr result (IsGapFor rows.now name.now) }
+    ensures in_range { IfErr result (λ at. at ≤ length rows.now) }
 {
     if guess < rows.len() && &rows[guess].name == name {
         return Ok(guess);

@@ -1,5 +1,6 @@
 //! The uids of places that expire, gathered once and looked at one by one.
 ghost use Rattle.std.specs.Prelude.{◌≡◌, ℕ, ◌<◌, ◌≤◌, ◌++◌, Bool, true, false, List, None, Some, IfOk, IfSome, IfNone, Contains, length, map, vec_len, vec_capacity};
+ghost use Rattle.std.specs.Bool.{IsTrue};
 ghost use Rattle.std.specs.Ordering.{is_lt};
 ghost use Rattle.std.specs.FinMap as fin;
 ghost use Rattle.name_table.specs.Slots.{name_in, map_of};
@@ -107,6 +108,21 @@ fn collect(names: &mut Vec<Name>, table: &NameTable<Place>, finishes: &Finishes,
     while let Some(slot) = finishes.next(from, limit) {
         names.push(table.name_at(slot).copied()).unwrap();
         from = slot + 1;
+    }
+}
+
+/// Whether some pod has a place whose bind was reported done by the limit.
+pub(crate) fn any_finished(table: &NameTable<Place>, finishes: &Finishes, limit: u64) -> bool
+    requires timed { finishes.now ≡ map finish_in table.now }
+    requires early { limit < NEVER }
+    ensures some { IsTrue result → (uid : List ℕ) × (is_finished_by limit (fin.get (map_of table.now) uid) ≡ true) }
+    ensures none { result ≡ false → (uid : List ℕ) → is_finished_by limit (fin.get (map_of table.now) uid) ≡ false }
+{
+    let placed = table.len();
+    prove!(placed <= table.room());
+    match finishes.next(0, limit) {
+        None => false,
+        Some(slot) => has_finished(table, table.name_at(slot), limit),
     }
 }
 

@@ -1,5 +1,6 @@
 //! Where pods are placed, with what the pods on each node use together.
 ghost use Rattle.std.specs.Prelude.{◌≡◌, ℕ, ◌+◌, ◌<◌, ◌≤◌, IfOk, IfErr, IfSome, IfNone, OnOk, OnErr, IsSome, true, false, List, Some, length};
+ghost use Rattle.std.specs.Bool.{IsTrue};
 ghost use Rattle.std.specs.Option.{option_copied};
 ghost use Rattle.std.specs.FinMap as fin;
 ghost use Rattle.name_table.specs.Slots.{map_of};
@@ -14,7 +15,7 @@ use crate::NoMemory;
 use crate::finishes::{Finishes, NEVER};
 use crate::limits::EXPIRY;
 use crate::nodes::Nodes;
-use crate::overdue::Overdue;
+use crate::overdue::{Overdue, any_finished};
 use crate::place::{Place, Status};
 use crate::refusal::Refusal;
 use name_table::NameTable;
@@ -67,7 +68,7 @@ impl Model for Places {
 impl Places {
     ghost use Rattle.book.specs.declared.place.Place.{Place};
     ghost use Rattle.book.specs.Step.{finished_status};
-    ghost use Rattle.book.specs.Expiry.{IsFirstExpired, NoneExpired};
+    ghost use Rattle.book.specs.Expiry.{is_expired, IsFirstExpired, NoneExpired};
 
     /// No places, with room for as many.
     pub(crate) fn new(alloc: Global, keys: RandomState, room: usize) -> Result<Self, NoMemory>
@@ -106,6 +107,11 @@ impl Places {
         ensures { result ≡ used self.now.map node.now }
     {
         self.totals.get(node).copied().unwrap_or(NOTHING)
+    }
+
+    /// The slot of a node's total, which `put` and `remove` told the nodes with it, where a pod is on the node.
+    pub(crate) fn total_slot(&self, node: &Name) -> Option<usize> {
+        self.totals.find(node)
     }
 
     /// Whether a pod has a place.
@@ -203,6 +209,14 @@ impl Places {
         self.finishes.set(slot, finished.status.finish());
         self.by_uid.replace_at(slot, finished);
         self.overdue.limit = None;
+    }
+
+    /// Whether a place expires at this moment.
+    pub(crate) fn expires(&self, now: Moment) -> bool
+        ensures some { IsTrue result → (uid : List ℕ) × (is_expired self.now.map now uid ≡ true) }
+        ensures none { result ≡ false → NoneExpired self.now.map now }
+    {
+        now.0 >= EXPIRY && any_finished(&self.by_uid, &self.finishes, now.0 - EXPIRY)
     }
 
     /// Takes the expired place with the least uid away, and answers that uid.
