@@ -65,14 +65,14 @@ module _ (f : List ℕ → Res) where
       ∙ set-get_or (beside f rows) at (f row.name)
 
 -- a name that is less than another isn't it
-apart : (a b : List ℕ) → name_cmp a b ≡ Less → bytes_eq a b ≡ false
+pub apart : (a b : List ℕ) → name_cmp a b ≡ Less → bytes_eq a b ≡ false
 apart a b less = elim (bytes_eq a b) as (λ v. bytes_eq a b ≡ v → v ≡ false) [
   | true ↦ λ e. let same : Equal ≡ Less = sym (tied_itself nat_list_cmp_total a) ∙ ap (name_cmp a) ((bytes_decides a b).0 e) ∙ less in absurd (cc)
   | false ↦ λ e. refl
 ] refl
 
 -- and so is one that is greater
-apart_back : (a b : List ℕ) → name_cmp b a ≡ Less → bytes_eq a b ≡ false
+pub apart_back : (a b : List ℕ) → name_cmp b a ≡ Less → bytes_eq a b ≡ false
 apart_back a b less = elim (bytes_eq a b) as (λ v. bytes_eq a b ≡ v → v ≡ false) [
   | true ↦ λ e. let same : Equal ≡ Less = sym (tied_itself nat_list_cmp_total a) ∙ ap (λ n. name_cmp n a) ((bytes_decides a b).0 e) ∙ less in absurd (cc)
   | false ↦ λ e. refl

@@ -18,3 +18,5 @@ pub mod Adding
 pub mod Sharing
 pub mod Alone
 pub mod NodesStay
+pub mod Changes
+pub mod Noted

@@ -1,5 +1,5 @@
 -- Calls that tell of no node leave the nodes as they are.
-use Rattle.std.proofs.Common.{◌≡◌, ℕ, ◌+◌, ◌<◌, ◌≤◌, Bool, true, false, cond, List, [], ◌∷◌, ◌++◌, get_or, set, map, take, length, Option, None, Some, refl, sym, ap, ◌∙◌, arith}
+use Rattle.std.proofs.Common.{◌≡◌, ℕ, zero, suc, ◌+◌, ◌<◌, ◌≤◌, Bool, true, false, cond, List, [], ◌∷◌, ◌++◌, get_or, set, map, take, length, Option, None, Some, refl, sym, ap, ◌∙◌, arith}
 use Rattle.std.proofs.lemmas.List.{length-map, get_or-map, set-get_or, map-set, map_push, take_all, take_more, take_more_set}
 use Rattle.std.proofs.lemmas.List.Sums.{sum_by-cons, sum_by-append, count_by-le-length}
 use Rattle.std.specs.FinMap.{get, entries}
@@ -25,9 +25,9 @@ use Rattle.desk.specs.declared.snapshot.Row.{Row}
 use Rattle.desk.specs.declared.step.Step.{Step}
 use Rattle.desk.specs.declared.step.Step.TheVariants.{Event, Pop, Assume, BindDone, Forget, Fail, Tick, Count}
 use Rattle.desk.specs.declared.step.Reply.TheVariants as replies
-use Rattle.desk.specs.Machine.{State, Outcome, opening, both, unless, after, told, of_pod, moved, moved_if_placed, entry_at, pass_number, refusal_to_fail, refusal_to_tick, ticked_to, snapshot}
+use Rattle.desk.specs.Machine.{State, Outcome, opening, both, unless, after, told, of_pod, moved, moved_if_placed, entry_at, pass_number, refusal_to_fail, refusal_to_tick, ticked_to}
 use Rattle.desk.specs.History.{Call, state_after}
-use Rattle.desk.specs.Shared.{Published, Stands}
+use Rattle.desk.specs.Board.{Board, IsBoard, beside}
 use Rattle.desk.specs.Shown.{Shown, shown}
 use Rattle.desk.specs.NodeCalls.{tells_of_node, calls_on_nodes, nodes_in, nodes_of}
 
@@ -50,7 +50,7 @@ finished_nodes c uid at None = refl
 finished_nodes c uid at (Some place) = refl
 
 -- a step that tells of no node
-stays : (s : State) (pass : ℕ) (e : Step) → tells_of_node e ≡ false → (after s pass e).cluster.nodes ≡ s.cluster.nodes
+pub stays : (s : State) (pass : ℕ) (e : Step) → tells_of_node e ≡ false → (after s pass e).cluster.nodes ≡ s.cluster.nodes
 stays s pass (Event (NodeSet version node)) none = absurd (cc)
 stays s pass (Event (NodeGone version name)) none = absurd (cc)
 stays s pass (Event (PodPending version pod)) none = both_nodes s (of_pod s pod.uid (PodPending version pod)) (after_add s.queue pod s.clock) refl
@@ -98,65 +98,87 @@ calls_on_nodes_more l c = sum_by-append (λ d. cond (tells_of_node d.step) 1 0) 
 pub calls_on_nodes_few : (l : List Call) → calls_on_nodes l ≤ length l
 calls_on_nodes_few l = count_by-le-length (λ c. tells_of_node c.step) l
 
--- rows that show a snapshot have its nodes
-pub nodes_shown : (rows : List Row) (c : Cluster) → map shown rows ≡ snapshot c → nodes_of rows ≡ nodes_in c
-nodes_shown rows c is = sym (each rows) ∙ ap (map (λ (s : Shown). s.node)) is ∙ ones (entries c.nodes)
-  where
-    each : (rows : List Row) → map (λ (s : Shown). s.node) (map shown rows) ≡ nodes_of rows
-    each [] = refl
-    each (row ∷ rows) = ap (λ l. row.node ∷ l) (each rows)
-
-    ones : (es : List (List ℕ × Node)) → map (λ (s : Shown). s.node) (map (λ e. record { node = e.1; used = used c.places e.0 }) es) ≡ map (λ e. e.1) es
-    ones [] = refl
-    ones (e ∷ es) = ap (λ l. e.1 ∷ l) (ones es)
-
 -- what is published has the nodes that its history leaves
-pub nodes_published : (book : Book) (limits : Limits) (x : Published) → Stands book limits x → nodes_in x.desk.state.cluster ≡ nodes_in (state_after (opening limits) x.prefix.list).cluster
-nodes_published book limits x stands =
-    ap (λ (s : State). nodes_in s.cluster) stands.leaves.state
-    ∙ ap (λ (n : Limits). nodes_in (state_after (opening n) x.prefix.list).cluster) stands.limits_are
+pub nodes_published : (book : Book) (limits : Limits) (b : Board) → IsBoard book limits b → b.nodes ≡ nodes_in (state_after (opening limits) b.prefix.list).cluster
+nodes_published book limits b is =
+    ap (λ (y : Board). y.nodes) is.is
+    ∙ ap (λ (s : State). nodes_in s.cluster) is.stands.leaves.state
+    ∙ ap (λ (n : Limits). nodes_in (state_after (opening n) is.held.prefix.list).cluster) is.stands.limits_are
+    ∙ ap (λ (y : Board). nodes_in (state_after (opening limits) y.prefix.list).cluster) (sym is.is)
+
+-- there is as much beside the nodes
+pub used_long : (book : Book) (limits : Limits) (b : Board) → IsBoard book limits b → length b.used ≡ length b.nodes
+used_long book limits b is =
+    ap (λ (y : Board). length y.used) is.is
+    ∙ length-map (entries is.held.desk.state.cluster.nodes) (λ e. used is.held.desk.state.cluster.places e.0)
+    ∙ sym (length-map (entries is.held.desk.state.cluster.nodes) (λ e. e.1))
+    ∙ ap (λ (y : Board). length y.nodes) (sym is.is)
 
 -- ---- what is used, written into rows that have the same nodes
 
-module _ (rows : List Row) (c : Cluster) (same : nodes_of rows ≡ nodes_in c) where
-  -- what a snapshot shows of an entry
-  abbrev one : List ℕ × Node → Shown
-  one e = record { node = e.1; used = used c.places e.0 }
+length-beside : (nodes : List Node) (us : List Res) → length us ≡ length nodes → length (beside nodes us) ≡ length nodes
+length-beside [] us e = refl
+length-beside (n ∷ nodes) [] e = absurd (omega (arith, e))
+length-beside (n ∷ nodes) (u ∷ us) e = omega (arith, length-beside nodes us (omega (arith, e)))
 
+get_beside : (nodes : List Node) (us : List Res) (at : ℕ) (n : Node) (none : Res) → length us ≡ length nodes → at < length nodes → get_or (beside nodes us) at (record { node = n; used = none }) ≡ record { node = get_or nodes at n; used = get_or us at none }
+get_beside [] us at n none e lt = absurd (omega (arith, lt))
+get_beside (m ∷ nodes) [] at n none e lt = absurd (omega (arith, e))
+get_beside (m ∷ nodes) (u ∷ us) zero n none e lt = refl
+get_beside (m ∷ nodes) (u ∷ us) (suc at) n none e lt = get_beside nodes us at n none (omega (arith, e)) (omega (arith, lt))
+
+module _ (rows : List Row) (nodes : List Node) (us : List Res) (same : nodes_of rows ≡ nodes) (long : length us ≡ length nodes) where
   -- there are as many rows as nodes
-  as_many : length (entries c.nodes) ≡ length rows
-  as_many = sym (length-map (entries c.nodes) (λ e. e.1)) ∙ ap length (sym same) ∙ length-map rows (λ (row : Row). row.node)
-
-  -- and as many amounts
-  pub totals_long : (totals : List Res) → totals ≡ map (λ e. used c.places e.0) (entries c.nodes) → length totals ≡ length rows
-  totals_long totals t = ap length t ∙ length-map (entries c.nodes) (λ e. used c.places e.0) ∙ as_many
+  pub as_many : length nodes ≡ length rows
+  as_many = ap length (sym same) ∙ length-map rows (λ (row : Row). row.node)
 
   module _ (at : ℕ) (row new : Row) (lt : at < length rows) (is : row ≡ get_or rows at row) (kept : new.node ≡ row.node) where
     -- one row changes, but not its node
-    pub nodes_kept : nodes_of (set rows at new) ≡ nodes_in c
+    pub nodes_kept : nodes_of (set rows at new) ≡ nodes
     nodes_kept =
         map-set (λ (r : Row). r.node) rows at new
         ∙ ap (set (nodes_of rows) at) (kept ∙ ap (λ (r : Row). r.node) is ∙ sym (get_or-map (λ (r : Row). r.node) rows at row new.node lt))
         ∙ set-get_or (nodes_of rows) at new.node ∙ same
 
     -- one row more shows what is used now
-    pub written_more : (totals : List Res) (none : Res) → totals ≡ map (λ e. used c.places e.0) (entries c.nodes) → new.used ≡ get_or totals at none
-        → map shown (take at rows) ≡ take at (snapshot c) → map shown (take (at + 1) (set rows at new)) ≡ take (at + 1) (snapshot c)
-    written_more totals none t is_total written =
-        let es = entries c.nodes in
-        let d : List ℕ × Node = ([], row.node) in
-        let few : at < length es = omega (arith, lt, as_many) in
-        let node : new.node ≡ (get_or es at d).1 =
-        kept ∙ ap (λ (r : Row). r.node) is ∙ sym (get_or-map (λ (r : Row). r.node) rows at row row.node lt) ∙ ap (λ (l : List Node). get_or l at row.node) same ∙ get_or-map (λ (e : List ℕ × Node). e.1) es at d row.node few in
-        let now : new.used ≡ used c.places (get_or es at d).0 = is_total ∙ ap (λ (l : List Res). get_or l at none) t ∙ get_or-map (λ (e : List ℕ × Node). used c.places e.0) es at d none few in
-        let same_row : shown new ≡ get_or (snapshot c) at (one d) = (λ i. record { node = node i; used = now i }) ∙ sym (get_or-map one es at d (one d) few) in
-        let long : at < length (snapshot c) = omega (arith, few, length-map es one) in
+    pub written_more : (none : Res) → new.used ≡ get_or us at none → map shown (take at rows) ≡ take at (beside nodes us) → map shown (take (at + 1) (set rows at new)) ≡ take (at + 1) (beside nodes us)
+    written_more none is_total written =
+        let few : at < length nodes = omega (arith, lt, as_many) in
+        let node : new.node ≡ get_or nodes at row.node =
+        kept ∙ ap (λ (r : Row). r.node) is ∙ sym (get_or-map (λ (r : Row). r.node) rows at row row.node lt) ∙ ap (λ (l : List Node). get_or l at row.node) same in
+        let same_row : shown new ≡ get_or (beside nodes us) at (record { node = row.node; used = none }) = (λ i. record { node = node i; used = is_total i }) ∙ sym (get_beside nodes us at row.node none long few) in
         ap (map shown) (take_more_set rows at new lt) ∙ map_push shown (take at rows) new
         ∙ ap (λ (l : List Shown). l ++ shown new ∷ []) written
-        ∙ ap (λ (s : Shown). take at (snapshot c) ++ s ∷ []) same_row
-        ∙ sym (take_more (snapshot c) at (one d) long)
+        ∙ ap (λ (s : Shown). take at (beside nodes us) ++ s ∷ []) same_row
+        ∙ sym (take_more (beside nodes us) at (record { node = row.node; used = none }) (omega (arith, few, length-beside nodes us long)))
 
   -- and in the end all do
-  pub written_all : (at : ℕ) → length rows ≤ at → map shown (take at rows) ≡ take at (snapshot c) → map shown rows ≡ snapshot c
+  pub written_all : (at : ℕ) → length rows ≤ at → map shown (take at rows) ≡ take at (beside nodes us) → map shown rows ≡ beside nodes us
   written_all at le written =
-      ap (map shown) (sym (take_all at rows le)) ∙ written ∙ take_all at (snapshot c) (omega (arith, le, as_many, length-map (entries c.nodes) one))
+      ap (map shown) (sym (take_all at rows le)) ∙ written ∙ take_all at (beside nodes us) (omega (arith, le, as_many, length-beside nodes us long))
+
+-- ---- rows that are made anew
+
+-- one row more
+pub shown_more : (nodes : List Node) (us : List Res) (at : ℕ) (node : Node) (none : Res) → length us ≡ length nodes → at < length nodes → node ≡ get_or nodes at node
+    → take (at + 1) (beside nodes us) ≡ take at (beside nodes us) ++ record { node = node; used = get_or us at none } ∷ []
+shown_more nodes us at node none long lt is =
+    take_more (beside nodes us) at (record { node = node; used = none }) (omega (arith, lt, length-beside nodes us long))
+    ∙ ap (λ (s : Shown). take at (beside nodes us) ++ s ∷ []) (get_beside nodes us at node none long lt)
+    ∙ ap (λ (n : Node). take at (beside nodes us) ++ record { node = n; used = get_or us at none } ∷ []) (sym is)
+
+pub shown_whole : (nodes : List Node) (us : List Res) (at : ℕ) → length us ≡ length nodes → length nodes ≤ at → take at (beside nodes us) ≡ beside nodes us
+shown_whole nodes us at long le = take_all at (beside nodes us) (omega (arith, le, length-beside nodes us long))
+
+-- rows that show what is published have its nodes
+pub nodes_shown : (rows : List Row) (nodes : List Node) (us : List Res) → length us ≡ length nodes → map shown rows ≡ beside nodes us → nodes_of rows ≡ nodes
+nodes_shown rows nodes us long is = sym (each rows) ∙ ap (map (λ (s : Shown). s.node)) is ∙ ones nodes us long
+  where
+    each : (rows : List Row) → map (λ (s : Shown). s.node) (map shown rows) ≡ nodes_of rows
+    each [] = refl
+    each (row ∷ rows) = ap (λ l. row.node ∷ l) (each rows)
+
+    ones : (nodes : List Node) (us : List Res) → length us ≡ length nodes → map (λ (s : Shown). s.node) (beside nodes us) ≡ nodes
+    ones [] us e = refl
+    ones (n ∷ nodes) [] e = absurd (omega (arith, e))
+    ones (n ∷ nodes) (u ∷ us) e = ap (λ l. n ∷ l) (ones nodes us (omega (arith, e)))

@@ -1,5 +1,5 @@
 -- The answer to a step in two parts: one without the pod that a pop hands out, and that pod.
-use Rattle.std.specs.Prelude.{Option, None, Some, option_map}
+use Rattle.std.specs.Prelude.{Bool, true, false, Option, None, Some, option_map}
 use Rattle.quant.specs.declared.objects.Pod.{Pod}
 use Rattle.queue.specs.Queue.{next_of}
 use Rattle.desk.specs.declared.bare_reply.BareReply.{BareReply}
@@ -33,3 +33,12 @@ reply_with (said.Refused why) pod = replies.Refused why
 abbrev pub handed_by : State → Step → Option Pod
 handed_by s Pop = option_map (λ item. item.1.pod) (next_of s.queue)
 handed_by s e = None
+
+-- whether an answer is a refusal
+abbrev pub is_refused : BareReply → Bool
+is_refused said.Done = false
+is_refused said.Idle = false
+is_refused said.Popped = false
+is_refused (said.Ticket ticket) = false
+is_refused (said.Counts n) = false
+is_refused (said.Refused why) = true

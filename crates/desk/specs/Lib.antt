@@ -1,3 +1,4 @@
+pub mod Plain
 pub mod Shown
 pub mod Machine
 pub mod Caller
@@ -5,8 +6,10 @@ pub mod History
 pub mod Calm
 pub mod Laws
 pub mod Shared
+pub mod Board
 pub mod Codes
 pub mod SharedCodes
+pub mod BoardCodes
 pub mod NodeCalls
 pub mod BareReply
 pub mod Done

@@ -1,18 +1,15 @@
 -- A desk that many passes share: what a pass has seen, what is published, and what each call tells its pass.
-use Rattle.std.specs.Prelude.{◌≡◌, ℕ, ◌+◌, ◌<◌, ◌==◌, Bool, true, ◌&&◌, nat_lt, if◌then◌else◌, List, [], ◌∷◌, ◌++◌, length, slice_index, MatchBool}
+use Rattle.std.specs.Prelude.{◌≡◌, ℕ, ◌+◌, ◌<◌, ◌==◌, true, List, [], ◌∷◌, ◌++◌, length, MatchBool}
 use Rattle.logbook.specs.Pages.{Cell, Step as WordStep, View, Book, Named}
 use Rattle.book.specs.declared.limits.Limits.{Limits}
 use Rattle.book.specs.Cluster.{Cluster}
-use Rattle.desk.specs.declared.limits.TheConstants.{MAX_PASSES, MAX_CALLS}
-use Rattle.desk.specs.declared.bare_reply.BareReply.{BareReply}
-use Rattle.desk.specs.declared.bare_reply.BareReply.TheVariants as said
+use Rattle.desk.specs.declared.limits.TheConstants.{MAX_PASSES}
 use Rattle.desk.specs.declared.step.Step.{Step}
 use Rattle.desk.specs.declared.step.Step.TheVariants.{Count}
 use Rattle.desk.specs.declared.step.Reply.{Reply}
 use Rattle.desk.specs.declared.step.Reply.TheVariants as replies
 use Rattle.desk.specs.Machine.{State, opening, reply, after}
 use Rattle.desk.specs.Caller.{Caller, Core, new_core, with_state}
-use Rattle.desk.specs.BareReply.{bare_reply}
 use Rattle.desk.specs.Shown.{Shown}
 use Rattle.desk.specs.Calm.{IsCalm, HasRoom}
 use Rattle.std.specs.List.{All}
@@ -39,59 +36,41 @@ no_call = record { pass = 0; number = 0; step = Count; reply = replies.Done }
 abbrev pub next_call : State → ℕ → ℕ → Step → Call
 next_call s pass number e = record { pass = pass; number = number; step = e; reply = reply s pass e }
 
--- ---- what is published
-
 -- a beginning of the history that this book keeps
 pub record Prefix : Type 0 where
   pub book : Book
   pub list : List Call
 
--- the published desk, what there is to say of its last call, and the history that left it so
-pub record Published : Type 0 where
-  pub desk : Core
-  pub said : BareReply
-  pub prefix : Prefix
-
 -- with one call more
 abbrev pub with_call : Prefix → Call → Prefix
 with_call prefix c = record prefix { list = prefix.list ++ c ∷ [] }
 
--- a call that is to be published: its pass, its step, and the history with it
-pub record Order : Type 0 where
-  pub pass : ℕ
-  pub step : Step
+-- ---- what lies under the lock
+
+-- the desk with one owner, and the history that left it so
+pub record Held : Type 0 where
+  pub desk : Core
   pub prefix : Prefix
 
--- whether a desk has a call left for this pass
-abbrev pub may_call : Core → ℕ → Bool
-may_call d pass = nat_lt pass d.handed && nat_lt (slice_index d.state.calls pass) MAX_CALLS
+-- after a call of a pass, and the history with it
+abbrev pub held_after : Held → ℕ → Step → Prefix → Held
+held_after x pass e prefix = record { desk = with_state x.desk (after x.desk.state pass e); prefix = prefix }
 
--- what is published after a call: the state that it leaves, its answer, and the history with it
-abbrev pub published_after : Published → Order → Published
-published_after x o =
-    if may_call x.desk o.pass
-    then record { desk = with_state x.desk (after x.desk.state o.pass o.step); said = bare_reply (reply x.desk.state o.pass o.step); prefix = o.prefix }
-    else record x { prefix = o.prefix }
-
--- the rule of what is published: its history is legal, but for which passes were handed out, and leaves the desk so, the
--- counts of calls among the rest; and the desk has these limits, and its history is in this book
-pub record Stands (book : Book) (limits : Limits) (x : Published) : Type 0 where
+-- the history is legal, but for which passes were handed out, and leaves the desk so, the counts of calls among the rest; and the
+-- desk has these limits, and its history is in this book
+pub record Stands (book : Book) (limits : Limits) (x : Held) : Type 0 where
   pub leaves : Leaves x.prefix.list x.desk
   pub book_is : x.prefix.book ≡ book
   pub limits_are : x.desk.state.cluster.limits ≡ limits
   pub handed_are : x.desk.handed ≡ MAX_PASSES
 
--- what is published of a desk on which nothing was done
-abbrev pub first_published : Book → Limits → Published
-first_published book limits = record { desk = new_core limits; said = said.Done; prefix = record { book = book; list = [] } }
+-- what is held of a desk on which nothing was done
+abbrev pub first_held : Book → Limits → Held
+first_held book limits = record { desk = new_core limits; prefix = record { book = book; list = [] } }
 
--- a call of no pass, which changes nothing but the history that stands there
-abbrev pub no_order : Prefix → Order
-no_order prefix = record { pass = MAX_PASSES; step = Count; prefix = prefix }
-
--- the call of a pass as it is to be published
-abbrev pub order_of : Published → Caller → Step → Order
-order_of x p e = record { pass = p.number; step = e; prefix = with_call x.prefix (next_call x.desk.state p.number (p.calls + 1) e) }
+-- the history with a call of a pass, as the desk answers it
+abbrev pub prefix_after : Held → Caller → Step → Prefix
+prefix_after x p e = with_call x.prefix (next_call x.desk.state p.number (p.calls + 1) e)
 
 -- ---- what a pass has seen
 

@@ -4,12 +4,10 @@ use Rattle.std.specs.Coded.{Coded, code_by, coded×, coded_ℕ, coded_list}
 use Rattle.logbook.specs.Pages.{Book, book_coded}
 use Rattle.desk.specs.contracts.step.Step as step
 use Rattle.desk.specs.contracts.step.Reply as reply
-use Rattle.desk.specs.contracts.bare_reply.BareReply as said
 use Rattle.desk.specs.declared.step.Step.{Step}
 use Rattle.desk.specs.declared.step.Reply.{Reply}
-use Rattle.desk.specs.declared.bare_reply.BareReply.{BareReply}
 use Rattle.desk.specs.History.{Call}
-use Rattle.desk.specs.Shared.{Prefix, Published, Order, Pass, Desk}
+use Rattle.desk.specs.Shared.{Prefix, Held, Pass, Desk}
 use Rattle.book.specs.contracts.limits.Limits as limits
 use Rattle.book.specs.declared.limits.Limits.{Limits}
 use Rattle.desk.specs.Caller.{Core}
@@ -26,18 +24,9 @@ call_code =
 abbrev pub prefix_code : Coded Prefix
 prefix_code = code_by (Book × List Call) (coded× book_coded (coded_list call_code)) (λ k. (k.book, k.list)) (λ p. record { book = p.0; list = p.1 }) (λ _. refl)
 
--- what is published, and what is to be
-abbrev pub published_code : Coded Published
-published_code =
-    code_by (Core × (BareReply × Prefix)) (coded× core_code (coded× said.the_row.coded prefix_code)) (λ x. (x.desk, (x.said, x.prefix)))
-    (λ p. record { desk = p.0; said = p.1.0; prefix = p.1.1 })
-    (λ _. refl)
-
-abbrev pub order_code : Coded Order
-order_code =
-    code_by (ℕ × (Step × Prefix)) (coded× coded_ℕ (coded× step.the_row.coded prefix_code)) (λ o. (o.pass, (o.step, o.prefix)))
-    (λ p. record { pass = p.0; step = p.1.0; prefix = p.1.1 })
-    (λ _. refl)
+-- what lies under the lock
+abbrev pub held_code : Coded Held
+held_code = code_by (Core × Prefix) (coded× core_code prefix_code) (λ x. (x.desk, x.prefix)) (λ p. record { desk = p.0; prefix = p.1 }) (λ _. refl)
 
 -- a pass, and its desk
 abbrev pub pass_code : Coded Pass

@@ -1,6 +1,6 @@
 //! The answer to a step, without the pod that it may hand out.
 ghost use Rattle.std.specs.Prelude.{◌≡◌};
-ghost use Rattle.desk.specs.BareReply.{bare_reply, reply_with};
+ghost use Rattle.desk.specs.BareReply.{bare_reply, is_refused, reply_with};
 
 use crate::step::{Counts, Reply};
 use book::Refusal;
@@ -35,6 +35,13 @@ impl BareReply {
             Reply::Counts(counts) => BareReply::Counts(*counts),
             Reply::Refused(why) => BareReply::Refused(*why),
         }
+    }
+
+    // Whether the step was refused.
+    pub(crate) fn is_refused(&self) -> bool
+        ensures { result ≡ is_refused self.now }
+    {
+        matches!(self, BareReply::Refused(_))
     }
 
     // The answer, with the pod that the step hands out.

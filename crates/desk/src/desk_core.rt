@@ -1,22 +1,22 @@
-//! The state of a desk, and each step on it. It has one owner: what passes share stands over two of these.
+//! The state of a desk, and each step on it. It has one owner: what passes share it by is a lock, and a board for looks.
 ghost use Rattle.std.specs.Prelude.{◌≡◌, ◌≤◌, ◌<◌, ◌+◌, ℕ, map, IfOk, IfSome, IsErr, MatchResult, slice_index};
 ghost use Rattle.std.specs.Bool.{IsTrue};
-ghost use Rattle.desk.specs.Caller.{HasNoCalls};
 ghost use Rattle.desk.specs.BareReply.{bare_reply};
 ghost use Rattle.book.specs.Expiry.{any_expired, without_expired};
 ghost use Rattle.desk.specs.Machine.{after_expiry};
+ghost use Rattle.desk.specs.declared.limits.TheConstants.{MAX_CALLS};
+
+mod noting;
 
 use crate::bare_reply::BareReply;
-use crate::limits::{MAX_CALLS, MAX_PASSES};
-use crate::snapshot::Row;
+use crate::limits::MAX_PASSES;
 use crate::step::{Counts, Reply, Step};
 use book::{Book, ClusterStep, Entry, Limits, NoMemory, Refusal};
 use quant::{Event, LATEST_MOMENT, Moment, Name, Request, SharedPod, Ticket, Version};
 use queue::{Failure, PassNumber, Queue};
-use std::alloc::{AllocError, Global};
+use std::alloc::Global;
 use std::hash::RandomState;
 use std::marker::Model;
-use std::sync::Arc;
 
 /// Book, queue and clock, how many calls of each pass were answered, and of how many passes calls are taken. Each step is done
 /// or refused here.
@@ -50,15 +50,10 @@ impl Model for Core {
 
 impl Core {
     ghost use Rattle.desk.specs.Caller.{new_core, with_state, IsTimely, hands_out};
-    ghost use Rattle.desk.specs.Shared.{may_call};
     ghost use Rattle.desk.specs.Machine.{both, of_node, moved, step, entry_for, counts, reply, after, snapshot};
     ghost use Rattle.desk.specs.Machine as machine;
     ghost use Rattle.desk.specs.Done.{IsTold, IsTaken, IsDone, IsSaid};
     ghost use Rattle.desk.specs.BareReply.{bare_reply, handed_by};
-    ghost use Rattle.desk.specs.Shown.{shown};
-    ghost use Rattle.desk.specs.NodeCalls.{nodes_in, nodes_of};
-    ghost use Rattle.std.specs.Arc.{arc_value};
-    ghost use Rattle.std.specs.FinMap.{len};
     ghost use Rattle.queue.specs.Queue as queue;
 
     /// No nodes and no pods; calls are taken of all passes. Names are looked up under the keys, so that nobody can choose names
@@ -346,22 +341,6 @@ impl Core {
         }
     }
 
-    /// Whether a pass of this number was handed out, and has a call left.
-    pub(crate) fn has_call_for(&self, pass: usize) -> bool
-        ensures { result ≡ may_call self.now pass }
-    {
-        pass < self.handed && self.calls[pass] < MAX_CALLS
-    }
-
-    /// Whether so many calls of this pass were answered, and none of the passes from this number on.
-    pub(crate) fn counts_alike(&self, pass: usize, calls: u64, handed: usize) -> bool
-        requires { pass < MAX_PASSES }
-        ensures calls { IsTrue result → slice_index self.now.state.calls pass ≡ calls }
-        ensures handed { IsTrue result → HasNoCalls handed self.now.state.calls }
-    {
-        self.calls[pass] == calls && has_none_from(&self.calls, handed)
-    }
-
     /// The book as it is.
     pub(crate) fn into_book(self) -> Book
         ensures { result ≡ self.state.cluster }
@@ -385,68 +364,6 @@ impl Core {
         self.calls[pass] += 1;
         said
     }
-
-    /// The rows of the nodes, with what is used of each. Rows that have the same nodes are taken over, and what is used written
-    /// into them.
-    pub(crate) fn show(&self, before: Option<Vec<Row>>) -> Result<Arc<Vec<Row>>, NoMemory>
-        requires { IfSome before (λ rows. nodes_of rows.items ≡ nodes_in self.now.state.cluster) }
-        ensures { IfOk result (λ rows. map shown (arc_value rows).items ≡ snapshot self.now.state.cluster) }
-    {
-        let rows = self.rows_now(before)?;
-        let shared = Arc::new(self.alloc, rows).map_err(AllocError::from)?;
-        Ok(shared)
-    }
-
-    fn rows_now(&self, before: Option<Vec<Row>>) -> Result<Vec<Row>, NoMemory>
-        requires { IfSome before (λ rows. nodes_of rows.items ≡ nodes_in self.now.state.cluster) }
-        ensures { IfOk result (λ rows. map shown rows.items ≡ snapshot self.now.state.cluster) }
-    {
-        match before {
-            Some(rows) => Ok(self.show_in(rows)),
-            None => self.show_anew(),
-        }
-    }
-
-    // These rows, with what is used now.
-    fn show_in(&self, before: Vec<Row>) -> Vec<Row>
-        requires { nodes_of before.items ≡ nodes_in self.now.state.cluster }
-        ensures { map shown result.items ≡ snapshot self.now.state.cluster }
-    {
-        let totals = self.book.used_of_rows();
-        let mut rows = before;
-        for (at, row) in rows.iter_mut().enumerate() {
-            row.used = totals[at];
-        }
-        rows
-    }
-
-    // Rows of all nodes, each of which has an owner more then.
-    fn show_anew(&self) -> Result<Vec<Row>, NoMemory>
-        ensures snapshot { IfOk result (λ rows. map shown rows.items ≡ snapshot self.now.state.cluster) }
-        ensures no_memory { IsErr result → 1 ≤ len self.now.state.cluster.nodes }
-    {
-        let nodes = self.book.rows();
-        let totals = self.book.used_of_rows();
-        let mut rows = Vec::with_capacity(self.alloc, nodes.len())?;
-        for (at, node) in nodes.iter().enumerate() {
-            let used = totals[at];
-            let node = node.share()?;
-            rows.push(Row { node, used }).map_err(AllocError::from)?;
-        }
-        Ok(rows)
-    }
-}
-
-// Whether no call of the passes from this number on was answered.
-fn has_none_from(calls: &[u64; MAX_PASSES], handed: usize) -> bool
-    ensures { IsTrue result → HasNoCalls handed calls.now }
-{
-    for pass in handed..MAX_PASSES {
-        if calls[pass] != 0 {
-            return false;
-        }
-    }
-    true
 }
 
 // The places that expire at this moment go, the one with the least uid first, and their pods back off from now on. Whether there

@@ -15,6 +15,9 @@
 #![tactic(auto)]
 
 mod bare_reply;
+mod board;
+mod board_rule;
+mod change;
 mod desk;
 mod desk_core;
 mod history;
@@ -23,10 +26,9 @@ mod laws;
 mod limits;
 mod next_call;
 mod pass;
-mod published;
-mod published_rule;
 mod snapshot;
 mod step;
+mod subject;
 mod under_lock;
 
 pub use book::{Limits, NoMemory, Refusal};

@@ -5,12 +5,13 @@ ghost use Rattle.std.specs.Bool.{IsTrue};
 ghost use Rattle.desk.specs.History.{HasCallsOf, state_after};
 ghost use Rattle.desk.specs.Machine.{opening};
 ghost use Rattle.desk.specs.NodeCalls.{WereShown, nodes_in, nodes_of};
-ghost use Rattle.desk.specs.Shared.{Stands, IsAhead, IsLooked};
+ghost use Rattle.desk.specs.Board.{IsBoard};
+ghost use Rattle.desk.specs.Shared.{IsAhead, IsLooked};
 ghost use Rattle.desk.specs.declared.limits.TheConstants.{MAX_PASSES};
 
+use crate::board::Board;
+use crate::board_rule::{BoardRule, Sees};
 use crate::history::{Naming, Prefix};
-use crate::published::Published;
-use crate::published_rule::{PublishedRule, Sees};
 use crate::snapshot::{Row, Snapshot};
 use book::NoMemory;
 use left_right::reader::Reader;
@@ -25,7 +26,7 @@ pub struct Pass<J: Naming> {
     calls: u64,
     prefix: Prefix,
     // It is there between calls.
-    reader: Option<Reader<Published, (), PublishedRule<J>>>,
+    reader: Option<Reader<Board, (), BoardRule<J>>>,
     last: Option<Last>,
 }
 
@@ -59,7 +60,7 @@ impl<J: Naming> Pass<J> {
     pub(crate) fn new(
         number: usize,
         nothing: Prefix,
-        reader: Reader<Published, (), PublishedRule<J>>,
+        reader: Reader<Board, (), BoardRule<J>>,
     ) -> Self
         requires { nothing ≡ record { book = J.book; list = [] } }
         ensures { result ≡ record { caller = record { number = number; calls = 0 }; seen = [] } }
@@ -87,14 +88,13 @@ impl<J: Naming> Pass<J> {
 
     /// Whether the published history begins with what the pass has seen, has just the calls that it made, and none of a
     /// pass that wasn't handed out. It is always so; but what threads share tells a proof no more than its rule.
-    pub(crate) fn may_go_on(&self, published: &Published, handed: usize) -> bool
-        requires stands { Stands J.book J.limits published.now }
+    pub(crate) fn may_go_on(&self, board: &Board, handed: usize) -> bool
+        requires stands { IsBoard J.book J.limits board.now }
         requires of { self.now.caller.number < handed }
         requires handed { handed ≤ MAX_PASSES }
-        ensures { IsTrue result → IsAhead (record { limits = J.limits; handed = handed }) self.now published.now.prefix.list }
+        ensures { IsTrue result → IsAhead (record { limits = J.limits; handed = handed }) self.now board.now.prefix.list }
     {
-        self.prefix.begins(&published.prefix)
-            && published.desk.counts_alike(self.number, self.calls, handed)
+        self.prefix.begins(&board.prefix) && board.counts_alike(self.number, self.calls, handed)
     }
 
     /// It has seen this history from now on.
@@ -141,24 +141,24 @@ impl<J: Naming> Pass<J> {
     }
 
     // Shows this, and has then seen its history.
-    fn look_at(&mut self, published: &Published, handed: usize) -> Result<Snapshot, NoMemory>
-        requires stands { Stands J.book J.limits published.now }
+    fn look_at(&mut self, board: &Board, handed: usize) -> Result<Snapshot, NoMemory>
+        requires stands { IsBoard J.book J.limits board.now }
         requires of { self.old.caller.number < handed }
         requires handed { handed ≤ MAX_PASSES }
         ensures looked { IfOk result (λ shown. IsLooked (record { limits = J.limits; handed = handed }) self.old shown self.new) }
         ensures err { OnErr result (self.new ≡ self.old) }
     {
-        if !self.may_go_on(published, handed) {
+        if !self.may_go_on(board, handed) {
             return Err(NoMemory);
         }
-        let before = rows_again::<J>(self.last.take(), &published.prefix);
-        let rows = published.desk.show(before)?;
+        let before = rows_again::<J>(self.last.take(), &board.prefix);
+        let rows = board.show(before)?;
         let shown = Snapshot::new(rows.clone()?);
         self.last = Some(Last {
-            prefix: published.prefix.again(),
+            prefix: board.prefix.again(),
             rows,
         });
-        self.see(&published.prefix);
+        self.see(&board.prefix);
         Ok(shown)
     }
 }

@@ -1,7 +1,6 @@
 //! What a look shows.
-ghost use Rattle.std.specs.Prelude.{◌≡◌, map};
-ghost use Rattle.std.specs.Arc.{arc_value};
-ghost use Rattle.desk.specs.Shown.{shown};
+ghost use Rattle.std.specs.Prelude.{◌≡◌};
+ghost use Rattle.desk.specs.Plain.{is_plain};
 
 use quant::{Res, SharedNode};
 use std::marker::Model;
@@ -14,6 +13,11 @@ pub struct Row {
     pub node: SharedNode,
     /// What the pods on the node use together.
     pub used: Res,
+    // What a choice reads of most nodes stands here too, so that it needn't look where the node lies.
+    allocatable: Res,
+    plain: bool,
+    ghost allocatable_is: { allocatable ≡ node.allocatable },
+    ghost plain_is: { plain ≡ is_plain node },
 }
 
 /// The nodes that are there, in the order of their names' bytes, each with what the pods on it use.
@@ -37,7 +41,45 @@ impl Model for Snapshot {
     ghost view = { λ s. map shown (arc_value s.rows).items };
 }
 
+impl Row {
+    ghost use Rattle.desk.specs.Shown.{shown};
+
+    /// A node, with what the pods on it use together.
+    pub fn new(node: SharedNode, used: Res) -> Self
+        ensures { shown result ≡ record { node = node; used = used } }
+    {
+        let allocatable = node.allocatable;
+        let plain = !node.unschedulable && node.taints.is_empty();
+        Row {
+            node,
+            used,
+            allocatable,
+            plain,
+        }
+    }
+
+    /// What the node has for pods. The node isn't looked into.
+    #[inline]
+    pub fn allocatable(&self) -> Res
+        ensures { result ≡ self.now.node.allocatable }
+    {
+        self.allocatable
+    }
+
+    /// Whether the node isn't marked unschedulable and has no taints. The node isn't looked into.
+    #[inline]
+    pub fn is_plain(&self) -> bool
+        ensures { result ≡ is_plain self.now.node }
+    {
+        self.plain
+    }
+}
+
 impl Snapshot {
+    ghost use Rattle.std.specs.Prelude.{map};
+    ghost use Rattle.std.specs.Arc.{arc_value};
+    ghost use Rattle.desk.specs.Shown.{shown};
+
     pub(crate) fn new(rows: Arc<Vec<Row>>) -> Self
         ensures { result ≡ map shown (arc_value rows).items }
     {

@@ -1,19 +1,23 @@
-//! What lies under a desk's lock: what is published, and the one way to change it.
-ghost use Rattle.std.specs.Prelude.{◌≡◌, ◌<◌, ◌≤◌, ◌++◌, ◌∷◌, [], fold, drop, IfOk, OnErr, IsErr, MatchBool};
+//! What lies under a desk's lock: the desk itself, and the one way to change what is published of it.
+ghost use Rattle.std.specs.Prelude.{◌≡◌, ◌+◌, ◌<◌, ◌≤◌, ◌++◌, ◌∷◌, [], fold, drop, slice_index, IfOk, OnErr, IsErr, MatchBool};
+ghost use Rattle.desk.specs.Board.{IsBoard, IsSubject, board_after};
 ghost use Rattle.desk.specs.Caller.{IsTimely};
-ghost use Rattle.desk.specs.BareReply.{handed_by};
-ghost use Rattle.desk.specs.Shared.{Stands, IsAhead, IsApplied, Met, Closed, published_after, first_published, no_order, order_of};
+ghost use Rattle.desk.specs.BareReply.{bare_reply, handed_by};
+ghost use Rattle.desk.specs.Machine.{reply};
+ghost use Rattle.desk.specs.Shared.{Stands, IsAhead, IsApplied, Met, Closed, held_after, prefix_after};
 ghost use Rattle.desk.specs.declared.limits.TheConstants.{MAX_PASSES, MAX_CALLS};
 
 use crate::bare_reply::BareReply;
+use crate::board::{Board, Order};
+use crate::board_rule::{BoardRule, Sees};
+use crate::change::Change;
 use crate::desk_core::Core;
 use crate::history::{Head, Naming, Prefix};
 use crate::limits::{MAX_CALLS, MAX_PASSES};
 use crate::next_call::NextCall;
 use crate::pass::Pass;
-use crate::published::{Order, Published};
-use crate::published_rule::{PublishedRule, Sees};
 use crate::step::{Reply, Step};
+use crate::subject::Subject;
 use book::{Book, Limits, NoMemory};
 use left_right::reader::Reader;
 use left_right::writer::Writer;
@@ -24,54 +28,47 @@ use std::marker::Model;
 use std::mem::size_of;
 use std::sync::Wait;
 
-/// What lies under the lock. Contracts see what is published.
+/// What lies under the lock. Contracts see the desk with one owner, and the history that left it so.
 pub struct UnderLock<J: Naming> {
-    writer: Writer<Published, Order, (), PublishedRule<J>>,
+    core: Core,
+    prefix: Prefix,
+    writer: Writer<Board, Order, (), BoardRule<J>>,
     // Whether there is room for the calls that are to be published.
     has_room: bool,
 }
 
 impl<J: Naming> Model for UnderLock<J> {
-    ghost use Rattle.std.specs.Prelude.{◌≡◌, fold, drop};
-    ghost use Rattle.desk.specs.Shared.{Published as Standing, Stands, published_after};
-    ghost use Rattle.desk.specs.SharedCodes.{published_code};
+    ghost use Rattle.std.specs.Prelude.{fold, drop};
+    ghost use Rattle.desk.specs.Shared.{Held};
+    ghost use Rattle.desk.specs.Board.{IsPublished};
+    ghost use Rattle.desk.specs.SharedCodes.{held_code};
 
-    ghost Value = { Standing };
+    ghost Value = { Held };
 
-    ghost coded = { published_code };
+    ghost coded = { held_code };
 
-    ghost view = { λ l. l.writer.desk.shown.value };
+    ghost view = { λ l. record { desk = l.core; prefix = l.prefix } };
 
-    ghost invariant = { λ l. Stands J.book J.limits l.writer.desk.shown.value
-        × (fold published_after l.writer.desk.shown.value (drop l.writer.behind l.writer.log.items) ≡ l.writer.desk.shown.value) };
+    ghost invariant = { λ l. IsPublished J.book J.limits (record { desk = l.core; prefix = l.prefix }) l.writer.desk.shown.value (drop l.writer.behind l.writer.log.items) };
 }
 
-// A desk on which nothing was done, twice: what is published, and the copy beside it.
-fn opening(
-    alloc: Global,
-    keys: RandomState,
-    limits: Limits,
-    nothing: &Prefix,
-) -> Result<Published, NoMemory>
-    requires { nothing.now.list ≡ [] }
-    ensures { IfOk result (λ first. first ≡ first_published nothing.now.book limits) }
-{
-    let desk = Core::new(alloc, keys, limits)?;
-    Ok(Published {
-        desk,
-        said: BareReply::Done,
-        prefix: nothing.again(),
-    })
+/// What has to be there before a step, since after it nothing may fail: the history with the call, the pod that it hands out, and
+/// whose rows it may change.
+pub(crate) struct Ready {
+    prefix: Prefix,
+    pod: Option<SharedPod>,
+    subject: Subject,
 }
 
-// A call of no pass, which changes nothing.
-fn no_order(prefix: Prefix) -> Order
-    ensures { result ≡ no_order prefix }
+// Nothing is changed, with this history and these counts.
+fn no_order(board: &Board) -> Order
+    ensures { result ≡ record { change = Change.Nothing; pass = 0; calls = slice_index board.now.calls 0; prefix = board.now.prefix } }
 {
     Order {
-        pass: MAX_PASSES,
-        step: Step::Count,
-        prefix,
+        change: Change::Nothing,
+        pass: 0,
+        calls: board.calls_of(0),
+        prefix: board.prefix.again(),
     }
 }
 
@@ -82,9 +79,9 @@ const _: () = prove!(size_of::<Order>() <= 1_024);
 // Adds a call to those that are to be published. It waits for room, where there is none.
 fn add_order<J: Naming, R: Wait>(
     rt: &R,
-    writer: Writer<Published, Order, (), PublishedRule<J>>,
+    writer: Writer<Board, Order, (), BoardRule<J>>,
     order: Order,
-) -> Writer<Published, Order, (), PublishedRule<J>>
+) -> Writer<Board, Order, (), BoardRule<J>>
     ensures { (result.desk.shown.value ≡ writer.desk.shown.value) × (drop result.behind result.log.items ≡ drop writer.behind writer.log.items ++ order ∷ []) }
 {
     let mut writer = writer;
@@ -101,10 +98,10 @@ fn add_order<J: Naming, R: Wait>(
 // Publishes the calls that are to be published. It waits where a row can have no further owner.
 fn publish_orders<J: Naming, R: Wait>(
     rt: &R,
-    writer: Writer<Published, Order, (), PublishedRule<J>>,
-) -> Writer<Published, Order, (), PublishedRule<J>>
-    requires { Stands J.book J.limits (fold published_after writer.desk.shown.value (drop writer.behind writer.log.items)) }
-    ensures { (result.desk.shown.value ≡ fold published_after writer.desk.shown.value (drop writer.behind writer.log.items))
+    writer: Writer<Board, Order, (), BoardRule<J>>,
+) -> Writer<Board, Order, (), BoardRule<J>>
+    requires { IsBoard J.book J.limits (fold board_after writer.desk.shown.value (drop writer.behind writer.log.items)) }
+    ensures { (result.desk.shown.value ≡ fold board_after writer.desk.shown.value (drop writer.behind writer.log.items))
         × (drop result.behind result.log.items ≡ []) }
 {
     let mut writer = writer;
@@ -129,10 +126,13 @@ impl<J: Naming> UnderLock<J> {
         requires limits { limits ≡ J.limits }
         requires nothing { nothing.now ≡ record { book = J.book; list = [] } }
     {
-        let first = opening(alloc, keys, limits, nothing)?;
-        let second = opening(alloc, keys, limits, nothing)?;
+        let core = Core::new(alloc, keys, limits)?;
+        let first = Board::new(alloc, limits, nothing)?;
+        let second = Board::new(alloc, limits, nothing)?;
         let writer = Writer::new(alloc, first, second, MAX_PASSES)?;
         let mut made = UnderLock {
+            core,
+            prefix: nothing.again(),
             writer,
             has_room: false,
         };
@@ -141,7 +141,7 @@ impl<J: Naming> UnderLock<J> {
     }
 
     /// A reader of what is published.
-    pub(crate) fn reader(&self) -> Result<Reader<Published, (), PublishedRule<J>>, AllocError> {
+    pub(crate) fn reader(&self) -> Result<Reader<Board, (), BoardRule<J>>, AllocError> {
         self.writer.factory().reader()
     }
 
@@ -150,8 +150,8 @@ impl<J: Naming> UnderLock<J> {
         ensures { self.new ≡ self.old }
     {
         if !self.has_room {
-            let prefix = self.writer.published().prefix.again();
-            match self.writer.append(no_order(prefix)) {
+            let order = no_order(self.writer.published());
+            match self.writer.append(order) {
                 Ok(()) => self.has_room = true,
                 Err(_) => return Err(NoMemory),
             }
@@ -159,36 +159,24 @@ impl<J: Naming> UnderLock<J> {
         Ok(())
     }
 
-    // Publishes a call.
-    fn publish<R: Wait>(self, rt: &R, order: Order) -> Self
-        requires { Stands J.book J.limits (published_after self order) }
-        ensures { result ≡ published_after self order }
-    {
-        let UnderLock { writer, has_room } = self;
-        let writer = add_order(rt, writer, order);
-        let writer = publish_orders(rt, writer);
-        UnderLock { writer, has_room }
-    }
-
-    // Gets all that can fail ready for a step, if the pass has a call left: the call as it is to be published, and the pod
-    // that it hands out.
+    // Gets all that can fail ready for a step, if the pass has a call left.
     fn get_ready(
         &mut self,
         head: &Head<J>,
         handed: usize,
         pass: &Pass<J>,
-        step: Step,
-    ) -> Result<(Order, Option<SharedPod>), NoMemory>
+        step: &Step,
+    ) -> Result<Ready, NoMemory>
         requires of { pass.now.caller.number < handed }
         requires handed { handed ≤ MAX_PASSES }
-        requires timely { IsTimely step }
         ensures same { self.new ≡ self.old }
         ensures left { IfOk result (λ ready. pass.now.caller.calls < MAX_CALLS) }
         ensures stands { IfOk result (λ ready. Stands J.book J.limits self.old) }
         ensures used_up { MAX_CALLS ≤ pass.now.caller.calls → IsErr result }
         ensures ahead { IfOk result (λ ready. IsAhead (record { limits = J.limits; handed = handed }) pass.now self.old.prefix.list) }
-        ensures order { IfOk result (λ ready. ready.0 ≡ order_of self.old pass.now.caller step) }
-        ensures pod { IfOk result (λ ready. ready.1 ≡ handed_by self.old.desk.state step) }
+        ensures prefix { IfOk result (λ ready. ready.prefix ≡ prefix_after self.old pass.now.caller step.now) }
+        ensures pod { IfOk result (λ ready. ready.pod ≡ handed_by self.old.desk.state step.now) }
+        ensures subject { IfOk result (λ ready. IsSubject self.old.desk.state.cluster step.now ready.subject) }
     {
         if pass.calls() >= MAX_CALLS {
             return Err(NoMemory);
@@ -198,44 +186,85 @@ impl<J: Naming> UnderLock<J> {
         Ok(ready)
     }
 
-    // The call as it is to be published, and the pod that it hands out.
+    // What has to be there before the step.
     fn prepare(
         &self,
         head: &Head<J>,
         handed: usize,
         pass: &Pass<J>,
-        step: Step,
-    ) -> Result<(Order, Option<SharedPod>), NoMemory>
+        step: &Step,
+    ) -> Result<Ready, NoMemory>
         requires of { pass.now.caller.number < handed }
         requires handed { handed ≤ MAX_PASSES }
         requires fits { pass.now.caller.calls < MAX_CALLS }
-        requires timely { IsTimely step }
         ensures stands { Stands J.book J.limits self.now }
         ensures ahead { IfOk result (λ ready. IsAhead (record { limits = J.limits; handed = handed }) pass.now self.now.prefix.list) }
-        ensures order { IfOk result (λ ready. ready.0 ≡ order_of self.now pass.now.caller step) }
-        ensures pod { IfOk result (λ ready. ready.1 ≡ handed_by self.now.desk.state step) }
+        ensures prefix { IfOk result (λ ready. ready.prefix ≡ prefix_after self.now pass.now.caller step.now) }
+        ensures pod { IfOk result (λ ready. ready.pod ≡ handed_by self.now.desk.state step.now) }
+        ensures subject { IfOk result (λ ready. IsSubject self.now.desk.state.cluster step.now ready.subject) }
     {
-        let published = self.writer.published();
-        if !pass.may_go_on(published, handed) {
+        if !pass.may_go_on(self.writer.published(), handed) {
             return Err(NoMemory);
         }
-        let pod = published.desk.pod_for(&step)?;
-        let by = pass.number();
+        let pod = self.core.pod_for(step)?;
+        let subject = self.core.subject_of(step)?;
         let next = NextCall {
-            desk: &published.desk,
-            pass: by,
+            desk: &self.core,
+            pass: pass.number(),
             number: pass.calls() + 1,
-            step: &step,
+            step,
         };
-        let Some(prefix) = published.prefix.with_call(head, &next) else {
+        let Some(prefix) = self.prefix.with_call(head, &next) else {
             return Err(NoMemory);
         };
-        let order = Order {
-            pass: by,
-            step,
+        Ok(Ready {
             prefix,
+            pod,
+            subject,
+        })
+    }
+
+    // Does a step, or refuses it, says so, counts the call and publishes what it changed.
+    fn take_call<R: Wait>(
+        self,
+        rt: &R,
+        pass: &Pass<J>,
+        step: Step,
+        prefix: Prefix,
+        subject: Subject,
+    ) -> (Self, BareReply)
+        requires number { pass.now.caller.number < self.desk.handed }
+        requires fits { pass.now.caller.calls < MAX_CALLS }
+        requires calls { slice_index self.desk.state.calls pass.now.caller.number ≡ pass.now.caller.calls }
+        requires timely { IsTimely step }
+        requires subject { IsSubject self.desk.state.cluster step subject }
+        requires stands { Stands J.book J.limits (held_after self pass.now.caller.number step prefix) }
+        ensures held { result.0 ≡ held_after self pass.now.caller.number step prefix }
+        ensures said { result.1 ≡ bare_reply (reply self.desk.state pass.now.caller.number step) }
+    {
+        let UnderLock {
+            core,
+            prefix: _before,
+            writer,
+            has_room,
+        } = self;
+        let mut core = core;
+        let (said, change) = core.take_noted(pass.number(), step, subject);
+        let order = Order {
+            change,
+            pass: pass.number(),
+            calls: pass.calls() + 1,
+            prefix: prefix.again(),
         };
-        Ok((order, pod))
+        let writer = add_order(rt, writer, order);
+        let writer = publish_orders(rt, writer);
+        let held = UnderLock {
+            core,
+            prefix,
+            writer,
+            has_room,
+        };
+        (held, said)
     }
 
     /// Does a step, or refuses it, publishes that, and counts the call.
@@ -256,14 +285,19 @@ impl<J: Naming> UnderLock<J> {
         ensures same { OnErr result.1 (result.0 ≡ self) }
     {
         let mut held = self;
-        match held.get_ready(head, handed, pass, step) {
+        match held.get_ready(head, handed, pass, &step) {
             Err(no_memory) => (held, Err(no_memory)),
-            Ok((order, pod)) => {
-                let prefix = order.prefix.again();
-                let held = held.publish(rt, order);
-                pass.count(prefix);
-                let answer = held.writer.published().said.with(pod);
-                (held, Ok(answer))
+            Ok(
+                Ready {
+                    prefix,
+                    pod,
+                    subject,
+                },
+            ) => {
+                let seen = prefix.again();
+                let (held, said) = held.take_call(rt, pass, step, prefix, subject);
+                pass.count(seen);
+                (held, Ok(said.with(pod)))
             }
         }
     }
@@ -276,12 +310,12 @@ impl<J: Naming> UnderLock<J> {
         ensures { MatchBool result (Met (record { limits = J.limits; handed = handed }) first.old second.old first.new second.new) ((first.new ≡ first.old)
             × (second.new ≡ second.old)) }
     {
-        let published = self.writer.published();
-        if !first.may_go_on(published, handed) || !second.may_go_on(published, handed) {
+        let board = self.writer.published();
+        if !first.may_go_on(board, handed) || !second.may_go_on(board, handed) {
             return false;
         }
-        first.see(&published.prefix);
-        second.see(&published.prefix);
+        first.see(&board.prefix);
+        second.see(&board.prefix);
         true
     }
 
@@ -292,6 +326,8 @@ impl<J: Naming> UnderLock<J> {
         ensures { Closed (record { limits = J.limits; handed = handed }) pass.old pass.new result }
     {
         let UnderLock {
+            core,
+            prefix,
             writer,
             has_room: _,
         } = self;
@@ -300,18 +336,16 @@ impl<J: Naming> UnderLock<J> {
                 break;
             }
         }
-        pass.see(&writer.published().prefix);
-        let Published {
-            desk,
-            said: _,
-            prefix: _front,
-        } = Box::into_inner(writer.take(rt));
-        desk.into_book()
+        pass.see(&prefix);
+        drop(writer.take(rt));
+        core.into_book()
     }
 
     /// Waits for the readers, and ends the desk.
     pub(crate) fn discard<R: Wait>(self, rt: &R) {
         let UnderLock {
+            core: _core,
+            prefix: _prefix,
             writer,
             has_room: _,
         } = self;

@@ -2,36 +2,38 @@ use Rattle.std.proofs.Common.{◌≡◌, map, refl, ap, sym, ◌∙◌}
 use Rattle.std.specs.Arc.{arc_value}
 use Rattle.std.specs.Global.{Vec}
 use Rattle.desk.specs.declared.snapshot.Row.{Row}
+use Rattle.desk.specs.Board.{Board}
 use Rattle.desk.specs.History.{state_after}
-use Rattle.desk.specs.Machine.{opening, snapshot}
+use Rattle.desk.specs.Machine.{opening}
 use Rattle.desk.specs.NodeCalls.{nodes_in}
-use Rattle.desk.specs.Shared.{Pass, Prefix, Published}
+use Rattle.desk.specs.Shared.{Pass, Prefix}
 use Rattle.desk.specs.Shown.{shown}
-use Rattle.desk.proofs.NodesStay.{nodes_shown, nodes_published}
-use Rattle.desk.proofs.Sharing.{looked}
+use Rattle.desk.proofs.NodesStay.{nodes_shown, nodes_published, used_long}
+use Rattle.desk.proofs.Sharing.{looked_on_board}
 use Rattle.desk.proofs.pass.Pass.look_at.Goals as goal
 
 -- the published history's snapshot is shown, and has then been seen
 pub returns-clause-looked : goal.returns-clause-looked
 returns-clause-looked g c =
     let p = c.args.self.now in
-    looked g.J.Naming.book g.J.Naming.limits c.args.published.now c.requires.stands c.args.handed p c.see.new.self c.new-shown.result (c.if-not-may_go_on.ensures refl)
-    (c.see.ensures ∙ ap (λ (q : Pass). record q { seen = c.published.inside.prefix.list }) c.self.view_is ∙ ap (λ (y : Published). record p { seen = y.prefix.list }) c.published.view_is)
-    (c.new-shown.ensures ∙ ap (λ (v : Vec Row). map shown v.items) c.in_ok-clone.ensures.cases ∙ c.in_ok-rows.ensures ∙ ap (λ (y : Published). snapshot y.desk.state.cluster) c.published.view_is)
+    looked_on_board g.J.Naming.book g.J.Naming.limits c.args.board.now c.requires.stands c.args.handed p c.see.new.self c.new-shown.result (c.if-not-may_go_on.ensures refl)
+    (c.see.ensures ∙ ap (λ (q : Pass). record q { seen = c.board.inside.prefix.list }) c.self.view_is ∙ ap (λ (y : Board). record p { seen = y.prefix.list }) c.board.view_is)
+    (c.new-shown.ensures ∙ ap (λ (v : Vec Row). map shown v.items) c.in_ok-clone.ensures.cases ∙ c.in_ok-rows.ensures)
 
 -- what is kept for the next look has the nodes that the history leaves
 pub invariant_of-self-2 : goal.invariant_of-self-2
 invariant_of-self-2 g c =
     let book = g.J.Naming.book in
     let limits = g.J.Naming.limits in
-    let x = c.args.published.now in
-    let prefix : c.again.result ≡ x.prefix = c.again.ensures ∙ ap (λ (y : Published). y.prefix) c.published.view_is in (
+    let b = c.args.board.now in
+    let is = c.requires.stands in
+    let prefix : c.again.result ≡ b.prefix = c.again.ensures ∙ ap (λ (y : Board). y.prefix) c.board.view_is in (
       c.self.invariant.0,
       c.self.invariant.1,
       record {
-        book_is = ap (λ (k : Prefix). k.book) prefix ∙ c.requires.stands.book_is;
-        nodes_are = nodes_shown (arc_value c.in_ok-rows.rows).items x.desk.state.cluster (c.in_ok-rows.ensures ∙ ap (λ (y : Published). snapshot y.desk.state.cluster) c.published.view_is)
-            ∙ nodes_published book limits x c.requires.stands
+        book_is = ap (λ (k : Prefix). k.book) prefix ∙ ap (λ (y : Board). y.prefix.book) is.is ∙ is.stands.book_is;
+        nodes_are = nodes_shown (arc_value c.in_ok-rows.rows).items b.nodes b.used (used_long book limits b is) c.in_ok-rows.ensures
+            ∙ nodes_published book limits b is
             ∙ ap (λ (k : Prefix). nodes_in (state_after (opening limits) k.list).cluster) (sym prefix);
       },
     )

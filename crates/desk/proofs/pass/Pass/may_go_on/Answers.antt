@@ -1,6 +1,8 @@
 use Rattle.std.proofs.Common.{sym, ap, ◌∙◌, subst}
-use Rattle.desk.specs.Shared.{Published, Pass, Stands, IsAhead}
-use Rattle.desk.proofs.Sharing.{is_ahead}
+use mathlib.Core.List.{IsPrefix}
+use Rattle.desk.specs.Board.{Board}
+use Rattle.desk.specs.Shared.{Pass, IsAhead}
+use Rattle.desk.proofs.Sharing.{ahead_on_board}
 use Rattle.desk.proofs.pass.Pass.may_go_on.Goals as goal
 
 -- counts that agree, and a history that is no shorter
@@ -8,13 +10,11 @@ pub returns-then-begins : goal.returns-then-begins
 returns-then-begins g c alike =
     let book = g.J.Naming.book in
     let limits = g.J.Naming.limits in
-    let x : Published = record { desk = c.published.inside.desk; said = c.published.inside.said; prefix = c.published.inside.prefix } in
     let p : Pass = record { caller = record { number = c.self.inside.number; calls = c.self.inside.calls }; seen = c.self.inside.prefix.list } in
-    let stands : Stands book limits x = subst (Stands book limits) (sym c.published.view_is) c.requires.stands in
-    let ahead : IsAhead (record { limits = limits; handed = c.args.handed }) p x.prefix.list = is_ahead book limits x stands c.args.handed p c.self.invariant.0 (c.begins.ensures c.if-begins.true) (c.counts_alike.ensures.calls alike) (c.counts_alike.ensures.handed alike) in
-    subst (λ (q : Pass). IsAhead (record { limits = limits; handed = c.args.handed }) q c.args.published.now.prefix.list) c.self.view_is
-    (subst (λ (y : Published). IsAhead (record { limits = limits; handed = c.args.handed }) p y.prefix.list) c.published.view_is ahead)
+    let begins = subst (λ (y : Board). IsPrefix c.self.inside.prefix.list y.prefix.list) c.board.view_is (c.begins.ensures c.if-begins.true) in
+    let ahead : IsAhead (record { limits = limits; handed = c.args.handed }) p c.args.board.now.prefix.list = ahead_on_board book limits c.args.board.now c.requires.stands c.args.handed p c.self.invariant.0 begins (c.counts_alike.ensures.calls alike) (c.counts_alike.ensures.handed alike) in
+    subst (λ (q : Pass). IsAhead (record { limits = limits; handed = c.args.handed }) q c.args.board.now.prefix.list) c.self.view_is ahead
 
 -- both are of one history
 pub begins-requires : goal.begins-requires
-begins-requires g c = ap (λ (y : Published). y.prefix.book) c.published.view_is ∙ c.requires.stands.book_is ∙ sym c.self.invariant.1
+begins-requires g c = ap (λ (y : Board). y.prefix.book) (c.board.view_is ∙ c.requires.stands.is) ∙ c.requires.stands.stands.book_is ∙ sym c.self.invariant.1

@@ -1,16 +1,15 @@
-use Rattle.std.proofs.Common.{◌≡◌, refl, ap, ◌∙◌}
-use Rattle.desk.specs.Shared.{Published}
+use Rattle.std.proofs.Common.{◌∙◌}
+use Rattle.desk.specs.Shared.{Held}
+use Rattle.desk.proofs.Sharing.{is_board}
 use Rattle.desk.proofs.under_lock.UnderLock.meet.Goals as goal
 
--- both have seen what is published
-pub returns : goal.returns
-returns g c =
-    let published = c.published-published.result.now in
-    let same : c.published.inside.prefix.list ≡ published.prefix.list = ap (λ (x : Published). x.prefix.list) c.published.view_is in
-    record {
-      list = published.prefix.list;
-      first = c.if-not-may_go_on.ensures refl;
-      second = c.if-not-may_go_on-2.ensures refl;
-      first_new = c.see.ensures ∙ ap (λ l. record c.args.first.now { seen = l }) same;
-      second_new = c.see-2.ensures ∙ ap (λ l. record c.args.second.now { seen = l }) same;
-    }
+-- what is published is of what is held
+pub may_go_on-requires-clause-stands : goal.may_go_on-requires-clause-stands
+may_go_on-requires-clause-stands g c =
+    let x : Held = record { desk = c.self.inside.core; prefix = c.self.inside.prefix } in
+    is_board g.J.Naming.book g.J.Naming.limits x c.published-board.result.now c.self.invariant.stands (c.published-board.ensures ∙ c.self.invariant.shown)
+
+pub may_go_on-requires-else-not-may_go_on-clause-stands : goal.may_go_on-requires-else-not-may_go_on-clause-stands
+may_go_on-requires-else-not-may_go_on-clause-stands g c =
+    let x : Held = record { desk = c.self.inside.core; prefix = c.self.inside.prefix } in
+    is_board g.J.Naming.book g.J.Naming.limits x c.published-board.result.now c.self.invariant.stands (c.published-board.ensures ∙ c.self.invariant.shown)

@@ -1,18 +1,18 @@
 //! The rule of what is published: a history stands behind it.
+use crate::board::Board;
 use crate::history::Naming;
-use crate::published::Published;
 use crossbeam_utils::rule::{Outcome, Protocol};
 use std::marker::PhantomData;
 
 /// What is published is what its history leaves.
-pub struct PublishedRule<J> {
+pub struct BoardRule<J> {
     of: PhantomData<J>,
 }
 
-impl<J: Naming> Protocol<Published, ()> for PublishedRule<J> {
-    ghost use Rattle.desk.specs.Shared.{Stands};
+impl<J: Naming> Protocol<Board, ()> for BoardRule<J> {
+    ghost use Rattle.desk.specs.Board.{IsBoard};
 
-    ghost holds = { λ x views. Stands J.book J.limits x };
+    ghost holds = { λ x views. IsBoard J.book J.limits x };
 
     ghost first = { tt };
 }
@@ -22,8 +22,8 @@ pub struct Sees<J> {
     of: PhantomData<J>,
 }
 
-impl<J: Naming> Outcome<Published, ()> for Sees<J> {
-    ghost use Rattle.desk.specs.Shared.{Stands};
+impl<J: Naming> Outcome<Board, ()> for Sees<J> {
+    ghost use Rattle.desk.specs.Board.{IsBoard};
 
-    ghost then = { λ v before after w. Stands J.book J.limits after };
+    ghost then = { λ v before after w. IsBoard J.book J.limits after };
 }

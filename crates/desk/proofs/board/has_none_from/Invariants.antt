@@ -1,5 +1,5 @@
 use Rattle.std.proofs.Common.{◌≡◌, ◌≤◌, ◌<◌, ℕ, slice_index}
-use Rattle.desk.proofs.desk_core.has_none_from.Given as goal
+use Rattle.desk.proofs.board.has_none_from.Given as goal
 
 -- none of the passes so far has a call
 abbrev pub invariant-loop-pass : goal.invariant-loop-pass
