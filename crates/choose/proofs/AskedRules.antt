@@ -1,5 +1,6 @@
 -- What is known of the rules that were asked, one after the other.
-use Rattle.std.proofs.Common.{◌≡◌, ℕ, ◌+◌, ◌*◌, ◌≤◌, List, [], ◌∷◌, ◌++◌, length, Some, None, Ok, MatchOption, slice_get, get_or, refl, ap, sym, ◌∙◌, subst, arith, length-append}
+use Rattle.std.proofs.Common.{◌≡◌, ℕ, ◌+◌, ◌*◌, ◌≤◌, List, [], ◌∷◌, ◌++◌, length, Option, Some, None, Ok, MatchOption, slice_get, get_or, refl, ap, sym, ◌∙◌, subst, arith, length-append}
+use Rattle.std.specs.List.{AllZip}
 use Rattle.std.proofs.lemmas.List.{get_or_append_left, get_or_push}
 use Rattle.std.proofs.lemmas.Nat.{mul-le}
 use borrow.Author.Count.{below_more}
@@ -7,12 +8,13 @@ use Rattle.whost.specs.declared.records.Records.{Records}
 use Rattle.plugin.specs.RuleSet.{RuleSet}
 use Rattle.plugin.specs.declared.verdict.ScoreVerdict.TheVariants as score
 use Rattle.quant.specs.declared.objects.Pod.{Pod}
-use Rattle.fit.specs.Score.{least_allocated_score}
-use Rattle.taints.specs.Tolerance.{prefer_not}
 use Rattle.desk.specs.Shown.{Shown}
+use Rattle.choose.specs.declared.decision.Reason.{Reason}
 use Rattle.choose.specs.declared.decision.Verdict.{Verdict}
-use Rattle.choose.specs.declared.decision.Verdict.TheVariants.{Rejected, Passes}
-use Rattle.choose.specs.Verdict.{AreScores, weighted, built_in, ByRules, HasVerdict}
+use Rattle.choose.specs.declared.decision.Verdict.TheVariants.{Rejected}
+use Rattle.choose.specs.Verdict.{AreScores, weighted, built_in, passing, ByRules, HasVerdict}
+use Rattle.choose.specs.Choice.{AreVerdicts}
+use Rattle.choose.specs.Finding.{IsBuiltIn}
 
 -- the scores of the rules before a place are good, and this is their weighted sum
 pub record GoodBefore (rules : RuleSet) (told : Records) (place sum : ℕ) : Type 0 where
@@ -66,25 +68,33 @@ good_before_more rules told place sum w s before at says = record {
 pub product_within : (w s : ℕ) → w ≤ 10 → s ≤ 100 → w * s ≤ 1000
 product_within w s few good = mul-le w s 10 100 few good
 
--- where no built-in filter rejects a node, the rules decide
-pub by_rules : (rules : RuleSet) (pod : Pod) (shown : Shown) (verdict : Verdict) → built_in shown pod ≡ None → ByRules rules pod shown verdict → HasVerdict rules pod shown verdict
-by_rules rules pod shown verdict none by =
-    subst (λ found. MatchOption found (ByRules rules pod shown verdict) (λ reason. verdict ≡ Rejected reason)) (sym none) by
+-- where there is no rule, the verdict is that of the built-in filters and scores
+without_rules : (rules : RuleSet) (pod : Pod) (shown : Shown) (verdict : Verdict) → length rules.weights ≡ 0 → IsBuiltIn pod shown verdict → HasVerdict rules pod shown verdict
+without_rules rules pod shown verdict none = cases (built_in shown pod)
+  where
+    cases : (found : Option Reason) → MatchOption found (verdict ≡ passing shown pod 0) (λ reason. verdict ≡ Rejected reason)
+        → MatchOption found (ByRules rules pod shown verdict) (λ reason. verdict ≡ Rejected reason)
+    cases None is = record {
+      filtered = None;
+      are = λ k below. absurd (omega (arith, below, none));
+      is = record {
+        scored = Ok 0;
+        are = record {
+          scores = [];
+          all = sym none;
+          are = λ k below. absurd (omega (arith, below));
+          adds = nothing rules.weights;
+        };
+        is = is;
+      };
+    }
+    cases (Some reason) is = is
 
--- where there is no rule, a node that no built-in filter rejects passes with nothing added
-pub without_rules : (rules : RuleSet) (pod : Pod) (shown : Shown) (verdict : Verdict) → length rules.weights ≡ 0 →
-    verdict ≡ Passes (prefer_not shown.node pod) (least_allocated_score shown.node.allocatable shown.used pod.request) → ByRules rules pod shown verdict
-without_rules rules pod shown verdict none is = record {
-  filtered = None;
-  are = λ k below. absurd (omega (arith, below, none));
-  is = record {
-    scored = Ok 0;
-    are = record {
-      scores = [];
-      all = sym none;
-      are = λ k below. absurd (omega (arith, below));
-      adds = nothing rules.weights;
-    };
-    is = is ∙ ap (λ score. Passes (prefer_not shown.node pod) score) (omega arith);
-  };
-}
+-- and so on all nodes
+pub all_without_rules : (rules : RuleSet) (pod : Pod) (nodes : List Shown) (verdicts : List Verdict) → length rules.weights ≡ 0
+    → AllZip (IsBuiltIn pod) nodes verdicts → AreVerdicts rules pod nodes verdicts
+all_without_rules rules pod [] [] none are = tt
+all_without_rules rules pod [] (v ∷ verdicts) none are = absurd are
+all_without_rules rules pod (x ∷ nodes) [] none are = absurd are
+all_without_rules rules pod (x ∷ nodes) (v ∷ verdicts) none are =
+    (without_rules rules pod x v none are.0, all_without_rules rules pod nodes verdicts none are.1)

@@ -1,3 +1,4 @@
+pub mod Plain
 pub mod AskedRules
 pub mod Verdicts
 pub mod First

@@ -1,9 +1,12 @@
 //! The verdicts on nodes, one by one.
-ghost use Rattle.std.specs.Prelude.{◌≡◌, length, IfOk, map};
+ghost use Rattle.std.specs.Prelude.{◌≡◌, ◌≤◌, length, IfOk, map};
+ghost use Rattle.std.specs.List.{AllZip};
+ghost use Rattle.taints.specs.Tolerance.{prefer_not};
 ghost use Rattle.desk.specs.Shown.{shown};
 ghost use Rattle.whost.specs.Handed.{pod_records};
-ghost use Rattle.choose.specs.Verdict.{HasVerdict, built_in};
+ghost use Rattle.choose.specs.Verdict.{HasVerdict, built_in, passing};
 ghost use Rattle.choose.specs.Choice.{AreVerdicts};
+ghost use Rattle.choose.specs.Finding.{IsBuiltIn};
 
 use crate::asking::{filtered, scored};
 use crate::decision::{Reason, UNJUDGED, Verdict};
@@ -15,17 +18,20 @@ use std::alloc::{AllocError, Global};
 use taints::{Rejection, prefer_count, rejected_by};
 use whost::Records;
 
-/// The first of the built-in filters that rejects a node: its mark, its taints, its CPU, its memory and its number of pods.
-#[tactic(auto, unfolding(crate::specs::Verdict::built_in))]
+/// The first of the built-in filters that rejects a node: its mark, its taints, its CPU, its memory and its number of pods. A
+/// plain node isn't looked into.
+#[tactic(auto, using(crate::proofs::Plain::keeps_none_off), unfolding(crate::specs::Verdict::built_in))]
 fn built_in(row: &Row, pod: &Pod) -> Option<Reason>
     ensures { result ≡ built_in (shown row.now) pod.now }
 {
-    match rejected_by(&row.node, pod) {
-        Some(Rejection::Marked) => return Some(Reason::Marked),
-        Some(Rejection::Tainted) => return Some(Reason::Taint),
-        None => {}
+    if !row.is_plain() {
+        match rejected_by(&row.node, pod) {
+            Some(Rejection::Marked) => return Some(Reason::Marked),
+            Some(Rejection::Tainted) => return Some(Reason::Taint),
+            None => {}
+        }
     }
-    match fits(row.node.allocatable, row.used, pod.request) {
+    match fits(row.allocatable(), row.used, pod.request) {
         Ok(()) => None,
         Err(Shortage::Cpu) => Some(Reason::Cpu),
         Err(Shortage::Memory) => Some(Reason::Memory),
@@ -33,8 +39,37 @@ fn built_in(row: &Row, pod: &Pod) -> Option<Reason>
     }
 }
 
-/// The verdict on a node. Its records are written where there is a rule and no built-in filter rejects the node; the
-/// pod's stand already.
+// How many of a node's taints `PreferNoSchedule` a pod doesn't tolerate. A plain node isn't looked into.
+#[tactic(auto, using(crate::proofs::Plain::is_preferred))]
+fn untolerated(row: &Row, pod: &Pod) -> u8
+    ensures { result ≡ prefer_not row.now.node pod.now }
+{
+    if row.is_plain() {
+        return 0;
+    }
+    prefer_count(&row.node, pod)
+}
+
+// The verdict on a node that all filters pass, and whose scores of the rules come to this sum.
+fn passing(row: &Row, pod: &Pod, sum: u16) -> Verdict
+    requires { sum ≤ 16000 }
+    ensures { result ≡ passing (shown row.now) pod.now sum }
+{
+    let free = least_allocated(row.allocatable(), row.used, pod.request);
+    Verdict::Passes(untolerated(row, pod), u16::from(free) + sum)
+}
+
+// The verdict on a node where there is no rule. It needs no records.
+fn built_in_verdict(row: &Row, pod: &Pod) -> Verdict
+    ensures { IsBuiltIn pod.now (shown row.now) result }
+{
+    match built_in(row, pod) {
+        Some(reason) => Verdict::Rejected(reason),
+        None => passing(row, pod, 0),
+    }
+}
+
+/// The verdict on a node. Its records are written where no built-in filter rejects the node; the pod's stand already.
 pub fn verdict_of<R: Rules>(row: &Row, pod: &Pod, records: &mut Records, rules: &mut R) -> Verdict
     requires { records.old.pod ≡ pod_records pod.now }
     ensures is { HasVerdict (R.answers rules.old) pod.now (shown row.now) result }
@@ -44,24 +79,42 @@ pub fn verdict_of<R: Rules>(row: &Row, pod: &Pod, records: &mut Records, rules: 
     if let Some(reason) = built_in(row, pod) {
         return Verdict::Rejected(reason);
     }
-    let count = prefer_count(&row.node, pod);
-    let free = least_allocated(row.node.allocatable, row.used, pod.request);
-    if rules.count() == 0 {
-        return Verdict::Passes(count, u16::from(free));
-    }
     records.show_node(&row.node, &row.used);
     if let Some(stopped) = filtered(records, rules) {
         return stopped;
     }
     match scored(records, rules) {
-        Ok(sum) => Verdict::Passes(count, u16::from(free) + sum),
+        Ok(sum) => passing(row, pod, sum),
         Err(erring) => erring,
     }
 }
 
-/// Writes the verdicts on nodes into the places for them, in the nodes' order. The pod's records are written once, and no
-/// memory is taken.
+/// Writes the verdicts on nodes into the places for them, in the nodes' order. Where there is a rule the pod's records are
+/// written, once. No memory is taken.
 pub fn judge<R: Rules>(rows: &[Row], pod: &Pod, rules: &mut R, verdicts: &mut [Verdict])
+    requires { length verdicts.old ≡ length rows.now }
+    ensures are { AreVerdicts (R.answers rules.old) pod.now (map shown rows.now) verdicts.new }
+    ensures stays { rules.new ≡ rules.old }
+{
+    if rules.count() == 0 {
+        judge_alone(rows, pod, verdicts);
+    } else {
+        judge_by_rules(rows, pod, rules, verdicts);
+    }
+}
+
+// Writes the verdicts on nodes where there is no rule.
+fn judge_alone(rows: &[Row], pod: &Pod, verdicts: &mut [Verdict])
+    requires { length verdicts.old ≡ length rows.now }
+    ensures { AllZip (IsBuiltIn pod.now) (map shown rows.now) verdicts.new }
+{
+    for at in 0..rows.len() {
+        verdicts[at] = built_in_verdict(&rows[at], pod);
+    }
+}
+
+// Writes the verdicts on nodes, of which the rules are told by records.
+fn judge_by_rules<R: Rules>(rows: &[Row], pod: &Pod, rules: &mut R, verdicts: &mut [Verdict])
     requires { length verdicts.old ≡ length rows.now }
     ensures are { AreVerdicts (R.answers rules.old) pod.now (map shown rows.now) verdicts.new }
     ensures stays { rules.new ≡ rules.old }

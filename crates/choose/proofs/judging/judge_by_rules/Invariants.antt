@@ -2,7 +2,7 @@ use Rattle.std.proofs.Common.{◌≡◌, length, map, take}
 use Rattle.desk.specs.Shown.{shown}
 use Rattle.whost.specs.Handed.{pod_records}
 use Rattle.choose.specs.Choice.{AreVerdicts}
-use Rattle.choose.proofs.judging.judge.Given as goal
+use Rattle.choose.proofs.judging.judge_by_rules.Given as goal
 
 abbrev pub invariant-loop-at : goal.invariant-loop-at
 invariant-loop-at g l = record {
