@@ -164,10 +164,7 @@ fn row(alloc: Global, shape: Shape) -> Result<Row, Fail> {
         mem: Bytes(0),
         pods: u32::from(shape.used_cpu > 0),
     };
-    Ok(Row {
-        node: SharedNode::new(alloc, node)?,
-        used,
-    })
+    Ok(Row::new(SharedNode::new(alloc, node)?, used))
 }
 
 fn rows(alloc: Global, case: &Case) -> Result<Vec<Row>, Fail> {
