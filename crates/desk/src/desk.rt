@@ -94,8 +94,9 @@ impl<J: Naming> Desk<J> {
 
     /// Does a step, or refuses it and changes nothing but the pass's count of calls. It waits for the lock.
     ///
-    /// Errors: `NoMemory` where `MAX_CALLS` calls of the pass were answered, where a popped pod can have no further owner,
-    /// and where there is no room to publish a call; nothing changes.
+    /// Errors: `NoMemory` where `MAX_CALLS` calls of the pass were answered, where a popped pod or a node that is told of can have
+    /// no further owner, where places expire and there is no memory for what is used of each node, and where there is no room to
+    /// publish a call; nothing changes.
     pub fn apply<R: Wait>(&self, rt: &R, pass: &mut Pass<J>, step: Step) -> Result<Reply, NoMemory>
         requires of { IsPassOf pass.old self.now }
         requires timely { IsTimely step }
