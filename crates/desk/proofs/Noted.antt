@@ -32,7 +32,8 @@ use Rattle.desk.specs.declared.subject.Subject.TheVariants as subject
 use Rattle.desk.specs.Machine.{State, Outcome, both, unless, after, reply, told, of_node, of_pod, moved, moved_if_placed, entry_at, pass_number, refusal_to_fail, refusal_to_tick, ticked_to}
 use Rattle.desk.specs.BareReply.{bare_reply, is_refused}
 use Rattle.desk.specs.NodeCalls.{tells_of_node}
-use Rattle.desk.proofs.Steps.{read_insert, read_remove}
+use Rattle.book.proofs.SumLemmas.{remove_absent}
+use Rattle.desk.proofs.Steps.{absent, read_insert, read_remove}
 use Rattle.desk.proofs.Expiring.{get_unexpired}
 use Rattle.desk.specs.Board.{IsSubject, IsChange}
 use Rattle.desk.specs.declared.change.Change.TheVariants as change
@@ -349,3 +350,10 @@ module _ (s : State) (pass : ℕ) (e : Step) (listed : named (rows_in s.cluster.
           let none : fin.contains_key s.cluster.nodes name ≡ false = gap_absent s.cluster listed name at gap in
           let both : true ≡ false = ap not (sym none) ∙ there in
           absurd (cc)
+
+-- ---- the queue
+
+-- a pod without an entry has none to go
+pub unremoved : (q : QueueState) (uid : Name) → has_entry q uid ≡ false → after_remove q uid ≡ q
+unfolding after_remove
+unremoved q uid none = ap (λ e. record q { entries = e }) (remove_absent q.entries uid (absent (fin.get q.entries uid) none))

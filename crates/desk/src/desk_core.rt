@@ -54,6 +54,7 @@ impl Core {
     ghost use Rattle.desk.specs.Machine as machine;
     ghost use Rattle.desk.specs.Done.{IsTold, IsTaken, IsDone, IsSaid};
     ghost use Rattle.desk.specs.BareReply.{bare_reply, handed_by};
+    ghost use Rattle.queue.specs.Queue.{has_entry, after_remove};
     ghost use Rattle.queue.specs.Queue as queue;
 
     /// No nodes and no pods; calls are taken of all passes. Names are looked up under the keys, so that nobody can choose names
@@ -131,6 +132,16 @@ impl Core {
         Ok(Reply::Done)
     }
 
+    // A pod's entry goes, if there is one.
+    fn unqueue(&mut self, queued: bool, uid: &Name)
+        requires { queued ≡ has_entry self.old.state.queue uid.now }
+        ensures { self.new ≡ with_state self.old (record self.old.state { queue = after_remove self.old.state.queue uid.now }) }
+    {
+        if queued {
+            self.queue.remove(uid);
+        }
+    }
+
     // A pod is bound: it is there, in place of where it was, and its entry goes.
     fn bind_pod(
         &mut self,
@@ -142,8 +153,9 @@ impl Core {
         ensures { IsDone self.old (step self.old.state 0 (Step.Event (Event.PodBound version uid node request))) result self.new }
     {
         let bound = uid.copied();
+        let queued = self.queue.has(&uid);
         let part = ClusterStep::Event {
-            queued: self.queue.has(&uid),
+            queued,
             queue_full: self.queue.is_full(),
             event: Event::PodBound {
                 version,
@@ -153,7 +165,7 @@ impl Core {
             },
         };
         self.tell_book(part)?;
-        self.queue.remove(&bound);
+        self.unqueue(queued, &bound);
         Ok(Reply::Done)
     }
 
