@@ -106,6 +106,14 @@ module _ (free : ℕ) where
             | inr ne ↦ ap f (link_other k ne)
           ])
 
+      -- a whole link is written
+      pub link_set : s < room → hung (set v s l) room free ≡ record { nexts = set now.nexts s l.next; homes = set now.homes s l.home }
+      link_set within =
+          let nexts = written_set (λ p. p.next) within in
+          let homes = written_set (λ p. p.home) within in
+          let first : hung (set v s l) room free ≡ record { nexts = set (hung w room free).nexts s l.next; homes = set (hung w room free).homes s l.home } = λ t. record { nexts = nexts t; homes = homes t } in
+          first ∙ ap (λ (h : Hung). let made : Hung = record { nexts = set h.nexts s l.next; homes = set h.homes s l.home } in made) same
+
       -- another slot comes after one
       pub next_set : s < room → l.home ≡ (link_at v free s).home → hung (set v s l) room free ≡ record now { nexts = set now.nexts s l.next }
       next_set within as_before =

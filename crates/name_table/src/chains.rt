@@ -32,6 +32,7 @@ impl Chains {
     }
 
     /// Takes a slot out of its chain and puts it first in another.
+    #[inline]
     pub(crate) fn transfer(&mut self, slot: usize, chain: usize)
         requires woven { IsWoven self.old }
         requires a_slot { slot < length self.old.links.homes }
@@ -46,6 +47,7 @@ impl Chains {
     }
 
     // Takes a slot out of its chain.
+    #[inline]
     fn unhook(&mut self, slot: usize)
         requires woven { IsWoven self.old }
         requires a_slot { slot < length self.old.links.homes }
@@ -67,6 +69,7 @@ impl Chains {
     }
 
     // Puts a slot that hangs nowhere first in a chain.
+    #[inline]
     fn hook(&mut self, slot: usize, chain: usize)
         requires woven { IsWoven self.old }
         requires a_slot { slot < length self.old.links.homes }
@@ -77,9 +80,8 @@ impl Chains {
         ensures heads { length self.new.heads ≡ length self.old.heads }
     {
         let first = self.heads.get(chain);
-        self.links.set_next(slot, first);
+        self.links.set(slot, first, chain as u32);
         self.heads.set(chain, slot as u32);
-        self.links.set_home(slot, chain as u32);
     }
 }
 

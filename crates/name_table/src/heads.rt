@@ -54,6 +54,7 @@ impl Heads {
     }
 
     /// The first slot of a chain.
+    #[inline]
     pub(crate) fn get(&self, chain: usize) -> u32
         requires { chain < length self.now }
         ensures { result ≡ slice_index_or self.now chain 0 }
@@ -66,6 +67,7 @@ impl Heads {
     }
 
     /// Gives a chain another first slot.
+    #[inline]
     pub(crate) fn set(&mut self, chain: usize, head: u32)
         requires { chain < length self.old }
         ensures { self.new ≡ slice_set self.old chain head }
@@ -78,6 +80,7 @@ impl Heads {
 }
 
 // Writes a block as it is, if it never was.
+#[inline]
 fn open(blocks: &mut Vec<u32>, written: &mut Vec<u32>, block: usize, end: u32)
     requires blocks { AreBlocks blocks.old.items written.old.items }
     requires room { 256 * vec_len blocks.old ≤ vec_capacity written.old }

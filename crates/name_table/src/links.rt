@@ -61,6 +61,7 @@ impl Links {
     }
 
     /// The slot after a slot.
+    #[inline]
     pub(crate) fn next(&self, slot: usize) -> u32
         requires { slot < length self.now.nexts }
         ensures { result ≡ slice_index_or self.now.nexts slot 0 }
@@ -72,6 +73,7 @@ impl Links {
     }
 
     /// The chain of a slot.
+    #[inline]
     pub(crate) fn home(&self, slot: usize) -> u32
         requires { slot < length self.now.homes }
         ensures { result ≡ slice_index_or self.now.homes slot 0 }
@@ -82,7 +84,18 @@ impl Links {
         }
     }
 
+    /// Gives a slot a whole link.
+    #[inline]
+    pub(crate) fn set(&mut self, slot: usize, next: u32, home: u32)
+        requires { slot < length self.old.nexts }
+        ensures { self.new ≡ record { nexts = slice_set self.old.nexts slot next; homes = slice_set self.old.homes slot home } }
+    {
+        write_up_to(&mut self.written, slot, self.free);
+        self.written[slot] = Link { next, home };
+    }
+
     /// Puts another slot after a slot.
+    #[inline]
     pub(crate) fn set_next(&mut self, slot: usize, next: u32)
         requires { slot < length self.old.nexts }
         ensures { self.new ≡ record self.old { nexts = slice_set self.old.nexts slot next } }
@@ -92,6 +105,7 @@ impl Links {
     }
 
     /// Gives a slot another chain.
+    #[inline]
     pub(crate) fn set_home(&mut self, slot: usize, home: u32)
         requires { slot < length self.old.homes }
         ensures { self.new ≡ record self.old { homes = slice_set self.old.homes slot home } }
@@ -102,7 +116,22 @@ impl Links {
 }
 
 // Writes the links up to that of a slot, as they are.
+#[inline]
 fn write_up_to(written: &mut Vec<Link>, slot: usize, free: u32)
+    requires few { slot < 1000000 }
+    requires room { slot < vec_capacity written.old }
+    ensures there { slot < vec_len written.new }
+    ensures room { vec_capacity written.old ≤ vec_capacity written.new }
+    ensures same { (k : ℕ) → link_at written.new.items free k ≡ link_at written.old.items free k }
+{
+    if written.len() <= slot {
+        write_more(written, slot, free);
+    }
+}
+
+// Writes those that were never written, up to that of a slot.
+#[inline(never)]
+fn write_more(written: &mut Vec<Link>, slot: usize, free: u32)
     requires few { slot < 1000000 }
     requires room { slot < vec_capacity written.old }
     ensures there { slot < vec_len written.new }

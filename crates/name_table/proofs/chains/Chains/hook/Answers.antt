@@ -1,5 +1,5 @@
 -- The slot comes first in its new chain, and the others stay.
-use Rattle.std.proofs.Common.{◌≡◌, ℕ, set, sym, ap, subst, ◌∙◌}
+use Rattle.std.proofs.Common.{◌≡◌, ℕ, set, sym, subst}
 use Rattle.std.proofs.lemmas.List.{length-set}
 use Rattle.name_table.specs.declared.chains.Chains.{Chains}
 use Rattle.name_table.specs.Written.{Hung}
@@ -19,10 +19,9 @@ returns-clause-woven c =
     let homes = self.links.homes in
     let first = c.get-first.result in
     let links : Hung = record { nexts = set nexts slot first; homes = set homes slot chain } in
-    let links_are : c.set_home.new.self ≡ links = c.set_home.ensures ∙ ap (λ (h : Hung). record h { homes = set h.homes slot chain }) c.set_next.ensures in
     let d : Chains = record { heads = set heads chain slot; links = links } in
-    let made : Chains = record { heads = c.set.new.self; links = c.set_home.new.self } in
-    let is : made ≡ d = λ t. record { heads = c.set.ensures t; links = links_are t } in
+    let made : Chains = record { heads = c.set-2.new.self; links = c.set.new.self } in
+    let is : made ≡ d = λ t. record { heads = c.set-2.ensures t; links = c.set.ensures t } in
     subst IsWoven (sym is)
     (
     woven_after self d w (length-set heads chain slot) (length-set nexts slot first) (length-set homes slot chain)
