@@ -174,7 +174,7 @@ longer xs n len m d many more =
 
 module _ (blocks written : List ℕ) (old : AreBlocks blocks written) where
   -- where the next block begins
-  pub blocks_end : (len : ℕ) → len ≡ length written → (length written ≡ len / 256 * 256) × (len / 256 < unwritten)
+  pub blocks_end : (len : ℕ) → len ≡ length written → (length written ≡ len / 1024 * 1024) × (len / 1024 < unwritten)
   blocks_end len is =
       let some = count_by-le-length (λ b. nat_lt b unwritten) blocks in
       let counted = old.counted in
@@ -190,7 +190,7 @@ module _ (blocks written : List ℕ) (old : AreBlocks blocks written) where
     apart = old.apart;
   }
 
-  module _ (block n end : ℕ) (a_block : block < length blocks) (new : get_or blocks block 0 ≡ unwritten) (last : length written ≡ n * 256) where
+  module _ (block n end : ℕ) (a_block : block < length blocks) (new : get_or blocks block 0 ≡ unwritten) (last : length written ≡ n * 1024) where
     -- it is one more
     one_more : n < unwritten → count_by (λ b. nat_lt b unwritten) (set blocks block n) ≡ count_by (λ b. nat_lt b unwritten) blocks + 1
     one_more few =
@@ -200,7 +200,7 @@ module _ (blocks written : List ℕ) (old : AreBlocks blocks written) where
         omega arith
 
     -- so there was room for it
-    pub block_room : n < unwritten → length written + 256 ≤ 256 * length blocks
+    pub block_room : n < unwritten → length written + 1024 ≤ 1024 * length blocks
     block_room few =
         omega (arith, one_more few, old.counted, count_by-le-length (λ b. nat_lt b unwritten) (set blocks block n), length-set blocks block n)
 
@@ -211,10 +211,10 @@ module _ (blocks written : List ℕ) (old : AreBlocks blocks written) where
     other : (i : ℕ) → (i ≡ block → ⊥) → get_or (set blocks block n) i 0 ≡ get_or blocks i 0
     other i ne = get_or-set_other blocks block i n 0 ne
 
-    pub blocks_more : n < unwritten → AreBlocks (set blocks block n) (written ++ replicate 256 end)
+    pub blocks_more : n < unwritten → AreBlocks (set blocks block n) (written ++ replicate 1024 end)
     blocks_more few =
         let many = length-set blocks block n in
-        let long : length (written ++ replicate 256 end) ≡ length written + 256 = length-append written (replicate 256 end) ∙ ap (λ m. length written + m) (length-replicate 256 end) in
+        let long : length (written ++ replicate 1024 end) ≡ length written + 1024 = length-append written (replicate 1024 end) ∙ ap (λ m. length written + m) (length-replicate 1024 end) in
         record {
           few = omega (arith, old.few);
           counted = omega (arith, one_more few, old.counted);
@@ -242,31 +242,31 @@ module _ (blocks written : List ℕ) (old : AreBlocks blocks written) where
         }
 
     -- it has what it had, and so have the others
-    pub head_more : n < unwritten → (k : ℕ) → head_at (set blocks block n) (written ++ replicate 256 end) end k ≡ head_at blocks written end k
+    pub head_more : n < unwritten → (k : ℕ) → head_at (set blocks block n) (written ++ replicate 1024 end) end k ≡ head_at blocks written end k
     head_more few k =
-        let b = k / 256 in
-        get_or_more written 256 (spot (set blocks block n) k) end
+        let b = k / 1024 in
+        get_or_more written 1024 (spot (set blocks block n) k) end
         ∙ elim (cases_eq b block) [
           | inl e ↦
               let at : get_or (set blocks block n) b 0 ≡ n = ap (λ j. get_or (set blocks block n) j 0) e ∙ here in
               let was : get_or blocks b 0 ≡ unwritten = ap (λ j. get_or blocks j 0) e ∙ new in
               get_or_past written (spot (set blocks block n) k) end (omega arith) ∙ sym (get_or_past written (spot blocks k) end (omega arith))
-          | inr ne ↦ ap (λ p. get_or written (p * 256 + k % 256) end) (other b ne)
+          | inr ne ↦ ap (λ p. get_or written (p * 1024 + k % 1024) end) (other b ne)
         ]
 
   -- a head whose block is written is there
-  pub head_there : (k : ℕ) → k / 256 < length blocks → get_or blocks (k / 256) 0 < unwritten → spot blocks k < length written
-  head_there k lt there = omega (arith, old.whole (k / 256) lt there)
+  pub head_there : (k : ℕ) → k / 1024 < length blocks → get_or blocks (k / 1024) 0 < unwritten → spot blocks k < length written
+  head_there k lt there = omega (arith, old.whole (k / 1024) lt there)
 
   -- another head
-  pub head_set : (end len chain v : ℕ) → chain < len → len ≤ 256 * length blocks → get_or blocks (chain / 256) 0 < unwritten → listed (head_at blocks (set written (spot blocks chain) v) end) len ≡ set (listed (head_at blocks written end) len) chain v
+  pub head_set : (end len chain v : ℕ) → chain < len → len ≤ 1024 * length blocks → get_or blocks (chain / 1024) 0 < unwritten → listed (head_at blocks (set written (spot blocks chain) v) end) len ≡ set (listed (head_at blocks written end) len) chain v
   head_set end len chain v lt within there =
       listed_set (head_at blocks (set written (spot blocks chain) v) end) (head_at blocks written end) len chain v lt
       (get_or-set_same written (spot blocks chain) v end (head_there chain (omega arith) there))
       (λ k k_lt ne. get_or-set_other written (spot blocks chain) (spot blocks k) v end
       (λ e.
-      let one : get_or blocks (chain / 256) 0 ≡ get_or blocks (k / 256) 0 = omega arith in
-      let same : chain / 256 ≡ k / 256 = old.apart (chain / 256) (k / 256) (omega arith) (omega arith) there one in
+      let one : get_or blocks (chain / 1024) 0 ≡ get_or blocks (k / 1024) 0 = omega arith in
+      let same : chain / 1024 ≡ k / 1024 = old.apart (chain / 1024) (k / 1024) (omega arith) (omega arith) there one in
       ne (omega arith)
       ))
 

@@ -29,11 +29,11 @@ hung written room free = record {
 
 -- where a block is that was never written
 abbrev pub unwritten : ℕ
-unwritten = 4294967295
+unwritten = 65535
 
 -- where a head is among those that were written
 abbrev pub spot : List ℕ → ℕ → ℕ
-spot blocks k = slice_index_or blocks (k / 256) 0 * 256 + k % 256
+spot blocks k = slice_index_or blocks (k / 1024) 0 * 1024 + k % 1024
 
 -- a head, which is the end where its block was never written
 abbrev pub head_at : List ℕ → List ℕ → ℕ → ℕ → ℕ
@@ -42,12 +42,12 @@ head_at blocks written end k = slice_index_or written (spot blocks k) end
 -- blocks that were written are there, as many as are there, and apart
 pub record AreBlocks (blocks written : List ℕ) : Type 0 where
   pub few : length blocks < unwritten
-  pub counted : length written ≡ 256 * count_by (λ b. nat_lt b unwritten) blocks
-  pub whole : (i : ℕ) → i < length blocks → slice_index_or blocks i 0 < unwritten → slice_index_or blocks i 0 * 256 + 256 ≤ length written
+  pub counted : length written ≡ 1024 * count_by (λ b. nat_lt b unwritten) blocks
+  pub whole : (i : ℕ) → i < length blocks → slice_index_or blocks i 0 < unwritten → slice_index_or blocks i 0 * 1024 + 1024 ≤ length written
   pub apart : (i j : ℕ) → i < length blocks → j < length blocks → slice_index_or blocks i 0 < unwritten → slice_index_or blocks i 0 ≡ slice_index_or blocks j 0 → i ≡ j
 
 -- and there is room for each
 pub record AreRoomy (blocks written : List ℕ) (len capacity : ℕ) : Type 0 where
   pub apart : AreBlocks blocks written
-  pub within : len ≤ 256 * length blocks
-  pub room : 256 * length blocks ≤ capacity
+  pub within : len ≤ 1024 * length blocks
+  pub room : 1024 * length blocks ≤ capacity

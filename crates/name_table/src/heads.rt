@@ -6,17 +6,17 @@ use std::alloc::{AllocError, Global};
 use std::marker::Model;
 
 // So many heads are written together, the first time that one of them is.
-const BLOCK: usize = 256;
+const BLOCK: usize = 1024;
 
 // Where a block that was never written is.
-const UNWRITTEN: u32 = u32::MAX;
+const UNWRITTEN: u16 = u16::MAX;
 
 /// Numbers that are all the same at first. All room is reserved by `Heads::new`, but the system gives memory as it is written
 /// first, and blocks lie in the order in which they were: with few chains little is touched, however many there are.
 #[derive(Drop)]
 pub(crate) struct Heads {
-    // Which of the written blocks each block is.
-    blocks: Vec<u32>,
+    // Which of the written blocks each block is: so few numbers that they stay in the nearest cache.
+    blocks: Vec<u16>,
     // The blocks that were ever written, one after another.
     written: Vec<u32>,
     len: usize,
@@ -81,9 +81,9 @@ impl Heads {
 
 // Writes a block as it is, if it never was.
 #[inline]
-fn open(blocks: &mut Vec<u32>, written: &mut Vec<u32>, block: usize, end: u32)
+fn open(blocks: &mut Vec<u16>, written: &mut Vec<u32>, block: usize, end: u32)
     requires blocks { AreBlocks blocks.old.items written.old.items }
-    requires room { 256 * vec_len blocks.old ≤ vec_capacity written.old }
+    requires room { 1024 * vec_len blocks.old ≤ vec_capacity written.old }
     requires a_block { block < vec_len blocks.old }
     ensures blocks { AreBlocks blocks.new.items written.new.items }
     ensures as_many { vec_len blocks.new ≡ vec_len blocks.old }
@@ -98,9 +98,9 @@ fn open(blocks: &mut Vec<u32>, written: &mut Vec<u32>, block: usize, end: u32)
 
 // Writes a block for the first time, as it is.
 #[cold]
-fn write(blocks: &mut Vec<u32>, written: &mut Vec<u32>, block: usize, end: u32)
+fn write(blocks: &mut Vec<u16>, written: &mut Vec<u32>, block: usize, end: u32)
     requires blocks { AreBlocks blocks.old.items written.old.items }
-    requires room { 256 * vec_len blocks.old ≤ vec_capacity written.old }
+    requires room { 1024 * vec_len blocks.old ≤ vec_capacity written.old }
     requires a_block { block < vec_len blocks.old }
     requires new { slice_index_or blocks.old.items block 0 ≡ unwritten }
     ensures blocks { AreBlocks blocks.new.items written.new.items }
@@ -110,6 +110,6 @@ fn write(blocks: &mut Vec<u32>, written: &mut Vec<u32>, block: usize, end: u32)
     ensures same { (k : ℕ) → head_at blocks.new.items written.new.items end k ≡ head_at blocks.old.items written.old.items end k }
 {
     let len = written.len();
-    blocks[block] = (len / BLOCK) as u32;
+    blocks[block] = (len / BLOCK) as u16;
     written.resize(len + BLOCK, end).unwrap();
 }

@@ -223,6 +223,7 @@ impl<V: Drop> NameTable<V> {
 }
 
 // The bucket of a name.
+#[inline]
 fn bucket(keys: &RandomState, mask: u64, name: &Name) -> usize
     ensures bucket { result ≡ bucket_of keys.now mask name.now }
     ensures within { result ≤ mask }

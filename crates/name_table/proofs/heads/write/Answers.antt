@@ -12,9 +12,9 @@ unwrap-requires c =
     let is : len ≡ length written.items = c.len-len.ensures ∙ written.ok.0 in
     let last = blocks_end blocks.items written.items c.requires.blocks len is in
     let within : c.args.block < length blocks.items = let many = blocks.ok.0 in omega arith in
-    let room = block_room blocks.items written.items c.requires.blocks c.args.block (len / 256) c.args.end within c.requires.new last.0 last.1 in
+    let room = block_room blocks.items written.items c.requires.blocks c.args.block (len / 1024) c.args.end within c.requires.new last.0 last.1 in
     let many = blocks.ok.0 in
-    let fits : 256 * vec_len blocks ≤ vec_capacity written = c.requires.room in
+    let fits : 1024 * vec_len blocks ≤ vec_capacity written = c.requires.room in
     c.resize.ensures.succeeds (omega arith)
 
 pub returns-clause-blocks : goal.returns-clause-blocks
@@ -26,11 +26,11 @@ returns-clause-blocks c =
     let is : len ≡ length written.items = c.len-len.ensures ∙ written.ok.0 in
     let last = blocks_end blocks.items written.items c.requires.blocks len is in
     let within : c.args.block < length blocks.items = let many = blocks.ok.0 in omega arith in
-    let more : len + 256 ≡ vec_len written + 256 = ap (λ n. n + 256) c.len-len.ensures in
+    let more : len + 1024 ≡ vec_len written + 1024 = ap (λ n. n + 1024) c.len-len.ensures in
     let items = rw c.unwrap.ensures at c.resize.ensures.items in
-    let grown : c.resize.new.self.items ≡ written.items ++ replicate 256 end = items ∙ longer written.items (len + 256) (vec_len written) 256 end written.ok.0 more in
-    subst (AreBlocks (set blocks.items c.args.block (len / 256))) (sym grown)
-    (blocks_more blocks.items written.items c.requires.blocks c.args.block (len / 256) end within c.requires.new last.0 last.1)
+    let grown : c.resize.new.self.items ≡ written.items ++ replicate 1024 end = items ∙ longer written.items (len + 1024) (vec_len written) 1024 end written.ok.0 more in
+    subst (AreBlocks (set blocks.items c.args.block (len / 1024))) (sym grown)
+    (blocks_more blocks.items written.items c.requires.blocks c.args.block (len / 1024) end within c.requires.new last.0 last.1)
 
 pub returns-clause-same : goal.returns-clause-same
 returns-clause-same c k =
@@ -41,8 +41,8 @@ returns-clause-same c k =
     let is : len ≡ length written.items = c.len-len.ensures ∙ written.ok.0 in
     let last = blocks_end blocks.items written.items c.requires.blocks len is in
     let within : c.args.block < length blocks.items = let many = blocks.ok.0 in omega arith in
-    let more : len + 256 ≡ vec_len written + 256 = ap (λ n. n + 256) c.len-len.ensures in
+    let more : len + 1024 ≡ vec_len written + 1024 = ap (λ n. n + 1024) c.len-len.ensures in
     let items = rw c.unwrap.ensures at c.resize.ensures.items in
-    let grown : c.resize.new.self.items ≡ written.items ++ replicate 256 end = items ∙ longer written.items (len + 256) (vec_len written) 256 end written.ok.0 more in
-    ap (λ w. head_at (set blocks.items c.args.block (len / 256)) w end k) grown
-    ∙ head_more blocks.items written.items c.requires.blocks c.args.block (len / 256) end within c.requires.new last.0 last.1 k
+    let grown : c.resize.new.self.items ≡ written.items ++ replicate 1024 end = items ∙ longer written.items (len + 1024) (vec_len written) 1024 end written.ok.0 more in
+    ap (λ w. head_at (set blocks.items c.args.block (len / 1024)) w end k) grown
+    ∙ head_more blocks.items written.items c.requires.blocks c.args.block (len / 1024) end within c.requires.new last.0 last.1 k

@@ -19,9 +19,9 @@ returns-in-Some c =
     let k = c.args.chain in
     let many = listed_many (head_at h.blocks.items h.written.items h.end) h.len c.args.self.now c.self.view_is in
     let within = c.self.invariant.within in
-    let lt : k / 256 < length h.blocks.items = omega arith in
-    let block : c.index.result.now ≡ get_or h.blocks.items (k / 256) 0 = get_or_read h.blocks.items (k / 256) c.index.result.now lt c.index.ensures 0 in
-    c.in-Some.ensures.lookup.4 (omega arith) h.end ∙ (λ t. get_or (c.deref.ensures.value t) (block t * 256 + k % 256) h.end)
+    let lt : k / 1024 < length h.blocks.items = omega arith in
+    let block : c.index.result.now ≡ get_or h.blocks.items (k / 1024) 0 = get_or_read h.blocks.items (k / 1024) c.index.result.now lt c.index.ensures 0 in
+    c.in-Some.ensures.lookup.4 (omega arith) h.end ∙ (λ t. get_or (c.deref.ensures.value t) (block t * 1024 + k % 1024) h.end)
     ∙ listed_read (head_at h.blocks.items h.written.items h.end) h.len c.args.self.now k c.self.view_is c.requires
 
 pub returns-in-None : goal.returns-in-None
@@ -30,7 +30,7 @@ returns-in-None c =
     let k = c.args.chain in
     let many = listed_many (head_at h.blocks.items h.written.items h.end) h.len c.args.self.now c.self.view_is in
     let within = c.self.invariant.within in
-    let lt : k / 256 < length h.blocks.items = omega arith in
-    let block : c.index.result.now ≡ get_or h.blocks.items (k / 256) 0 = get_or_read h.blocks.items (k / 256) c.index.result.now lt c.index.ensures 0 in
-    c.in-None.ensures.lookup.4 (omega arith) h.end ∙ (λ t. get_or (c.deref.ensures.value t) (block t * 256 + k % 256) h.end)
+    let lt : k / 1024 < length h.blocks.items = omega arith in
+    let block : c.index.result.now ≡ get_or h.blocks.items (k / 1024) 0 = get_or_read h.blocks.items (k / 1024) c.index.result.now lt c.index.ensures 0 in
+    c.in-None.ensures.lookup.4 (omega arith) h.end ∙ (λ t. get_or (c.deref.ensures.value t) (block t * 1024 + k % 1024) h.end)
     ∙ listed_read (head_at h.blocks.items h.written.items h.end) h.len c.args.self.now k c.self.view_is c.requires

@@ -6,7 +6,7 @@ use Rattle.name_table.proofs.heads.Heads.new.Goals as goal
 
 pub returns : goal.returns
 returns c =
-    let n = c.args.len / 256 + 1 in
+    let n = c.args.len / 1024 + 1 in
     let blocks : c.in_ok-blocks.blocks.items ≡ replicate n unwritten = c.in_ok-blocks.ensures.items_if_clones_equal (λ y h. cc) in
     let written : c.in_ok-written.written.items ≡ [] = c.in_ok-written.ensures.items in
     (λ t. listed (head_at (blocks t) (written t) c.args.end) c.args.len) ∙ heads_new n c.args.end c.args.len

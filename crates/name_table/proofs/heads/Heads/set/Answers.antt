@@ -33,8 +33,8 @@ index_mut-requires c =
     let len = h.blocks.ok.0 in
     let as_many = c.open.ensures.as_many in
     let len_now = blocks.ok.0 in
-    let lt : k / 256 < length blocks.items = omega arith in
-    let block : c.index.result.now ≡ get_or blocks.items (k / 256) 0 = get_or_read blocks.items (k / 256) c.index.result.now lt c.index.ensures 0 in
+    let lt : k / 1024 < length blocks.items = omega arith in
+    let block : c.index.result.now ≡ get_or blocks.items (k / 1024) 0 = get_or_read blocks.items (k / 1024) c.index.result.now lt c.index.ensures 0 in
     let there = head_there blocks.items written.items c.open.ensures.blocks k lt c.open.ensures.there in
     let long = written.ok.0 in
     omega arith
@@ -51,9 +51,9 @@ returns c =
     let len = h.blocks.ok.0 in
     let as_many = c.open.ensures.as_many in
     let len_now = blocks.ok.0 in
-    let lt : k / 256 < length blocks.items = omega arith in
-    let all : h.len ≤ 256 * length blocks.items = omega arith in
-    let block : c.index.result.now ≡ get_or blocks.items (k / 256) 0 = get_or_read blocks.items (k / 256) c.index.result.now lt c.index.ensures 0 in
-    (λ t. listed (head_at blocks.items (set written.items (block t * 256 + k % 256) v) h.end) h.len)
+    let lt : k / 1024 < length blocks.items = omega arith in
+    let all : h.len ≤ 1024 * length blocks.items = omega arith in
+    let block : c.index.result.now ≡ get_or blocks.items (k / 1024) 0 = get_or_read blocks.items (k / 1024) c.index.result.now lt c.index.ensures 0 in
+    (λ t. listed (head_at blocks.items (set written.items (block t * 1024 + k % 1024) v) h.end) h.len)
     ∙ head_set blocks.items written.items c.open.ensures.blocks h.end h.len k v (omega arith) all c.open.ensures.there
     ∙ ap (λ hs. set hs k v) (heads_after h.blocks.items h.written.items blocks.items written.items h.end h.len c.open.ensures.same ∙ c.self.view_is)
