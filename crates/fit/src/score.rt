@@ -1,5 +1,6 @@
 //! The score by which emptier nodes come first.
-ghost use Rattle.std.specs.Prelude.{◌≡◌, ◌≤◌, ◌+◌, ◌-◌, ◌*◌, ◌/◌};
+ghost use Rattle.std.specs.Prelude.{◌≡◌, ◌≤◌, ◌+◌, ◌-◌, ◌*◌, ◌/◌, ◌<◌, ◌^◌};
+ghost use Rattle.std.specs.Bool.{IsTrue};
 ghost use Rattle.fit.specs.Score.{part_left, least_allocated_score};
 
 use quant::{Request, Res};
@@ -39,8 +40,30 @@ fn hundredths(part: u64, whole: u64) -> u8
     ensures value { result ≡ part * 100 / whole }
     ensures most { result ≤ 100 }
 {
+    // A division of 32 bits takes a third of the time of one of 64.
+    if whole < 1 << 25 {
+        return (part as u32 * 100 / whole as u32) as u8;
+    }
+    // Those of the whole MiB are mostly those of the bytes.
+    if whole < 1 << 45 {
+        let guess = u64::from((part >> 20) as u32 * 100 / (whole >> 20) as u32);
+        if is_quotient(part * 100, whole, guess) {
+            return guess as u8;
+        }
+    }
     match part.checked_mul(100) {
         Some(product) => (product / whole) as u8,
         None => (u128::from(part) * 100 / u128::from(whole)) as u8,
     }
+}
+
+// Whether a number, rounded down, is this quotient.
+fn is_quotient(product: u64, whole: u64, guess: u64) -> bool
+    requires some { 1 ≤ whole }
+    requires small { whole < 2 ^ 45 }
+    requires few { guess < 2 ^ 13 }
+    ensures { IsTrue result → product / whole ≡ guess }
+{
+    let least = guess * whole;
+    least <= product && product - least < whole
 }
