@@ -1,78 +1,136 @@
-//! The worked examples.
+//! The worked examples of amounts, names and texts.
 use quant::{Bytes, Cpu, Name, QuantFault, Request, Text, read_bytes, read_cpu, request};
-use std::test::Fail;
+use std::alloc::AllocError;
 
-#[test]
-fn cpu_amounts(rt: HostRuntime) {
-    let rows: [(&str, Result<Cpu, QuantFault>); 13] = [
-        ("0.5", Ok(Cpu(500))),
-        ("500m", Ok(Cpu(500))),
-        ("4", Ok(Cpu(4_000))),
-        ("0.25", Ok(Cpu(250))),
-        ("1073741824m", Ok(Cpu(1 << 30))),
-        ("1073741825m", Err(QuantFault::TooLarge)),
-        ("999999999999999", Err(QuantFault::TooLarge)),
-        ("1000000000000000", Err(QuantFault::BadQuantity)),
-        ("0.0005", Err(QuantFault::BadQuantity)),
-        (".5", Err(QuantFault::BadQuantity)),
-        ("1.", Err(QuantFault::BadQuantity)),
-        ("1k", Err(QuantFault::BadQuantity)),
-        ("", Err(QuantFault::BadQuantity)),
-    ];
-    for (text, want) in rows {
-        assert_eq!(rt; read_cpu(text.as_bytes()), want, "{text}");
-    }
+const CPU: &[(&str, Result<Cpu, QuantFault>)] = &[
+    ("0.5", Ok(Cpu(500))),
+    ("500m", Ok(Cpu(500))),
+    ("4", Ok(Cpu(4_000))),
+    ("0.25", Ok(Cpu(250))),
+    ("1073741824m", Ok(Cpu(1 << 30))),
+    ("1073741825m", Err(QuantFault::TooLarge)),
+    ("999999999999999", Err(QuantFault::TooLarge)),
+    ("1000000000000000", Err(QuantFault::BadQuantity)),
+    ("0.0005", Err(QuantFault::BadQuantity)),
+    (".5", Err(QuantFault::BadQuantity)),
+    ("1.", Err(QuantFault::BadQuantity)),
+    ("1k", Err(QuantFault::BadQuantity)),
+    ("", Err(QuantFault::BadQuantity)),
+];
+
+const MEMORY: &[(&str, Result<Bytes, QuantFault>)] = &[
+    ("129M", Ok(Bytes(129_000_000))),
+    ("8Gi", Ok(Bytes(8_589_934_592))),
+    ("1k", Ok(Bytes(1_000))),
+    ("16Ti", Ok(Bytes(1 << 44))),
+    ("17592186044416", Ok(Bytes(1 << 44))),
+    ("17592186044417", Err(QuantFault::TooLarge)),
+    ("999999999999999Ti", Err(QuantFault::TooLarge)),
+    ("1.5Gi", Err(QuantFault::BadQuantity)),
+    ("1K", Err(QuantFault::BadQuantity)),
+    ("Ki", Err(QuantFault::BadQuantity)),
+];
+
+fn cpu() -> &'static [(&'static str, Result<Cpu, QuantFault>)] {
+    CPU
 }
 
-#[test]
-fn memory_amounts(rt: HostRuntime) {
-    let rows: [(&str, Result<Bytes, QuantFault>); 10] = [
-        ("129M", Ok(Bytes(129_000_000))),
-        ("8Gi", Ok(Bytes(8_589_934_592))),
-        ("1k", Ok(Bytes(1_000))),
-        ("16Ti", Ok(Bytes(1 << 44))),
-        ("17592186044416", Ok(Bytes(1 << 44))),
-        ("17592186044417", Err(QuantFault::TooLarge)),
-        ("999999999999999Ti", Err(QuantFault::TooLarge)),
-        ("1.5Gi", Err(QuantFault::BadQuantity)),
-        ("1K", Err(QuantFault::BadQuantity)),
-        ("Ki", Err(QuantFault::BadQuantity)),
-    ];
-    for (text, want) in rows {
-        assert_eq!(rt; read_bytes(text.as_bytes()), want, "{text}");
-    }
+fn memory() -> &'static [(&'static str, Result<Bytes, QuantFault>)] {
+    MEMORY
 }
 
-#[test]
-fn a_pods_request(rt: HostRuntime) -> Result<(), Fail> {
+// The first amount of CPU that is read otherwise.
+fn first_other_cpu() -> Option<&'static str> {
+    for (text, want) in cpu() {
+        if read_cpu(text.as_bytes()) != *want {
+            return Some(text);
+        }
+    }
+    None
+}
+
+// The first amount of memory that is read otherwise.
+fn first_other_memory() -> Option<&'static str> {
+    for (text, want) in memory() {
+        if read_bytes(text.as_bytes()) != *want {
+            return Some(text);
+        }
+    }
+    None
+}
+
+// What a pod asks for that has two containers and one that goes before them.
+fn asked() -> Result<Request, QuantFault> {
     let containers = [
         Request::new(Cpu(100), Bytes(64 << 20))?,
         Request::new(Cpu(200), Bytes(64 << 20))?,
     ];
     let init = [Request::new(Cpu(500), Bytes(32 << 20))?];
-    let whole = request(&containers, &init)?;
-    assert_eq!(rt; whole.cpu, Cpu(500));
-    assert_eq!(rt; whole.mem, Bytes(134_217_728));
-    Ok(())
+    request(&containers, &init)
 }
 
 #[test]
-fn bad_names_and_texts(rt: HostRuntime) {
-    let too_long = [b'a'; 64];
-    for bytes in [b"".as_slice(), b"a b".as_slice(), too_long.as_slice()] {
-        assert_eq!(rt; Name::new(bytes), Err(QuantFault::BadName), "{bytes:?}");
+fn amounts(rt: HostRuntime) {
+    assert_eq!(rt; first_other_cpu(), None);
+    assert_eq!(rt; first_other_memory(), None);
+    assert_eq!(rt; asked(), Request::new(Cpu(500), Bytes(134_217_728)));
+}
+
+// 63 bytes, and one more.
+const LONGEST: &[u8] = b"aaaaaaaaaaaaaaaaaaaaaaaaaaaaaaaaaaaaaaaaaaaaaaaaaaaaaaaaaaaaaaa";
+
+const TOO_LONG: &[u8] = b"aaaaaaaaaaaaaaaaaaaaaaaaaaaaaaaaaaaaaaaaaaaaaaaaaaaaaaaaaaaaaaaa";
+
+fn is_no_name(bytes: &[u8]) -> bool {
+    Name::new(bytes) == Err(QuantFault::BadName)
+}
+
+fn is_no_text(bytes: &[u8]) -> bool {
+    Text::new(bytes) == Err(QuantFault::BadName)
+}
+
+fn is_the_empty_text(bytes: &[u8]) -> bool {
+    Text::new(bytes) == Ok(Text::default())
+}
+
+fn is_spelled_so(bytes: &[u8]) -> bool {
+    match Name::new(bytes) {
+        Ok(name) => name.as_bytes() == bytes,
+        Err(_) => false,
     }
-    assert_eq!(rt; Text::new(&too_long), Err(QuantFault::BadName));
+}
+
+fn is_its_text(text: &str) -> bool {
+    match Name::new(text.as_bytes()) {
+        Ok(name) => name.as_str() == text,
+        Err(_) => false,
+    }
+}
+
+fn is_cloned(bytes: &[u8]) -> bool {
+    let Ok(name) = Name::new(bytes) else {
+        return false;
+    };
+    let clone: Result<Name, AllocError> = name.clone();
+    clone == Ok(name.copied())
+}
+
+fn goes_before(less: &[u8], more: &[u8]) -> bool {
+    match (Name::new(less), Name::new(more)) {
+        (Ok(less), Ok(more)) => less < more,
+        _ => false,
+    }
 }
 
 #[test]
-fn names_and_texts(rt: HostRuntime) -> Result<(), Fail> {
-    let longest = [b'a'; 63];
-    assert_eq!(rt; Name::new(&longest)?.as_bytes(), longest.as_slice());
-    assert_eq!(rt; Text::new(b"")?, Text::default());
-    let key = Name::new(b"node.kubernetes.io/unschedulable")?;
-    assert_eq!(rt; key.copied(), key.clone()?);
-    assert_eq!(rt; key.as_str(), "node.kubernetes.io/unschedulable");
-    assert!(rt; Name::new(b"a")? < Name::new(b"a.b")?);
-    Ok(())
+fn names_and_texts(rt: HostRuntime) {
+    assert!(rt; is_no_name(b""));
+    assert!(rt; is_no_name(b"a b"));
+    assert!(rt; is_no_name(TOO_LONG));
+    assert!(rt; is_no_text(TOO_LONG));
+    assert!(rt; is_spelled_so(LONGEST));
+    assert!(rt; is_the_empty_text(b""));
+    assert!(rt; is_its_text("node.kubernetes.io/unschedulable"));
+    assert!(rt; is_cloned(b"node.kubernetes.io/unschedulable"));
+    assert!(rt; goes_before(b"a", b"a.b"));
 }

@@ -3,18 +3,87 @@ use book::{Book, ClusterStep, Entry, Limits, Reply};
 use quant::{Bytes, Cpu, Event, Moment, Name, Node, Request, Res, SharedNode, Ticket, Version};
 use std::alloc::Global;
 use std::hash::RandomState;
-use std::process::Abort;
-use std::test::Fail;
 
-fn name(letter: u8) -> Result<Name, Fail> {
-    Ok(Name::new(&[letter])?)
+/// A call at a pod, over a node that has room for four pods, and what it answers.
+#[derive(Clone, Copy)]
+enum Call {
+    /// The pod is placed on the node, with this ticket.
+    Place(u64),
+    /// The bind of this ticket is reported done at this moment.
+    Done(u64, u64),
+    /// The cluster tells that the pod is bound to the node.
+    Bound,
+    /// The pod's place goes at this moment.
+    Goes(u64),
+    /// No place goes at this moment.
+    NoneGoes(u64),
+    /// How many places are assumed and bound, and how many pods are on the node.
+    Has(usize, usize, u32),
 }
 
-/// A book with a node that has room for four pods.
-fn with_node(alloc: Global, keys: RandomState) -> Result<Book, Fail> {
-    let mut book = Book::new(alloc, keys, Limits::greatest())?;
-    let node = Node {
-        name: name(b'a')?,
+/// The pod's uid, and the call.
+type Row = (&'static [u8], Call);
+
+/// A place goes thirty seconds after its bind.
+const ONE_GOES: &[Row] = &[
+    (b"p", Call::Place(1)),
+    (b"p", Call::Done(1, 500)),
+    (b"p", Call::NoneGoes(30_499)),
+    (b"p", Call::Has(1, 0, 1)),
+    (b"p", Call::Goes(30_500)),
+    (b"p", Call::NoneGoes(30_500)),
+    (b"p", Call::Has(0, 0, 0)),
+];
+
+/// Places go in the order of their uids.
+const THREE_GO: &[Row] = &[
+    (b"q", Call::Place(1)),
+    (b"q", Call::Done(1, 7)),
+    (b"r", Call::Place(2)),
+    (b"s", Call::Place(3)),
+    (b"s", Call::Done(3, 3)),
+    (b"p", Call::Place(4)),
+    (b"p", Call::Done(4, 9)),
+    (b"q", Call::Goes(30_008)),
+    (b"p", Call::Goes(30_009)),
+    (b"s", Call::Goes(30_008)),
+    (b"r", Call::NoneGoes(30_009)),
+    (b"r", Call::NoneGoes(u64::MAX)),
+    (b"r", Call::Has(1, 0, 1)),
+];
+
+/// A bound place stays.
+const BOUND_STAYS: &[Row] = &[
+    (b"p", Call::Place(1)),
+    (b"p", Call::Done(1, 0)),
+    (b"q", Call::Place(2)),
+    (b"q", Call::Done(2, 0)),
+    (b"p", Call::Goes(30_000)),
+    (b"q", Call::Bound),
+    (b"q", Call::NoneGoes(30_000)),
+    (b"q", Call::Has(0, 1, 1)),
+];
+
+fn one_goes() -> &'static [Row] {
+    ONE_GOES
+}
+
+fn three_go() -> &'static [Row] {
+    THREE_GO
+}
+
+fn bound_stays() -> &'static [Row] {
+    BOUND_STAYS
+}
+
+/// A pod asks for one core.
+fn request() -> Option<Request> {
+    Request::new(Cpu(1_000), Bytes(0)).ok()
+}
+
+fn node() -> Option<Node> {
+    Some(Node {
+        name: Name::new(b"a").ok()?,
         allocatable: Res {
             cpu: Cpu(4_000),
             mem: Bytes(0),
@@ -23,97 +92,109 @@ fn with_node(alloc: Global, keys: RandomState) -> Result<Book, Fail> {
         labels: Default::default(),
         taints: Default::default(),
         unschedulable: false,
+    })
+}
+
+fn node_set(alloc: Global) -> Option<Event> {
+    Some(Event::NodeSet {
+        version: Version(1),
+        node: SharedNode::new(alloc, node()?).ok()?,
+    })
+}
+
+fn pod_bound(uid: Name, node: Name) -> Option<Event> {
+    Some(Event::PodBound {
+        version: Version(2),
+        uid,
+        node,
+        request: request()?,
+    })
+}
+
+/// Whether the book takes what the cluster tells.
+fn takes(book: &mut Book, event: Option<Event>, queued: bool) -> bool {
+    let Some(event) = event else {
+        return false;
     };
-    book.step(ClusterStep::Event {
-        event: Event::NodeSet {
-            version: Version(1),
-            node: SharedNode::new(alloc, node)?,
-        },
-        queued: false,
+    let reply = book.step(ClusterStep::Event {
+        event,
+        queued,
         queue_full: false,
     });
-    Ok(book)
+    matches!(&reply, Reply::Done)
 }
 
-/// A pod is placed on the node, which gives it this ticket. Its bind is reported done at a moment, if at any.
-fn place(
-    rt: &impl Abort,
-    book: &mut Book,
-    letter: u8,
-    want: u64,
-    done: Option<u64>,
-) -> Result<(), Fail> {
-    let request = Request::new(Cpu(1_000), Bytes(0))?;
-    let placed = book.step(ClusterStep::Assume {
-        uid: name(letter)?,
-        node: name(b'a')?,
-        entry: Entry::Held(request),
-    });
-    assert!(rt; matches!(&placed, Reply::Ticket(ticket) if ticket.0 == want));
-    if let Some(at) = done {
-        let told = book.step(ClusterStep::BindDone {
-            uid: name(letter)?,
-            ticket: Ticket(want),
-            at: Moment(at),
-            queued: true,
-        });
-        assert!(rt; matches!(&told, Reply::Done));
-    }
-    Ok(())
+fn is_placed(book: &mut Book, uid: Name, node: Name, want: u64) -> bool {
+    let Some(request) = request() else {
+        return false;
+    };
+    let entry = Entry::Held(request);
+    let reply = book.step(ClusterStep::Assume { uid, node, entry });
+    matches!(&reply, Reply::Ticket(ticket) if ticket.0 == want)
 }
 
-fn expire(rt: &impl Abort, book: &mut Book, now: u64, want: Option<u8>) {
-    let gone = book.expire(Moment(now));
-    let letter = gone.and_then(|uid| uid.as_bytes().first().copied());
-    assert_eq!(rt; letter, want);
-}
-
-#[test]
-fn a_place_goes_thirty_seconds_after_its_bind(rt: HostRuntime) -> Result<(), Fail> {
-    let mut book = with_node(rt.alloc(), RandomState::new(&rt)?)?;
-    place(&rt, &mut book, b'p', 1, Some(500))?;
-    expire(&rt, &mut book, 30_499, None);
-    assert_eq!(rt; book.assumed(), 1);
-    expire(&rt, &mut book, 30_500, Some(b'p'));
-    expire(&rt, &mut book, 30_500, None);
-    assert_eq!(rt; book.assumed(), 0);
-    assert_eq!(rt; book.used(&name(b'a')?).pods, 0);
-    Ok(())
-}
-
-#[test]
-fn places_go_in_the_order_of_their_uids(rt: HostRuntime) -> Result<(), Fail> {
-    let mut book = with_node(rt.alloc(), RandomState::new(&rt)?)?;
-    place(&rt, &mut book, b'q', 1, Some(7))?;
-    place(&rt, &mut book, b'r', 2, None)?;
-    place(&rt, &mut book, b's', 3, Some(3))?;
-    place(&rt, &mut book, b'p', 4, Some(9))?;
-    expire(&rt, &mut book, 30_008, Some(b'q'));
-    expire(&rt, &mut book, 30_009, Some(b'p'));
-    expire(&rt, &mut book, 30_008, Some(b's'));
-    expire(&rt, &mut book, 30_009, None);
-    expire(&rt, &mut book, u64::MAX, None);
-    assert_eq!(rt; book.assumed(), 1);
-    Ok(())
-}
-
-#[test]
-fn a_bound_place_stays(rt: HostRuntime) -> Result<(), Fail> {
-    let mut book = with_node(rt.alloc(), RandomState::new(&rt)?)?;
-    place(&rt, &mut book, b'p', 1, Some(0))?;
-    place(&rt, &mut book, b'q', 2, Some(0))?;
-    expire(&rt, &mut book, 30_000, Some(b'p'));
-    book.step(ClusterStep::Event {
-        event: Event::PodBound {
-            version: Version(2),
-            uid: name(b'q')?,
-            node: name(b'a')?,
-            request: Request::new(Cpu(1_000), Bytes(0))?,
-        },
+fn is_done(book: &mut Book, uid: Name, ticket: u64, at: u64) -> bool {
+    let reply = book.step(ClusterStep::BindDone {
+        uid,
+        ticket: Ticket(ticket),
+        at: Moment(at),
         queued: true,
-        queue_full: false,
     });
-    expire(&rt, &mut book, 30_000, None);
-    assert_eq!(rt; book.bound(), 1);
-    Ok(())
+    matches!(&reply, Reply::Done)
+}
+
+fn has(book: &Book, node: &Name, assumed: usize, bound: usize, pods: u32) -> bool {
+    book.assumed() == assumed && book.bound() == bound && book.used(node).pods == pods
+}
+
+fn is_answered(book: &mut Book, uid: Name, node: Name, call: Call) -> bool {
+    match call {
+        Call::Place(ticket) => is_placed(book, uid, node, ticket),
+        Call::Done(ticket, at) => is_done(book, uid, ticket, at),
+        Call::Bound => takes(book, pod_bound(uid, node), true),
+        Call::Goes(now) => book.expire(Moment(now)) == Some(uid),
+        Call::NoneGoes(now) => book.expire(Moment(now)).is_none(),
+        Call::Has(assumed, bound, pods) => has(book, &node, assumed, bound, pods),
+    }
+}
+
+fn is_row_answered(book: &mut Book, row: &Row) -> bool {
+    let (uid, call) = *row;
+    match (Name::new(uid), Name::new(b"a")) {
+        (Ok(uid), Ok(node)) => is_answered(book, uid, node, call),
+        _ => false,
+    }
+}
+
+/// The first row that is answered otherwise.
+fn first_other(book: &mut Book, rows: &[Row]) -> Option<usize> {
+    for (at, row) in rows.iter().enumerate() {
+        if !is_row_answered(book, row) {
+            return Some(at);
+        }
+    }
+    None
+}
+
+/// The same of a new book with the node. Without keys or memory no row is answered.
+fn first_other_of_new(alloc: Global, keys: Option<RandomState>, rows: &[Row]) -> Option<usize> {
+    let Some(keys) = keys else {
+        return Some(0);
+    };
+    let Ok(mut book) = Book::new(alloc, keys, Limits::greatest()) else {
+        return Some(0);
+    };
+    if takes(&mut book, node_set(alloc), false) {
+        first_other(&mut book, rows)
+    } else {
+        Some(0)
+    }
+}
+
+#[test]
+fn places_expire(rt: HostRuntime) {
+    let keys = RandomState::new(&rt).ok();
+    assert_eq!(rt; first_other_of_new(rt.alloc(), keys, one_goes()), None);
+    assert_eq!(rt; first_other_of_new(rt.alloc(), keys, three_go()), None);
+    assert_eq!(rt; first_other_of_new(rt.alloc(), keys, bound_stays()), None);
 }

@@ -29,6 +29,8 @@ mod steps;
 #[cfg(test)]
 mod storms;
 #[cfg(test)]
+mod texts;
+#[cfg(test)]
 mod waiting;
 #[cfg(test)]
 mod words;

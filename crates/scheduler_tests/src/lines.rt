@@ -1,9 +1,8 @@
 //! Lines of a script, and what they spell or why they are refused.
+use crate::texts::repeated;
 use manifest::{Command, read_line};
-use quant::{Effect, Event, Node, Operator, Pod};
+use quant::{Effect, Event, Label, Node, Operator, Pod, Taint, Toleration};
 use std::alloc::Global;
-use std::process::Abort;
-use std::test::Fail;
 
 // The number of a line's fault and the key of the field in which it stands, or 0 for a command.
 fn fault(alloc: Global, line: &[u8]) -> (u8, &'static str) {
@@ -145,177 +144,175 @@ const FIRST_FAULTS: &str = r#"1 |{"op":"dump"
 0 |{"op":"done","uid":"p","ticket":1}
 0 |{"op":"forget","uid":"p","ticket":1000000000000000000}"#;
 
-#[test]
-fn first_faults(rt: HostRuntime) -> Result<(), Fail> {
-    for row in FIRST_FAULTS.lines() {
-        let (told, line) = row.split_once('|').ok_or("a row")?;
-        let (number, field) = fault(rt.alloc(), line.as_bytes());
-        let found = format!(in rt.alloc(); "{number} {field}")?;
-        assert_eq!(rt; found.as_str(), told, "{line}");
-    }
-    assert_eq!(rt; fault(rt.alloc(), b"\r"), (1, ""));
-    Ok(())
-}
-
-// The row of the line below.
-fn assert_node(rt: &impl Abort, node: &Node) {
-    assert_eq!(rt; node.name.as_str(), "a");
-    assert_eq!(rt; node.allocatable.cpu.0, 4_000);
-    assert_eq!(rt; node.allocatable.mem.0, 8_589_934_592);
-    assert_eq!(rt; node.allocatable.pods, 110);
-    assert_eq!(rt; node.labels.len(), 2);
-    assert_eq!(rt; node.labels[0].key.as_str(), "zone");
-    assert_eq!(rt; node.labels[0].value.as_str(), "z1");
-    assert_eq!(rt; node.labels[1].value.as_str(), "");
-    assert_eq!(rt; node.taints.len(), 2);
-    assert_eq!(rt; node.taints[0].value.as_str(), "v");
-    assert_eq!(rt; node.taints[0].effect, Effect::NoExecute);
-    assert_eq!(rt; node.taints[1].effect, Effect::PreferNoSchedule);
-    assert!(rt; node.unschedulable);
-}
-
-#[test]
-fn rows_of_a_node(rt: HostRuntime) -> Result<(), Fail> {
-    let line =
-        r#"{"op":"node","v":7,"name":"a","cpu":"4","mem":"8Gi","pods":110,"labels":[["zone","z1"],["os",""]],"taints":[["k","v","NoExecute"],["k","","PreferNoSchedule"]],"unschedulable":true}"#;
-    let Ok(Command::Event(Event::NodeSet { version, node })) = read_line(
-        rt.alloc(),
-        line.as_bytes(),
-    ) else {
-        return Err("a node")?;
+// Whether a row's line has the fault that it tells.
+fn is_told(alloc: Global, row: &str) -> bool {
+    let Some((told, line)) = row.split_once('|') else {
+        return false;
     };
-    assert_eq!(rt; version.0, 7);
-    assert_node(&rt, &node);
-    Ok(())
-}
-
-// The row of the line below.
-fn assert_pod(rt: &impl Abort, pod: &Pod) {
-    assert_eq!(rt; pod.uid.as_str(), "p1");
-    assert_eq!(rt; pod.priority, -5);
-    assert_eq!(rt; pod.request.cpu.0, 500);
-    assert_eq!(rt; pod.request.mem.0, 134_217_728);
-    assert_eq!(rt; pod.labels.len(), 1);
-    assert_eq!(rt; pod.labels[0].key.as_str(), "app");
-    assert_eq!(rt; pod.tolerations.len(), 2);
-    assert_eq!(rt; pod.tolerations[0].operator, Operator::Equal);
-    assert_eq!(rt; pod.tolerations[0].effect, Some(Effect::NoSchedule));
-    assert_eq!(rt; pod.tolerations[1].key.as_str(), "");
-    assert_eq!(rt; pod.tolerations[1].operator, Operator::Exists);
-    assert_eq!(rt; pod.tolerations[1].effect, None);
-}
-
-#[test]
-fn rows_of_a_pod(rt: HostRuntime) -> Result<(), Fail> {
-    let line =
-        r#"{"op":"pod","v":8,"uid":"p1","priority":-5,"containers":[["100m","64Mi"],["200m","64Mi"]],"init":[["500m","32Mi"]],"labels":[["app","web"]],"tolerations":[["k","","v","NoSchedule"],["","Exists","",""]]}"#;
-    let Ok(Command::Event(Event::PodPending { version, pod })) = read_line(
-        rt.alloc(),
-        line.as_bytes(),
-    ) else {
-        return Err("a pod")?;
+    let Some((told_number, told_field)) = told.split_once(' ') else {
+        return false;
     };
-    assert_eq!(rt; version.0, 8);
-    assert_pod(&rt, &pod);
-    Ok(())
+    let (number, field) = fault(alloc, line.as_bytes());
+    told_field == field && told_number.as_bytes() == [b'0'.wrapping_add(number)].as_slice()
 }
 
-// A field with as many items as it may have: the text `open`, the item `count` times, each with its
-// place in its key where it has one, and the text `close`.
-fn put_items(
-    line: &mut Vec<u8>,
-    open: &str,
-    item: (&str, &str),
-    count: u8,
-) -> Result<(), std::alloc::AllocError> {
-    line.extend_from_slice(open.as_bytes())?;
-    for place in 0..count {
-        if place > 0 {
-            line.extend_from_slice(b",")?;
+fn first_faults() -> &'static str {
+    FIRST_FAULTS
+}
+
+// The first row whose line has another fault.
+fn first_other(alloc: Global) -> Option<&'static str> {
+    for row in first_faults().lines() {
+        if !is_told(alloc, row) {
+            return Some(row);
         }
-        line.extend_from_slice(item.0.as_bytes())?;
-        line.extend_from_slice(&[b'a' + place / 26 % 26, b'a' + place % 26])?;
-        line.extend_from_slice(item.1.as_bytes())?;
     }
-    line.extend_from_slice(b"]")?;
-    Ok(())
+    None
 }
 
-// The longest row.
-fn assert_longest(rt: &impl Abort, pod: &Pod) {
-    assert_eq!(rt; pod.labels.len(), 32);
-    assert_eq!(rt; pod.labels[31].key.as_str(), "bf");
-    assert_eq!(rt; pod.tolerations.len(), 16);
-    assert_eq!(rt; pod.request.cpu.0, 20_000);
-    assert_eq!(rt; pod.request.mem.0, 17_179_869_184);
+const DUMP: &[u8] = br#"{"op":"dump"}"#;
+
+const NESTING: &[u8] = br#"{"op":"dump","x":"#;
+
+// What a line is made of, each part so many times, and its fault: a line end alone, a space alone, and text that isn't UTF-8 are no
+// JSON; a line of 65,536 bytes is read, one of a byte more is not; and nesting of 127 is read, one level more is not.
+const LONG: &[(&[(usize, &[u8])], u8, &str)] = &[
+    (&[(1, b"\r")], 1, ""),
+    (&[(1, b" ")], 1, ""),
+    (&[(1, b"{\"op\":\"dump\",\"x\":\"\xFF\"}")], 1, ""),
+    (&[(1, DUMP), (65_523, b" ")], 0, ""),
+    (&[(1, DUMP), (65_524, b" ")], 4, "op"),
+    (&[(1, NESTING), (126, b"["), (126, b"]"), (1, b"}")], 0, ""),
+    (&[(1, NESTING), (127, b"["), (127, b"]"), (1, b"}")], 1, ""),
+];
+
+fn long() -> &'static [(&'static [(usize, &'static [u8])], u8, &'static str)] {
+    LONG
 }
 
-// Every array as long as it may be.
-#[test]
-fn longest_rows(rt: HostRuntime) -> Result<(), Fail> {
-    let mut line = Vec::new(rt.alloc());
-    let text = (r#"[""#, r#"",""]"#);
-    let equal = (r#"[""#, r#"","Equal","",""]"#);
-    put_items(
-        &mut line,
-        r#"{"op":"pod","v":1,"uid":"p","labels":["#,
-        text,
-        32,
-    )?;
-    put_items(&mut line, r#","tolerations":["#, equal, 16)?;
-    line.extend_from_slice(br#","containers":["#)?;
-    for _ in 0..15u8 {
-        line.extend_from_slice(br#"["1","1Gi"],"#)?;
+fn is_fault_of(alloc: Global, parts: &[(usize, &[u8])], number: u8, field: &str) -> bool {
+    match repeated(alloc, parts) {
+        Ok(line) => fault(alloc, &line) == (number, field),
+        Err(_) => false,
     }
-    line.extend_from_slice(br#"["1","1Gi"]],"init":["#)?;
-    for _ in 0..15u8 {
-        line.extend_from_slice(br#"["1","1"],"#)?;
-    }
-    line.extend_from_slice(br#"["20","1"]]}"#)?;
-    let Ok(
-        Command::Event(
-            Event::PodPending {
-                version: _version,
-                pod,
-            },
-        ),
-    ) = read_line(rt.alloc(), &line)
-    else {
-        return Err("a pod")?;
-    };
-    assert_longest(&rt, &pod);
-    Ok(())
 }
 
-// A line of 65,536 bytes is read, one of a byte more is not. One space is no JSON text, nor is what isn't UTF-8.
-#[test]
-fn long_lines(rt: HostRuntime) -> Result<(), Fail> {
-    assert_eq!(rt; fault(rt.alloc(), b" "), (1, ""));
-    assert_eq!(rt;
-        fault(rt.alloc(), b"{\"op\":\"dump\",\"x\":\"\xff\"}"),
-        (1, "")
-    );
-    let mut line = Vec::from_slice(rt.alloc(), br#"{"op":"dump"}"#)?;
-    line.resize(65_536, b' ')?;
-    assert_eq!(rt; fault(rt.alloc(), &line), (0, ""));
-    line.push(b' ')?;
-    assert_eq!(rt; fault(rt.alloc(), &line), (4, "op"));
-    Ok(())
-}
-
-// Nesting of 127 is read, one level more is not.
-#[test]
-fn deep_lines(rt: HostRuntime) -> Result<(), Fail> {
-    for (depth, number) in [(126, 0), (127, 1)] {
-        let mut line = Vec::from_slice(rt.alloc(), br#"{"op":"dump","x":"#)?;
-        for _ in 0..depth {
-            line.push(b'[')?;
+// The first of the long lines that has another fault.
+fn first_other_long(alloc: Global) -> Option<usize> {
+    for (at, (parts, number, field)) in long().iter().enumerate() {
+        if !is_fault_of(alloc, parts, *number, field) {
+            return Some(at);
         }
-        for _ in 0..depth {
-            line.push(b']')?;
-        }
-        line.push(b'}')?;
-        assert_eq!(rt; fault(rt.alloc(), &line).0, number, "{depth}");
     }
-    Ok(())
+    None
+}
+
+#[test]
+fn faults(rt: HostRuntime) {
+    assert_eq!(rt; first_other(rt.alloc()), None);
+    assert_eq!(rt; first_other_long(rt.alloc()), None);
+}
+
+const NODE: &[u8] =
+    br#"{"op":"node","v":7,"name":"a","cpu":"4","mem":"8Gi","pods":110,"labels":[["zone","z1"],["os",""]],"taints":[["k","v","NoExecute"],["k","","PreferNoSchedule"]],"unschedulable":true}"#;
+
+const POD: &[u8] =
+    br#"{"op":"pod","v":8,"uid":"p1","priority":-5,"containers":[["100m","64Mi"],["200m","64Mi"]],"init":[["500m","32Mi"]],"labels":[["app","web"]],"tolerations":[["k","","v","NoSchedule"],["","Exists","",""]]}"#;
+
+// Every array as long as it may be: 32 labels, 16 tolerations, 16 containers, and 16 that go before them.
+const LONGEST: &[u8] =
+    br#"{"op":"pod","v":1,"uid":"p","labels":[["aa",""],["ab",""],["ac",""],["ad",""],["ae",""],["af",""],["ag",""],["ah",""],["ai",""],["aj",""],["ak",""],["al",""],["am",""],["an",""],["ao",""],["ap",""],["aq",""],["ar",""],["as",""],["at",""],["au",""],["av",""],["aw",""],["ax",""],["ay",""],["az",""],["ba",""],["bb",""],["bc",""],["bd",""],["be",""],["bf",""]],"tolerations":[["aa","Equal","",""],["ab","Equal","",""],["ac","Equal","",""],["ad","Equal","",""],["ae","Equal","",""],["af","Equal","",""],["ag","Equal","",""],["ah","Equal","",""],["ai","Equal","",""],["aj","Equal","",""],["ak","Equal","",""],["al","Equal","",""],["am","Equal","",""],["an","Equal","",""],["ao","Equal","",""],["ap","Equal","",""]],"containers":[["1","1Gi"],["1","1Gi"],["1","1Gi"],["1","1Gi"],["1","1Gi"],["1","1Gi"],["1","1Gi"],["1","1Gi"],["1","1Gi"],["1","1Gi"],["1","1Gi"],["1","1Gi"],["1","1Gi"],["1","1Gi"],["1","1Gi"],["1","1Gi"]],"init":[["1","1"],["1","1"],["1","1"],["1","1"],["1","1"],["1","1"],["1","1"],["1","1"],["1","1"],["1","1"],["1","1"],["1","1"],["1","1"],["1","1"],["1","1"],["20","1"]]}"#;
+
+fn is_label(label: &Label, key: &str, value: &str) -> bool {
+    label.key.as_str() == key && label.value.as_str() == value
+}
+
+fn is_taint(taint: &Taint, value: &str, effect: Effect) -> bool {
+    taint.key.as_str() == "k" && taint.value.as_str() == value && taint.effect == effect
+}
+
+fn has_amounts(node: &Node) -> bool {
+    node.name.as_str() == "a"
+        && node.allocatable.cpu.0 == 4_000
+        && node.allocatable.mem.0 == 8_589_934_592
+        && node.allocatable.pods == 110
+        && node.unschedulable
+}
+
+// Whether a node has the rows of `NODE`.
+fn is_node(node: &Node) -> bool {
+    has_amounts(node)
+        && node.labels.len() == 2
+        && is_label(&node.labels[0], "zone", "z1")
+        && is_label(&node.labels[1], "os", "")
+        && node.taints.len() == 2
+        && is_taint(&node.taints[0], "v", Effect::NoExecute)
+        && is_taint(&node.taints[1], "", Effect::PreferNoSchedule)
+}
+
+fn reads_node(alloc: Global) -> bool {
+    match read_line(alloc, NODE) {
+        Ok(Command::Event(Event::NodeSet { version, node })) => version.0 == 7 && is_node(&node),
+        _ => false,
+    }
+}
+
+fn tolerates(
+    toleration: &Toleration,
+    key: &str,
+    operator: Operator,
+    effect: Option<Effect>,
+) -> bool {
+    toleration.key.as_str() == key && toleration.operator == operator && toleration.effect == effect
+}
+
+fn asks(pod: &Pod, uid: &str, cpu: u64, mem: u64) -> bool {
+    pod.uid.as_str() == uid && pod.request.cpu.0 == cpu && pod.request.mem.0 == mem
+}
+
+// Whether a pod has the rows of `POD`.
+fn is_pod(pod: &Pod) -> bool {
+    asks(pod, "p1", 500, 134_217_728)
+        && pod.priority == -5
+        && pod.labels.len() == 1
+        && is_label(&pod.labels[0], "app", "web")
+        && pod.tolerations.len() == 2
+        && tolerates(
+            &pod.tolerations[0],
+            "k",
+            Operator::Equal,
+            Some(Effect::NoSchedule),
+        )
+        && tolerates(&pod.tolerations[1], "", Operator::Exists, None)
+}
+
+// The same of `LONGEST`.
+fn is_longest(pod: &Pod) -> bool {
+    asks(pod, "p", 20_000, 17_179_869_184)
+        && pod.labels.len() == 32
+        && is_label(&pod.labels[31], "bf", "")
+        && pod.tolerations.len() == 16
+}
+
+fn reads_pod(alloc: Global) -> bool {
+    match read_line(alloc, POD) {
+        Ok(Command::Event(Event::PodPending { version, pod })) => version.0 == 8 && is_pod(&pod),
+        _ => false,
+    }
+}
+
+fn reads_longest(alloc: Global) -> bool {
+    match read_line(alloc, LONGEST) {
+        Ok(Command::Event(Event::PodPending { version, pod })) => {
+            version.0 == 1 && is_longest(&pod)
+        }
+        _ => false,
+    }
+}
+
+#[test]
+fn rows(rt: HostRuntime) {
+    assert!(rt; reads_node(rt.alloc()));
+    assert!(rt; reads_pod(rt.alloc()));
+    assert!(rt; reads_longest(rt.alloc()));
 }

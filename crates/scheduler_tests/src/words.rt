@@ -1,59 +1,48 @@
 //! That words are read where memory is left, the words of a process, and the texts of faults.
-use command::{Spec, WordFault, Words, arguments, words};
-use std::alloc::Global;
+use command::{Plan, Spec, StormPlan, WordFault, Words, arguments, words};
+use std::alloc::{AllocError, Global};
 use std::env::FillError;
 use std::rt::Env;
-use std::test::Fail;
 
-// What words ask for, in a row of a table: nothing, to check a file, a run with this many workers, or a
-// storm with this many cycle threads and binders, which are flaky or not, and these plugins.
-#[derive(Drop)]
-enum Want<'a> {
-    Nothing,
-    Check(&'a str),
-    Run(usize, &'a [(&'a str, u8, u64, &'a str)]),
-    Storm(usize, usize, bool, &'a [(&'a str, u8, u64, &'a str)]),
+// What words ask for, but for the plugins: to check a file, a run with this many workers, or a storm with this many cycle threads
+// and binders, which are flaky or not.
+#[derive(Clone, Copy)]
+enum Want {
+    Check(&'static str),
+    Run(usize),
+    Storm(usize, usize, bool),
 }
 
-// Whether the plugins are these.
-fn are(specs: &[Spec], want: &[(&str, u8, u64, &str)]) -> bool {
-    specs.len() == want.len()
-        && specs.iter().zip(want).all(|(spec, row)| {
-            let (name, weight, fuel, file) = *row;
-            spec.name.as_str() == name
-                && spec.weight == weight
-                && spec.fuel == fuel
-                && spec.file == file
-        })
-}
+// A plugin's name, weight, fuel and file.
+type SpecRow = (&'static str, u8, u64, &'static str);
 
-// Whether the words ask for this.
-fn is_asked(alloc: Global, args: &[&str], want: Want) -> bool {
-    match (words(alloc, args), want) {
-        (Err(WordFault::BadWords), Want::Nothing) => true,
-        (Ok(Words::Check(file)), Want::Check(wanted)) => file == wanted,
-        (Ok(Words::Run(plan)), Want::Run(workers, specs)) => {
-            plan.workers == workers && are(&plan.specs, specs)
-        }
-        (Ok(Words::Storm(plan)), Want::Storm(cycles, binders, is_flaky, specs)) => {
-            plan.cycles == cycles
-                && plan.binders == binders
-                && plan.is_flaky == is_flaky
-                && are(&plan.specs, specs)
-        }
-        _ => false,
-    }
-}
+// Words with a space between each two, what they ask for, and their plugins.
+type Row = (&'static str, Want, &'static [SpecRow]);
 
-// Words for seventeen plugins. A run has at most sixteen.
-const SEVENTEEN: [&str; 18] = [
-    "run", "a:1:1:f", "b:1:1:f", "c:1:1:f", "d:1:1:f", "e:1:1:f", "f:1:1:f", "g:1:1:f", "h:1:1:f",
-    "i:1:1:f", "j:1:1:f", "k:1:1:f", "l:1:1:f", "m:1:1:f", "n:1:1:f", "o:1:1:f", "p:1:1:f",
-    "q:1:1:f",
+const ASKED: &[Row] = &[
+    ("run", Want::Run(1), &[]),
+    ("run --workers=64", Want::Run(64), &[]),
+    (
+        "run b:010:01000000000:x:y --workers +5 a-._/Z9:1:1:",
+        Want::Run(5),
+        &[("b", 10, 1_000_000_000, "x:y"), ("a-._/Z9", 1, 1, "")],
+    ),
+    (
+        "run a:00000000000000000000000000000010:1:f",
+        Want::Run(1),
+        &[("a", 10, 1, "f")],
+    ),
+    ("check f", Want::Check("f"), &[]),
+    ("storm", Want::Storm(2, 2, false), &[]),
+    (
+        "storm --flaky --cycles +8 a:1:1:f --binders=01",
+        Want::Storm(8, 1, true),
+        &[("a", 1, 1, "f")],
+    ),
 ];
 
-// The sixteen plugins of all these words but the last.
-const SIXTEEN: [(&str, u8, u64, &str); 16] = [
+// The most plugins that a run has, and their words, also with one more.
+const SIXTEEN: &[SpecRow] = &[
     ("a", 1, 1, "f"),
     ("b", 1, 1, "f"),
     ("c", 1, 1, "f"),
@@ -72,64 +61,146 @@ const SIXTEEN: [(&str, u8, u64, &str); 16] = [
     ("p", 1, 1, "f"),
 ];
 
+const SIXTEEN_WORDS: &str =
+    "run a:1:1:f b:1:1:f c:1:1:f d:1:1:f e:1:1:f f:1:1:f g:1:1:f h:1:1:f i:1:1:f j:1:1:f k:1:1:f l:1:1:f m:1:1:f n:1:1:f o:1:1:f p:1:1:f";
+
+const SEVENTEEN_WORDS: &str =
+    "run a:1:1:f b:1:1:f c:1:1:f d:1:1:f e:1:1:f f:1:1:f g:1:1:f h:1:1:f i:1:1:f j:1:1:f k:1:1:f l:1:1:f m:1:1:f n:1:1:f o:1:1:f p:1:1:f q:1:1:f";
+
+// Words that ask for nothing.
+const REFUSED: &[&str] = &[
+    "",
+    "--help",
+    "run --workers 18446744073709551617",
+    "run a:1:18446744073709551617:f",
+    "run a:1:1:f a:2:2:g",
+    "run --workers 0",
+    "run --workers=65",
+    SEVENTEEN_WORDS,
+    "storm --cycles 9",
+    "storm --binders=0",
+    "storm --flaky --flaky",
+    "storm --workers 2",
+    "run --flaky",
+];
+
+fn asked() -> &'static [Row] {
+    ASKED
+}
+
+fn sixteen() -> &'static [SpecRow] {
+    SIXTEEN
+}
+
+fn refused() -> &'static [&'static str] {
+    REFUSED
+}
+
+fn is_spec(spec: &Spec, row: &SpecRow) -> bool {
+    let (name, weight, fuel, file) = *row;
+    spec.name.as_str() == name && spec.weight == weight && spec.fuel == fuel && spec.file == file
+}
+
+fn are_specs(specs: &[Spec], rows: &[SpecRow]) -> bool {
+    for (spec, row) in specs.iter().zip(rows) {
+        if !is_spec(spec, row) {
+            return false;
+        }
+    }
+    specs.len() == rows.len()
+}
+
+fn is_run(plan: &Plan, want: Want, specs: &[SpecRow]) -> bool {
+    match want {
+        Want::Run(workers) => plan.workers == workers && are_specs(&plan.specs, specs),
+        _ => false,
+    }
+}
+
+fn is_storm(plan: &StormPlan, want: Want, specs: &[SpecRow]) -> bool {
+    match want {
+        Want::Storm(cycles, binders, is_flaky) => {
+            plan.cycles == cycles
+                && plan.binders == binders
+                && plan.is_flaky == is_flaky
+                && are_specs(&plan.specs, specs)
+        }
+        _ => false,
+    }
+}
+
+fn is_check(file: &str, want: Want) -> bool {
+    match want {
+        Want::Check(wanted) => file == wanted,
+        _ => false,
+    }
+}
+
+// The words of a text with a space between each two.
+fn words_in<'a>(alloc: Global, text: &'a str) -> Result<Vec<&'a str>, AllocError> {
+    let mut args = Vec::new(alloc);
+    for word in text.split(' ') {
+        if !word.is_empty() {
+            args.push(word)?;
+        }
+    }
+    Ok(args)
+}
+
+fn are_asked(alloc: Global, args: &[&str], want: Want, specs: &[SpecRow]) -> bool {
+    match words(alloc, args) {
+        Ok(Words::Run(plan)) => is_run(&plan, want, specs),
+        Ok(Words::Storm(plan)) => is_storm(&plan, want, specs),
+        Ok(Words::Check(file)) => is_check(file, want),
+        _ => false,
+    }
+}
+
+fn are_refused(alloc: Global, args: &[&str]) -> bool {
+    matches!(words(alloc, args), Err(WordFault::BadWords))
+}
+
+// Whether the words of a text ask for this.
+fn is_asked(alloc: Global, text: &str, want: Want, specs: &[SpecRow]) -> bool {
+    match words_in(alloc, text) {
+        Ok(args) => are_asked(alloc, &args, want, specs),
+        Err(_) => false,
+    }
+}
+
+// Whether they ask for nothing.
+fn is_refused(alloc: Global, text: &str) -> bool {
+    match words_in(alloc, text) {
+        Ok(args) => are_refused(alloc, &args),
+        Err(_) => false,
+    }
+}
+
+// The first words that ask for something else.
+fn first_other(alloc: Global) -> Option<&'static str> {
+    for (text, want, specs) in asked() {
+        if !is_asked(alloc, text, *want, specs) {
+            return Some(text);
+        }
+    }
+    None
+}
+
+// The first words that ask for something.
+fn first_asked(alloc: Global) -> Option<&'static str> {
+    for text in refused() {
+        if !is_refused(alloc, text) {
+            return Some(text);
+        }
+    }
+    None
+}
+
 #[test]
 fn words_ask_for_these(rt: HostRuntime) {
-    let rows = [
-        (["run"].as_slice(), Want::Run(1, &[])),
-        (["run", "--workers=64"].as_slice(), Want::Run(64, &[])),
-        (
-            [
-                "run",
-                "b:010:01000000000:x:y",
-                "--workers",
-                "+5",
-                "a-._/Z9:1:1:",
-            ]
-            .as_slice(),
-            Want::Run(5, &[("b", 10, 1_000_000_000, "x:y"), ("a-._/Z9", 1, 1, "")]),
-        ),
-        (
-            ["run", "a:00000000000000000000000000000010:1:f"].as_slice(),
-            Want::Run(1, &[("a", 10, 1, "f")]),
-        ),
-        (["check", "f"].as_slice(), Want::Check("f")),
-        ([].as_slice(), Want::Nothing),
-        (["--help"].as_slice(), Want::Nothing),
-        (
-            ["run", "--workers", "18446744073709551617"].as_slice(),
-            Want::Nothing,
-        ),
-        (
-            ["run", "a:1:18446744073709551617:f"].as_slice(),
-            Want::Nothing,
-        ),
-        (["run", "a:1:1:f", "a:2:2:g"].as_slice(), Want::Nothing),
-        (["run", "--workers", "0"].as_slice(), Want::Nothing),
-        (["run", "--workers=65"].as_slice(), Want::Nothing),
-        (&SEVENTEEN[..17], Want::Run(1, &SIXTEEN)),
-        (&SEVENTEEN, Want::Nothing),
-        (["storm"].as_slice(), Want::Storm(2, 2, false, &[])),
-        (
-            [
-                "storm",
-                "--flaky",
-                "--cycles",
-                "+8",
-                "a:1:1:f",
-                "--binders=01",
-            ]
-            .as_slice(),
-            Want::Storm(8, 1, true, &[("a", 1, 1, "f")]),
-        ),
-        (["storm", "--cycles", "9"].as_slice(), Want::Nothing),
-        (["storm", "--binders=0"].as_slice(), Want::Nothing),
-        (["storm", "--flaky", "--flaky"].as_slice(), Want::Nothing),
-        (["storm", "--workers", "2"].as_slice(), Want::Nothing),
-        (["run", "--flaky"].as_slice(), Want::Nothing),
-    ];
-    for (args, want) in rows {
-        assert!(rt; is_asked(rt.alloc(), args, want), "{args:?}");
-    }
+    assert_eq!(rt; first_other(rt.alloc()), None);
+    assert_eq!(rt; first_asked(rt.alloc()), None);
+    assert!(rt; is_asked(rt.alloc(), SIXTEEN_WORDS, Want::Run(1), sixteen()));
 }
 
 // The words of a process: the last one as bytes that need not be text.
@@ -162,21 +233,27 @@ impl Env for Process<'_> {
     }
 }
 
-#[test]
-fn words_follow_the_name_and_are_text(rt: HostRuntime) -> Result<(), Fail> {
-    let text = Process { last: b"--" };
-    let args = arguments(&(&text, rt.alloc()))?;
-    assert_eq!(rt; args.len(), 2);
-    assert_eq!(rt; args[0].as_str(), "run");
-    assert_eq!(rt; args[1].as_str(), "--");
-    let bytes = Process { last: b"\xff" };
-    assert!(rt; matches!(arguments(&(&bytes, rt.alloc())), Err(WordFault::BadWords)));
-    Ok(())
+// Whether a process whose last word this is has the words `run` and this one behind its name.
+fn follow(alloc: Global, last: &[u8]) -> Result<bool, WordFault> {
+    let process = Process { last };
+    let args = arguments(&(&process, alloc))?;
+    Ok(args.len() == 2 && args[0].as_str() == "run" && args[1].as_bytes() == last)
 }
 
 #[test]
-fn a_fault_prints_its_number_and_its_name(rt: HostRuntime) -> Result<(), Fail> {
-    let text = format!(in rt.alloc(); "{}, {}", WordFault::BadWords, WordFault::NoMemory)?;
-    assert_eq!(rt; text.as_str(), "1 BadWords, 2 NoMemory");
-    Ok(())
+fn words_follow_the_name_and_are_text(rt: HostRuntime) {
+    assert_eq!(rt; follow(rt.alloc(), b"--"), Ok(true));
+    assert_eq!(rt; follow(rt.alloc(), b"\xff"), Err(WordFault::BadWords));
+}
+
+fn are_numbered_and_named(alloc: Global) -> bool {
+    match format!(in alloc; "{}, {}", WordFault::BadWords, WordFault::NoMemory) {
+        Ok(text) => text.as_str() == "1 BadWords, 2 NoMemory",
+        Err(_) => false,
+    }
+}
+
+#[test]
+fn a_fault_prints_its_number_and_its_name(rt: HostRuntime) {
+    assert!(rt; are_numbered_and_named(rt.alloc()));
 }
