@@ -3,7 +3,7 @@ ghost use Rattle.std.specs.Prelude.{◌≡◌, IfOk};
 ghost use Rattle.desk.specs.Caller.{IsTimely};
 ghost use Rattle.desk.specs.Shared.{IsPassOf};
 
-use crate::steps::{Answer, told};
+use crate::steps::{Answer, in_short};
 use book::Book;
 use desk::{Blank, Desk, Limits, Naming, NoPlace, Pass, Reply, Snapshot, Step};
 use quant::{Bytes, Cpu, Event, Name, Node, Pod, Request, Res, SharedNode, SharedPod, Version};
@@ -110,7 +110,7 @@ fn tell<J: Naming, R: Abort + Wait>(rt: &R, desk: &Desk<J>, pass: &mut Pass<J>, 
     ensures { pass.new.caller.number ≡ pass.old.caller.number }
 {
     let reply = take(rt, desk, pass, step);
-    assert_eq!(rt; told(&reply), Answer::Done);
+    assert_eq!(rt; in_short(&reply), Answer::Done);
 }
 
 /// A pass pops a pod.

@@ -1,18 +1,15 @@
 //! Binders that answer late: what the desk says to the report of a bind after the watch told of the pod or its node.
-ghost use Rattle.std.specs.Prelude.{◌≡◌, IfOk, OnOk};
-ghost use Rattle.desk.specs.Caller.{IsTimely};
+ghost use Rattle.std.specs.Prelude.{◌≡◌};
 ghost use Rattle.desk.specs.Shared.{IsPassOf};
 
-use crate::steps::{Answer, assume, bound, gone, node, node_gone, pending, told};
+use crate::steps::{Answer, Call, News, Row, ask, first_other, in_short};
 use binder::{BindAnswer, Binder, Job, Tally, bind_job};
-use desk::{Blank, Desk, Limits, Naming, Pass, Refusal, Reply, Step};
+use desk::{Blank, Desk, Limits, Naming, Pass, Refusal};
 use quant::{Name, Ticket};
 use std::alloc::Global;
 use std::hash::RandomState;
 use std::marker::Brand;
-use std::process::Abort;
 use std::sync::Wait;
-use std::test::Fail;
 
 /// A binder that always answers so.
 #[derive(Drop)]
@@ -36,26 +33,22 @@ impl Binder for Always {
     }
 }
 
-/// What the watch tells between a pod's placing and its bind.
-#[derive(Clone, Copy)]
-enum Meanwhile {
-    Nothing,
-    PodBound,
-    PodGone,
-    NodeGone,
-}
+/// Pod p is placed on node a.
+const PLACED: &[Row] = &[
+    (Call::Tell(1, News::Node(b'a')), Answer::Done),
+    (Call::Tell(2, News::Pod(b'p')), Answer::Done),
+    (Call::Pop, Answer::Popped(b'p')),
+    (Call::Assume(b'p', b'a'), Answer::Ticket(Ticket(1))),
+];
 
-/// A bind that comes late: what was told before, what the binder answers, and what the desk is to say to the report, and to
-/// that of the same job again.
-#[derive(Drop)]
-struct Late {
-    meanwhile: Meanwhile,
-    answer: BindAnswer,
-    first: Answer,
-    again: Answer,
-    bound: usize,
-    assumed: usize,
-}
+/// What the cluster tells between a pod's placing and its bind.
+const NOTHING: &[Row] = &[];
+
+const POD_BOUND: &[Row] = &[(Call::Tell(3, News::Bound(b'p', b'a')), Answer::Done)];
+
+const POD_GONE: &[Row] = &[(Call::Tell(3, News::PodGone(b'p')), Answer::Done)];
+
+const NODE_GONE: &[Row] = &[(Call::Tell(3, News::NodeGone(b'a')), Answer::Done)];
 
 const CONFIRMED: Answer = Answer::Refused(Refusal::Confirmed);
 
@@ -63,70 +56,41 @@ const GONE: Answer = Answer::Refused(Refusal::Gone);
 
 const STALE: Answer = Answer::Refused(Refusal::StaleTicket);
 
-fn case(
-    meanwhile: Meanwhile,
-    answer: BindAnswer,
-    first: Answer,
-    again: Answer,
-    bound: usize,
-    assumed: usize,
-) -> Late {
-    Late {
-        meanwhile,
-        answer,
-        first,
-        again,
-        bound,
-        assumed,
-    }
+/// A bind that comes late: what was told before, what the binder answers, what the desk is to say to the report, and to that of the
+/// same job again, and how many places are bound and assumed then.
+type Late = (&'static [Row], BindAnswer, Answer, Answer, usize, usize);
+
+/// The rows are worked by hand from the table of steps in docs/SCHEDULING.md.
+const LATE: &[Late] = &[
+    (NOTHING, BindAnswer::Done, Answer::Done, CONFIRMED, 0, 1),
+    (NOTHING, BindAnswer::Failed, Answer::Done, STALE, 0, 0),
+    (POD_BOUND, BindAnswer::Done, CONFIRMED, CONFIRMED, 1, 0),
+    (POD_BOUND, BindAnswer::Failed, CONFIRMED, CONFIRMED, 1, 0),
+    (POD_GONE, BindAnswer::Done, GONE, GONE, 0, 0),
+    (POD_GONE, BindAnswer::Failed, GONE, GONE, 0, 0),
+    (NODE_GONE, BindAnswer::Done, Answer::Done, CONFIRMED, 0, 1),
+    (NODE_GONE, BindAnswer::Failed, Answer::Done, STALE, 0, 0),
+];
+
+fn placed() -> &'static [Row] {
+    PLACED
 }
 
-/// The watch's step, or a count where there is none.
-fn told_meanwhile(meanwhile: Meanwhile) -> Result<Step, Fail>
-    ensures { IfOk result IsTimely }
-{
-    match meanwhile {
-        Meanwhile::Nothing => Ok(Step::Count),
-        Meanwhile::PodBound => bound(3, b'p', b'a'),
-        Meanwhile::PodGone => gone(3, b'p'),
-        Meanwhile::NodeGone => node_gone(3, b'a'),
-    }
+fn late() -> &'static [Late] {
+    LATE
 }
 
-/// Does a step.
-fn take<J: Naming, R: Wait>(
-    rt: &R,
-    desk: &Desk<J>,
-    pass: &mut Pass<J>,
-    step: Result<Step, Fail>,
-) -> Result<Reply, Fail>
-    requires of { IsPassOf pass.old desk.now }
-    requires timely { IfOk step IsTimely }
-    ensures { OnOk result (pass.new.caller.number ≡ pass.old.caller.number) }
-{
-    let reply = desk.apply(rt, pass, step?)?;
-    Ok(reply)
+fn binder_of(alloc: Global, answer: BindAnswer) -> Option<Box<dyn Binder + Send>> {
+    let tally = Tally::new();
+    let binder: Box<dyn Binder + Send> = Box::new(alloc, Always { answer, tally }).ok()?;
+    Some(binder)
 }
 
-/// Pod p is placed on node a, and then the watch tells this.
-fn place_late<J: Naming, R: Wait>(
-    rt: &R,
-    alloc: Global,
-    desk: &Desk<J>,
-    pass: &mut Pass<J>,
-    meanwhile: Meanwhile,
-) -> Result<Ticket, Fail>
-    requires of { IsPassOf pass.old desk.now }
-    ensures { OnOk result (pass.new.caller.number ≡ pass.old.caller.number) }
-{
-    let _ = take(rt, desk, pass, node(alloc, 1, b'a'))?;
-    let _ = take(rt, desk, pass, pending(alloc, 2, b'p'))?;
-    let _ = take(rt, desk, pass, Ok(Step::Pop))?;
-    let Reply::Ticket(ticket) = take(rt, desk, pass, assume(b'p', b'a'))? else {
-        return Err(Fail::from("a ticket"));
-    };
-    let _ = take(rt, desk, pass, told_meanwhile(meanwhile))?;
-    Ok(ticket)
+fn job() -> Option<Job> {
+    let uid = Name::new(b"p").ok()?;
+    let node = Name::new(b"a").ok()?;
+    let ticket = Ticket(1);
+    Some(Job { uid, node, ticket })
 }
 
 /// Does the job, and tells what was said to its report.
@@ -136,154 +100,113 @@ fn bind<J: Naming, R: Wait>(
     pass: &mut Pass<J>,
     binder: &mut Box<dyn Binder + Send>,
     job: &Job,
-) -> Result<Answer, Fail>
+) -> Option<Answer>
     requires { IsPassOf pass.old desk.now }
-    ensures { OnOk result (pass.new.caller.number ≡ pass.old.caller.number) }
+    ensures { pass.new.caller.number ≡ pass.old.caller.number }
 {
     match bind_job(rt, desk, pass, binder, job) {
-        Ok(reply) => Ok(told(&reply)),
-        Err(_) => Err(Fail::from("memory")),
+        Ok(reply) => Some(in_short(&reply)),
+        Err(_) => None,
     }
+}
+
+/// What is said to two reports of one job.
+fn bind_twice<J: Naming, R: Wait>(
+    rt: &R,
+    alloc: Global,
+    desk: &Desk<J>,
+    pass: &mut Pass<J>,
+    answer: BindAnswer,
+) -> Option<(Answer, Answer)>
+    requires { IsPassOf pass.old desk.now }
+    ensures { pass.new.caller.number ≡ pass.old.caller.number }
+{
+    let mut binder = binder_of(alloc, answer)?;
+    let job = job()?;
+    let first = bind(rt, desk, pass, &mut binder, &job)?;
+    let again = bind(rt, desk, pass, &mut binder, &job)?;
+    if binder.asked() != 2 {
+        return None;
+    }
+    Some((first, again))
 }
 
 /// How many places are bound and how many are assumed.
 fn places<J: Naming, R: Wait>(
     rt: &R,
+    alloc: Global,
     desk: &Desk<J>,
     pass: &mut Pass<J>,
-) -> Result<(usize, usize), Fail>
-    requires of { IsPassOf pass.old desk.now }
+) -> Option<(usize, usize)>
+    requires { IsPassOf pass.old desk.now }
 {
-    let Reply::Counts(counts) = take(rt, desk, pass, Ok(Step::Count))? else {
-        return Err(Fail::from("counts"));
-    };
-    Ok((counts.bound, counts.assumed))
+    match ask(rt, alloc, desk, pass, Call::Count) {
+        Some(Answer::Counts(counts)) => Some((counts.bound, counts.assumed)),
+        _ => None,
+    }
 }
 
-/// The same job twice.
-fn bind_late<J: Naming, R: Abort + Wait>(
+fn is_bound_late<J: Naming, R: Wait>(
     rt: &R,
     alloc: Global,
     desk: &Desk<J>,
-    mut pass: Pass<J>,
+    pass: &mut Pass<J>,
     row: &Late,
-) -> Result<(), Fail>
-    requires { IsPassOf pass desk.now }
+) -> bool
+    requires { IsPassOf pass.old desk.now }
 {
-    let always = Always {
-        answer: row.answer,
-        tally: Tally::new(),
-    };
-    let mut binder: Box<dyn Binder + Send> = Box::new(alloc, always)?;
-    let ticket = place_late(rt, alloc, desk, &mut pass, row.meanwhile)?;
-    let job = Job {
-        uid: Name::new(b"p")?,
-        node: Name::new(b"a")?,
-        ticket,
-    };
-    assert_eq!(rt; bind(rt, desk, &mut pass, &mut binder, &job)?, row.first);
-    assert_eq!(rt; bind(rt, desk, &mut pass, &mut binder, &job)?, row.again);
-    assert_eq!(rt; binder.asked(), 2);
-    assert_eq!(rt; places(rt, desk, &mut pass)?, (row.bound, row.assumed));
-    Ok(())
+    let (meanwhile, bound, first, again, many_bound, many_assumed) = *row;
+    first_other(rt, alloc, desk, pass, placed()).is_none()
+        && first_other(rt, alloc, desk, pass, meanwhile).is_none()
+        && bind_twice(rt, alloc, desk, pass, bound) == Some((first, again))
+        && places(rt, alloc, desk, pass) == Some((many_bound, many_assumed))
 }
 
-fn with_pass<J: Naming, R: Abort + Wait>(
-    rt: &R,
-    alloc: Global,
-    mut desk: Desk<J>,
-    row: &Late,
-) -> Result<(), Fail> {
-    let done = match desk.pass() {
-        Ok(pass) => bind_late(rt, alloc, &desk, pass, row),
-        Err(_) => Err(Fail::from("a pass")),
-    };
-    desk.discard(rt);
-    done
+fn by_a_pass<J: Naming, R: Wait>(rt: &R, alloc: Global, desk: &mut Desk<J>, row: &Late) -> bool {
+    match desk.pass() {
+        Ok(mut pass) => is_bound_late(rt, alloc, desk, &mut pass, row),
+        Err(_) => false,
+    }
 }
 
-fn opened<J: Naming, R: Abort + Wait>(
+fn opened<J: Naming, R: Wait>(
     rt: &R,
     alloc: Global,
     keys: RandomState,
     limits: Limits,
     blank: Blank,
     row: &Late,
-) -> Result<(), Fail>
+) -> bool
     requires { (blank.seen.book ≡ J.book) × (limits ≡ J.limits) }
 {
-    let desk = Desk::<J>::new(blank, alloc, keys, limits)?;
-    with_pass(rt, alloc, desk, row)
+    let Ok(mut desk) = Desk::<J>::new(blank, alloc, keys, limits) else {
+        return false;
+    };
+    let is_so = by_a_pass(rt, alloc, &mut desk, row);
+    desk.discard(rt);
+    is_so
 }
 
-/// Works a row over a desk of its own.
-fn worked<R: Abort + Wait>(
-    rt: &R,
-    alloc: Global,
-    keys: RandomState,
-    row: &Late,
-) -> Result<(), Fail> {
+/// Whether a row is as a desk of its own has it.
+fn worked<R: Wait>(rt: &R, alloc: Global, keys: RandomState, row: &Late) -> bool {
     opened::<Brand, _>(rt, alloc, keys, Limits::greatest(), Blank::new(), row)
 }
 
-/// The rows are worked by hand from the table of steps in docs/SCHEDULING.md.
-#[test]
-fn binders_may_be_late(rt: HostRuntime) -> Result<(), Fail> {
-    let rows = [
-        case(
-            Meanwhile::Nothing,
-            BindAnswer::Done,
-            Answer::Done,
-            CONFIRMED,
-            0,
-            1,
-        ),
-        case(
-            Meanwhile::Nothing,
-            BindAnswer::Failed,
-            Answer::Done,
-            STALE,
-            0,
-            0,
-        ),
-        case(
-            Meanwhile::PodBound,
-            BindAnswer::Done,
-            CONFIRMED,
-            CONFIRMED,
-            1,
-            0,
-        ),
-        case(
-            Meanwhile::PodBound,
-            BindAnswer::Failed,
-            CONFIRMED,
-            CONFIRMED,
-            1,
-            0,
-        ),
-        case(Meanwhile::PodGone, BindAnswer::Done, GONE, GONE, 0, 0),
-        case(Meanwhile::PodGone, BindAnswer::Failed, GONE, GONE, 0, 0),
-        case(
-            Meanwhile::NodeGone,
-            BindAnswer::Done,
-            Answer::Done,
-            CONFIRMED,
-            0,
-            1,
-        ),
-        case(
-            Meanwhile::NodeGone,
-            BindAnswer::Failed,
-            Answer::Done,
-            STALE,
-            0,
-            0,
-        ),
-    ];
-    for row in &rows {
-        let keys = RandomState::new(&rt)?;
-        worked(&rt, rt.alloc(), keys, row)?;
+/// The first row that isn't.
+fn first_other_late<R: Wait>(rt: &R, alloc: Global, keys: Option<RandomState>) -> Option<usize> {
+    let Some(keys) = keys else {
+        return Some(0);
+    };
+    for (at, row) in late().iter().enumerate() {
+        if !worked(rt, alloc, keys, row) {
+            return Some(at);
+        }
     }
-    Ok(())
+    None
+}
+
+#[test]
+fn binders_may_be_late(rt: HostRuntime) {
+    let keys = RandomState::new(&rt).ok();
+    assert_eq!(rt; first_other_late(&rt, rt.alloc(), keys), None);
 }

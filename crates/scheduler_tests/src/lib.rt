@@ -17,7 +17,11 @@ mod expiry;
 #[cfg(test)]
 mod lines;
 #[cfg(test)]
+mod looks;
+#[cfg(test)]
 mod names;
+#[cfg(test)]
+mod objects;
 #[cfg(test)]
 mod program;
 #[cfg(test)]

@@ -1,118 +1,167 @@
 //! Desks that passes share, from the first pass to the last.
-ghost use Rattle.std.specs.Prelude.{◌≡◌, ◌<◌, IfOk, OnOk};
+ghost use Rattle.std.specs.Prelude.{◌≡◌, IfOk};
 ghost use Rattle.desk.specs.Shared.{IsPassOf};
 
-use crate::steps::{Answer, assert_used, assume, fail, gone, node, pending, place_once, take};
-use desk::{Blank, Desk, Limits, MAX_PASSES, Naming, NoPlace, Pass, Refusal, Step};
+use crate::steps::{Answer, Call, News, Row, first_other, is_answered, one_place};
+use desk::{Blank, Desk, Limits, MAX_PASSES, Naming, NoPlace, Pass, Refusal};
 use quant::Ticket;
 use std::alloc::Global;
 use std::hash::RandomState;
 use std::marker::Brand;
-use std::process::Abort;
 use std::sync::Wait;
-use std::test::Fail;
+
+/// Which of two passes makes a call, and the call.
+type Shared = (By, Row);
+
+#[derive(Clone, Copy, PartialEq, Eq)]
+enum By {
+    First,
+    Second,
+}
+
+/// Two passes for one place: both look first and see that nothing is used, and the second finds no room.
+const ONE_PLACE: &[Shared] = &[
+    (By::First, (Call::Tell(1, News::Node(b'a')), Answer::Done)),
+    (By::First, (Call::Tell(2, News::Pod(b'p')), Answer::Done)),
+    (By::First, (Call::Tell(3, News::Pod(b'q')), Answer::Done)),
+    (By::First, (Call::Look, Answer::Shown(0, 0))),
+    (By::Second, (Call::Look, Answer::Shown(0, 0))),
+    (By::First, (Call::Pop, Answer::Popped(b'p'))),
+    (
+        By::First,
+        (Call::Assume(b'p', b'a'), Answer::Ticket(Ticket(1))),
+    ),
+    (By::Second, (Call::Pop, Answer::Popped(b'q'))),
+    (
+        By::Second,
+        (Call::Assume(b'q', b'a'), Answer::Refused(Refusal::NoRoom)),
+    ),
+];
+
+/// Once they have met, both look at the same totals.
+const ONE_TAKEN: &[Shared] = &[
+    (By::First, (Call::Look, Answer::Shown(600, 1))),
+    (By::Second, (Call::Look, Answer::Shown(600, 1))),
+];
+
+/// A pod goes after the first pass popped it, and comes again. It is no more the first pass's, once another popped it.
+const POD_AGAIN: &[Shared] = &[
+    (By::First, (Call::Tell(1, News::Node(b'a')), Answer::Done)),
+    (By::First, (Call::Tell(2, News::Pod(b'p')), Answer::Done)),
+    (By::First, (Call::Pop, Answer::Popped(b'p'))),
+    (
+        By::First,
+        (Call::Tell(3, News::PodGone(b'p')), Answer::Done),
+    ),
+    (By::First, (Call::Tell(4, News::Pod(b'p')), Answer::Done)),
+    (By::Second, (Call::Pop, Answer::Popped(b'p'))),
+    (
+        By::First,
+        (
+            Call::Assume(b'p', b'a'),
+            Answer::Refused(Refusal::NotInFlight),
+        ),
+    ),
+    (
+        By::First,
+        (Call::Fail(b'p'), Answer::Refused(Refusal::NotInFlight)),
+    ),
+    (
+        By::Second,
+        (Call::Assume(b'p', b'a'), Answer::Ticket(Ticket(1))),
+    ),
+];
+
+fn for_one_place() -> &'static [Shared] {
+    ONE_PLACE
+}
+
+fn one_taken() -> &'static [Shared] {
+    ONE_TAKEN
+}
+
+fn pod_again() -> &'static [Shared] {
+    POD_AGAIN
+}
 
 /// What is tried on a new desk.
 #[derive(Clone, Copy)]
 enum Trial {
     OnePass,
-    OnePlace,
+    TwoMeet,
     PodAgain,
-    AllPasses,
+    LastPass,
 }
 
-/// Node a is there, and pods p and q wait for it.
-fn tell_events<J: Naming, R: Abort + Wait>(
-    rt: &R,
-    alloc: Global,
-    desk: &Desk<J>,
-    pass: &mut Pass<J>,
-) -> Result<(), Fail>
-    requires of { IsPassOf pass.old desk.now }
-    ensures { OnOk result (pass.new.caller.number ≡ pass.old.caller.number) }
-{
-    take(rt, desk, pass, node(alloc, 1, b'a'), Answer::Done)?;
-    take(rt, desk, pass, pending(alloc, 2, b'p'), Answer::Done)?;
-    take(rt, desk, pass, pending(alloc, 3, b'q'), Answer::Done)
-}
-
-/// A pass pops this pod and wants to place it on node a.
-fn place<J: Naming, R: Abort + Wait>(
-    rt: &R,
-    desk: &Desk<J>,
-    pass: &mut Pass<J>,
-    uid: u8,
-    want: Answer,
-) -> Result<(), Fail>
-    requires of { IsPassOf pass.old desk.now }
-    ensures { OnOk result (pass.new.caller.number ≡ pass.old.caller.number) }
-{
-    take(rt, desk, pass, Ok(Step::Pop), Answer::Popped(uid))?;
-    take(rt, desk, pass, assume(uid, b'a'), want)
-}
-
-/// Two passes for one place: both look first and see that nothing is used. The second finds no room, and once they have met
-/// both look at the same totals.
-fn place_twice<J: Naming, R: Abort + Wait>(
+/// The first row of two passes at which a call answers otherwise.
+fn first_other_of_two<J: Naming, R: Wait>(
     rt: &R,
     alloc: Global,
     desk: &Desk<J>,
     first: &mut Pass<J>,
     second: &mut Pass<J>,
-) -> Result<(), Fail>
+    rows: &[Shared],
+) -> Option<usize>
+    requires first { IsPassOf first.old desk.now }
+    requires second { IsPassOf second.old desk.now }
+    ensures first { first.new.caller.number ≡ first.old.caller.number }
+    ensures second { second.new.caller.number ≡ second.old.caller.number }
+{
+    for (at, (by, row)) in rows.iter().enumerate() {
+        let is_so = match by {
+            By::First => is_answered(rt, alloc, desk, first, row),
+            By::Second => is_answered(rt, alloc, desk, second, row),
+        };
+        if !is_so {
+            return Some(at);
+        }
+    }
+    None
+}
+
+/// The same of two passes that meet between these rows and one taken place.
+fn first_other_around_a_meeting<J: Naming, R: Wait>(
+    rt: &R,
+    alloc: Global,
+    desk: &Desk<J>,
+    first: &mut Pass<J>,
+    second: &mut Pass<J>,
+) -> Option<usize>
     requires first { IsPassOf first.old desk.now }
     requires second { IsPassOf second.old desk.now }
 {
-    tell_events(rt, alloc, desk, first)?;
-    assert_used(rt, desk, first, 0, 0)?;
-    assert_used(rt, desk, second, 0, 0)?;
-    place(rt, desk, first, b'p', Answer::Ticket(Ticket(1)))?;
-    place(rt, desk, second, b'q', Answer::Refused(Refusal::NoRoom))?;
+    let other = first_other_of_two(rt, alloc, desk, first, second, for_one_place());
+    if other.is_some() {
+        return other;
+    }
     desk.meet(rt, first, second);
-    assert_used(rt, desk, first, 600, 1)?;
-    assert_used(rt, desk, second, 600, 1)
+    first_other_of_two(rt, alloc, desk, first, second, one_taken())
 }
 
-/// A pod goes after a pass popped it, and comes again.
-fn pop_and_lose<J: Naming, R: Abort + Wait>(
-    rt: &R,
-    alloc: Global,
-    desk: &Desk<J>,
-    pass: &mut Pass<J>,
-) -> Result<(), Fail>
-    requires { IsPassOf pass.old desk.now }
-    ensures { OnOk result (pass.new.caller.number ≡ pass.old.caller.number) }
-{
-    take(rt, desk, pass, node(alloc, 1, b'a'), Answer::Done)?;
-    take(rt, desk, pass, pending(alloc, 2, b'p'), Answer::Done)?;
-    take(rt, desk, pass, Ok(Step::Pop), Answer::Popped(b'p'))?;
-    take(rt, desk, pass, gone(3, b'p'), Answer::Done)?;
-    take(rt, desk, pass, pending(alloc, 4, b'p'), Answer::Done)
+fn by_one<J: Naming, R: Wait>(rt: &R, alloc: Global, desk: &mut Desk<J>) -> Option<usize> {
+    match desk.pass() {
+        Ok(mut pass) => first_other(rt, alloc, desk, &mut pass, one_place()),
+        Err(NoPlace) => Some(0),
+    }
 }
 
-/// The pod is no more the first pass's, once it came again and another popped it.
-fn pop_again<J: Naming, R: Abort + Wait>(
+fn by_two<J: Naming, R: Wait>(
     rt: &R,
     alloc: Global,
-    desk: &Desk<J>,
-    first: &mut Pass<J>,
-    second: &mut Pass<J>,
-) -> Result<(), Fail>
-    requires first { IsPassOf first.old desk.now }
-    requires second { IsPassOf second.old desk.now }
-{
-    let refused = Answer::Refused(Refusal::NotInFlight);
-    pop_and_lose(rt, alloc, desk, first)?;
-    take(rt, desk, second, Ok(Step::Pop), Answer::Popped(b'p'))?;
-    take(rt, desk, first, assume(b'p', b'a'), refused)?;
-    take(rt, desk, first, fail(b'p'), refused)?;
-    take(
-        rt,
-        desk,
-        second,
-        assume(b'p', b'a'),
-        Answer::Ticket(Ticket(1)),
-    )
+    desk: &mut Desk<J>,
+    again: bool,
+) -> Option<usize> {
+    let Ok(mut first) = desk.pass() else {
+        return Some(0);
+    };
+    let Ok(mut second) = desk.pass() else {
+        return Some(0);
+    };
+    if again {
+        first_other_of_two(rt, alloc, desk, &mut first, &mut second, pod_again())
+    } else {
+        first_other_around_a_meeting(rt, alloc, desk, &mut first, &mut second)
+    }
 }
 
 /// The last of all passes.
@@ -127,94 +176,76 @@ fn last_of<J: Naming>(desk: &mut Desk<J>) -> Result<Pass<J>, NoPlace>
 }
 
 /// The last pass works as the first does, and there is none after it.
-fn use_last<J: Naming, R: Abort + Wait>(
-    rt: &R,
-    alloc: Global,
-    desk: &mut Desk<J>,
-) -> Result<(), Fail> {
-    let mut last = last_of(desk)?;
+fn by_last<J: Naming, R: Wait>(rt: &R, alloc: Global, desk: &mut Desk<J>) -> Option<usize> {
+    let Ok(mut last) = last_of(desk) else {
+        return Some(0);
+    };
     match desk.pass() {
-        Ok(_) => Err(Fail::from("one pass more than all")),
-        Err(NoPlace) => place_once(rt, alloc, desk, &mut last),
+        Ok(_) => Some(0),
+        Err(NoPlace) => first_other(rt, alloc, desk, &mut last, one_place()),
     }
 }
 
-/// Two passes, for these calls.
-fn with_two<J: Naming, R: Abort + Wait>(
+fn tried_on<J: Naming, R: Wait>(
     rt: &R,
     alloc: Global,
     desk: &mut Desk<J>,
-    again: bool,
-) -> Result<(), Fail> {
-    let mut first = desk.pass()?;
-    let mut second = desk.pass()?;
-    if again {
-        pop_again(rt, alloc, desk, &mut first, &mut second)
-    } else {
-        place_twice(rt, alloc, desk, &mut first, &mut second)
+    trial: Trial,
+) -> Option<usize> {
+    match trial {
+        Trial::OnePass => by_one(rt, alloc, desk),
+        Trial::TwoMeet => by_two(rt, alloc, desk, false),
+        Trial::PodAgain => by_two(rt, alloc, desk, true),
+        Trial::LastPass => by_last(rt, alloc, desk),
     }
 }
 
-fn with_one<J: Naming, R: Abort + Wait>(
-    rt: &R,
-    alloc: Global,
-    desk: &mut Desk<J>,
-) -> Result<(), Fail> {
-    let mut pass = desk.pass()?;
-    place_once(rt, alloc, desk, &mut pass)
-}
-
-/// A new desk, for this trial.
-fn opened<J: Naming, R: Abort + Wait>(
+/// The first row of a trial on a new desk at which a call answers otherwise, and the first where there is no memory or no pass.
+fn opened<J: Naming, R: Wait>(
     rt: &R,
     alloc: Global,
     keys: RandomState,
     limits: Limits,
     blank: Blank,
     trial: Trial,
-) -> Result<(), Fail>
+) -> Option<usize>
     requires { (blank.seen.book ≡ J.book) × (limits ≡ J.limits) }
 {
-    let mut desk = Desk::<J>::new(blank, alloc, keys, limits)?;
-    let done = match trial {
-        Trial::OnePass => with_one(rt, alloc, &mut desk),
-        Trial::OnePlace => with_two(rt, alloc, &mut desk, false),
-        Trial::PodAgain => with_two(rt, alloc, &mut desk, true),
-        Trial::AllPasses => use_last(rt, alloc, &mut desk),
+    let Ok(mut desk) = Desk::<J>::new(blank, alloc, keys, limits) else {
+        return Some(0);
     };
+    let other = tried_on(rt, alloc, &mut desk, trial);
     desk.discard(rt);
-    done
+    other
 }
 
-fn tried<R: Abort + Wait>(
-    rt: &R,
-    alloc: Global,
-    keys: RandomState,
-    trial: Trial,
-) -> Result<(), Fail> {
+fn tried<R: Wait>(rt: &R, alloc: Global, keys: Option<RandomState>, trial: Trial) -> Option<usize> {
+    let Some(keys) = keys else {
+        return Some(0);
+    };
     opened::<Brand, _>(rt, alloc, keys, Limits::greatest(), Blank::new(), trial)
 }
 
 #[test]
-fn places_a_pod_once(rt: HostRuntime) -> Result<(), Fail> {
-    let keys = RandomState::new(&rt)?;
-    tried(&rt, rt.alloc(), keys, Trial::OnePass)
+fn places_a_pod_once(rt: HostRuntime) {
+    let keys = RandomState::new(&rt).ok();
+    assert_eq!(rt; tried(&rt, rt.alloc(), keys, Trial::OnePass), None);
 }
 
 #[test]
-fn two_passes_meet(rt: HostRuntime) -> Result<(), Fail> {
-    let keys = RandomState::new(&rt)?;
-    tried(&rt, rt.alloc(), keys, Trial::OnePlace)
+fn two_passes_meet(rt: HostRuntime) {
+    let keys = RandomState::new(&rt).ok();
+    assert_eq!(rt; tried(&rt, rt.alloc(), keys, Trial::TwoMeet), None);
 }
 
 #[test]
-fn a_pod_that_came_again_is_another_passes(rt: HostRuntime) -> Result<(), Fail> {
-    let keys = RandomState::new(&rt)?;
-    tried(&rt, rt.alloc(), keys, Trial::PodAgain)
+fn a_pod_that_came_again_is_another_passes(rt: HostRuntime) {
+    let keys = RandomState::new(&rt).ok();
+    assert_eq!(rt; tried(&rt, rt.alloc(), keys, Trial::PodAgain), None);
 }
 
 #[test]
-fn hands_out_64_passes(rt: HostRuntime) -> Result<(), Fail> {
-    let keys = RandomState::new(&rt)?;
-    tried(&rt, rt.alloc(), keys, Trial::AllPasses)
+fn hands_out_64_passes(rt: HostRuntime) {
+    let keys = RandomState::new(&rt).ok();
+    assert_eq!(rt; tried(&rt, rt.alloc(), keys, Trial::LastPass), None);
 }
