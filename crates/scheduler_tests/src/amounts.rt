@@ -60,20 +60,21 @@ fn first_other_memory() -> Option<&'static str> {
 }
 
 // What a pod asks for that has two containers and one that goes before them.
-fn asked() -> Result<Request, QuantFault> {
+fn asked() -> Result<(Cpu, Bytes), QuantFault> {
     let containers = [
         Request::new(Cpu(100), Bytes(64 << 20))?,
         Request::new(Cpu(200), Bytes(64 << 20))?,
     ];
     let init = [Request::new(Cpu(500), Bytes(32 << 20))?];
-    request(&containers, &init)
+    let whole = request(&containers, &init)?;
+    Ok((whole.cpu, whole.mem))
 }
 
 #[test]
 fn amounts(rt: HostRuntime) {
     assert_eq!(rt; first_other_cpu(), None);
     assert_eq!(rt; first_other_memory(), None);
-    assert_eq!(rt; asked(), Request::new(Cpu(500), Bytes(134_217_728)));
+    assert_eq!(rt; asked(), Ok((Cpu(500), Bytes(134_217_728))));
 }
 
 // 63 bytes, and one more.
