@@ -30,7 +30,8 @@ use std::sync::Wait;
 
 /// What lies under the lock. Contracts see the desk with one owner, and the history that left it so.
 pub struct UnderLock<J: Naming> {
-    core: Core,
+    // Behind a pointer, since a call takes what lies under the lock apart and makes it anew.
+    core: Box<Core>,
     prefix: Prefix,
     writer: Writer<Board, Order, (), BoardRule<J>>,
     // Whether there is room for the calls that are to be published.
@@ -47,9 +48,9 @@ impl<J: Naming> Model for UnderLock<J> {
 
     ghost coded = { held_code };
 
-    ghost view = { λ l. record { desk = l.core; prefix = l.prefix } };
+    ghost view = { λ l. record { desk = l.core.value; prefix = l.prefix } };
 
-    ghost invariant = { λ l. IsPublished J.book J.limits (record { desk = l.core; prefix = l.prefix }) l.writer.desk.shown.value (drop l.writer.behind l.writer.log.items) };
+    ghost invariant = { λ l. IsPublished J.book J.limits (record { desk = l.core.value; prefix = l.prefix }) l.writer.desk.shown.value (drop l.writer.behind l.writer.log.items) };
 }
 
 /// What has to be there before a step, since after it nothing may fail: the history with the call, the pod that it hands out, and
@@ -126,7 +127,10 @@ impl<J: Naming> UnderLock<J> {
         requires limits { limits ≡ J.limits }
         requires nothing { nothing.now ≡ record { book = J.book; list = [] } }
     {
-        let core = Core::new(alloc, keys, limits)?;
+        let opened = Core::new(alloc, keys, limits)?;
+        let Ok(core) = Box::new(alloc, opened) else {
+            return Err(NoMemory);
+        };
         let first = Board::new(alloc, limits, nothing)?;
         let second = Board::new(alloc, limits, nothing)?;
         let writer = Writer::new(alloc, first, second, MAX_PASSES)?;
@@ -338,7 +342,7 @@ impl<J: Naming> UnderLock<J> {
         }
         pass.see(&prefix);
         drop(writer.take(rt));
-        core.into_book()
+        Box::into_inner(core).into_book()
     }
 
     /// Waits for the readers, and ends the desk.

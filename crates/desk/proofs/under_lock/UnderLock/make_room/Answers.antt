@@ -11,7 +11,7 @@ invariant_of-self g c =
     let limits = g.J.Naming.limits in
     let w = c.self.inside.writer in
     let b = w.desk.shown.value in
-    let x : Held = record { desk = c.self.inside.core; prefix = c.self.inside.prefix } in
+    let x : Held = record { desk = c.self.inside.core.value; prefix = c.self.inside.prefix } in
     let ok = c.in-Ok.ensures in
     let more = drop c.append.new.self.behind c.append.new.self.log.items in
     let waits = ok.pending ∙ ap (λ o. drop w.behind w.log.items ++ o ∷ []) (c.no_order-order.ensures ∙ ap no_order c.published.ensures) in

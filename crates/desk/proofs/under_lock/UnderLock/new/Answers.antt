@@ -7,8 +7,8 @@ use Rattle.desk.proofs.Sharing.{stands_first, first_board, is_board}
 use Rattle.desk.proofs.under_lock.UnderLock.new.Goals as goal
 
 -- nothing was done, and that is published
-pub new-requires-4-clause-rule : goal.new-requires-4-clause-rule
-new-requires-4-clause-rule g c =
+pub new-requires-5-clause-rule : goal.new-requires-5-clause-rule
+new-requires-5-clause-rule g c =
     let book = g.J.Naming.book in
     let limits = g.J.Naming.limits in
     is_board book limits (first_held book limits) c.in_ok-first.first (stands_first book limits)
@@ -20,10 +20,10 @@ invariant_of-made g c =
     let book = g.J.Naming.book in
     let limits = g.J.Naming.limits in
     let w = c.in_ok-writer.writer in
-    let x : Held = record { desk = c.in_ok-core.core; prefix = c.again.result } in
+    let x : Held = record { desk = c.in-Ok.core.value; prefix = c.again.result } in
     let first : c.in_ok-first.first ≡ board_of (first_held book limits) =
     c.in_ok-first.ensures ∙ (λ i. record { nodes = []; used = []; room = (c.requires.limits i).nodes; calls = replicate MAX_PASSES 0; prefix = c.requires.nothing i }) ∙ first_board book limits in
-    let is : x ≡ first_held book limits = λ i. record { desk = (c.in_ok-core.ensures ∙ ap new_core c.requires.limits) i; prefix = (c.again.ensures ∙ c.requires.nothing) i } in
+    let is : x ≡ first_held book limits = λ i. record { desk = (c.in-Ok.ensures.ok ∙ c.in_ok-opened.ensures ∙ ap new_core c.requires.limits) i; prefix = (c.again.ensures ∙ c.requires.nothing) i } in
     record {
       stands = subst (Stands book limits) (sym is) (stands_first book limits);
       shown = c.in_ok-writer.ensures.0 ∙ first ∙ ap board_of (sym is);

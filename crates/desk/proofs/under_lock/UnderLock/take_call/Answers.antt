@@ -1,4 +1,4 @@
-use Rattle.std.proofs.Common.{◌≡◌, ℕ, ◌+◌, sym, ap, ◌∙◌, subst, drop, fold, slice_index}
+use Rattle.std.proofs.Common.{◌≡◌, ◌+◌, sym, ap, ◌∙◌, subst, drop, fold, slice_index}
 use Rattle.desk.specs.declared.board.Order.{Order}
 use Rattle.desk.specs.Board.{IsChange, board_after, board_of}
 use Rattle.desk.specs.Caller.{Core, with_state}
@@ -12,33 +12,38 @@ pub publish_orders-writer-requires : goal.publish_orders-writer-requires
 publish_orders-writer-requires g c =
     let p = c.args.pass.now.caller in
     let e = c.args.step in
-    let x : Held = record { desk = c.self.inside.core; prefix = c.self.inside.prefix } in
+    let x : Held = record { desk = c.self.inside.core.value; prefix = c.self.inside.prefix } in
     let w = c.self.inside.writer in
     let order : Order = record { change = c.take_noted-said.result.1; pass = c.number-2.result; calls = c.calls.result + 1; prefix = c.again.result } in
-    let new = ap (λ (d : Core). d.state.cluster) c.take_noted-said.ensures.after ∙ ap (λ (n : ℕ). (after x.desk.state n e).cluster) c.number.ensures in
+    let opened = c.deref_mut.ensures.value in
+    let new = ap (λ (d : Core). d.state.cluster) c.take_noted-said.ensures.after ∙ (λ i. (after (opened i).state (c.number.ensures i) e).cluster) in
+    let changed = subst (λ (d : Core). IsChange d.state.cluster order.change (after x.desk.state p.number e).cluster) opened (subst (IsChange c.deref_mut.result.now.state.cluster order.change) new c.take_noted-said.ensures.changed) in
     let counted = ap (λ n. n + 1) (ap (λ (y : Held). slice_index y.desk.state.calls p.number) c.self.view_is ∙ c.requires.calls ∙ sym c.calls.ensures) in
     is_board g.J.Naming.book g.J.Naming.limits (held_after c.args.self p.number e c.args.prefix) _ c.requires.stands
     (published_more x c.args.self c.self.view_is w.desk.shown.value (drop w.behind w.log.items) c.self.invariant.idle c.self.invariant.shown _ _ order c.add_order-writer.ensures.0 c.add_order-writer.ensures.1
-    p.number e c.args.prefix c.number-2.ensures c.again.ensures (subst (IsChange x.desk.state.cluster order.change) new c.take_noted-said.ensures.changed) counted)
+    p.number e c.args.prefix c.number-2.ensures c.again.ensures changed counted)
 
 -- and nothing waits then
 pub invariant_of-held : goal.invariant_of-held
 invariant_of-held g c =
     let p = c.args.pass.now.caller in
     let e = c.args.step in
-    let x : Held = record { desk = c.self.inside.core; prefix = c.self.inside.prefix } in
+    let x : Held = record { desk = c.self.inside.core.value; prefix = c.self.inside.prefix } in
     let w = c.self.inside.writer in
     let order : Order = record { change = c.take_noted-said.result.1; pass = c.number-2.result; calls = c.calls.result + 1; prefix = c.again.result } in
-    let new = ap (λ (d : Core). d.state.cluster) c.take_noted-said.ensures.after ∙ ap (λ (n : ℕ). (after x.desk.state n e).cluster) c.number.ensures in
+    let opened = c.deref_mut.ensures.value in
+    let new = ap (λ (d : Core). d.state.cluster) c.take_noted-said.ensures.after ∙ (λ i. (after (opened i).state (c.number.ensures i) e).cluster) in
+    let changed = subst (λ (d : Core). IsChange d.state.cluster order.change (after x.desk.state p.number e).cluster) opened (subst (IsChange c.deref_mut.result.now.state.cluster order.change) new c.take_noted-said.ensures.changed) in
     let counted = ap (λ n. n + 1) (ap (λ (y : Held). slice_index y.desk.state.calls p.number) c.self.view_is ∙ c.requires.calls ∙ sym c.calls.ensures) in
-    let desk = c.take_noted-said.ensures.after ∙ λ i. with_state (c.self.view_is i).desk (after (c.self.view_is i).desk.state (c.number.ensures i) e) in
+    let inside = opened ∙ ap (λ (y : Held). y.desk) c.self.view_is in
+    let desk = c.take_noted-said.ensures.after ∙ λ i. with_state (inside i) (after (inside i).state (c.number.ensures i) e) in
     let held : record { desk = c.take_noted-said.new.self; prefix = c.args.prefix } ≡ held_after c.args.self p.number e c.args.prefix = λ i. record { desk = desk i; prefix = c.args.prefix } in
     record {
       stands = subst (Stands g.J.Naming.book g.J.Naming.limits) (sym held) c.requires.stands;
       shown =
           c.publish_orders-writer.ensures.0
           ∙ published_more x c.args.self c.self.view_is w.desk.shown.value (drop w.behind w.log.items) c.self.invariant.idle c.self.invariant.shown _ _ order c.add_order-writer.ensures.0 c.add_order-writer.ensures.1
-          p.number e c.args.prefix c.number-2.ensures c.again.ensures (subst (IsChange x.desk.state.cluster order.change) new c.take_noted-said.ensures.changed) counted
+          p.number e c.args.prefix c.number-2.ensures c.again.ensures changed counted
           ∙ ap board_of (sym held);
       idle = ap (fold board_after c.publish_orders-writer.result.desk.shown.value) c.publish_orders-writer.ensures.1;
     }
