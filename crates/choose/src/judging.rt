@@ -11,7 +11,7 @@ ghost use Rattle.choose.specs.Finding.{IsBuiltIn};
 use crate::asking::{filtered, scored};
 use crate::decision::{Reason, UNJUDGED, Verdict};
 use desk::Row;
-use fit::{Shortage, fits, least_allocated};
+use fit::{Shortage, fits};
 use plugin::Rules;
 use quant::Pod;
 use std::alloc::{AllocError, Global};
@@ -31,7 +31,7 @@ fn built_in(row: &Row, pod: &Pod) -> Option<Reason>
             None => {}
         }
     }
-    match fits(row.allocatable(), row.used, pod.request) {
+    match fits(row.allocatable().amounts(), row.used, pod.request) {
         Ok(()) => None,
         Err(Shortage::Cpu) => Some(Reason::Cpu),
         Err(Shortage::Memory) => Some(Reason::Memory),
@@ -55,7 +55,7 @@ fn passing(row: &Row, pod: &Pod, sum: u16) -> Verdict
     requires { sum ≤ 16000 }
     ensures { result ≡ passing (shown row.now) pod.now sum }
 {
-    let free = least_allocated(row.allocatable(), row.used, pod.request);
+    let free = row.allocatable().least_allocated(row.used, pod.request);
     Verdict::Passes(untolerated(row, pod), u16::from(free) + sum)
 }
 

@@ -2,6 +2,7 @@
 ghost use Rattle.std.specs.Prelude.{◌≡◌};
 ghost use Rattle.desk.specs.Plain.{is_plain};
 
+use fit::Allocatable;
 use quant::{Res, SharedNode};
 use std::marker::Model;
 use std::sync::Arc;
@@ -14,7 +15,7 @@ pub struct Row {
     /// What the pods on the node use together.
     pub used: Res,
     // What a choice reads of most nodes stands here too, so that it needn't look where the node lies.
-    allocatable: Res,
+    allocatable: Allocatable,
     plain: bool,
     ghost allocatable_is: { allocatable ≡ node.allocatable },
     ghost plain_is: { plain ≡ is_plain node },
@@ -48,7 +49,7 @@ impl Row {
     pub fn new(node: SharedNode, used: Res) -> Self
         ensures { shown result ≡ record { node = node; used = used } }
     {
-        let allocatable = node.allocatable;
+        let allocatable = Allocatable::of(node.allocatable);
         let plain = !node.unschedulable && node.taints.is_empty();
         Row {
             node,
@@ -60,10 +61,10 @@ impl Row {
 
     /// What the node has for pods. The node isn't looked into.
     #[inline]
-    pub fn allocatable(&self) -> Res
-        ensures { result ≡ self.now.node.allocatable }
+    pub fn allocatable(&self) -> &Allocatable
+        ensures { result.now ≡ self.now.node.allocatable }
     {
-        self.allocatable
+        &self.allocatable
     }
 
     /// Whether the node isn't marked unschedulable and has no taints. The node isn't looked into.
