@@ -151,10 +151,6 @@ pub record Goes (old places : Places) (before after : QueueState) (now : Moment)
 abbrev pub AreSome : Places → Places → QueueState → QueueState → Moment → Type 0
 AreSome old places before after now = (q : Name) → Stays old places before after q ⊎ Goes old places before after now q
 
--- none is gone at first
-pub none_gone : (old : Places) (before : QueueState) (now : Moment) → AreSome old old before before now
-none_gone old before now q = inl (record { place = refl; entry = refl })
-
 module _ (old places : Places) (before after : QueueState) (now : Moment) (so_far : AreSome old places before after now) where
   -- what expires now expired at first
   stays_of : (q : Name) → is_expired places now q ≡ true → Stays old places before after q

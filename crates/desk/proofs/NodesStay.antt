@@ -1,7 +1,7 @@
 -- Calls that tell of no node leave the nodes as they are.
 use Rattle.std.proofs.Common.{◌≡◌, ℕ, zero, suc, ◌+◌, ◌<◌, ◌≤◌, Bool, true, false, cond, List, [], ◌∷◌, ◌++◌, get_or, set, map, take, length, Option, None, Some, refl, sym, ap, ◌∙◌, arith}
 use Rattle.std.proofs.lemmas.List.{length-map, get_or-map, set-get_or, map-set, map_push, take_all, take_more, take_more_set}
-use Rattle.std.proofs.lemmas.List.Sums.{sum_by-cons, sum_by-append, count_by-le-length}
+use Rattle.std.proofs.lemmas.List.Sums.{sum_by-cons, sum_by-append}
 use Rattle.std.specs.FinMap.{get, entries}
 use mathlib.Core.List.{IsPrefix}
 use Rattle.quant.specs.declared.amount.Moment.{Moment}
@@ -89,14 +89,6 @@ same_nodes limits before now begins same =
     ap (λ (l : List Call). nodes_in (state_after (opening limits) l).cluster) (sym begins.1)
     ∙ ap (λ (s : State). nodes_in s.cluster) (state_along (opening limits) before begins.0)
     ∙ ap (λ n. map (λ e. e.1) (entries n)) (stay_along (state_after (opening limits) before) begins.0 (omega (arith, parts, whole, same)))
-
--- one call more
-pub calls_on_nodes_more : (l : List Call) (c : Call) → calls_on_nodes (l ++ c ∷ []) ≡ calls_on_nodes l + cond (tells_of_node c.step) 1 0
-calls_on_nodes_more l c = sum_by-append (λ d. cond (tells_of_node d.step) 1 0) l (c ∷ []) ∙ ap (λ n. calls_on_nodes l + n) (sum_by-cons (λ d. cond (tells_of_node d.step) 1 0) c [] ∙ omega arith)
-
--- no more calls tell of nodes than there are
-pub calls_on_nodes_few : (l : List Call) → calls_on_nodes l ≤ length l
-calls_on_nodes_few l = count_by-le-length (λ c. tells_of_node c.step) l
 
 -- what is published has the nodes that its history leaves
 pub nodes_published : (book : Book) (limits : Limits) (b : Board) → IsBoard book limits b → b.nodes ≡ nodes_in (state_after (opening limits) b.prefix.list).cluster

@@ -1,13 +1,12 @@
 -- What a look shows of the book's rows.
-use Rattle.std.proofs.Common.{◌≡◌, ℕ, ◌+◌, ◌<◌, List, [], ◌∷◌, ◌++◌, get_or, map, take, length, refl, sym, ap, subst, ◌∙◌}
-use Rattle.std.proofs.lemmas.List.{length-map, get_or-map, map_more}
+use Rattle.std.proofs.Common.{◌≡◌, List, [], ◌∷◌, map, length, refl, sym, ap, ◌∙◌}
+use Rattle.std.proofs.lemmas.List.{length-map}
 use Rattle.std.specs.FinMap as fin
 use Rattle.quant.specs.declared.amount.Res.{Res}
 use Rattle.quant.specs.declared.objects.Node.{Node}
 use Rattle.book.specs.Cluster.{Nodes, Places}
 use Rattle.book.specs.Used.{used}
 use Rattle.book.specs.Rows.{named, named_row}
-use Rattle.desk.specs.Caller.{Core}
 use Rattle.desk.specs.Shown.{Shown}
 
 -- the snapshot of a state with these nodes and places
@@ -39,23 +38,6 @@ beside_rows nodes m places totals h t = t ∙ ap (map (λ e. used places e.0)) (
 -- as many as there are
 pub as_many_rows : (nodes : List Node) (m : Nodes) (places : Places) (totals : List Res) → named nodes ≡ fin.entries m → totals ≡ map (λ e. used places e.0) (fin.entries m) → length totals ≡ length nodes
 as_many_rows nodes m places totals h t = ap length (beside_rows nodes m places totals h t) ∙ length-map nodes (λ node. used places node.name)
-
--- and one row more is shown with the amount beside it
-pub shown_more : (nodes : List Node) (m : Nodes) (places : Places) (totals : List Res) → named nodes ≡ fin.entries m → totals ≡ map (λ e. used places e.0) (fin.entries m)
-    → (at : ℕ) (node : Node) (none : Res) → at < length nodes → node ≡ get_or nodes at node
-    → map (shown_of places) (take (at + 1) nodes) ≡ map (shown_of places) (take at nodes) ++ record { node = node; used = get_or totals at none } ∷ []
-shown_more nodes m places totals h t at node none lt is =
-    let total : get_or totals at none ≡ used places node.name = ap (λ l. get_or l at none) (beside_rows nodes m places totals h t) ∙ get_or-map (λ (n : Node). used places n.name) nodes at node none lt ∙ ap (λ (n : Node). used places n.name) (sym is) in
-    map_more (shown_of places) nodes at node lt
-    ∙ ap (λ (n : Node). map (shown_of places) (take at nodes) ++ shown_of places n ∷ []) (sym is)
-    ∙ ap (λ (u : Res). map (shown_of places) (take at nodes) ++ record { node = node; used = u } ∷ []) (sym total)
-
--- what the inside of a desk has is what contracts see of it
-pub rows_of : (nodes : List Node) (inside now : Core) → inside ≡ now → named nodes ≡ fin.entries inside.state.cluster.nodes → named nodes ≡ fin.entries now.state.cluster.nodes
-rows_of nodes inside now is = subst (λ (d : Core). named nodes ≡ fin.entries d.state.cluster.nodes) is
-
-pub totals_of : (totals : List Res) (inside now : Core) → inside ≡ now → totals ≡ map (λ e. used inside.state.cluster.places e.0) (fin.entries inside.state.cluster.nodes) → totals ≡ map (λ e. used now.state.cluster.places e.0) (fin.entries now.state.cluster.nodes)
-totals_of totals inside now is = subst (λ (d : Core). totals ≡ map (λ e. used d.state.cluster.places e.0) (fin.entries d.state.cluster.nodes)) is
 
 -- and it has as many as there are rows
 pub len_all : (nodes : List Node) (m : Nodes) → named nodes ≡ fin.entries m → fin.len m ≡ length nodes

@@ -7,11 +7,11 @@ use Rattle.book.specs.declared.step.Reply.{Reply as BookReply}
 use Rattle.book.specs.declared.step.Reply.TheVariants as book_reply
 use Rattle.quant.specs.declared.event.Event.TheVariants.{NodeSet, NodeGone, PodPending, PodBound, PodGone}
 use Rattle.queue.specs.Order.{Item}
-use Rattle.queue.specs.Queue.{QueueState, next_of, after_add, after_remove, after_forget, after_fail, after_tick}
+use Rattle.queue.specs.Queue.{QueueState, next_of, after_add, after_remove, after_forget, after_fail}
 use Rattle.desk.specs.declared.step.Step.{Step}
 use Rattle.desk.specs.declared.step.Step.TheVariants.{Event, Pop, Assume, BindDone, Forget, Fail, Tick, Count}
 use Rattle.desk.specs.declared.step.Reply.TheVariants as replies
-use Rattle.desk.specs.Machine.{State, Outcome, both, unless, told, reply, of_node, of_pod, moved, moved_if_placed, entry_at, pass_number, refusal_to_fail, refusal_to_tick, ticked_to}
+use Rattle.desk.specs.Machine.{State, both, unless, told, reply, of_node, of_pod, moved, moved_if_placed, entry_at, pass_number, refusal_to_fail, refusal_to_tick, ticked_to}
 use Rattle.desk.specs.BareReply.{bare_reply, reply_with, handed_by}
 
 -- what the book answers hands nothing out

@@ -18,7 +18,7 @@ use Rattle.book.specs.declared.limits.Limits.{Limits}
 use Rattle.desk.specs.declared.step.Step.{Step}
 use Rattle.desk.specs.Machine.{reply, after, snapshot}
 use Rattle.desk.specs.Caller.{Caller, HasNoCalls}
-use Rattle.desk.specs.History.{Call, Legal, Leaves, AreHanded, HasCallsOf, GoesOn, calls_of, call, state_after}
+use Rattle.desk.specs.History.{Call, HasCallsOf, GoesOn, calls_of, call}
 use Rattle.desk.specs.Shared.{Prefix, Held, with_call, Stands, Pass, IsAhead, IsApplied, IsLooked, held_after, prefix_after, next_call, first_held}
 use Rattle.desk.proofs.Histories.{handed_more, legal_more, leaves_more, calls_made, limits_after}
 use Rattle.desk.proofs.CallCounts.{calls_kept, leaves_counts, none_own, handed_fewer, calls_parts}

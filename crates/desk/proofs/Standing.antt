@@ -19,7 +19,7 @@ use Rattle.queue.specs.declared.state.State.TheVariants.{Active, Backoff, Unsche
 use Rattle.queue.specs.Entry.{Entry as QueueEntry, new_entry, is_active, is_in_flight, is_in_flight_for, failed, sent_back, popped as popped_entry, ticked, moved_on, state_after_tick, state_after_move, state_after_failure, was_moved, backed_off}
 use Rattle.queue.specs.Order.{Item}
 use Rattle.queue.specs.Queue as queue
-use Rattle.queue.specs.Queue.{QueueState, entry_of, has_entry, has_in_flight, holds_in_flight, is_full_queue, all_changed, with_entry, with_change, changed_at, with_popped, unless_refused, refusal_to_add, refusal_to_fail as why_not_fail, refusal_to_forget, next_of, after_add, after_pop, after_fail, after_forget, after_tick, after_move, after_remove}
+use Rattle.queue.specs.Queue.{QueueState, entry_of, has_entry, holds_in_flight, is_full_queue, all_changed, with_entry, with_change, with_popped, unless_refused, refusal_to_add, refusal_to_fail as why_not_fail, refusal_to_forget, next_of, after_add, after_pop, after_fail, after_forget, after_tick, after_move, after_remove}
 use Rattle.queue.specs.declared.refusal.Refusal.TheVariants as queue_refusals
 use Rattle.queue.specs.Calls.{IsNext, NoneActive}
 use Rattle.queue.proofs.Next.{pops_the_first}
@@ -37,7 +37,7 @@ use Rattle.book.specs.declared.step.ClusterStep.TheVariants as cluster
 use Rattle.book.specs.Cluster.{name_cmp, Places}
 use Rattle.book.specs.Expiry.{has_expired, is_expired, any_expired, unexpired}
 use Rattle.book.specs.Step as book_step
-use Rattle.book.specs.Step.{is_old, is_gone, is_placed, is_bound, is_finished, has_ticket, stands, finished_status, with_choice, with_finished, next_ticket, first_of}
+use Rattle.book.specs.Step.{is_old, is_gone, is_placed, is_bound, is_finished, has_ticket, stands, finished_status, with_choice, with_finished, next_ticket}
 use Rattle.desk.specs.declared.step.Step.{Step}
 use Rattle.desk.specs.declared.step.Step.TheVariants.{Event, Pop, Assume, BindDone, Forget, Fail, Tick, Count}
 use Rattle.desk.specs.declared.step.Reply.{Reply}
