@@ -1,10 +1,10 @@
 //! What lies under a desk's lock: the desk itself, and the one way to change what is published of it.
 ghost use Rattle.std.specs.Prelude.{◌≡◌, ◌+◌, ◌<◌, ◌≤◌, ◌++◌, ◌∷◌, [], fold, drop, slice_index, IfOk, OnErr, IsErr, MatchBool};
-ghost use Rattle.desk.specs.Board.{IsBoard, IsSubject, board_after};
-ghost use Rattle.desk.specs.Caller.{IsTimely};
+ghost use Rattle.desk.specs.Board.{IsBoard, IsSubject, board_after, board_of};
+ghost use Rattle.desk.specs.Caller.{IsTimely, new_core};
 ghost use Rattle.desk.specs.BareReply.{bare_reply, handed_by};
 ghost use Rattle.desk.specs.Machine.{reply};
-ghost use Rattle.desk.specs.Shared.{Stands, IsAhead, IsApplied, Met, Closed, held_after, prefix_after};
+ghost use Rattle.desk.specs.Shared.{Stands, IsAhead, IsApplied, Met, Closed, first_held, held_after, prefix_after};
 ghost use Rattle.desk.specs.declared.limits.TheConstants.{MAX_PASSES, MAX_CALLS};
 
 use crate::bare_reply::BareReply;
@@ -116,6 +116,32 @@ fn publish_orders<J: Naming, R: Wait>(
     unreachable!()
 }
 
+// A core on which nothing was done, behind a pointer.
+fn new_core(alloc: Global, keys: RandomState, limits: Limits) -> Result<Box<Core>, NoMemory>
+    ensures { IfOk result (λ core. core.value ≡ new_core limits) }
+{
+    let core = Core::new(alloc, keys, limits)?;
+    let core = Box::new(alloc, core).map_err(AllocError::from)?;
+    Ok(core)
+}
+
+// What is published before the first call.
+fn new_writer<J: Naming>(
+    alloc: Global,
+    limits: Limits,
+    nothing: &Prefix,
+) -> Result<Writer<Board, Order, (), BoardRule<J>>, NoMemory>
+    requires limits { limits ≡ J.limits }
+    requires nothing { nothing.now ≡ record { book = J.book; list = [] } }
+    ensures shown { IfOk result (λ writer. writer.desk.shown.value ≡ board_of (first_held J.book J.limits)) }
+    ensures idle { IfOk result (λ writer. drop writer.behind writer.log.items ≡ []) }
+{
+    let first = Board::new(alloc, limits, nothing)?;
+    let second = Board::new(alloc, limits, nothing)?;
+    let writer = Writer::new(alloc, first, second, MAX_PASSES)?;
+    Ok(writer)
+}
+
 impl<J: Naming> UnderLock<J> {
     /// A desk on which nothing was done, with room for as much as the limits say.
     pub(crate) fn new(
@@ -127,13 +153,8 @@ impl<J: Naming> UnderLock<J> {
         requires limits { limits ≡ J.limits }
         requires nothing { nothing.now ≡ record { book = J.book; list = [] } }
     {
-        let opened = Core::new(alloc, keys, limits)?;
-        let Ok(core) = Box::new(alloc, opened) else {
-            return Err(NoMemory);
-        };
-        let first = Board::new(alloc, limits, nothing)?;
-        let second = Board::new(alloc, limits, nothing)?;
-        let writer = Writer::new(alloc, first, second, MAX_PASSES)?;
+        let core = new_core(alloc, keys, limits)?;
+        let writer = new_writer::<J>(alloc, limits, nothing)?;
         let mut made = UnderLock {
             core,
             prefix: nothing.again(),
