@@ -4,9 +4,6 @@ ghost use Rattle.desk.specs.Shown.{shown};
 ghost use Rattle.choose.specs.Choice.{judged, IsChoice, Choice};
 ghost use Rattle.choose.specs.Finding.{name_at, StandsFirst};
 
-#[cfg(test)]
-mod tests;
-
 use crate::best::{Found, Worth, first_of, most_taints};
 use crate::counts::counts;
 use crate::decision::{Decision, Verdict};

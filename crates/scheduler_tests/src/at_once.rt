@@ -1,19 +1,17 @@
 //! Passes that use a desk at once, each in a thread of its own.
-ghost use Rattle.std.specs.Prelude.{◌≡◌, IfOk};
+ghost use Rattle.std.specs.Prelude.{◌≡◌, IfSome, IfOk};
 ghost use Rattle.desk.specs.Caller.{IsTimely};
 ghost use Rattle.desk.specs.Shared.{IsPassOf};
 
-use crate::steps::{Answer, in_short};
+use crate::objects::{named, node, node_set, pod, pod_bound};
 use book::Book;
 use desk::{Blank, Desk, Limits, Naming, NoPlace, Pass, Reply, Snapshot, Step};
-use quant::{Bytes, Cpu, Event, Name, Node, Pod, Request, Res, SharedNode, SharedPod, Version};
+use quant::{Cpu, Event, Name, Res, Version};
 use queue::Failure;
 use std::alloc::Global;
 use std::hash::RandomState;
 use std::marker::Brand;
-use std::process::Abort;
 use std::sync::Wait;
-use std::test::Fail;
 use std::thread::{Threads, join};
 
 /// How many pods a pass pops while others do.
@@ -23,104 +21,71 @@ const EACH: usize = 250;
 /// the others, of which the last has room for 100.
 const PLACED: [(u8, u32); 4] = [(b'a', 252), (b'b', 252), (b'c', 248), (b'd', 100)];
 
-/// A name of these bytes.
-fn named(rt: &impl Abort, bytes: &[u8]) -> Name {
-    Name::new(bytes).expect(rt, "a name")
-}
-
 /// A uid of this number, in five digits.
-fn uid_of(rt: &impl Abort, number: u32) -> Name {
+fn uid_of(number: u32) -> Option<Name> {
     let mut uid = [b'0'; 5];
     let mut rest = number;
     for place in 0..5usize {
         uid[4 - place] = (rest % 10) as u8 + b'0';
         rest /= 10;
     }
-    named(rt, &uid)
-}
-
-/// Each pod asks for so much.
-fn request(rt: &impl Abort) -> Request {
-    Request::new(Cpu(1), Bytes(0)).expect(rt, "a request")
+    Name::new(&uid).ok()
 }
 
 /// A node of this name is there, with room for so many pods.
-fn node(rt: &impl Abort, alloc: Global, version: u64, letter: u8, pods: u32) -> Step
-    ensures { IsTimely result }
-{
-    let node = Node {
-        name: named(rt, &[letter]),
-        allocatable: Res {
-            cpu: Cpu(1_000_000),
-            mem: Bytes(0),
-            pods,
-        },
-        labels: Default::default(),
-        taints: Default::default(),
-        unschedulable: false,
-    };
-    Step::Event(Event::NodeSet {
-        version: Version(version),
-        node: SharedNode::new(alloc, node).expect(rt, "memory"),
-    })
+fn node_told(alloc: Global, version: u64, letter: u8, pods: u32) -> Option<Event> {
+    node_set(alloc, version, node(named(letter)?, 1_000_000, 0, pods))
 }
 
-/// A pod of this number waits.
-fn pending(rt: &impl Abort, alloc: Global, version: u64, number: u32) -> Step
-    ensures { IsTimely result }
-{
-    let pod = Pod {
-        uid: uid_of(rt, number),
-        priority: 0,
-        request: request(rt),
-        labels: Default::default(),
-        tolerations: Default::default(),
-    };
-    Step::Event(Event::PodPending {
+/// A pod of this number waits. Each asks for a thousandth of a core.
+fn pending(alloc: Global, version: u64, number: u32) -> Option<Event> {
+    Some(Event::PodPending {
         version: Version(version),
-        pod: SharedPod::new(alloc, pod).expect(rt, "memory"),
+        pod: pod(alloc, uid_of(number)?, 1, 0)?,
     })
 }
 
 /// A pod of this number is bound to node a.
-fn bound(rt: &impl Abort, version: u64, number: u32) -> Step
-    ensures { IsTimely result }
-{
-    Step::Event(Event::PodBound {
-        version: Version(version),
-        uid: uid_of(rt, number),
-        node: named(rt, &[b'a']),
-        request: request(rt),
-    })
+fn bound(version: u64, number: u32) -> Option<Event> {
+    pod_bound(version, uid_of(number)?, named(b'a')?, 1, 0)
 }
 
-/// Does a step, for which there is memory.
-fn take<J: Naming, R: Abort + Wait>(rt: &R, desk: &Desk<J>, pass: &mut Pass<J>, step: Step) -> Reply
+/// Whether a step is done.
+fn does<J: Naming, R: Wait>(rt: &R, desk: &Desk<J>, pass: &mut Pass<J>, step: Step) -> bool
     requires of { IsPassOf pass.old desk.now }
     requires timely { IsTimely step }
     ensures { pass.new.caller.number ≡ pass.old.caller.number }
 {
-    desk.apply(rt, pass, step).expect(rt, "memory")
+    match desk.apply(rt, pass, step) {
+        Ok(reply) => matches!(&reply, Reply::Done),
+        Err(_) => false,
+    }
 }
 
-/// Does a step that changes the desk.
-fn tell<J: Naming, R: Abort + Wait>(rt: &R, desk: &Desk<J>, pass: &mut Pass<J>, step: Step)
-    requires of { IsPassOf pass.old desk.now }
-    requires timely { IsTimely step }
-    ensures { pass.new.caller.number ≡ pass.old.caller.number }
-{
-    let reply = take(rt, desk, pass, step);
-    assert_eq!(rt; in_short(&reply), Answer::Done);
-}
-
-/// A pass pops a pod.
-fn pop<J: Naming, R: Abort + Wait>(rt: &R, desk: &Desk<J>, pass: &mut Pass<J>) -> SharedPod
+/// Whether an event is taken, if there is memory for it.
+fn takes<J: Naming, R: Wait>(
+    rt: &R,
+    desk: &Desk<J>,
+    pass: &mut Pass<J>,
+    event: Option<Event>,
+) -> bool
     requires { IsPassOf pass.old desk.now }
     ensures { pass.new.caller.number ≡ pass.old.caller.number }
 {
-    match take(rt, desk, pass, Step::Pop) {
-        Reply::Popped(pod) => pod,
-        _ => panic!(rt; "no pod waits"),
+    match event {
+        Some(event) => does(rt, desk, pass, Step::Event(event)),
+        None => false,
+    }
+}
+
+/// The uid of the pod that a pass pops.
+fn pop<J: Naming, R: Wait>(rt: &R, desk: &Desk<J>, pass: &mut Pass<J>) -> Option<Name>
+    requires { IsPassOf pass.old desk.now }
+    ensures { pass.new.caller.number ≡ pass.old.caller.number }
+{
+    match desk.apply(rt, pass, Step::Pop) {
+        Ok(Reply::Popped(pod)) => Some(pod.uid.copied()),
+        _ => None,
     }
 }
 
@@ -140,109 +105,182 @@ fn end_of(reply: &Reply, uid: Name) -> Step
     }
 }
 
-/// A pass pops a pod, wants to place it on this node, says that it is bound or gives it back, and counts: four steps.
-fn place_next<J: Naming, R: Abort + Wait>(rt: &R, desk: &Desk<J>, pass: &mut Pass<J>, node: Name)
+/// A pass wants to place a pod on this node, and says that it is bound or gives it back.
+fn place<J: Naming, R: Wait>(
+    rt: &R,
+    desk: &Desk<J>,
+    pass: &mut Pass<J>,
+    uid: Name,
+    node: Name,
+) -> bool
     requires { IsPassOf pass.old desk.now }
     ensures { pass.new.caller.number ≡ pass.old.caller.number }
 {
-    let pod = pop(rt, desk, pass);
-    let uid = pod.uid.copied();
-    let reply = take(rt, desk, pass, Step::Assume { uid, node });
-    tell(rt, desk, pass, end_of(&reply, pod.uid.copied()));
-    take(rt, desk, pass, Step::Count);
+    let end = match desk.apply(
+        rt,
+        pass,
+        Step::Assume {
+            uid: uid.copied(),
+            node,
+        },
+    ) {
+        Ok(reply) => end_of(&reply, uid),
+        Err(_) => return false,
+    };
+    does(rt, desk, pass, end)
 }
 
-/// A pass takes 1,000 steps to place pods, on one node after another.
-fn place_many<J: Naming, R: Abort + Wait>(rt: &R, desk: &Desk<J>, mut pass: Pass<J>) -> Pass<J>
-    requires { IsPassOf pass desk.now }
-    ensures { result.caller.number ≡ pass.caller.number }
+fn counts<J: Naming, R: Wait>(rt: &R, desk: &Desk<J>, pass: &mut Pass<J>) -> bool
+    requires { IsPassOf pass.old desk.now }
+    ensures { pass.new.caller.number ≡ pass.old.caller.number }
 {
+    match desk.apply(rt, pass, Step::Count) {
+        Ok(reply) => matches!(&reply, Reply::Counts(_)),
+        Err(_) => false,
+    }
+}
+
+/// A pass pops a pod, wants to place it on this node, says that it is bound or gives it back, and counts: four steps.
+fn place_next<J: Naming, R: Wait>(rt: &R, desk: &Desk<J>, pass: &mut Pass<J>, letter: u8) -> bool
+    requires { IsPassOf pass.old desk.now }
+    ensures { pass.new.caller.number ≡ pass.old.caller.number }
+{
+    let Some(uid) = pop(rt, desk, pass) else {
+        return false;
+    };
+    let Some(node) = named(letter) else {
+        return false;
+    };
+    place(rt, desk, pass, uid, node) && counts(rt, desk, pass)
+}
+
+/// A pass takes 1,000 steps to place pods, on one node after another, and tells how many pods it popped and gave their answers.
+fn place_many<J: Naming, R: Wait>(rt: &R, desk: &Desk<J>, mut pass: Pass<J>) -> (Pass<J>, usize)
+    requires { IsPassOf pass desk.now }
+    ensures { result.0.caller.number ≡ pass.caller.number }
+{
+    let mut many = 0usize;
     for round in 0..EACH {
         let (letter, _) = PLACED[round % 4];
-        let node = named(rt, &[letter]);
-        place_next(rt, desk, &mut pass, node);
+        if place_next(rt, desk, &mut pass, letter) {
+            many = many.saturating_add(1);
+        }
     }
-    pass
+    (pass, many)
 }
 
-/// Two passes place pods at once.
-fn place_two<J: Naming + Send + Sync, R: Threads + Abort + Wait + Sync>(
+/// Two passes place pods at once. How many is told of both together.
+fn place_two<J: Naming + Send + Sync, R: Threads + Wait + Sync>(
     rt: &R,
     desk: &Desk<J>,
     first: Pass<J>,
     second: Pass<J>,
-) -> (Pass<J>, Pass<J>)
+) -> (Pass<J>, Pass<J>, usize)
     requires { IsPassOf first desk.now × IsPassOf second desk.now }
     ensures { (result.0.caller.number ≡ first.caller.number) × (result.1.caller.number ≡ second.caller.number) }
 {
-    join(
+    let ((first, one), (second, other)) = join(
         rt,
         || place_many(rt, desk, first),
         || place_many(rt, desk, second),
-    )
+    );
+    (first, second, one.saturating_add(other))
+}
+
+/// Four nodes come.
+fn tell_nodes<J: Naming, R: Wait>(rt: &R, alloc: Global, desk: &Desk<J>, pass: &mut Pass<J>) -> bool
+    requires { IsPassOf pass.old desk.now }
+    ensures { pass.new.caller.number ≡ pass.old.caller.number }
+{
+    takes(rt, desk, pass, node_told(alloc, 1, b'a', 300))
+        && takes(rt, desk, pass, node_told(alloc, 2, b'b', 300))
+        && takes(rt, desk, pass, node_told(alloc, 3, b'c', 300))
+        && takes(rt, desk, pass, node_told(alloc, 4, b'd', 100))
 }
 
 /// 1,000 pods come.
-fn tell_pods<J: Naming, R: Abort + Wait>(rt: &R, alloc: Global, desk: &Desk<J>, pass: &mut Pass<J>)
+fn tell_pods<J: Naming, R: Wait>(rt: &R, alloc: Global, desk: &Desk<J>, pass: &mut Pass<J>) -> bool
     requires { IsPassOf pass.old desk.now }
     ensures { pass.new.caller.number ≡ pass.old.caller.number }
 {
     for number in 0..1_000u32 {
-        let pod = pending(rt, alloc, u64::from(number) + 5, number);
-        tell(rt, desk, pass, pod);
+        let pod = pending(alloc, u64::from(number) + 5, number);
+        if !takes(rt, desk, pass, pod) {
+            return false;
+        }
     }
+    true
 }
 
-/// Four nodes come.
-fn tell_nodes<J: Naming, R: Abort + Wait>(rt: &R, alloc: Global, desk: &Desk<J>, pass: &mut Pass<J>)
-    requires { IsPassOf pass.old desk.now }
-    ensures { pass.new.caller.number ≡ pass.old.caller.number }
-{
-    tell(rt, desk, pass, node(rt, alloc, 1, b'a', 300));
-    tell(rt, desk, pass, node(rt, alloc, 2, b'b', 300));
-    tell(rt, desk, pass, node(rt, alloc, 3, b'c', 300));
-    tell(rt, desk, pass, node(rt, alloc, 4, b'd', 100));
+/// So much is used by so many pods, each of which asks for a thousandth of a core.
+fn is_used(used: &Res, pods: u32) -> bool {
+    used.cpu == Cpu(u64::from(pods)) && used.pods == pods
 }
 
-/// A look is to show so many pods on each node.
-fn assert_shown<J: Naming, R: Abort>(rt: &R, desk: &Desk<J>, pass: &mut Pass<J>)
-    requires { IsPassOf pass.old desk.now }
-    ensures { pass.new.caller.number ≡ pass.old.caller.number }
-{
-    let shown = desk.look(pass).expect(rt, "memory");
-    assert_eq!(rt; shown.rows().len(), PLACED.len());
+/// Whether a look shows so many pods on each node.
+fn are_shown(shown: &Snapshot) -> bool {
     for (row, (_, pods)) in shown.rows().iter().zip(PLACED) {
-        assert_eq!(rt; (row.used.cpu, row.used.pods), (Cpu(u64::from(pods)), pods));
+        if !is_used(&row.used, pods) {
+            return false;
+        }
+    }
+    shown.rows().len() == PLACED.len()
+}
+
+fn shows<J: Naming>(desk: &Desk<J>, pass: &mut Pass<J>) -> bool
+    requires { IsPassOf pass.old desk.now }
+    ensures { pass.new.caller.number ≡ pass.old.caller.number }
+{
+    match desk.look(pass) {
+        Ok(shown) => are_shown(&shown),
+        Err(_) => false,
     }
 }
 
-/// The book is to have so many pods on each node, and no other place.
-fn assert_kept<R: Abort>(rt: &R, book: &Book) {
+fn is_used_of(book: &Book, letter: u8, pods: u32) -> bool {
+    match named(letter) {
+        Some(node) => is_used(&book.used(&node), pods),
+        None => false,
+    }
+}
+
+/// Whether the book has so many pods on each node, and no other place.
+fn are_kept(book: &Book) -> bool {
     for (letter, pods) in PLACED {
-        let node = named(rt, &[letter]);
-        let used = book.used(&node);
-        assert_eq!(rt; (used.cpu, used.pods), (Cpu(u64::from(pods)), pods));
+        if !is_used_of(book, letter, pods) {
+            return false;
+        }
     }
-    assert_eq!(rt; (book.assumed(), book.bound()), (852, 0));
+    book.assumed() == 852 && book.bound() == 0
 }
 
-/// Four passes place pods at once, and meet. Then all look alike, and the closed book has no other places.
-fn place_all<J: Naming + Send + Sync, R: Threads + Abort + Wait + Sync>(
+/// What came of passes that used a desk at once.
+#[derive(Clone, Copy, Debug, PartialEq, Eq)]
+enum Outcome {
+    /// Four placed pods: how many pods they popped together, whether two looks showed them once the passes had met, and whether
+    /// the book has them.
+    Placed(usize, bool, bool, bool),
+    /// One looked while another told of pods: how many were told, how often a node had fewer pods than before or nothing was
+    /// shown, and how many it has in the end.
+    Looked(u32, u32, u32),
+    /// There was no memory or no pass.
+    NotBegun,
+}
+
+/// Four passes place the pods that wait at once, and meet. Then all look alike, and the closed book has no other places.
+fn place_all<J: Naming + Send + Sync, R: Threads + Wait + Sync>(
     rt: &R,
-    alloc: Global,
     desk: Desk<J>,
     passes: (Pass<J>, Pass<J>, Pass<J>, Pass<J>),
-)
+) -> Outcome
     requires a { IsPassOf passes.0 desk }
     requires b { IsPassOf passes.1 desk }
     requires c { IsPassOf passes.2 desk }
     requires d { IsPassOf passes.3 desk }
 {
-    let (mut a, b, c, d) = passes;
-    tell_nodes(rt, alloc, &desk, &mut a);
-    tell_pods(rt, alloc, &desk, &mut a);
+    let (a, b, c, d) = passes;
     let shared = &desk;
-    let ((mut a, mut b), (mut c, mut d)) = join(
+    let ((mut a, mut b, one), (mut c, mut d, other)) = join(
         rt,
         ||
             requires { IsPassOf a shared.now × IsPassOf b shared.now }
@@ -254,9 +292,31 @@ fn place_all<J: Naming + Send + Sync, R: Threads + Abort + Wait + Sync>(
     desk.meet(rt, &mut a, &mut b);
     desk.meet(rt, &mut c, &mut d);
     desk.meet(rt, &mut a, &mut d);
-    assert_shown(rt, &desk, &mut b);
-    assert_shown(rt, &desk, &mut c);
-    assert_kept(rt, &desk.close(rt, &mut a));
+    let to_second = shows(&desk, &mut b);
+    let to_third = shows(&desk, &mut c);
+    let book = desk.close(rt, &mut a);
+    let many = one.saturating_add(other);
+    Outcome::Placed(many, to_second, to_third, are_kept(&book))
+}
+
+/// The same once there are four nodes and 1,000 pods.
+fn tell_and_place<J: Naming + Send + Sync, R: Threads + Wait + Sync>(
+    rt: &R,
+    alloc: Global,
+    desk: Desk<J>,
+    passes: (Pass<J>, Pass<J>, Pass<J>, Pass<J>),
+) -> Outcome
+    requires a { IsPassOf passes.0 desk }
+    requires b { IsPassOf passes.1 desk }
+    requires c { IsPassOf passes.2 desk }
+    requires d { IsPassOf passes.3 desk }
+{
+    let (mut a, b, c, d) = passes;
+    if !tell_nodes(rt, alloc, &desk, &mut a) || !tell_pods(rt, alloc, &desk, &mut a) {
+        desk.discard(rt);
+        return Outcome::NotBegun;
+    }
+    place_all(rt, desk, (a, b, c, d))
 }
 
 /// Four passes.
@@ -271,101 +331,117 @@ fn used_of_first(shown: &Snapshot) -> u32 {
     shown.rows().first().map_or(0, |row| row.used.pods)
 }
 
-/// A pass looks 100,000 times, and tells how often a node had fewer pods than before.
-fn look_often<J: Naming, R: Abort>(rt: &R, desk: &Desk<J>, mut pass: Pass<J>) -> (Pass<J>, u32)
+fn looks_at_first<J: Naming>(desk: &Desk<J>, pass: &mut Pass<J>) -> Option<u32>
+    requires { IsPassOf pass.old desk.now }
+    ensures { pass.new.caller.number ≡ pass.old.caller.number }
+{
+    match desk.look(pass) {
+        Ok(shown) => Some(used_of_first(&shown)),
+        Err(_) => None,
+    }
+}
+
+/// A pass looks 100,000 times, and tells how often a node had fewer pods than before or nothing was shown.
+fn look_often<J: Naming>(desk: &Desk<J>, mut pass: Pass<J>) -> (Pass<J>, u32)
     requires { IsPassOf pass desk.now }
     ensures { result.0.caller.number ≡ pass.caller.number }
 {
     let (mut last, mut falls) = (0u32, 0u32);
     for _ in 0..100_000u32 {
-        let shown = desk.look(&mut pass).expect(rt, "memory");
-        let pods = used_of_first(&shown);
-        falls = falls.saturating_add((pods < last) as u32);
-        last = pods;
+        match looks_at_first(desk, &mut pass) {
+            Some(pods) if pods >= last => last = pods,
+            _ => falls = falls.saturating_add(1),
+        }
     }
     (pass, falls)
 }
 
-/// A pass tells of 10,000 pods that are bound to one node.
-fn bind_many<J: Naming, R: Abort + Wait>(rt: &R, desk: &Desk<J>, mut pass: Pass<J>) -> Pass<J>
+/// A pass tells of 10,000 pods that are bound to one node, and how many of these were taken.
+fn bind_many<J: Naming, R: Wait>(rt: &R, desk: &Desk<J>, mut pass: Pass<J>) -> (Pass<J>, u32)
     requires { IsPassOf pass desk.now }
-    ensures { result.caller.number ≡ pass.caller.number }
+    ensures { result.0.caller.number ≡ pass.caller.number }
 {
+    let mut many = 0u32;
     for number in 0..10_000u32 {
-        tell(
-            rt,
-            desk,
-            &mut pass,
-            bound(rt, u64::from(number) + 2, number),
-        );
+        let pod = bound(u64::from(number) + 2, number);
+        if takes(rt, desk, &mut pass, pod) {
+            many = many.saturating_add(1);
+        }
     }
-    pass
+    (pass, many)
 }
 
 /// A pass looks while another tells of pods that are bound to a node. No look shows less than the one before, and one after
 /// both met shows all.
-fn look_beside<J: Naming + Send + Sync, R: Threads + Abort + Wait + Sync>(
+fn look_beside<J: Naming + Send + Sync, R: Threads + Wait + Sync>(
     rt: &R,
     alloc: Global,
     desk: Desk<J>,
     passes: (Pass<J>, Pass<J>, Pass<J>, Pass<J>),
-)
+) -> Outcome
     requires a { IsPassOf passes.0 desk }
     requires b { IsPassOf passes.1 desk }
 {
     let (mut a, b, _c, _d) = passes;
-    tell(rt, &desk, &mut a, node(rt, alloc, 1, b'a', 100_000));
-    let (mut a, (mut b, falls)) = join(rt, || bind_many(rt, &desk, a), || look_often(rt, &desk, b));
+    takes(rt, &desk, &mut a, node_told(alloc, 1, b'a', 100_000));
+    let ((mut a, many), (mut b, falls)) = join(
+        rt,
+        || bind_many(rt, &desk, a),
+        || look_often(&desk, b),
+    );
     desk.meet(rt, &mut a, &mut b);
-    let used = used_of_first(&desk.look(&mut b).expect(rt, "memory"));
+    let used = looks_at_first(&desk, &mut b).unwrap_or(0);
     desk.discard(rt);
-    assert_eq!(rt; (falls, used), (0, 10_000));
+    Outcome::Looked(many, falls, used)
 }
 
 /// Four passes place pods at once; or one looks while another tells of pods.
-fn at_once<J: Naming + Send + Sync, R: Threads + Abort + Wait + Sync>(
+fn at_once<J: Naming + Send + Sync, R: Threads + Wait + Sync>(
     rt: &R,
     alloc: Global,
     keys: RandomState,
     limits: Limits,
     blank: Blank,
     all_place: bool,
-)
+) -> Outcome
     requires { (blank.seen.book ≡ J.book) × (limits ≡ J.limits) }
 {
-    let mut desk = Desk::<J>::new(blank, alloc, keys, limits).expect(rt, "memory");
-    let passes = four(&mut desk).expect(rt, "four passes");
+    let Ok(mut desk) = Desk::<J>::new(blank, alloc, keys, limits) else {
+        return Outcome::NotBegun;
+    };
+    let Ok(passes) = four(&mut desk) else {
+        desk.discard(rt);
+        return Outcome::NotBegun;
+    };
     if all_place {
-        place_all(rt, alloc, desk, passes);
+        tell_and_place(rt, alloc, desk, passes)
     } else {
-        look_beside(rt, alloc, desk, passes);
+        look_beside(rt, alloc, desk, passes)
     }
 }
 
-#[test]
-fn four_threads_place_pods(rt: HostRuntime) -> Result<(), Fail> {
-    let keys = RandomState::new(&rt)?;
-    at_once::<Brand, _>(
-        &rt,
-        rt.alloc(),
-        keys,
-        Limits::greatest(),
-        Blank::new(),
-        true,
-    );
-    Ok(())
+fn tried<R: Threads + Wait + Sync>(
+    rt: &R,
+    alloc: Global,
+    keys: Option<RandomState>,
+    all_place: bool,
+) -> Outcome {
+    let Some(keys) = keys else {
+        return Outcome::NotBegun;
+    };
+    at_once::<Brand, _>(rt, alloc, keys, Limits::greatest(), Blank::new(), all_place)
 }
 
 #[test]
-fn looks_beside_steps_show_no_less(rt: HostRuntime) -> Result<(), Fail> {
-    let keys = RandomState::new(&rt)?;
-    at_once::<Brand, _>(
-        &rt,
-        rt.alloc(),
-        keys,
-        Limits::greatest(),
-        Blank::new(),
-        false,
-    );
-    Ok(())
+fn four_threads_place_pods(rt: HostRuntime) {
+    let keys = RandomState::new(&rt).ok();
+    let all = Outcome::Placed(1_000, true, true, true);
+    assert_eq!(rt; tried(&rt, rt.alloc(), keys, true), all);
+}
+
+#[test]
+fn looks_beside_steps_show_no_less(rt: HostRuntime) {
+    let keys = RandomState::new(&rt).ok();
+    let all = Outcome::Looked(10_000, 0, 10_000);
+    assert_eq!(rt; tried(&rt, rt.alloc(), keys, false), all);
 }

@@ -77,13 +77,17 @@ fn events_of(alloc: Global, places: &[Placed]) -> Option<Vec<Event>> {
     Some(events)
 }
 
+fn tell(book: &mut Book, event: Event) {
+    book.step(ClusterStep::Event {
+        event,
+        queued: false,
+        queue_full: false,
+    });
+}
+
 fn tell_all(book: &mut Book, events: Vec<Event>) {
     for event in events {
-        book.step(ClusterStep::Event {
-            event,
-            queued: false,
-            queue_full: false,
-        });
+        tell(book, event);
     }
 }
 

@@ -1,6 +1,7 @@
-//! Assumed places that expire.
+//! Assumed places that expire. A pod asks for one core.
+use crate::objects::{named, node, node_set, pod_bound, request};
 use book::{Book, ClusterStep, Entry, Limits, Reply};
-use quant::{Bytes, Cpu, Event, Moment, Name, Node, Request, Res, SharedNode, Ticket, Version};
+use quant::{Event, Moment, Name, Ticket};
 use std::alloc::Global;
 use std::hash::RandomState;
 
@@ -76,39 +77,9 @@ fn bound_stays() -> &'static [Row] {
     BOUND_STAYS
 }
 
-/// A pod asks for one core.
-fn request() -> Option<Request> {
-    Request::new(Cpu(1_000), Bytes(0)).ok()
-}
-
-fn node() -> Option<Node> {
-    Some(Node {
-        name: Name::new(b"a").ok()?,
-        allocatable: Res {
-            cpu: Cpu(4_000),
-            mem: Bytes(0),
-            pods: 4,
-        },
-        labels: Default::default(),
-        taints: Default::default(),
-        unschedulable: false,
-    })
-}
-
-fn node_set(alloc: Global) -> Option<Event> {
-    Some(Event::NodeSet {
-        version: Version(1),
-        node: SharedNode::new(alloc, node()?).ok()?,
-    })
-}
-
-fn pod_bound(uid: Name, node: Name) -> Option<Event> {
-    Some(Event::PodBound {
-        version: Version(2),
-        uid,
-        node,
-        request: request()?,
-    })
+/// Node a, with four cores and room for four pods.
+fn node_told(alloc: Global) -> Option<Event> {
+    node_set(alloc, 1, node(named(b'a')?, 4_000, 0, 4))
 }
 
 /// Whether the book takes what the cluster tells.
@@ -125,7 +96,7 @@ fn takes(book: &mut Book, event: Option<Event>, queued: bool) -> bool {
 }
 
 fn is_placed(book: &mut Book, uid: Name, node: Name, want: u64) -> bool {
-    let Some(request) = request() else {
+    let Some(request) = request(1_000, 0) else {
         return false;
     };
     let entry = Entry::Held(request);
@@ -151,7 +122,7 @@ fn is_answered(book: &mut Book, uid: Name, node: Name, call: Call) -> bool {
     match call {
         Call::Place(ticket) => is_placed(book, uid, node, ticket),
         Call::Done(ticket, at) => is_done(book, uid, ticket, at),
-        Call::Bound => takes(book, pod_bound(uid, node), true),
+        Call::Bound => takes(book, pod_bound(2, uid, node, 1_000, 0), true),
         Call::Goes(now) => book.expire(Moment(now)) == Some(uid),
         Call::NoneGoes(now) => book.expire(Moment(now)).is_none(),
         Call::Has(assumed, bound, pods) => has(book, &node, assumed, bound, pods),
@@ -184,7 +155,7 @@ fn first_other_of_new(alloc: Global, keys: Option<RandomState>, rows: &[Row]) ->
     let Ok(mut book) = Book::new(alloc, keys, Limits::greatest()) else {
         return Some(0);
     };
-    if takes(&mut book, node_set(alloc), false) {
+    if takes(&mut book, node_told(alloc), false) {
         first_other(&mut book, rows)
     } else {
         Some(0)

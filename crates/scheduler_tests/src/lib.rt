@@ -1,5 +1,9 @@
 //! The tests of the scheduler's crates, from amounts to whole scripts, each through what its crate offers. They stand together
 //! since a crate with tests is proved twice. Nothing stands on this crate.
+//!
+//! A table is a constant of a few dozen rows that a function of its own gives out: what loops over it is then not proved in the midst
+//! of the table's parts. What owns a book, a desk, a kit or what a run wrote gives a number, a name or a small enum of it, and tests
+//! assert on these. Where keys, memory or a pass are wanting, the answer is one that no test takes.
 #![tactic(auto)]
 
 #[cfg(test)]
@@ -11,7 +15,11 @@ mod audits;
 #[cfg(test)]
 mod binding;
 #[cfg(test)]
+mod cases;
+#[cfg(test)]
 mod choices;
+#[cfg(test)]
+mod decisions;
 #[cfg(test)]
 mod expiry;
 #[cfg(test)]

@@ -16,9 +16,7 @@ use serving::{Fault, Folder, Input, Output, Refusal, answer};
 use std::alloc::{AllocError, Global};
 use std::hash::RandomState;
 use std::io::{Read, Write};
-use std::process::Abort;
 use std::sync::Wait;
-use std::test::Fail;
 use std::thread::Threads;
 use std::{fs, io};
 use whost::InstanceFault;
@@ -115,6 +113,23 @@ const RUN: Given<'static> = Given {
     bad_write: 0,
 };
 
+// What it is to end with: the exit status, the output, and what is told beside it.
+type Want<'a> = (u8, &'a str, &'a str);
+
+// What is given, and what it is to end with.
+type Row = (Given<'static>, Want<'static>);
+
+// A name, the plugins, the script, and the output.
+type Answered = (
+    &'static str,
+    &'static [&'static str],
+    &'static [u8],
+    &'static str,
+);
+
+// Files, each with its name.
+type Stored = &'static [(&'static str, &'static [u8])];
+
 // What it ended with.
 #[derive(Drop)]
 struct Ended {
@@ -164,92 +179,157 @@ fn run_program<R: fs::Files + Wait + Threads + Copy + Send + Sync + 'static>(
     })
 }
 
-// Runs the program. Where a read or a write fails it writes a beginning of the output, and else the
-// whole.
-#[track_caller]
-fn assert_ends(
-    rt: &(impl Abort + fs::Files + Wait + Threads + Copy + Send + Sync + 'static),
+// Where a read or a write fails a beginning of the output is written, and else the whole.
+fn is_end(ended: &Ended, want: Want) -> bool {
+    let (status, out, err) = want;
+    ended.status == status
+        && ended.err.as_slice() == err.as_bytes()
+        && out.as_bytes().starts_with(ended.out.as_slice())
+        && (status == 4 || ended.out.len() == out.len())
+}
+
+// Whether the program ends with this.
+fn ends<R: fs::Files + Wait + Threads + Copy + Send + Sync + 'static>(
+    rt: &R,
     alloc: Global,
     keys: Option<RandomState>,
     given: Given,
-    want: (u8, &str, &str),
-    name: &str,
-) -> Result<(), AllocError> {
-    let (status, out, err) = want;
-    let ended = run_program(rt, alloc, keys, given)?;
-    assert_eq!(rt; ended.err.as_slice(), err.as_bytes(), "{name}");
-    assert!(rt; out.as_bytes().starts_with(ended.out.as_slice()), "{name}");
-    assert!(rt; status == 4 || ended.out.len() == out.len(), "{name}");
-    assert_eq!(rt; ended.status, status, "{name}");
-    Ok(())
+    want: Want,
+) -> bool {
+    match run_program(rt, alloc, keys, given) {
+        Ok(ended) => is_end(&ended, want),
+        Err(_) => false,
+    }
 }
 
-// Runs, or explains, a script without a faulty line by 1, 2 and 64 workers, in pieces of many sizes.
-#[track_caller]
-fn assert_answers<'a>(
-    rt: &(impl Abort + fs::Files + Wait + Threads + Copy + Send + Sync + 'static),
+// The first row that ends otherwise.
+fn first_other_end<R: fs::Files + Wait + Threads + Copy + Send + Sync + 'static>(
+    rt: &R,
     alloc: Global,
-    keys: RandomState,
-    explains: bool,
-    plugins: &'a [&'a str],
-    script: &'a str,
-    out: &str,
-    name: &str,
-) -> Result<(), AllocError> {
-    let rows = if explains {
-        [
-            (["explain"].as_slice(), 1),
-            (["explain", "--workers", "2"].as_slice(), 64),
-            (["explain", "--workers", "64"].as_slice(), 65_536),
-        ]
-    } else {
-        [
-            (["run"].as_slice(), 1),
-            (["run", "--workers", "2"].as_slice(), 64),
-            (["run", "--workers", "64"].as_slice(), 65_536),
-        ]
-    };
-    for (args, most) in rows {
+    keys: Option<RandomState>,
+    rows: &'static [Row],
+) -> Option<usize> {
+    for (at, (given, want)) in rows.iter().enumerate() {
+        if !ends(rt, alloc, keys, *given, *want) {
+            return Some(at);
+        }
+    }
+    None
+}
+
+// Words for 1, 2 and 64 workers, each with how many bytes are moved at most.
+type Ways = &'static [(&'static [&'static str], usize)];
+
+const RUNS: Ways = &[
+    (&["run"], 1),
+    (&["run", "--workers", "2"], 64),
+    (&["run", "--workers", "64"], 65_536),
+];
+
+const EXPLAINS: Ways = &[
+    (&["explain"], 1),
+    (&["explain", "--workers", "2"], 64),
+    (&["explain", "--workers", "64"], 65_536),
+];
+
+fn runs() -> Ways {
+    RUNS
+}
+
+fn explains() -> Ways {
+    EXPLAINS
+}
+
+// Whether a script without a faulty line is answered so in each of these ways.
+fn is_answered<R: fs::Files + Wait + Threads + Copy + Send + Sync + 'static>(
+    rt: &R,
+    alloc: Global,
+    keys: Option<RandomState>,
+    ways: Ways,
+    row: &Answered,
+) -> bool {
+    let (_, plugins, script, out) = *row;
+    for (args, most) in ways {
         let given = Given {
             args,
             plugins,
-            script: script.as_bytes(),
-            most,
+            script,
+            most: *most,
             ..RUN
         };
-        assert_ends(rt, alloc, Some(keys), given, (0, out, ""), name)?;
+        if !ends(rt, alloc, keys, given, (0, out, "")) {
+            return false;
+        }
     }
-    Ok(())
+    true
 }
 
-fn write_files(rt: &impl fs::Files, files: &[(&str, &[u8])]) -> io::Result<()> {
+// The first row that is answered otherwise.
+fn first_other<R: fs::Files + Wait + Threads + Copy + Send + Sync + 'static>(
+    rt: &R,
+    alloc: Global,
+    keys: Option<RandomState>,
+    ways: Ways,
+    rows: &'static [Answered],
+) -> Option<&'static str> {
+    for row in rows {
+        if !is_answered(rt, alloc, keys, ways, row) {
+            return Some(row.0);
+        }
+    }
+    None
+}
+
+// Whether all these are written.
+fn writes_files<R: fs::Files>(rt: &R, files: Stored) -> bool {
     for (name, bytes) in files {
-        fs::write(rt, *name, *bytes)?;
+        if fs::write(rt, *name, *bytes).is_err() {
+            return false;
+        }
     }
-    Ok(())
+    true
 }
 
-fn remove_files(rt: &impl fs::Files, files: &[(&str, &[u8])]) -> io::Result<()> {
+// Whether all these are removed.
+fn removes_files<R: fs::Files>(rt: &R, files: Stored) -> bool {
     for (name, _) in files {
-        fs::remove_file(rt, *name)?;
+        if fs::remove_file(rt, *name).is_err() {
+            return false;
+        }
     }
-    Ok(())
+    true
+}
+
+const FAULTS: &str =
+    "1 BadWords, 1 BadWords NAME of word 3, plugin r: refused instance 4 StartExhausted, plugin s: 3 Read, 5 NoPlace";
+
+fn plugin_fault() -> Option<Fault> {
+    let refusal = Refusal::NotReady(InstanceFault::StartExhausted);
+    Some(Fault::Plugin(Name::new(b"r").ok()?, refusal))
+}
+
+fn unread_fault() -> Option<Fault> {
+    Some(Fault::Unread(Name::new(b"s").ok()?))
+}
+
+// Whether faults are told by their numbers and their names.
+fn are_told(alloc: Global) -> bool {
+    let (Some(plugin), Some(unread)) = (plugin_fault(), unread_fault()) else {
+        return false;
+    };
+    let text = format!(in alloc;
+        "{}, {}, {plugin}, {unread}, {}",
+        Fault::Words(WordFault::BadWords),
+        Fault::Misused(Misuse::Plugin(Part::Name, 3)),
+        Fault::Run(RunFault::NoPlace)
+    );
+    match text {
+        Ok(text) => text.as_str() == FAULTS,
+        Err(_) => false,
+    }
 }
 
 #[test]
-fn a_fault_prints_its_number_and_its_name(rt: HostRuntime) -> Result<(), Fail> {
-    let refusal = Refusal::NotReady(InstanceFault::StartExhausted);
-    let text = format!(in rt.alloc();
-        "{}, {}, {}, {}, {}",
-        Fault::Words(WordFault::BadWords),
-        Fault::Misused(Misuse::Plugin(Part::Name, 3)),
-        Fault::Plugin(Name::new(b"r")?, refusal),
-        Fault::Unread(Name::new(b"s")?),
-        Fault::Run(RunFault::NoPlace)
-    )?;
-    assert_eq!(rt;
-        text.as_str(),
-        "1 BadWords, 1 BadWords NAME of word 3, plugin r: refused instance 4 StartExhausted, plugin s: 3 Read, 5 NoPlace"
-    );
-    Ok(())
+fn a_fault_prints_its_number_and_its_name(rt: HostRuntime) {
+    assert!(rt; are_told(rt.alloc()));
 }

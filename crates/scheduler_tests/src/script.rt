@@ -2,19 +2,19 @@
 //! that stay decide as those that are started for each decision.
 ghost use Rattle.std.specs.Prelude.{◌≡◌, ◌<◌, ◌≤◌, vec_len, IfOk};
 ghost use Rattle.std.specs.List.{All};
+ghost use Rattle.fleet.specs.Alike.{JudgeAlike};
 
+use crate::texts::repeated;
 use choose::Verdict;
 use desk::Snapshot;
 use engine::{DeviceFailed, RunFault, Sink, Source, run, run_with_kits};
 use fleet::{Decider, Decision, Fleet, NoGate, NoMemory};
 use plugin::{Cause, FilterVerdict, Rejection, Rules, ScoreVerdict};
 use quant::{Name, SharedPod};
-use std::alloc::Global;
+use std::alloc::{AllocError, Global};
 use std::cell::Cell;
 use std::hash::RandomState;
-use std::process::Abort;
 use std::sync::Wait;
-use std::test::Fail;
 use std::thread::Threads;
 use whost::Records;
 use wmach::Trap;
@@ -181,11 +181,13 @@ struct Ended {
     longest: usize,
 }
 
-fn run_pieces<T: Wait + Threads + Sync + Abort>(
+// What a run by a crew of a script in pieces ends with, where the output is so long at each read.
+fn run_by<T: Wait + Threads + Sync>(
     rt: &T,
     alloc: Global,
     keys: RandomState,
-    rules: Same,
+    crew: &mut Crew,
+    name: Name,
     pieces: &[&[u8]],
     answered: &[usize],
 ) -> Ended {
@@ -204,16 +206,13 @@ fn run_pieces<T: Wait + Threads + Sync + Abort>(
         failures: 0,
         written: &written,
     };
-    let names = [Name::new(b"rule").expect(rt, "a name")];
-    let fleet = Fleet::of_one(alloc, rules).expect(rt, "memory");
-    let mut crew = Crew { fleet };
     let result = run(
         rt,
         alloc,
         keys,
-        &names,
+        &[name],
         false,
-        &mut crew,
+        crew,
         &mut source,
         &mut sink,
     );
@@ -224,164 +223,238 @@ fn run_pieces<T: Wait + Threads + Sync + Abort>(
     }
 }
 
-#[test]
-fn every_answer_is_written_before_the_next_read(rt: HostRuntime) -> Result<(), Fail> {
-    let keys = RandomState::new(&rt)?;
-    let pieces = [
-        br#"{"op":"node","v":1,"name":"a","cpu":"4","mem":"8Gi","pods":110}
+// The same by one kit of these rules.
+fn run_pieces<T: Wait + Threads + Sync>(
+    rt: &T,
+    alloc: Global,
+    keys: RandomState,
+    rules: Same,
+    pieces: &[&[u8]],
+    answered: &[usize],
+) -> Option<Ended> {
+    let name = Name::new(b"rule").ok()?;
+    let fleet = Fleet::of_one(alloc, rules).ok()?;
+    let mut crew = Crew { fleet };
+    Some(run_by(rt, alloc, keys, &mut crew, name, pieces, answered))
+}
 
-"#
-            .as_slice(),
-        br#"{"op":"node","v":1,"name":"a","#.as_slice(),
-        br#""cpu":"4","mem":"8Gi","pods":110}
-{"op":"dump"}"#
-            .as_slice(),
-    ];
-    let output = b"ok
+fn is_written(ended: &Ended, output: &[u8]) -> bool {
+    ended.result == Ok(()) && ended.output.as_slice() == output
+}
+
+// Whether a script in pieces is answered by this.
+fn writes<T: Wait + Threads + Sync>(
+    rt: &T,
+    alloc: Global,
+    keys: Option<RandomState>,
+    rules: Same,
+    pieces: &[&[u8]],
+    answered: &[usize],
+    output: &[u8],
+) -> bool {
+    let Some(keys) = keys else {
+        return false;
+    };
+    match run_pieces(rt, alloc, keys, rules, pieces, answered) {
+        Some(ended) => is_written(&ended, output),
+        None => false,
+    }
+}
+
+const PIECES: &[&[u8]] = &[
+    br#"{"op":"node","v":1,"name":"a","cpu":"4","mem":"8Gi","pods":110}
+
+"#,
+    br#"{"op":"node","v":1,"name":"a","#,
+    br#""cpu":"4","mem":"8Gi","pods":110}
+{"op":"dump"}"#,
+];
+
+const OF_PIECES: &[u8] = b"ok
 refused 1 Old
 node a cpu 0/4000 mem 0/8589934592 pods 0/110
 places bound 0 assumed 0
 queue active 0 backoff 0 unschedulable 0 inflight 0
 clock 0 version 1
 ";
-    // The end is read twice: behind the last line, which has no newline, and behind its answer.
-    let ended = run_pieces(
-        &rt,
-        rt.alloc(),
-        keys,
-        NOTHING,
-        &pieces,
-        &[0, 3, 3, 17, output.len()],
-    );
-    assert_eq!(rt; ended.result, Ok(()));
-    assert_eq!(rt; ended.output.as_slice(), output.as_slice());
-    Ok(())
-}
+
+// How long the output is at each read. The end is read twice: behind the last line, which has no newline, and behind its answer.
+const AT_PIECES: &[usize] = &[0, 3, 3, 17, OF_PIECES.len()];
 
 // A pod is bound to a node that isn't there: it has its place, and nothing is used of the node that is there.
-#[test]
-fn a_place_may_be_on_a_node_that_is_not_there(rt: HostRuntime) -> Result<(), Fail> {
-    let keys = RandomState::new(&rt)?;
-    let script = br#"{"op":"node","v":1,"name":"a","cpu":"4","mem":"8Gi","pods":110}
+const NO_NODE: &[&[u8]] = &[
+    br#"{"op":"node","v":1,"name":"a","cpu":"4","mem":"8Gi","pods":110}
 {"op":"bound","v":2,"uid":"p0","node":"x","cpu":"1","mem":"1k"}
 {"op":"dump"}
-"#
-        .as_slice();
-    let output = b"ok
+"#,
+];
+
+const OF_NO_NODE: &[u8] = b"ok
 ok
 node a cpu 0/4000 mem 0/8589934592 pods 0/110
 places bound 1 assumed 0
 queue active 0 backoff 0 unschedulable 0 inflight 0
 clock 0 version 2
 ";
-    let ended = run_pieces(
-        &rt,
-        rt.alloc(),
-        keys,
-        NOTHING,
-        &[script],
-        &[0, output.len()],
-    );
-    assert_eq!(rt; ended.result, Ok(()));
-    assert_eq!(rt; ended.output.as_slice(), output.as_slice());
-    Ok(())
-}
+
+const AT_NO_NODE: &[usize] = &[0, OF_NO_NODE.len()];
 
 #[test]
-fn no_more_than_64_kib_wait_before_an_answer(rt: HostRuntime) -> Result<(), Fail> {
-    let answer = b"places bound 0 assumed 0
+fn every_answer_is_written_before_the_next_read(rt: HostRuntime) {
+    let keys = RandomState::new(&rt).ok();
+    assert!(rt; writes(&rt, rt.alloc(), keys, NOTHING, PIECES, AT_PIECES, OF_PIECES));
+    assert!(rt;
+        writes(
+            &rt,
+            rt.alloc(),
+            keys,
+            NOTHING,
+            NO_NODE,
+            AT_NO_NODE,
+            OF_NO_NODE
+        )
+    );
+}
+
+// A dump, as many as one read gives, and how long an answer is.
+const DUMPS: &[(usize, &[u8])] = &[(4_681, b"{\"op\":\"dump\"}\n")];
+
+const DUMPED: usize = b"places bound 0 assumed 0
 queue active 0 backoff 0 unschedulable 0 inflight 0
 clock 0 version 0
 "
-        .len();
-    let keys = RandomState::new(&rt)?;
-    // As many dumps as one read gives.
-    let mut script = Vec::new(rt.alloc());
-    for _ in 0..4681 {
-        script.extend_from_slice(br#"{"op":"dump"}"#)?;
-        script.push(b'\n')?;
+    .len();
+
+// Whether no more than 64 KiB wait before an answer.
+fn waits_little<T: Wait + Threads + Sync>(
+    rt: &T,
+    alloc: Global,
+    keys: RandomState,
+    script: &[u8],
+) -> bool {
+    let pieces = [script];
+    let answered = [0, 4_681 * DUMPED];
+    match run_pieces(rt, alloc, keys, NOTHING, &pieces, &answered) {
+        Some(ended) => ended.result == Ok(()) && ended.longest < 65_536 + DUMPED,
+        None => false,
     }
-    assert_eq!(rt; script.len(), 65_534);
-    let ended = run_pieces(
-        &rt,
-        rt.alloc(),
-        keys,
-        NOTHING,
-        &[script.as_slice()],
-        &[0, 4681 * answer],
-    );
-    assert_eq!(rt; ended.result, Ok(()));
-    assert!(rt; ended.longest < 65_536 + answer, "at {}", ended.longest);
-    Ok(())
 }
 
-// A node and a pod, and what a cycle comes to by a rule.
+// The same of a script of its own.
+fn waits_little_for_many<T: Wait + Threads + Sync>(
+    rt: &T,
+    alloc: Global,
+    keys: Option<RandomState>,
+) -> Result<bool, AllocError> {
+    let script = repeated(alloc, DUMPS)?;
+    match keys {
+        Some(keys) => Ok(script.len() == 65_534 && waits_little(rt, alloc, keys, &script)),
+        None => Ok(false),
+    }
+}
+
 #[test]
-fn a_cycle_is_told_on_a_line(rt: HostRuntime) -> Result<(), Fail> {
-    let script = br#"{"op":"node","v":1,"name":"a","cpu":"4","mem":"8Gi","pods":110}
+fn no_more_than_64_kib_wait_before_an_answer(rt: HostRuntime) {
+    let keys = RandomState::new(&rt).ok();
+    assert_eq!(rt; waits_little_for_many(&rt, rt.alloc(), keys), Ok(true));
+}
+
+// A node and a pod, and two cycles.
+const TWO_CYCLES: &[u8] = br#"{"op":"node","v":1,"name":"a","cpu":"4","mem":"8Gi","pods":110}
 {"op":"pod","v":2,"uid":"p1","containers":[["100m","64Mi"]]}
 {"op":"cycle"}
 {"op":"cycle"}
-"#
-        .as_slice();
-    let passes = FilterVerdict::Passes;
-    let rows = [
-        (false, passes, None, "p1 on a total 198 ticket 1"),
-        (true, passes, None, "p1 on a total 298 ticket 1"),
-        (
-            true,
-            FilterVerdict::Rejects(Rejection::Unschedulable),
-            None,
-            "p1 unschedulable marked 0 taint 0 cpu 0 memory 0 pods 0 plugin 1 final 0",
-        ),
-        (
-            true,
-            FilterVerdict::Rejects(Rejection::UnschedulableAndUnresolvable),
-            None,
-            "p1 unschedulable marked 0 taint 0 cpu 0 memory 0 pods 0 plugin 0 final 1",
-        ),
-        (
-            true,
-            FilterVerdict::Errs(Cause::Trap(Trap::Unreachable)),
-            None,
-            "p1 error plugin rule node a trap 1 Unreachable",
-        ),
-        (
-            true,
-            FilterVerdict::Errs(Cause::Exhausted),
-            None,
-            "p1 error plugin rule node a exhausted",
-        ),
-        (
-            true,
-            FilterVerdict::Errs(Cause::Code(-1)),
-            None,
-            "p1 error plugin rule node a code -1",
-        ),
-        (
-            true,
-            passes,
-            Some(Cause::Score(101)),
-            "p1 error plugin rule node a score 101",
-        ),
-    ];
-    for (there, filter, errs, line) in rows {
-        let keys = RandomState::new(&rt)?;
-        let rules = Same {
-            there,
-            filter,
-            errs,
-        };
-        let wanted = format!(in rt.alloc(); "ok\nok\n{line}\nidle\n")?;
-        let ended = run_pieces(&rt, rt.alloc(), keys, rules, &[script], &[0, wanted.len()]);
-        assert_eq!(rt; ended.result, Ok(()));
-        assert_eq!(rt; ended.output.as_slice(), wanted.as_bytes());
+"#;
+
+const PASSING: Same = Same {
+    there: true,
+    ..NOTHING
+};
+
+// What a cycle comes to by a rule.
+const TOLD: &[(Same, &str)] = &[
+    (NOTHING, "ok\nok\np1 on a total 198 ticket 1\nidle\n"),
+    (PASSING, "ok\nok\np1 on a total 298 ticket 1\nidle\n"),
+    (
+        Same {
+            filter: FilterVerdict::Rejects(Rejection::Unschedulable),
+            ..PASSING
+        },
+        "ok\nok\np1 unschedulable marked 0 taint 0 cpu 0 memory 0 pods 0 plugin 1 final 0\nidle\n",
+    ),
+    (
+        Same {
+            filter: FilterVerdict::Rejects(Rejection::UnschedulableAndUnresolvable),
+            ..PASSING
+        },
+        "ok\nok\np1 unschedulable marked 0 taint 0 cpu 0 memory 0 pods 0 plugin 0 final 1\nidle\n",
+    ),
+    (
+        Same {
+            filter: FilterVerdict::Errs(Cause::Trap(Trap::Unreachable)),
+            ..PASSING
+        },
+        "ok\nok\np1 error plugin rule node a trap 1 Unreachable\nidle\n",
+    ),
+    (
+        Same {
+            filter: FilterVerdict::Errs(Cause::Exhausted),
+            ..PASSING
+        },
+        "ok\nok\np1 error plugin rule node a exhausted\nidle\n",
+    ),
+    (
+        Same {
+            filter: FilterVerdict::Errs(Cause::Code(-1)),
+            ..PASSING
+        },
+        "ok\nok\np1 error plugin rule node a code -1\nidle\n",
+    ),
+    (
+        Same {
+            errs: Some(Cause::Score(101)),
+            ..PASSING
+        },
+        "ok\nok\np1 error plugin rule node a score 101\nidle\n",
+    ),
+];
+
+fn told() -> &'static [(Same, &'static str)] {
+    TOLD
+}
+
+// The first rule by which a cycle comes to something else.
+fn first_other<T: Wait + Threads + Sync>(
+    rt: &T,
+    alloc: Global,
+    keys: Option<RandomState>,
+) -> Option<usize> {
+    for (at, (rules, output)) in told().iter().enumerate() {
+        let pieces = [TWO_CYCLES];
+        let answered = [0, output.len()];
+        if !writes(
+            rt,
+            alloc,
+            keys,
+            *rules,
+            &pieces,
+            &answered,
+            output.as_bytes(),
+        ) {
+            return Some(at);
+        }
     }
-    Ok(())
+    None
+}
+
+#[test]
+fn a_cycle_is_told_on_a_line(rt: HostRuntime) {
+    let keys = RandomState::new(&rt).ok();
+    assert_eq!(rt; first_other(&rt, rt.alloc(), keys), None);
 }
 
 // So many kits of such rules.
-fn kits_of(alloc: Global, rules: Same, count: usize) -> Result<Vec<Same>, Fail>
+fn kits_of(alloc: Global, rules: Same, count: usize) -> Result<Vec<Same>, AllocError>
     ensures count { IfOk result (λ kits. vec_len kits ≡ count) }
     ensures same { IfOk result (λ kits. All (λ kit. kit ≡ rules) kits.items) }
 {
@@ -392,24 +465,32 @@ fn kits_of(alloc: Global, rules: Same, count: usize) -> Result<Vec<Same>, Fail>
     Ok(kits)
 }
 
-// What a run by so many kits writes: by a pool, or by a fleet.
-fn written_by<T: Wait + Threads + Copy + Send + Sync + 'static>(
+// Nodes of which two are equal but for their names, pods, and cycles.
+const THREE_NODES: &[u8] = br#"{"op":"node","v":1,"name":"a.b","cpu":"4","mem":"8Gi","pods":110}
+{"op":"node","v":2,"name":"a","cpu":"4","mem":"8Gi","pods":110}
+{"op":"node","v":3,"name":"c","cpu":"10m","mem":"8Gi","pods":110}
+{"op":"pod","v":4,"uid":"p1","containers":[["100m","64Mi"]]}
+{"op":"cycle"}
+{"op":"cycle"}
+"#;
+
+// Whether a run by a pool of these kits writes this.
+fn pool_writes<T: Wait + Threads + Copy + Send + Sync + 'static>(
     rt: &T,
     alloc: Global,
     keys: RandomState,
-    rules: Same,
-    count: usize,
-    stay: bool,
-    script: &[u8],
-    length: usize,
-) -> Result<Vec<u8>, Fail>
-    requires some { 0 < count }
-    requires most { count ≤ 64 }
+    kits: Vec<Same>,
+    name: Name,
+    output: &[u8],
+) -> bool
+    requires some { 0 < vec_len kits }
+    requires most { vec_len kits ≤ 64 }
+    requires alike { JudgeAlike (⟦<Same as Rules>⟧.answers) kits.items }
 {
     let written = Cell::new(0);
     let mut source = Peer {
-        pieces: &[script],
-        answered: &[0, length],
+        pieces: &[THREE_NODES],
+        answered: &[0, output.len()],
         reads: 0,
         left: 1 << 20,
         failures: 0,
@@ -421,69 +502,105 @@ fn written_by<T: Wait + Threads + Copy + Send + Sync + 'static>(
         failures: 0,
         written: &written,
     };
-    let names = [Name::new(b"rule")?];
-    let kits = kits_of(alloc, rules, count)?;
-    if stay {
-        run_with_kits(rt, alloc, keys, &names, false, kits, &mut source, &mut sink)?;
-    } else {
-        let mut crew = Crew {
-            fleet: Fleet::new(alloc, kits),
-        };
-        run(
-            rt,
-            alloc,
-            keys,
-            &names,
-            false,
-            &mut crew,
-            &mut source,
-            &mut sink,
-        )?;
-    }
-    Ok(sink.bytes)
+    let result = run_with_kits(
+        rt,
+        alloc,
+        keys,
+        &[name],
+        false,
+        kits,
+        &mut source,
+        &mut sink,
+    );
+    result == Ok(()) && sink.bytes.as_slice() == output
 }
 
-// Nodes of which two are equal but for their names, pods, and cycles.
-#[test]
-fn a_pool_writes_what_a_fleet_does(rt: HostRuntime) -> Result<(), Fail> {
-    let script =
-        b"{\"op\":\"node\",\"v\":1,\"name\":\"a.b\",\"cpu\":\"4\",\"mem\":\"8Gi\",\"pods\":110}
-{\"op\":\"node\",\"v\":2,\"name\":\"a\",\"cpu\":\"4\",\"mem\":\"8Gi\",\"pods\":110}
-{\"op\":\"node\",\"v\":3,\"name\":\"c\",\"cpu\":\"10m\",\"mem\":\"8Gi\",\"pods\":110}
-{\"op\":\"pod\",\"v\":4,\"uid\":\"p1\",\"containers\":[[\"100m\",\"64Mi\"]]}
-{\"op\":\"cycle\"}
-{\"op\":\"cycle\"}
-"
-            .as_slice();
-    let keys = RandomState::new(&rt)?;
-    let passes = FilterVerdict::Passes;
-    let traps = FilterVerdict::Errs(Cause::Trap(Trap::Unreachable));
-    let rows = [
-        (passes, "p1 on a total 298 ticket 1"),
-        (traps, "p1 error plugin rule node a trap 1 Unreachable"),
-    ];
-    for (filter, line) in rows {
-        let rules = Same {
-            there: true,
-            filter,
-            errs: None,
-        };
-        let wanted = format!(in rt.alloc(); "ok\nok\nok\nok\n{line}\nidle\n")?;
-        for count in [1, 2, 64] {
-            for stay in [false, true] {
-                let written = written_by(
-                    &rt,
-                    rt.alloc(),
-                    keys,
-                    rules,
-                    count,
-                    stay,
-                    script,
-                    wanted.len(),
-                )?;
-                assert_eq!(rt; written.as_slice(), wanted.as_bytes(), "by {count}, {stay}");
-            }
+// Whether a run by a pool of so many kits writes this.
+fn is_written_by_a_pool<T: Wait + Threads + Copy + Send + Sync + 'static>(
+    rt: &T,
+    alloc: Global,
+    keys: RandomState,
+    rules: Same,
+    count: usize,
+    output: &[u8],
+) -> bool
+    requires some { 0 < count }
+    requires most { count ≤ 64 }
+{
+    match (Name::new(b"rule"), kits_of(alloc, rules, count)) {
+        (Ok(name), Ok(kits)) => pool_writes(rt, alloc, keys, kits, name, output),
+        _ => false,
+    }
+}
+
+// Whether a run by a fleet of them does.
+fn is_written_by_a_fleet<T: Wait + Threads + Sync>(
+    rt: &T,
+    alloc: Global,
+    keys: RandomState,
+    rules: Same,
+    count: usize,
+    output: &[u8],
+) -> bool
+    requires some { 0 < count }
+    requires most { count ≤ 64 }
+{
+    let (Ok(name), Ok(kits)) = (Name::new(b"rule"), kits_of(alloc, rules, count)) else {
+        return false;
+    };
+    let fleet = Fleet::new(alloc, kits);
+    let mut crew = Crew { fleet };
+    let answered = [0, output.len()];
+    let ended = run_by(rt, alloc, keys, &mut crew, name, &[THREE_NODES], &answered);
+    is_written(&ended, output)
+}
+
+// Whether so many kits write this, by a pool and by a fleet.
+fn write_alike<T: Wait + Threads + Copy + Send + Sync + 'static>(
+    rt: &T,
+    alloc: Global,
+    keys: RandomState,
+    rules: Same,
+    count: usize,
+    output: &[u8],
+) -> bool
+    requires some { 0 < count }
+    requires most { count ≤ 64 }
+{
+    is_written_by_a_pool(rt, alloc, keys, rules, count, output)
+        && is_written_by_a_fleet(rt, alloc, keys, rules, count, output)
+}
+
+const TRAPPING: Same = Same {
+    filter: FilterVerdict::Errs(Cause::Trap(Trap::Unreachable)),
+    ..PASSING
+};
+
+const PLACED: &[u8] = b"ok\nok\nok\nok\np1 on a total 298 ticket 1\nidle\n";
+
+const TRAPPED: &[u8] = b"ok\nok\nok\nok\np1 error plugin rule node a trap 1 Unreachable\nidle\n";
+
+// The first number of kits by which something else is written.
+fn first_other_count<T: Wait + Threads + Copy + Send + Sync + 'static>(
+    rt: &T,
+    alloc: Global,
+    keys: Option<RandomState>,
+) -> Option<usize> {
+    let Some(keys) = keys else {
+        return Some(0);
+    };
+    for count in [1, 2, 64] {
+        if !write_alike(rt, alloc, keys, PASSING, count, PLACED)
+            || !write_alike(rt, alloc, keys, TRAPPING, count, TRAPPED)
+        {
+            return Some(count);
         }
     }
-    Ok(())
+    None
+}
+
+#[test]
+fn a_pool_writes_what_a_fleet_does(rt: HostRuntime) {
+    let keys = RandomState::new(&rt).ok();
+    assert_eq!(rt; first_other_count(&rt, rt.alloc(), keys), None);
 }

@@ -227,25 +227,10 @@ fn tried<R: Wait>(rt: &R, alloc: Global, keys: Option<RandomState>, trial: Trial
 }
 
 #[test]
-fn places_a_pod_once(rt: HostRuntime) {
+fn passes_share_a_desk(rt: HostRuntime) {
     let keys = RandomState::new(&rt).ok();
     assert_eq!(rt; tried(&rt, rt.alloc(), keys, Trial::OnePass), None);
-}
-
-#[test]
-fn two_passes_meet(rt: HostRuntime) {
-    let keys = RandomState::new(&rt).ok();
     assert_eq!(rt; tried(&rt, rt.alloc(), keys, Trial::TwoMeet), None);
-}
-
-#[test]
-fn a_pod_that_came_again_is_another_passes(rt: HostRuntime) {
-    let keys = RandomState::new(&rt).ok();
     assert_eq!(rt; tried(&rt, rt.alloc(), keys, Trial::PodAgain), None);
-}
-
-#[test]
-fn hands_out_64_passes(rt: HostRuntime) {
-    let keys = RandomState::new(&rt).ok();
     assert_eq!(rt; tried(&rt, rt.alloc(), keys, Trial::LastPass), None);
 }

@@ -41,7 +41,7 @@ pub enum Call {
 }
 
 /// What a call answers: of a popped pod the letter, and of a look what is used of its one node, in thousandths of a core and pods.
-#[derive(Clone, Copy, Debug, PartialEq, Eq)]
+#[derive(Clone, Copy, PartialEq, Eq)]
 pub enum Answer {
     Done,
     Idle,

@@ -1,5 +1,5 @@
 //! Storms whose binds, and whose decisions, wait for one another: each is to be in a thread of its own.
-ghost use Rattle.std.specs.Prelude.{◌≡◌, ◌<◌, vec_len, IfOk};
+ghost use Rattle.std.specs.Prelude.{◌≡◌, vec_len, IfSome};
 
 use binder::{BindAnswer, Binder, Tally};
 use choose::Verdict;
@@ -10,10 +10,8 @@ use plugin::{Kit, KitRules, Plugins};
 use quant::{Name, SharedPod};
 use std::alloc::Global;
 use std::hash::RandomState;
-use std::process::Abort;
 use std::sync::atomic::{AtomicU64, Ordering};
 use std::sync::{Arc, Wait};
-use std::test::Fail;
 use std::thread;
 use std::thread::Threads;
 use storm::storm;
@@ -158,59 +156,56 @@ impl<D: Decider + Drop> Decider for Turning<D> {
     }
 }
 
-/// A pair's halves, of which neither has begun.
-fn pair_by(begun: &Arc<AtomicU64, Global>) -> Result<Pair, Fail> {
-    Ok(Pair {
-        begun: Arc::try_clone(begun)?,
+/// A pair's half, which has not begun.
+fn pair_by(begun: &Arc<AtomicU64, Global>) -> Option<Pair> {
+    Some(Pair {
+        begun: Arc::try_clone(begun).ok()?,
         has_begun: false,
     })
 }
 
-fn waiting_hand(
-    alloc: Global,
-    begun: &Arc<AtomicU64, Global>,
-) -> Result<Box<dyn Binder + Send>, Fail> {
+fn waiting_hand(alloc: Global, begun: &Arc<AtomicU64, Global>) -> Option<Box<dyn Binder + Send>> {
     let hand = Hand {
         pair: pair_by(begun)?,
         tally: Tally::new(),
     };
-    let binder: Box<dyn Binder + Send> = Box::new(alloc, hand)?;
-    Ok(binder)
+    let binder: Box<dyn Binder + Send> = Box::new(alloc, hand).ok()?;
+    Some(binder)
 }
 
 /// Two binders, each of which waits for the other.
-fn two_hands(alloc: Global) -> Result<Vec<Box<dyn Binder + Send>>, Fail>
-    ensures { IfOk result (λ hands. vec_len hands ≡ 2) }
+fn two_hands(alloc: Global) -> Option<Vec<Box<dyn Binder + Send>>>
+    ensures { IfSome result (λ hands. vec_len hands ≡ 2) }
 {
-    let begun = Arc::new(alloc, AtomicU64::new(0))?;
+    let begun = Arc::new(alloc, AtomicU64::new(0)).ok()?;
     let mut hands = Vec::new(alloc);
-    hands.push(waiting_hand(alloc, &begun)?)?;
-    hands.push(waiting_hand(alloc, &begun)?)?;
-    Ok(hands)
+    hands.push(waiting_hand(alloc, &begun)?).ok()?;
+    hands.push(waiting_hand(alloc, &begun)?).ok()?;
+    Some(hands)
 }
 
 /// A decider without plugins.
 fn turning_decider(
     alloc: Global,
     begun: &Arc<AtomicU64, Global>,
-) -> Result<Turning<Fleet<KitRules>>, Fail> {
+) -> Option<Turning<Fleet<KitRules>>> {
     let plugins = Plugins::new(alloc);
-    let kit = KitRules::new(Kit::new(alloc, &plugins)?);
-    Ok(Turning {
-        decider: Fleet::of_one(alloc, kit)?,
+    let kit = KitRules::new(Kit::new(alloc, &plugins).ok()?);
+    Some(Turning {
+        decider: Fleet::of_one(alloc, kit).ok()?,
         pair: pair_by(begun)?,
     })
 }
 
 /// Two deciders, each of which waits for the other.
-fn two_turning(alloc: Global) -> Result<Vec<Turning<Fleet<KitRules>>>, Fail>
-    ensures { IfOk result (λ deciders. vec_len deciders ≡ 2) }
+fn two_turning(alloc: Global) -> Option<Vec<Turning<Fleet<KitRules>>>>
+    ensures { IfSome result (λ deciders. vec_len deciders ≡ 2) }
 {
-    let begun = Arc::new(alloc, AtomicU64::new(0))?;
+    let begun = Arc::new(alloc, AtomicU64::new(0)).ok()?;
     let mut deciders = Vec::new(alloc);
-    deciders.push(turning_decider(alloc, &begun)?)?;
-    deciders.push(turning_decider(alloc, &begun)?)?;
-    Ok(deciders)
+    deciders.push(turning_decider(alloc, &begun)?).ok()?;
+    deciders.push(turning_decider(alloc, &begun)?).ok()?;
+    Some(deciders)
 }
 
 /// A node with room for both pods.
@@ -226,30 +221,45 @@ clock 0 version 3
 audit ok
 ";
 
-/// Both pods are placed, and both binds done.
-#[test]
-fn cycles_and_binds_run_at_once(rt: HostRuntime) -> Result<(), Fail> {
+/// What a storm of both pods writes, if it is audited well.
+fn stormed<T: Wait + Threads + Copy + Send + Sync + 'static>(
+    rt: &T,
+    alloc: Global,
+    keys: RandomState,
+) -> Option<Vec<u8>> {
+    let deciders = two_turning(alloc)?;
+    let binders = two_hands(alloc)?;
     let mut source = Script {
         bytes: TWO,
         left: TWO.len(),
     };
     let mut sink = Paper {
-        bytes: Vec::new(rt.alloc()),
+        bytes: Vec::new(alloc),
         failures: 0,
     };
-    let keys = RandomState::new(&rt)?;
-    let deciders = two_turning(rt.alloc())?;
-    let binders = two_hands(rt.alloc())?;
-    let done = storm(
-        &rt,
-        rt.alloc(),
-        keys,
-        &mut source,
-        &mut sink,
-        deciders,
-        binders,
-    );
-    assert_eq!(rt; done, Ok(true));
-    assert_eq!(rt; sink.bytes.as_slice(), BOTH_PLACED);
-    Ok(())
+    match storm(rt, alloc, keys, &mut source, &mut sink, deciders, binders) {
+        Ok(true) => Some(sink.bytes),
+        _ => None,
+    }
+}
+
+/// Whether both pods are placed, and both binds done.
+fn both_are_placed<T: Wait + Threads + Copy + Send + Sync + 'static>(
+    rt: &T,
+    alloc: Global,
+    keys: Option<RandomState>,
+) -> bool {
+    let Some(keys) = keys else {
+        return false;
+    };
+    match stormed(rt, alloc, keys) {
+        Some(written) => written.as_slice() == BOTH_PLACED,
+        None => false,
+    }
+}
+
+#[test]
+fn cycles_and_binds_run_at_once(rt: HostRuntime) {
+    let keys = RandomState::new(&rt).ok();
+    assert!(rt; both_are_placed(&rt, rt.alloc(), keys));
 }

@@ -9,7 +9,6 @@ use quant::{Bytes, Cpu, MAX_QUEUED, Moment, Name, Pod, Request, SharedPod};
 use queue::{Counts, Failure, PassNumber, Queue, Refusal, State};
 use std::alloc::Global;
 use std::hash::RandomState;
-use std::test::Fail;
 
 /// The pass of these tests, and another one.
 const MINE: PassNumber = PassNumber(1);
@@ -51,8 +50,8 @@ enum Call {
     BesidePlain,
 }
 
-/// The uid of the pod that a call is at, and the call.
-type Row = (&'static [u8], Call);
+/// The number of the pod that a call is at, and the call.
+type Row = (u32, Call);
 
 fn pod(alloc: Global, uid: &Name, priority: i32) -> Option<SharedPod> {
     let pod = Pod {
@@ -330,24 +329,36 @@ fn answers(queue: &mut Queue, alloc: Global, uid: &Name, call: Call) -> bool {
     }
 }
 
+fn is_answered(queue: &mut Queue, alloc: Global, row: &Row) -> bool {
+    let (number, call) = *row;
+    match Name::new(&uid_of(number)) {
+        Ok(uid) => answers(queue, alloc, &uid, call),
+        Err(_) => false,
+    }
+}
+
 /// The first row at which a queue answers otherwise.
 fn differs(queue: &mut Queue, alloc: Global, rows: &[Row]) -> Option<usize> {
-    for (row, (uid, call)) in rows.iter().enumerate() {
-        let alike = match Name::new(uid) {
-            Ok(uid) => answers(queue, alloc, &uid, *call),
-            Err(_) => false,
-        };
-        if !alike {
-            return Some(row);
+    for (at, row) in rows.iter().enumerate() {
+        if !is_answered(queue, alloc, row) {
+            return Some(at);
         }
     }
     None
 }
 
 /// The first row at which a new queue of this limit answers otherwise. It has compared nothing yet.
-fn first_difference(alloc: Global, keys: RandomState, limit: usize, rows: &[Row]) -> Option<usize>
+fn first_difference(
+    alloc: Global,
+    keys: Option<RandomState>,
+    limit: usize,
+    rows: &[Row],
+) -> Option<usize>
     requires { limit ≤ MAX_QUEUED }
 {
+    let Some(keys) = keys else {
+        return Some(0);
+    };
     match Queue::new(alloc, keys, limit) {
         Ok(mut queue) if queue.compared() == 0 => differs(&mut queue, alloc, rows),
         _ => Some(0),
@@ -356,112 +367,126 @@ fn first_difference(alloc: Global, keys: RandomState, limit: usize, rows: &[Row]
 
 /// What a pod does that backs off, that a move wakes, that time releases, that a move finds in
 /// flight, and that fails twelve times. Refused calls change nothing.
-const WORKED: [Row; 58] = [
+const WORKED: &[Row] = &[
     // Forgotten at 0 after one attempt, a pod is not popped at 999 ms, and is at 1,000 ms.
-    (b"p1", Call::IsFull(false)),
-    (b"p1", Call::Add(0, 0, Ok(()))),
-    (b"p1", Call::Pop),
-    (b"p1", Call::ForgetBack(0, Ok(()))),
-    (b"p1", Call::Tick(999)),
-    (b"p1", Call::PopNone),
-    (b"p1", Call::Tick(1_000)),
-    (b"p1", Call::Pop),
-    (b"p1", Call::Remove(true)),
+    (1, Call::IsFull(false)),
+    (1, Call::Add(0, 0, Ok(()))),
+    (1, Call::Pop),
+    (1, Call::ForgetBack(0, Ok(()))),
+    (1, Call::Tick(999)),
+    (1, Call::PopNone),
+    (1, Call::Tick(1_000)),
+    (1, Call::Pop),
+    (1, Call::Remove(true)),
     // No node takes the pod at 0. A move at 0 sends it to backoff until 1,000 ms.
-    (b"p1", Call::Add(0, 0, Ok(()))),
-    (b"p1", Call::Pop),
-    (b"p1", Call::Fail(MINE, Failure::Unschedulable, 0, Ok(()))),
-    (b"p1", Call::Counts(0, 0, 1, 0)),
-    (b"p1", Call::Move(0)),
-    (b"p1", Call::Counts(0, 1, 0, 0)),
-    (b"p1", Call::PopNone),
-    (b"p1", Call::Tick(1_000)),
-    (b"p1", Call::Pop),
-    (b"p1", Call::Remove(true)),
+    (1, Call::Add(0, 0, Ok(()))),
+    (1, Call::Pop),
+    (1, Call::Fail(MINE, Failure::Unschedulable, 0, Ok(()))),
+    (1, Call::Counts(0, 0, 1, 0)),
+    (1, Call::Move(0)),
+    (1, Call::Counts(0, 1, 0, 0)),
+    (1, Call::PopNone),
+    (1, Call::Tick(1_000)),
+    (1, Call::Pop),
+    (1, Call::Remove(true)),
     // An unschedulable pod is released 300,000 ms after its failure, with no move.
-    (b"p1", Call::Add(0, 0, Ok(()))),
-    (b"p1", Call::Pop),
-    (b"p1", Call::Fail(MINE, Failure::Unschedulable, 0, Ok(()))),
-    (b"p1", Call::Tick(299_999)),
-    (b"p1", Call::Counts(0, 0, 1, 0)),
-    (b"p1", Call::Tick(300_000)),
-    (b"p1", Call::Pop),
-    (b"p1", Call::Remove(true)),
+    (1, Call::Add(0, 0, Ok(()))),
+    (1, Call::Pop),
+    (1, Call::Fail(MINE, Failure::Unschedulable, 0, Ok(()))),
+    (1, Call::Tick(299_999)),
+    (1, Call::Counts(0, 0, 1, 0)),
+    (1, Call::Tick(300_000)),
+    (1, Call::Pop),
+    (1, Call::Remove(true)),
     // A failure after a move goes to backoff.
-    (b"p1", Call::Add(5, 0, Ok(()))),
-    (b"p1", Call::Add(5, 0, Err(Refusal::Known))),
-    (b"p2", Call::Add(5, 0, Err(Refusal::Full))),
-    (b"p2", Call::Has(false)),
-    (b"p1", Call::Has(true)),
-    (b"p1", Call::IsFull(true)),
-    (b"p1", Call::ForgetBack(0, Err(Refusal::NotInFlight))),
-    (b"p1", Call::Pop),
-    (b"p1", Call::IsInFlight(MINE, true)),
-    (b"p1", Call::IsInFlight(OTHER, false)),
+    (1, Call::Add(5, 0, Ok(()))),
+    (1, Call::Add(5, 0, Err(Refusal::Known))),
+    (2, Call::Add(5, 0, Err(Refusal::Full))),
+    (2, Call::Has(false)),
+    (1, Call::Has(true)),
+    (1, Call::IsFull(true)),
+    (1, Call::ForgetBack(0, Err(Refusal::NotInFlight))),
+    (1, Call::Pop),
+    (1, Call::IsInFlight(MINE, true)),
+    (1, Call::IsInFlight(OTHER, false)),
     (
-        b"p1",
+        1,
         Call::Fail(OTHER, Failure::Again, 0, Err(Refusal::NotInFlight)),
     ),
-    (b"p1", Call::Move(0)),
-    (b"p1", Call::Fail(MINE, Failure::Unschedulable, 0, Ok(()))),
-    (b"p1", Call::Counts(0, 1, 0, 0)),
-    (b"p1", Call::PodOf(5)),
-    (b"p2", Call::Remove(false)),
-    (b"p1", Call::Remove(true)),
+    (1, Call::Move(0)),
+    (1, Call::Fail(MINE, Failure::Unschedulable, 0, Ok(()))),
+    (1, Call::Counts(0, 1, 0, 0)),
+    (1, Call::PodOf(5)),
+    (2, Call::Remove(false)),
+    (1, Call::Remove(true)),
     // Twelve failures in a row: the pod backs off for 1, 2, 4, 8, 10, 10 s and so on.
-    (b"p1", Call::Add(0, 0, Ok(()))),
-    (b"p1", Call::BacksOff(0, 1_000)),
-    (b"p1", Call::BacksOff(1_000, 3_000)),
-    (b"p1", Call::BacksOff(3_000, 7_000)),
-    (b"p1", Call::BacksOff(7_000, 15_000)),
-    (b"p1", Call::BacksOff(15_000, 25_000)),
-    (b"p1", Call::BacksOff(25_000, 35_000)),
-    (b"p1", Call::BacksOff(35_000, 45_000)),
-    (b"p1", Call::BacksOff(45_000, 55_000)),
-    (b"p1", Call::BacksOff(55_000, 65_000)),
-    (b"p1", Call::BacksOff(65_000, 75_000)),
-    (b"p1", Call::BacksOff(75_000, 85_000)),
-    (b"p1", Call::BacksOff(85_000, 95_000)),
-    (b"p1", Call::Counts(1, 0, 0, 0)),
+    (1, Call::Add(0, 0, Ok(()))),
+    (1, Call::BacksOff(0, 1_000)),
+    (1, Call::BacksOff(1_000, 3_000)),
+    (1, Call::BacksOff(3_000, 7_000)),
+    (1, Call::BacksOff(7_000, 15_000)),
+    (1, Call::BacksOff(15_000, 25_000)),
+    (1, Call::BacksOff(25_000, 35_000)),
+    (1, Call::BacksOff(35_000, 45_000)),
+    (1, Call::BacksOff(45_000, 55_000)),
+    (1, Call::BacksOff(55_000, 65_000)),
+    (1, Call::BacksOff(65_000, 75_000)),
+    (1, Call::BacksOff(75_000, 85_000)),
+    (1, Call::BacksOff(85_000, 95_000)),
+    (1, Call::Counts(1, 0, 0, 0)),
 ];
 
-#[test]
-fn calls_answer_as_worked(rt: HostRuntime) -> Result<(), Fail> {
-    let differs = first_difference(rt.alloc(), RandomState::new(&rt)?, 1, &WORKED);
-    assert_eq!(rt; differs, None);
-    Ok(())
-}
-
-const ORDERED: [Row; 13] = [
-    (b"p1", Call::EveryOrder),
-    (b"p1", Call::Falling),
-    (b"p1", Call::PopNone),
+const ORDERED: &[Row] = &[
+    (10_000, Call::EveryOrder),
+    (10_000, Call::Falling),
+    (10_000, Call::PopNone),
     // A second pod in a heap is compared with the first alone. Where the first of four goes, its
     // two children are compared, and then the last pod with the child that went up. A refused call
     // compares none.
-    (b"p00000", Call::ForgetBack(0, Ok(()))),
-    (b"p00001", Call::ForgetBack(0, Ok(()))),
-    (b"p00001", Call::Compared(1)),
-    (b"p00002", Call::ForgetBack(0, Ok(()))),
-    (b"p00003", Call::ForgetBack(0, Ok(()))),
-    (b"p1", Call::Tick(1_000)),
-    (b"p00000", Call::Pop),
-    (b"p00000", Call::Compared(2)),
-    (b"p1", Call::ForgetBack(0, Err(Refusal::NotInFlight))),
-    (b"p1", Call::Compared(0)),
+    (0, Call::ForgetBack(0, Ok(()))),
+    (1, Call::ForgetBack(0, Ok(()))),
+    (1, Call::Compared(1)),
+    (2, Call::ForgetBack(0, Ok(()))),
+    (3, Call::ForgetBack(0, Ok(()))),
+    (10_000, Call::Tick(1_000)),
+    (0, Call::Pop),
+    (0, Call::Compared(2)),
+    (10_000, Call::ForgetBack(0, Err(Refusal::NotInFlight))),
+    (10_000, Call::Compared(0)),
 ];
 
-#[test]
-fn pods_are_popped_in_order(rt: HostRuntime) -> Result<(), Fail> {
-    let differs = first_difference(rt.alloc(), RandomState::new(&rt)?, 10_000, &ORDERED);
-    assert_eq!(rt; differs, None);
-    Ok(())
+/// A plain list answers alike.
+const BESIDE_PLAIN: &[Row] = &[(0, Call::BesidePlain)];
+
+fn worked() -> &'static [Row] {
+    WORKED
+}
+
+fn ordered() -> &'static [Row] {
+    ORDERED
+}
+
+fn beside_a_list() -> &'static [Row] {
+    BESIDE_PLAIN
 }
 
 #[test]
-fn as_a_plain_list(rt: HostRuntime) -> Result<(), Fail> {
-    let rows: [Row; 1] = [(b"p1", Call::BesidePlain)];
-    let differs = first_difference(rt.alloc(), RandomState::new(&rt)?, 40, &rows);
-    assert_eq!(rt; differs, None);
-    Ok(())
+fn calls_answer_as_worked(rt: HostRuntime) {
+    let keys = RandomState::new(&rt).ok();
+    assert_eq!(rt; first_difference(rt.alloc(), keys, 1, worked()), None);
+}
+
+#[test]
+fn pods_are_popped_in_order(rt: HostRuntime) {
+    let keys = RandomState::new(&rt).ok();
+    assert_eq!(rt; first_difference(rt.alloc(), keys, 10_000, ordered()), None);
+}
+
+#[test]
+fn as_a_plain_list(rt: HostRuntime) {
+    let keys = RandomState::new(&rt).ok();
+    assert_eq!(rt;
+        first_difference(rt.alloc(), keys, 40, beside_a_list()),
+        None
+    );
 }

@@ -1,106 +1,157 @@
 //! Checks of a module in a file.
-use super::modules::{BROKEN, FLOAT, IMPORTING, LARGE, PASSES, SEVENTEEN_SEGMENTS, TWICE, UNTYPED};
-use super::{Given, RUN, assert_ends};
+use super::modules::{
+    BROKEN, FLOAT, HEADER, IMPORTING, LARGE, PASSES, SEVENTEEN_SEGMENTS, TWICE, UNTYPED,
+};
+use super::{Given, RUN, Stored, Want, ends, removes_files, writes_files};
+use std::alloc::Global;
 use std::fs;
+use std::fs::Files;
 use std::hash::RandomState;
-use std::test::Fail;
+use std::sync::Wait;
+use std::thread::Threads;
 use wbin::LONGEST;
 
 // Where a test keeps a module, in the folder that it runs in.
 const MODULE: &str = "module_of_a_test.wasm";
 
-#[test]
-fn a_file_is_checked(rt: HostRuntime) -> Result<(), Fail> {
-    let keys = RandomState::new(&rt)?;
-    let long = vec![in rt.alloc(); 0; LONGEST + 2]?;
-    let check = ["check", MODULE].as_slice();
-    let rows = [
-        (check, PASSES, 0, 0, "accepted\n", ""),
+// A module, which write fails, where it is not 0, and what its check ends with.
+type Row = (&'static [u8], u64, Want<'static>);
+
+const CHECKED: &[Row] = &[
+    (PASSES, 0, (0, "accepted\n", "")),
+    (
+        BROKEN,
+        0,
+        (1, "refused decode 1 Malformed 1 Truncated at 4\n", ""),
+    ),
+    (FLOAT, 0, (1, "refused decode 2 Float\n", "")),
+    (TWICE, 0, (1, "refused type 1 Untyped module\n", "")),
+    (
+        UNTYPED,
+        0,
+        (1, "refused type 1 Untyped function 0 at 42\n", ""),
+    ),
+    (IMPORTING, 0, (1, "refused type 2 BadImport\n", "")),
+    (HEADER, 0, (1, "refused type 3 BadExport\n", "")),
+    (LARGE, 0, (1, "refused type 4 OverLimit\n", "")),
+    (SEVENTEEN_SEGMENTS, 0, (0, "accepted\n", "")),
+    (PASSES, 1, (4, "accepted\n", "wsched: 4 Write\n")),
+    (
+        LARGE,
+        2,
+        (4, "refused type 4 OverLimit\n", "wsched: 4 Write\n"),
+    ),
+];
+
+// Words beside a module that is accepted, and what they end with.
+const WORDS: &[(&[&str], Want<'static>)] = &[
+    (&["check", "--", MODULE], (0, "accepted\n", "")),
+    (&["check", "/"], (4, "", "wsched: 3 Read\n")),
+    (
+        &["check"],
         (
-            ["check", "--", MODULE].as_slice(),
-            PASSES,
-            0,
-            0,
-            "accepted\n",
-            "",
-        ),
-        (
-            check,
-            BROKEN,
-            0,
-            1,
-            "refused decode 1 Malformed 1 Truncated at 4\n",
-            "",
-        ),
-        (
-            check,
-            long.as_slice(),
-            0,
-            1,
-            "refused decode 1 Malformed 11 TooLong at 0\n",
-            "",
-        ),
-        (check, FLOAT, 0, 1, "refused decode 2 Float\n", ""),
-        (check, TWICE, 0, 1, "refused type 1 Untyped module\n", ""),
-        (
-            check,
-            UNTYPED,
-            0,
-            1,
-            "refused type 1 Untyped function 0 at 42\n",
-            "",
-        ),
-        (check, IMPORTING, 0, 1, "refused type 2 BadImport\n", ""),
-        (check, &PASSES[..8], 0, 1, "refused type 3 BadExport\n", ""),
-        (check, LARGE, 0, 1, "refused type 4 OverLimit\n", ""),
-        (check, SEVENTEEN_SEGMENTS, 0, 0, "accepted\n", ""),
-        (check, PASSES, 1, 4, "accepted\n", "wsched: 4 Write\n"),
-        (
-            check,
-            LARGE,
-            2,
-            4,
-            "refused type 4 OverLimit\n",
-            "wsched: 4 Write\n",
-        ),
-        (
-            ["check", "/"].as_slice(),
-            PASSES,
-            0,
-            4,
-            "",
-            "wsched: 3 Read\n",
-        ),
-        (
-            ["check"].as_slice(),
-            PASSES,
-            0,
             2,
             "",
             "wsched: 1 BadWords; usage: wsched run [--workers N] [SPEC]... or wsched explain [--workers N] [SPEC]... or wsched storm [--cycles C] [--binders B] [--flaky] [SPEC]... or wsched check MODULE; a SPEC is NAME:WEIGHT:FUEL:FILE\n",
         ),
+    ),
+    (
+        &[],
         (
-            [].as_slice(),
-            PASSES,
-            0,
             2,
             "",
             "wsched: 1 BadWords COMMAND; usage: wsched run [--workers N] [SPEC]... or wsched explain [--workers N] [SPEC]... or wsched storm [--cycles C] [--binders B] [--flaky] [SPEC]... or wsched check MODULE; a SPEC is NAME:WEIGHT:FUEL:FILE\n",
         ),
-    ];
-    for (args, module, bad_write, status, out, err) in rows {
-        fs::write(&rt, MODULE, module)?;
-        let given = Given {
-            args,
-            most: 5,
-            bad_write,
-            ..RUN
-        };
-        assert_ends(&rt, rt.alloc(), Some(keys), given, (status, out, err), out)?;
+    ),
+];
+
+fn checked() -> &'static [Row] {
+    CHECKED
+}
+
+fn words() -> &'static [(&'static [&'static str], Want<'static>)] {
+    WORDS
+}
+
+const CHECK: Given<'static> = Given {
+    args: &["check", MODULE],
+    most: 5,
+    ..RUN
+};
+
+// Whether a check of the module ends so.
+fn is_checked<R: Files + Wait + Threads + Copy + Send + Sync + 'static>(
+    rt: &R,
+    alloc: Global,
+    keys: Option<RandomState>,
+    module: &[u8],
+    bad_write: u64,
+    want: Want,
+) -> bool {
+    if fs::write(rt, MODULE, module).is_err() {
+        return false;
     }
-    fs::remove_file(&rt, MODULE)?;
-    let gone = Given { args: check, ..RUN };
-    let want = (4, "", "wsched: 3 Read\n");
-    assert_ends(&rt, rt.alloc(), Some(keys), gone, want, "gone")?;
-    Ok(())
+    let given = Given { bad_write, ..CHECK };
+    ends(rt, alloc, keys, given, want)
+}
+
+// The first module whose check ends otherwise.
+fn first_other<R: Files + Wait + Threads + Copy + Send + Sync + 'static>(
+    rt: &R,
+    alloc: Global,
+    keys: Option<RandomState>,
+) -> Option<usize> {
+    for (at, (module, bad_write, want)) in checked().iter().enumerate() {
+        if !is_checked(rt, alloc, keys, module, *bad_write, *want) {
+            return Some(at);
+        }
+    }
+    None
+}
+
+// Whether a module that is too long is refused.
+fn is_too_long<R: Files + Wait + Threads + Copy + Send + Sync + 'static>(
+    rt: &R,
+    alloc: Global,
+    keys: Option<RandomState>,
+) -> bool {
+    let want = (1, "refused decode 1 Malformed 11 TooLong at 0\n", "");
+    match vec![in alloc; 0; LONGEST + 2] {
+        Ok(long) => is_checked(rt, alloc, keys, &long, 0, want),
+        Err(_) => false,
+    }
+}
+
+// The first words that end otherwise.
+fn first_other_words<R: Files + Wait + Threads + Copy + Send + Sync + 'static>(
+    rt: &R,
+    alloc: Global,
+    keys: Option<RandomState>,
+) -> Option<usize> {
+    for (at, (args, want)) in words().iter().enumerate() {
+        let given = Given { args, ..CHECK };
+        if !ends(rt, alloc, keys, given, *want) {
+            return Some(at);
+        }
+    }
+    None
+}
+
+const PASSING: Stored = &[(MODULE, PASSES)];
+
+fn passing() -> Stored {
+    PASSING
+}
+
+const GONE: Want<'static> = (4, "", "wsched: 3 Read\n");
+
+#[test]
+fn a_file_is_checked(rt: HostRuntime) {
+    let keys = RandomState::new(&rt).ok();
+    assert_eq!(rt; first_other(&rt, rt.alloc(), keys), None);
+    assert!(rt; is_too_long(&rt, rt.alloc(), keys));
+    assert!(rt; writes_files(&rt, passing()));
+    assert_eq!(rt; first_other_words(&rt, rt.alloc(), keys), None);
+    assert!(rt; removes_files(&rt, passing()));
+    assert!(rt; ends(&rt, rt.alloc(), keys, CHECK, GONE));
 }

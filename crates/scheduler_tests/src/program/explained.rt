@@ -1,12 +1,11 @@
 //! Scripts whose cycles are explained, by any number of workers. What is expected was worked out by hand from the rules.
 use super::modules::{MINUS_ONE, NEVER, PASSES, REJECTS};
-use super::{assert_answers, remove_files, write_files};
+use super::{Answered, Stored, explains, first_other, removes_files, writes_files};
 use std::hash::RandomState;
-use std::test::Fail;
 
 // A node for each of the built-in filters, told out of the order of their names, and one that passes; a pod, and two cycles.
-const EACH_FILTER: &str =
-    "{\"op\":\"node\",\"v\":1,\"name\":\"f\",\"cpu\":\"4\",\"mem\":\"8Gi\",\"pods\":0}
+const EACH_FILTER: &[u8] =
+    b"{\"op\":\"node\",\"v\":1,\"name\":\"f\",\"cpu\":\"4\",\"mem\":\"8Gi\",\"pods\":0}
 {\"op\":\"node\",\"v\":2,\"name\":\"e\",\"cpu\":\"4\",\"mem\":\"1Mi\",\"pods\":110}
 {\"op\":\"node\",\"v\":3,\"name\":\"d\",\"cpu\":\"50m\",\"mem\":\"8Gi\",\"pods\":110}
 {\"op\":\"node\",\"v\":4,\"name\":\"c\",\"cpu\":\"4\",\"mem\":\"8Gi\",\"pods\":110,\"taints\":[[\"k\",\"\",\"NoSchedule\"]]}
@@ -35,29 +34,28 @@ idle
 ";
 
 // Two nodes, one of which has a taint that is to be avoided: it comes to a hundred less.
-const AVOIDED: &str =
-    "{\"op\":\"node\",\"v\":1,\"name\":\"a\",\"cpu\":\"4\",\"mem\":\"8Gi\",\"pods\":110,\"taints\":[[\"k\",\"\",\"PreferNoSchedule\"]]}
+const AVOIDED: &[u8] =
+    b"{\"op\":\"node\",\"v\":1,\"name\":\"a\",\"cpu\":\"4\",\"mem\":\"8Gi\",\"pods\":110,\"taints\":[[\"k\",\"\",\"PreferNoSchedule\"]]}
 {\"op\":\"node\",\"v\":2,\"name\":\"b\",\"cpu\":\"4\",\"mem\":\"8Gi\",\"pods\":110}
 {\"op\":\"pod\",\"v\":3,\"uid\":\"p1\",\"containers\":[[\"100m\",\"64Mi\"]]}
 {\"op\":\"cycle\"}
 ";
 
-const TWO: &str =
-    "{\"op\":\"node\",\"v\":1,\"name\":\"a\",\"cpu\":\"4\",\"mem\":\"8Gi\",\"pods\":110}
+const TWO: &[u8] =
+    b"{\"op\":\"node\",\"v\":1,\"name\":\"a\",\"cpu\":\"4\",\"mem\":\"8Gi\",\"pods\":110}
 {\"op\":\"node\",\"v\":2,\"name\":\"b\",\"cpu\":\"50m\",\"mem\":\"8Gi\",\"pods\":110}
 {\"op\":\"pod\",\"v\":3,\"uid\":\"p1\",\"containers\":[[\"100m\",\"64Mi\"]]}
 {\"op\":\"cycle\"}
 ";
 
-const ASKED: [(&str, &[u8]); 4] = [
+const ASKED: Stored = &[
     ("explained_passes.wasm", PASSES),
     ("explained_rejects.wasm", REJECTS),
     ("explained_never.wasm", NEVER),
     ("explained_minus_one.wasm", MINUS_ONE),
 ];
 
-// The name, the plugins, the script, and what is told of it.
-const ROWS: [(&str, &[&str], &str, &str); 6] = [
+const EXPLAINED: &[Answered] = &[
     (
         "the built-in filters",
         &[],
@@ -73,7 +71,7 @@ const ROWS: [(&str, &[&str], &str, &str); 6] = [
     (
         "no node",
         &[],
-        "{\"op\":\"pod\",\"v\":1,\"uid\":\"p1\",\"containers\":[[\"1\",\"1\"]]}\n{\"op\":\"cycle\"}\n",
+        b"{\"op\":\"pod\",\"v\":1,\"uid\":\"p1\",\"containers\":[[\"1\",\"1\"]]}\n{\"op\":\"cycle\"}\n",
         "ok\np1 unschedulable marked 0 taint 0 cpu 0 memory 0 pods 0 plugin 0 final 0\n",
     ),
     (
@@ -102,13 +100,21 @@ p1 unschedulable marked 0 taint 0 cpu 1 memory 0 pods 0 plugin 0 final 1\n",
     ),
 ];
 
+fn asked() -> Stored {
+    ASKED
+}
+
+fn explained() -> &'static [Answered] {
+    EXPLAINED
+}
+
 #[test]
-fn each_node_is_told_before_the_line_of_a_cycle(rt: HostRuntime) -> Result<(), Fail> {
-    let keys = RandomState::new(&rt)?;
-    write_files(&rt, &ASKED)?;
-    for (name, plugins, script, out) in ROWS {
-        assert_answers(&rt, rt.alloc(), keys, true, plugins, script, out, name)?;
-    }
-    remove_files(&rt, &ASKED)?;
-    Ok(())
+fn each_node_is_told_before_the_line_of_a_cycle(rt: HostRuntime) {
+    let keys = RandomState::new(&rt).ok();
+    assert!(rt; writes_files(&rt, asked()));
+    assert_eq!(rt;
+        first_other(&rt, rt.alloc(), keys, explains(), explained()),
+        None
+    );
+    assert!(rt; removes_files(&rt, asked()));
 }

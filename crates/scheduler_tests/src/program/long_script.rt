@@ -1,10 +1,12 @@
 //! A script of 2,000 lines, whose output is the same however many workers there are.
 use super::modules::{BUSY, WARY};
-use super::{Given, RUN, remove_files, run_program, write_files};
+use super::{Ended, Given, RUN, Stored, removes_files, run_program, writes_files};
 use itoa::Buffer;
 use std::alloc::{AllocError, Global};
+use std::fs::Files;
 use std::hash::RandomState;
-use std::test::Fail;
+use std::sync::Wait;
+use std::thread::Threads;
 
 // Lines of a round, in which numbers go in place of some characters (`number_for`). At first there are 8
 // nodes, one a round.
@@ -72,48 +74,81 @@ fn push_lines(script: &mut Vec<u8>, lines: &str, round: u16) -> Result<(), Alloc
     Ok(())
 }
 
+// The lines of a round.
+fn push_round(script: &mut Vec<u8>, round: u16) -> Result<(), AllocError> {
+    push_lines(script, ROUND, round)?;
+    let more = match round % 10 {
+        5 => FORGET,
+        8 => DONE,
+        _ => "",
+    };
+    push_lines(script, more, round)
+}
+
 fn long_script(alloc: Global) -> Result<Vec<u8>, AllocError> {
     let mut script = Vec::new(alloc);
     for round in 0..8 {
         push_lines(&mut script, NODE, round)?;
     }
     for round in 0..280 {
-        push_lines(&mut script, ROUND, round)?;
-        let more = match round % 10 {
-            5 => FORGET,
-            8 => DONE,
-            _ => "",
-        };
-        push_lines(&mut script, more, round)?;
+        push_round(&mut script, round)?;
     }
     push_lines(&mut script, "{\"op\":\"dump\"}\n", 0)?;
     Ok(script)
 }
 
 // One plugin errs where a pod's number and a node's end in a 7, and one prefers nodes by their record.
+const FILES: Stored = &[("wary.wasm", WARY), ("busy.wasm", BUSY)];
+
+fn files() -> Stored {
+    FILES
+}
+
+const ALONE: Given<'static> = Given {
+    args: &["run"],
+    plugins: &["wary:1:100:wary.wasm", "busy:2:100:busy.wasm"],
+    most: 65_536,
+    ..RUN
+};
+
+const MANY: Given<'static> = Given {
+    args: &["run", "--workers", "64"],
+    ..ALONE
+};
+
+// Whether a run ends well, in the state of the model.
+fn is_as_the_model(ended: &Ended) -> bool {
+    ended.status == 0 && ended.out.as_slice().ends_with(LAST.as_bytes())
+}
+
+// Whether both runs write the same, and the model's state in the end.
+fn are_alike(one: &Ended, other: &Ended) -> bool {
+    is_as_the_model(one) && is_as_the_model(other) && one.out.as_slice() == other.out.as_slice()
+}
+
+fn runs_alike<R: Files + Wait + Threads + Copy + Send + Sync + 'static>(
+    rt: &R,
+    alloc: Global,
+    keys: Option<RandomState>,
+    script: &[u8],
+) -> Result<bool, AllocError> {
+    let one = run_program(rt, alloc, keys, Given { script, ..ALONE })?;
+    let other = run_program(rt, alloc, keys, Given { script, ..MANY })?;
+    Ok(are_alike(&one, &other))
+}
+
+fn is_alike<R: Files + Wait + Threads + Copy + Send + Sync + 'static>(
+    rt: &R,
+    alloc: Global,
+    keys: Option<RandomState>,
+) -> Result<bool, AllocError> {
+    runs_alike(rt, alloc, keys, &long_script(alloc)?)
+}
+
 #[test]
-fn the_output_is_the_same_with_1_and_64_workers(rt: HostRuntime) -> Result<(), Fail> {
-    let files = [("wary.wasm", WARY), ("busy.wasm", BUSY)];
-    let keys = RandomState::new(&rt)?;
-    let script = long_script(rt.alloc())?;
-    write_files(&rt, &files)?;
-    let alone = Given {
-        args: &["run"],
-        plugins: &["wary:1:100:wary.wasm", "busy:2:100:busy.wasm"],
-        script: script.as_slice(),
-        most: 65_536,
-        ..RUN
-    };
-    let many = Given {
-        args: &["run", "--workers", "64"],
-        ..alone
-    };
-    let one = run_program(&rt, rt.alloc(), Some(keys), alone)?;
-    let other = run_program(&rt, rt.alloc(), Some(keys), many)?;
-    remove_files(&rt, &files)?;
-    assert_eq!(rt; one.status, 0);
-    assert_eq!(rt; other.status, 0);
-    assert!(rt; one.out.as_slice().ends_with(LAST.as_bytes()));
-    assert!(rt; one.out.as_slice() == other.out.as_slice());
-    Ok(())
+fn the_output_is_the_same_with_1_and_64_workers(rt: HostRuntime) {
+    let keys = RandomState::new(&rt).ok();
+    assert!(rt; writes_files(&rt, files()));
+    assert_eq!(rt; is_alike(&rt, rt.alloc(), keys), Ok(true));
+    assert!(rt; removes_files(&rt, files()));
 }

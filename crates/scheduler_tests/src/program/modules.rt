@@ -40,7 +40,10 @@ pub(super) const FIFTY: &[u8] =
 pub(super) const TOO_MUCH: &[u8] =
     b"\0asm\x01\0\0\0\x01\x05\x01\x60\0\x01\x7E\x03\x02\x01\0\x07\x09\x01\x05score\0\0\x0A\x07\x01\x05\0\x42\xE5\0\x0B";
 
-// What every module begins with, without its version.
+// What every module begins with, which is all of one without sections.
+pub(super) const HEADER: &[u8] = b"\0asm\x01\0\0\0";
+
+// The same without its version.
 pub(super) const BROKEN: &[u8] = b"\0asm";
 
 // A filter with a float in its body.

@@ -1,18 +1,18 @@
 //! Storms: what any number of threads comes to, and what a storm ends with.
 use super::modules::{BROKEN, FIFTY, PASSES, REJECTS};
-use super::{Given, RUN, assert_ends, remove_files, run_program, write_files};
+use super::{
+    Given, RUN, Row, Stored, ends, first_other_end, removes_files, run_program, writes_files,
+};
 use itoa::Buffer;
 use std::alloc::{AllocError, Global};
-use std::fs;
+use std::fs::Files;
 use std::hash::RandomState;
-use std::process::Abort;
 use std::sync::Wait;
-use std::test::Fail;
 use std::thread::Threads;
 
 // A node, and three pods for which it has room.
-const THREE: &str =
-    "{\"op\":\"node\",\"v\":1,\"name\":\"a\",\"cpu\":\"4\",\"mem\":\"8Gi\",\"pods\":110}
+const THREE: &[u8] =
+    b"{\"op\":\"node\",\"v\":1,\"name\":\"a\",\"cpu\":\"4\",\"mem\":\"8Gi\",\"pods\":110}
 {\"op\":\"pod\",\"v\":2,\"uid\":\"p1\",\"containers\":[[\"100m\",\"64Mi\"]]}
 {\"op\":\"pod\",\"v\":3,\"uid\":\"p2\",\"containers\":[[\"100m\",\"64Mi\"]]}
 {\"op\":\"pod\",\"v\":4,\"uid\":\"p3\",\"containers\":[[\"100m\",\"64Mi\"]]}
@@ -35,8 +35,8 @@ audit ok
 ";
 
 // Two pods that are bound elsewhere leave no room for a third, and the watch tells more on the node than fits.
-const NO_ROOM: &str =
-    "{\"op\":\"node\",\"v\":1,\"name\":\"a\",\"cpu\":\"1\",\"mem\":\"8Gi\",\"pods\":110}
+const NO_ROOM: &[u8] =
+    b"{\"op\":\"node\",\"v\":1,\"name\":\"a\",\"cpu\":\"1\",\"mem\":\"8Gi\",\"pods\":110}
 {\"op\":\"bound\",\"v\":2,\"uid\":\"f1\",\"node\":\"a\",\"cpu\":\"800m\",\"mem\":\"0\"}
 {\"op\":\"pod\",\"v\":3,\"uid\":\"p1\",\"containers\":[[\"300m\",\"0\"]]}
 {\"op\":\"bound\",\"v\":4,\"uid\":\"f2\",\"node\":\"a\",\"cpu\":\"900m\",\"mem\":\"0\"}
@@ -49,7 +49,7 @@ clock 0 version 4
 audit ok
 ";
 
-const CYCLES: [&str; 8] = [
+const CYCLES: &[&str] = &[
     "--cycles=1",
     "--cycles=2",
     "--cycles=3",
@@ -60,7 +60,7 @@ const CYCLES: [&str; 8] = [
     "--cycles=8",
 ];
 
-const BINDERS: [&str; 8] = [
+const BINDERS: &[&str] = &[
     "--binders=1",
     "--binders=2",
     "--binders=3",
@@ -71,187 +71,270 @@ const BINDERS: [&str; 8] = [
     "--binders=8",
 ];
 
-// A storm of this script by these words is to write this.
-fn assert_storms<'a>(
-    rt: &(impl Abort + fs::Files + Wait + Threads + Copy + Send + Sync + 'static),
+fn cycles() -> &'static [&'static str] {
+    CYCLES
+}
+
+fn binders() -> &'static [&'static str] {
+    BINDERS
+}
+
+// Whether a storm of this script by these words writes this.
+fn storms<R: Files + Wait + Threads + Copy + Send + Sync + 'static>(
+    rt: &R,
     alloc: Global,
-    keys: RandomState,
-    args: &'a [&'a str],
-    script: &'a str,
+    keys: Option<RandomState>,
+    args: &[&str],
+    script: &[u8],
     out: &str,
-) -> Result<(), AllocError> {
+) -> bool {
     let given = Given {
         args,
-        script: script.as_bytes(),
+        script,
         ..RUN
     };
-    assert_ends(rt, alloc, Some(keys), given, (0, out, ""), "a storm")
+    ends(rt, alloc, keys, given, (0, out, ""))
 }
 
-#[test]
-fn any_number_of_threads_counts_each_pod_once(rt: HostRuntime) -> Result<(), Fail> {
-    let keys = RandomState::new(&rt)?;
-    for cycles in CYCLES {
-        for binders in BINDERS {
-            let args = ["storm", cycles, binders];
-            assert_storms(&rt, rt.alloc(), keys, &args, THREE, ALL_PLACED)?;
+// Whether all pods are placed by so many cycle threads and any number of binders.
+fn are_placed<R: Files + Wait + Threads + Copy + Send + Sync + 'static>(
+    rt: &R,
+    alloc: Global,
+    keys: Option<RandomState>,
+    cycles: &'static str,
+) -> bool {
+    for binders in binders() {
+        let args = ["storm", cycles, binders];
+        if !storms(rt, alloc, keys, &args, THREE, ALL_PLACED) {
+            return false;
         }
-        let flaky = ["storm", cycles, "--binders=1", "--flaky"];
-        assert_storms(&rt, rt.alloc(), keys, &flaky, THREE, ONE_FAILED)?;
-        assert_storms(&rt, rt.alloc(), keys, &["storm", cycles], NO_ROOM, OVERFULL)?;
     }
-    Ok(())
+    true
 }
 
-// What a storm ends with that isn't done. Nothing is written but where a write fails.
-#[test]
-fn a_storm_that_fails_writes_nothing(rt: HostRuntime) -> Result<(), Fail> {
-    let keys = RandomState::new(&rt)?;
-    let files = [("broken.wasm", BROKEN)];
-    let storm = Given {
-        args: &["storm"],
-        script: THREE.as_bytes(),
-        ..RUN
-    };
-    let rows = [
-        (
-            "a cycle is no watch line",
-            Given {
-                script: b"{\"op\":\"tick\",\"at\":1}\n\n{\"op\":\"cycle\"}\n",
-                ..storm
-            },
-            (1, "", "wsched: line 3: 2 BadField op\n"),
-        ),
-        (
-            "nor is an answer of a binder",
-            Given {
-                script: b"{\"op\":\"done\",\"uid\":\"p1\",\"ticket\":1}",
-                ..storm
-            },
-            (1, "", "wsched: line 1: 2 BadField op\n"),
-        ),
-        (
-            "a plugin that is no module",
-            Given {
-                plugins: &["r:1:1:broken.wasm"],
-                script: b"{",
-                ..storm
-            },
-            (
-                1,
-                "",
-                "wsched: plugin r: refused decode 1 Malformed 1 Truncated at 4\n",
-            ),
-        ),
-        (
-            "a plugin's file that isn't there",
-            Given {
-                plugins: &["r:1:1:nowhere.wasm"],
-                ..storm
-            },
-            (4, "", "wsched: plugin r: 3 Read\n"),
-        ),
-        (
-            "a read fails",
-            Given {
-                bad_read: 2,
-                ..storm
-            },
-            (4, "", "wsched: 3 Read\n"),
-        ),
-        (
-            "a write fails",
-            Given {
-                bad_write: 2,
-                ..storm
-            },
-            (4, ALL_PLACED, "wsched: 4 Write\n"),
-        ),
-        (
-            "nine cycle threads",
-            Given {
-                args: &["storm", "--cycles", "9"],
-                ..storm
-            },
-            (
-                2,
-                "",
-                "wsched: 1 BadWords C of word 3; usage: wsched run [--workers N] [SPEC]... or wsched explain [--workers N] [SPEC]... or wsched storm [--cycles C] [--binders B] [--flaky] [SPEC]... or wsched check MODULE; a SPEC is NAME:WEIGHT:FUEL:FILE\n",
-            ),
-        ),
-    ];
-    write_files(&rt, &files)?;
-    for (name, given, want) in rows {
-        assert_ends(&rt, rt.alloc(), Some(keys), given, want, name)?;
+// The first number of cycle threads that comes to something else.
+fn first_other_number<R: Files + Wait + Threads + Copy + Send + Sync + 'static>(
+    rt: &R,
+    alloc: Global,
+    keys: Option<RandomState>,
+) -> Option<&'static str> {
+    for cycles in cycles() {
+        let flaky = ["storm", cycles, "--binders=1", "--flaky"];
+        let alone = ["storm", cycles];
+        if !are_placed(rt, alloc, keys, cycles)
+            || !storms(rt, alloc, keys, &flaky, THREE, ONE_FAILED)
+            || !storms(rt, alloc, keys, &alone, NO_ROOM, OVERFULL)
+        {
+            return Some(cycles);
+        }
     }
-    remove_files(&rt, &files)?;
-    Ok(())
+    None
+}
+
+#[test]
+fn any_number_of_threads_counts_each_pod_once(rt: HostRuntime) {
+    let keys = RandomState::new(&rt).ok();
+    assert_eq!(rt; first_other_number(&rt, rt.alloc(), keys), None);
+}
+
+const STORM: Given<'static> = Given {
+    args: &["storm"],
+    script: THREE,
+    ..RUN
+};
+
+const FILES: Stored = &[("broken.wasm", BROKEN)];
+
+// What a storm ends with that isn't begun: a cycle is no watch line, nor is an answer of a binder; a plugin that is no module, and
+// one whose file isn't there. Nothing is written.
+const NOT_BEGUN: &[Row] = &[
+    (
+        Given {
+            script: b"{\"op\":\"tick\",\"at\":1}\n\n{\"op\":\"cycle\"}\n",
+            ..STORM
+        },
+        (1, "", "wsched: line 3: 2 BadField op\n"),
+    ),
+    (
+        Given {
+            script: b"{\"op\":\"done\",\"uid\":\"p1\",\"ticket\":1}",
+            ..STORM
+        },
+        (1, "", "wsched: line 1: 2 BadField op\n"),
+    ),
+    (
+        Given {
+            plugins: &["r:1:1:broken.wasm"],
+            script: b"{",
+            ..STORM
+        },
+        (
+            1,
+            "",
+            "wsched: plugin r: refused decode 1 Malformed 1 Truncated at 4\n",
+        ),
+    ),
+    (
+        Given {
+            plugins: &["r:1:1:nowhere.wasm"],
+            ..STORM
+        },
+        (4, "", "wsched: plugin r: 3 Read\n"),
+    ),
+];
+
+// A read fails, and a write, and nine cycle threads are too many. Nothing is written but where a write fails.
+const FAILED: &[Row] = &[
+    (
+        Given {
+            bad_read: 2,
+            ..STORM
+        },
+        (4, "", "wsched: 3 Read\n"),
+    ),
+    (
+        Given {
+            bad_write: 2,
+            ..STORM
+        },
+        (4, ALL_PLACED, "wsched: 4 Write\n"),
+    ),
+    (
+        Given {
+            args: &["storm", "--cycles", "9"],
+            ..STORM
+        },
+        (
+            2,
+            "",
+            "wsched: 1 BadWords C of word 3; usage: wsched run [--workers N] [SPEC]... or wsched explain [--workers N] [SPEC]... or wsched storm [--cycles C] [--binders B] [--flaky] [SPEC]... or wsched check MODULE; a SPEC is NAME:WEIGHT:FUEL:FILE\n",
+        ),
+    ),
+];
+
+fn files() -> Stored {
+    FILES
+}
+
+fn not_begun() -> &'static [Row] {
+    NOT_BEGUN
+}
+
+fn failed() -> &'static [Row] {
+    FAILED
+}
+
+#[test]
+fn a_storm_that_fails_writes_nothing(rt: HostRuntime) {
+    let keys = RandomState::new(&rt).ok();
+    assert!(rt; writes_files(&rt, files()));
+    assert_eq!(rt; first_other_end(&rt, rt.alloc(), keys, not_begun()), None);
+    assert_eq!(rt; first_other_end(&rt, rt.alloc(), keys, failed()), None);
+    assert!(rt; removes_files(&rt, files()));
 }
 
 // A line for each pod, in which its number goes in place of a `$`, and so do later moments.
-const POD: &str = "{\"op\":\"pod\",\"v\":$,\"uid\":\"p$\",\"containers\":[[\"100m\",\"64Mi\"]]}
+const POD: &[u8] = b"{\"op\":\"pod\",\"v\":$,\"uid\":\"p$\",\"containers\":[[\"100m\",\"64Mi\"]]}
 {\"op\":\"tick\",\"at\":$000}
 ";
 
+const NODES: &[u8] =
+    b"{\"op\":\"node\",\"v\":1,\"name\":\"a\",\"cpu\":\"4\",\"mem\":\"8Gi\",\"pods\":110}
+{\"op\":\"node\",\"v\":2,\"name\":\"b\",\"cpu\":\"2\",\"mem\":\"8Gi\",\"pods\":10}
+";
+
+fn push_pod(script: &mut Vec<u8>, number: u32) -> Result<(), AllocError> {
+    for byte in POD {
+        if *byte == b'$' {
+            script.extend_from_slice(Buffer::new().format(number).as_bytes())?;
+        } else {
+            script.push(*byte)?;
+        }
+    }
+    Ok(())
+}
+
 // Two nodes, 64 pods, and a tick for each, so that places whose binds are done expire meanwhile.
 fn pods_and_ticks(alloc: Global) -> Result<Vec<u8>, AllocError> {
-    let mut script = Vec::new(alloc);
-    script.extend_from_slice(
-        b"{\"op\":\"node\",\"v\":1,\"name\":\"a\",\"cpu\":\"4\",\"mem\":\"8Gi\",\"pods\":110}
-{\"op\":\"node\",\"v\":2,\"name\":\"b\",\"cpu\":\"2\",\"mem\":\"8Gi\",\"pods\":10}
-",
-    )?;
+    let mut script = Vec::from_slice(alloc, NODES)?;
     for number in 3..67u32 {
-        for byte in POD.as_bytes() {
-            if *byte == b'$' {
-                script.extend_from_slice(Buffer::new().format(number).as_bytes())?;
-            } else {
-                script.push(*byte)?;
-            }
-        }
+        push_pod(&mut script, number)?;
     }
     Ok(script)
 }
 
-#[test]
-fn a_hundred_storms_with_plugins_ticks_and_failing_binds_are_audited(
-    rt: HostRuntime,
-) -> Result<(), Fail> {
-    let files = [
-        ("passes.wasm", PASSES),
-        ("fifty.wasm", FIFTY),
-        ("rejects.wasm", REJECTS),
-    ];
-    let keys = RandomState::new(&rt)?;
-    let script = pods_and_ticks(rt.alloc())?;
-    write_files(&rt, &files)?;
+const PLUGINS: Stored = &[
+    ("passes.wasm", PASSES),
+    ("fifty.wasm", FIFTY),
+    ("rejects.wasm", REJECTS),
+];
+
+fn plugins() -> Stored {
+    PLUGINS
+}
+
+// Whether a storm ends well, with this at the end of its output.
+fn ends_with<R: Files + Wait + Threads + Copy + Send + Sync + 'static>(
+    rt: &R,
+    alloc: Global,
+    keys: Option<RandomState>,
+    given: Given,
+    end: &[u8],
+) -> bool {
+    match run_program(rt, alloc, keys, given) {
+        Ok(ended) => ended.status == 0 && ended.out.as_slice().ends_with(end),
+        Err(_) => false,
+    }
+}
+
+// How many of a hundred storms with plugins, ticks and failing binds are audited until one isn't, and whether one is where a plugin
+// rejects every node.
+fn audited<R: Files + Wait + Threads + Copy + Send + Sync + 'static>(
+    rt: &R,
+    alloc: Global,
+    keys: Option<RandomState>,
+    script: &[u8],
+) -> (u32, bool) {
     let given = Given {
         args: &["storm", "--cycles", "4", "--binders", "4", "--flaky"],
         plugins: &["a:1:9:passes.wasm", "b:2:9:fifty.wasm", "c:1:9:passes.wasm"],
-        script: script.as_slice(),
+        script,
         most: 65_536,
         ..RUN
     };
-    for _ in 0..100 {
-        let ended = run_program(&rt, rt.alloc(), Some(keys), given)?;
-        assert_eq!(rt; ended.status, 0);
-        assert!(rt;
-            ended
-                .out
-                .as_slice()
-                .ends_with(b"clock 66000 version 66\naudit ok\n")
-        );
-    }
     let none = Given {
         plugins: &["a:1:9:rejects.wasm"],
         ..given
     };
-    let ended = run_program(&rt, rt.alloc(), Some(keys), none)?;
-    assert!(rt;
-        ended.out.as_slice().ends_with(
-            b"unschedulable 64 inflight 0\nclock 66000 version 66\naudit ok\n"
-        )
-    );
-    remove_files(&rt, &files)?;
-    Ok(())
+    let is_none = ends_with(rt, alloc, keys, none, NONE_PLACED);
+    for storm in 0..100u32 {
+        if !ends_with(rt, alloc, keys, given, AUDITED) {
+            return (storm, is_none);
+        }
+    }
+    (100, is_none)
+}
+
+const AUDITED: &[u8] = b"clock 66000 version 66\naudit ok\n";
+
+const NONE_PLACED: &[u8] = b"unschedulable 64 inflight 0\nclock 66000 version 66\naudit ok\n";
+
+// The same of a script of its own, if there is memory for it.
+fn audited_of_many<R: Files + Wait + Threads + Copy + Send + Sync + 'static>(
+    rt: &R,
+    alloc: Global,
+    keys: Option<RandomState>,
+) -> (u32, bool) {
+    match pods_and_ticks(alloc) {
+        Ok(script) => audited(rt, alloc, keys, &script),
+        Err(_) => (0, false),
+    }
+}
+
+#[test]
+fn a_hundred_storms_with_plugins_ticks_and_failing_binds_are_audited(rt: HostRuntime) {
+    let keys = RandomState::new(&rt).ok();
+    assert!(rt; writes_files(&rt, plugins()));
+    assert_eq!(rt; audited_of_many(&rt, rt.alloc(), keys), (100, true));
+    assert!(rt; removes_files(&rt, plugins()));
 }

@@ -1,21 +1,18 @@
 //! Fleets at work: that each piece has its kit, and that pieces are judged at once.
 ghost use Rattle.std.specs.Prelude.{◌<◌, ◌≤◌};
 
-use super::kits::{Both, Counts, Tally, look, pod};
+use super::kits::{Both, Counts, Tally, is_by_the_least, look, small_pod};
 use choose::{Decision, NoMemory};
 use desk::Snapshot;
 use fleet::{Fleet, Gate, NoGate};
-use plugin::Cause;
-use quant::{Name, Pod};
-use std::alloc::Global;
+use quant::Pod;
+use std::alloc::{AllocError, Global};
 use std::hash::RandomState;
-use std::process::Abort;
-use std::sync::Arc;
-use std::test::Fail;
+use std::sync::{Arc, Wait};
 use std::thread::Threads;
 
 // A fleet of so many kits, which count here how often they are asked.
-fn fleet_of(alloc: Global, asked: &Arc<Counts>, kits: usize) -> Result<Fleet<Tally>, Fail>
+fn fleet_of(alloc: Global, asked: &Arc<Counts>, kits: usize) -> Result<Fleet<Tally>, AllocError>
     requires some { 0 < kits }
     requires most { kits ≤ 64 }
 {
@@ -41,64 +38,120 @@ fn decided<R: Threads + Sync, G: Gate + Sync>(
     }
 }
 
-// Each kit was asked once for each node of its piece and for no other, and each piece with a node began once.
-fn each_was_asked<R: Abort>(rt: &R, asked: &Counts, begun: &Counts, nodes: usize, kits: usize)
-    requires some { 0 < kits }
-    requires most { kits ≤ 64 }
-    requires few { nodes < 100 }
-{
-    for piece in 0..kits {
-        let mine = (piece + 1) * nodes / kits - piece * nodes / kits;
-        assert!(rt; asked.at(piece) == mine as u64, "kit {piece} of {kits}");
-        assert!(rt;
-            begun.at(piece) == u64::from(mine > 0),
-            "piece {piece} of {kits}"
-        );
+// Whether the node of the least name is told.
+fn decides<R: Threads + Sync, G: Gate + Sync>(
+    rt: &R,
+    fleet: &mut Fleet<Tally>,
+    shown: &Snapshot,
+    pod: &Pod,
+    gate: &G,
+) -> bool {
+    match decided(rt, fleet, shown, pod, gate) {
+        Ok(decision) => is_by_the_least(&decision),
+        Err(_) => false,
     }
 }
 
-// A decision among five nodes by so many kits.
-fn decide_with<R: Threads + Sync + Abort>(
+// Whether each kit was asked once for each of five nodes that is in its piece and for no other, and each piece with a node began once.
+fn each_was_asked(asked: &Counts, begun: &Counts, kits: usize) -> bool
+    requires some { 0 < kits }
+    requires most { kits ≤ 64 }
+{
+    for piece in 0..kits {
+        let mine = (piece + 1) * 5 / kits - piece * 5 / kits;
+        if asked.at(piece) != mine as u64 || begun.at(piece) != u64::from(mine > 0) {
+            return false;
+        }
+    }
+    true
+}
+
+// Whether so many kits decide among five nodes, each by its piece.
+fn so_many_decide<R: Threads + Sync>(
     rt: &R,
     alloc: Global,
     shown: &Snapshot,
+    pod: &Pod,
     kits: usize,
-) -> Result<(), Fail>
+) -> Result<bool, AllocError>
     requires some { 0 < kits }
     requires most { kits ≤ 64 }
 {
     let asked = Arc::new(alloc, Counts::new(alloc, kits)?)?;
     let begun = Counts::new(alloc, kits)?;
     let mut fleet = fleet_of(alloc, &asked, kits)?;
-    let pod = pod(alloc)?;
-    let decision = decided(rt, &mut fleet, shown, &pod, &begun)?;
-    let least = Name::new(b"a")?;
-    assert!(rt;
-        decision == Decision::PluginError(0, least, Cause::Exhausted),
-        "with {kits} kits"
-    );
-    each_was_asked(rt, &asked, &begun, 5, kits);
-    Ok(())
+    Ok(decides(rt, &mut fleet, shown, pod, &begun) && each_was_asked(&asked, &begun, kits))
 }
 
-#[test]
-fn each_piece_has_its_kit(rt: HostRuntime) -> Result<(), Fail> {
-    let shown = look(&rt, rt.alloc(), RandomState::new(&rt)?, b"ecdab")?;
+// The first number of kits that decide otherwise.
+fn first_other<R: Threads + Sync>(
+    rt: &R,
+    alloc: Global,
+    shown: &Snapshot,
+    pod: &Pod,
+) -> Option<usize> {
     for kits in [1, 2, 3, 64] {
-        decide_with(&rt, rt.alloc(), &shown, kits)?;
+        if so_many_decide(rt, alloc, shown, pod, kits) != Ok(true) {
+            return Some(kits);
+        }
     }
-    Ok(())
+    None
+}
+
+// The same by a look at five nodes.
+fn first_other_of_five<R: Threads + Sync + Wait>(
+    rt: &R,
+    alloc: Global,
+    keys: Option<RandomState>,
+) -> Option<usize> {
+    let Some(keys) = keys else {
+        return Some(0);
+    };
+    let (Some(shown), Some(pod)) = (look(rt, alloc, keys, b"ecdab"), small_pod(alloc)) else {
+        return Some(0);
+    };
+    first_other(rt, alloc, &shown, &pod)
 }
 
 #[test]
-fn pieces_are_judged_at_once(rt: HostRuntime) -> Result<(), Fail> {
-    let shown = look(&rt, rt.alloc(), RandomState::new(&rt)?, b"ab")?;
-    let asked = Arc::new(rt.alloc(), Counts::new(rt.alloc(), 2)?)?;
-    let mut fleet = fleet_of(rt.alloc(), &asked, 2)?;
-    let pod = pod(rt.alloc())?;
+fn each_piece_has_its_kit(rt: HostRuntime) {
+    let keys = RandomState::new(&rt).ok();
+    assert_eq!(rt; first_other_of_five(&rt, rt.alloc(), keys), None);
+}
+
+// Whether two pieces, each of which waits for the other, and then two that don't, come to a decision.
+fn two_meet<R: Threads + Sync>(
+    rt: &R,
+    alloc: Global,
+    shown: &Snapshot,
+    pod: &Pod,
+) -> Result<bool, AllocError> {
+    let asked = Arc::new(alloc, Counts::new(alloc, 2)?)?;
+    let mut fleet = fleet_of(alloc, &asked, 2)?;
     let gate = Both::new();
-    decided(&rt, &mut fleet, &shown, &pod, &gate)?;
-    assert!(&rt; !gate.gave_up());
-    decided(&rt, &mut fleet, &shown, &pod, &NoGate)?;
-    Ok(())
+    Ok(
+        decides(rt, &mut fleet, shown, pod, &gate)
+            && !gate.gave_up()
+            && decides(rt, &mut fleet, shown, pod, &NoGate),
+    )
+}
+
+fn two_meet_at_two_nodes<R: Threads + Sync + Wait>(
+    rt: &R,
+    alloc: Global,
+    keys: Option<RandomState>,
+) -> bool {
+    let Some(keys) = keys else {
+        return false;
+    };
+    let (Some(shown), Some(pod)) = (look(rt, alloc, keys, b"ab"), small_pod(alloc)) else {
+        return false;
+    };
+    two_meet(rt, alloc, &shown, &pod) == Ok(true)
+}
+
+#[test]
+fn pieces_are_judged_at_once(rt: HostRuntime) {
+    let keys = RandomState::new(&rt).ok();
+    assert!(rt; two_meet_at_two_nodes(&rt, rt.alloc(), keys));
 }

@@ -1,17 +1,15 @@
 //! Kits that count how often they are asked, what is told that pieces begin, and a look at some nodes.
-ghost use Rattle.std.specs.Prelude.{◌≡◌};
-
-use desk::{Blank, Desk, Limits, Naming, Snapshot, Step};
+use crate::looks;
+use crate::objects::{named, node, node_set, pod};
+use choose::Decision;
+use desk::Snapshot;
 use fleet::Gate;
 use plugin::{Cause, FilterVerdict, Rules, ScoreVerdict};
-use quant::{Bytes, Cpu, Event, Name, Node, Pod, Request, Res, SharedNode, SharedPod, Version};
-use std::alloc::Global;
+use quant::{Event, Name, SharedPod};
+use std::alloc::{AllocError, Global};
 use std::hash::RandomState;
-use std::marker::Brand;
-use std::process::Abort;
 use std::sync::atomic::{AtomicBool, AtomicU64, Ordering};
 use std::sync::{Arc, Wait};
-use std::test::Fail;
 use std::thread;
 use whost::Records;
 
@@ -23,7 +21,7 @@ pub struct Counts {
 
 impl Counts {
     /// None of so many came yet.
-    pub fn new(alloc: Global, many: usize) -> Result<Counts, Fail> {
+    pub fn new(alloc: Global, many: usize) -> Result<Counts, AllocError> {
         let mut counts = Vec::new(alloc);
         for _ in 0..many {
             counts.push(AtomicU64::new(0))?;
@@ -136,70 +134,38 @@ impl Gate for Both {
 }
 
 /// A pod that asks for a tenth of a core.
-pub fn pod(alloc: Global) -> Result<SharedPod, Fail> {
-    let pod = Pod {
-        uid: Name::new(b"p1")?,
-        priority: 0,
-        request: Request::new(Cpu(100), Bytes(67_108_864))?,
-        labels: Default::default(),
-        tolerations: Default::default(),
-    };
-    Ok(SharedPod::new(alloc, pod)?)
+pub fn small_pod(alloc: Global) -> Option<SharedPod> {
+    pod(alloc, Name::new(b"p1").ok()?, 100, 67_108_864)
 }
 
 // A node of this name, with 4 cores, 8 GiB and room for 110 pods.
-fn node(alloc: Global, letter: u8) -> Result<SharedNode, Fail> {
-    let node = Node {
-        name: Name::new(&[letter])?,
-        allocatable: Res {
-            cpu: Cpu(4_000),
-            mem: Bytes(8_589_934_592),
-            pods: 110,
-        },
-        labels: Default::default(),
-        taints: Default::default(),
-        unschedulable: false,
-    };
-    Ok(SharedNode::new(alloc, node)?)
+fn node_told(alloc: Global, version: u64, letter: u8) -> Option<Event> {
+    node_set(
+        alloc,
+        version,
+        node(named(letter)?, 4_000, 8_589_934_592, 110),
+    )
 }
 
-// A look at these nodes, at a desk that has nothing else.
-fn look_in<J: Naming, R: Abort + Wait>(
-    rt: &R,
-    alloc: Global,
-    keys: RandomState,
-    blank: Blank,
-    limits: Limits,
-    nodes: &[SharedNode],
-) -> Snapshot
-    requires named { blank.seen.book ≡ J.book }
-    requires limits { limits ≡ J.limits }
-{
-    let mut desk = Desk::<J>::new(blank, alloc, keys, limits).expect(rt, "memory");
-    let mut pass = desk.pass().expect(rt, "a pass");
-    for at in 0..nodes.len() {
-        let told = Event::NodeSet {
-            version: Version(at as u64 + 1),
-            node: nodes[at].share().expect(rt, "memory"),
-        };
-        desk.apply(rt, &mut pass, Step::Event(told))
-            .expect(rt, "memory");
+fn nodes_told(alloc: Global, letters: &[u8]) -> Option<Vec<Event>> {
+    let mut events = Vec::new(alloc);
+    let mut version = 0u64;
+    for letter in letters {
+        version = version.saturating_add(1);
+        events.push(node_told(alloc, version, *letter)?).ok()?;
     }
-    let shown = desk.look(&mut pass).expect(rt, "memory");
-    desk.discard(rt);
-    shown
+    Some(events)
 }
 
 /// A look at nodes of these names.
-pub fn look<R: Abort + Wait>(
-    rt: &R,
-    alloc: Global,
-    keys: RandomState,
-    letters: &[u8],
-) -> Result<Snapshot, Fail> {
-    let mut nodes = Vec::new(alloc);
-    for letter in letters {
-        nodes.push(node(alloc, *letter)?)?;
+pub fn look<R: Wait>(rt: &R, alloc: Global, keys: RandomState, letters: &[u8]) -> Option<Snapshot> {
+    looks::look(rt, alloc, keys, nodes_told(alloc, letters)?)
+}
+
+/// Whether node a, of the least name, is told, since its filter used up its fuel.
+pub fn is_by_the_least(decision: &Decision) -> bool {
+    match decision {
+        Decision::PluginError(0, node, Cause::Exhausted) => node.as_str() == "a",
+        _ => false,
     }
-    Ok(look_in::<Brand, R>(rt, alloc, keys, Blank::new(), Limits::greatest(), &nodes))
 }

@@ -2,18 +2,15 @@
 ghost use Rattle.std.specs.Prelude.{◌≡◌, ◌<◌, ◌≤◌};
 ghost use Rattle.fleet.specs.Speaking.{SpeaksFor};
 
-use super::kits::{Both, Counts, Tally, look, pod};
-use choose::Decision;
+use super::kits::{Both, Counts, Tally, is_by_the_least, look, small_pod};
 use desk::Snapshot;
 use fleet::{Blank, Gate, Pool, Site};
-use plugin::{Cause, Rules};
-use quant::{Name, SharedPod};
+use plugin::Rules;
+use quant::SharedPod;
 use std::alloc::Global;
 use std::hash::RandomState;
 use std::marker::Brand;
-use std::process::Abort;
 use std::sync::{Arc, Wait};
-use std::test::Fail;
 use std::thread::Threads;
 
 // A pool of so many kits.
@@ -21,120 +18,185 @@ fn pool_of<
     J: Site + Send + Sync + 'static,
     G: Gate + Drop + Send + Sync + 'static,
     R: Threads + Wait + Copy + Send + 'static,
->(rt: R, alloc: Global, blank: Blank, kits: usize, gate: &Arc<G>) -> Result<Pool<J, Tally, G>, Fail>
+>(rt: R, alloc: Global, blank: Blank, kits: usize, gate: &Arc<G>) -> Option<Pool<J, Tally, G>>
     requires most { kits ≤ 64 }
     requires pool { blank.seen.book ≡ J.book }
     requires speak { (kit : _) → SpeaksFor J.Says (⟦<Tally as Rules>⟧.answers kit) }
 {
-    let asked = Arc::new(alloc, Counts::new(alloc, 0)?)?;
+    let asked = Arc::new(alloc, Counts::new(alloc, 0).ok()?).ok()?;
+    let gate: Arc<G> = Arc::try_clone(gate).ok()?;
     let mut others = Vec::new(alloc);
     for place in 1..kits {
-        let asked = asked.clone()?;
-        others.push(Tally { asked, place })?;
+        let asked: Arc<Counts> = Arc::try_clone(&asked).ok()?;
+        others.push(Tally { asked, place }).ok()?;
     }
     let first = Tally { asked, place: 0 };
-    Ok(Pool::start(rt, alloc, blank, first, others, gate.clone()?)?)
+    Pool::start(rt, alloc, blank, first, others, gate).ok()
 }
 
-// A decision among some nodes.
-fn decides<J: Site, G: Gate + Drop, R: Wait + Abort>(
+// Whether a decision among some nodes tells the one of the least name.
+fn decides<J: Site, G: Gate + Drop, R: Wait>(
     rt: &R,
     pool: &mut Pool<J, Tally, G>,
     shown: Snapshot,
     pod: &SharedPod,
-) -> Result<(), Fail> {
-    let decision = pool.decide(rt, shown, pod)?;
-    let least = Name::new(b"a")?;
-    assert!(rt; decision == Decision::PluginError(0, least, Cause::Exhausted));
-    Ok(())
+) -> bool {
+    match pool.decide(rt, shown, pod) {
+        Ok(decision) => is_by_the_least(&decision),
+        Err(_) => false,
+    }
 }
 
-// Of five nodes in so many pieces, each piece that has one has begun so often, and no other has begun.
-fn each_began<R: Abort>(rt: &R, begun: &Counts, kits: usize, often: u64)
+// Whether, of five nodes in so many pieces, each piece that has one has begun so often, and no other has begun.
+fn each_began(begun: &Counts, kits: usize, often: u64) -> bool
     requires some { 0 < kits }
     requires most { kits ≤ 64 }
 {
     for piece in 0..kits {
         let nodes = (piece + 1) * 5 / kits - piece * 5 / kits;
         let wanted = if nodes > 0 { often } else { 0 };
-        assert!(rt;
-            begun.at(piece) == wanted,
-            "piece {piece} of {kits}, turn {often}"
-        );
+        if begun.at(piece) != wanted {
+            return false;
+        }
+    }
+    true
+}
+
+// Whether a decision among five nodes is as it is to be the next time.
+fn turns<J: Site, R: Wait>(
+    rt: &R,
+    alloc: Global,
+    keys: RandomState,
+    pool: &mut Pool<J, Tally, Counts>,
+    pod: &SharedPod,
+) -> bool {
+    match look(rt, alloc, keys, b"ecdab") {
+        Some(shown) => decides(rt, pool, shown, pod),
+        None => false,
     }
 }
 
-// Three decisions among five nodes.
-fn turns<J: Site, R: Wait + Abort>(
+// The first of three decisions among five nodes that is otherwise.
+fn first_other_turn<J: Site, R: Wait>(
     rt: &R,
     alloc: Global,
     keys: RandomState,
     pool: &mut Pool<J, Tally, Counts>,
     begun: &Counts,
     kits: usize,
-) -> Result<(), Fail>
+) -> Option<u64>
     requires some { 0 < kits }
     requires most { kits ≤ 64 }
 {
-    let pod = pod(alloc)?;
+    let Some(pod) = small_pod(alloc) else {
+        return Some(0);
+    };
     for turn in 1..4u64 {
-        let shown = look(rt, alloc, keys, b"ecdab")?;
-        decides(rt, pool, shown, &pod)?;
-        each_began(rt, begun, kits, turn);
+        if !turns(rt, alloc, keys, pool, &pod) || !each_began(begun, kits, turn) {
+            return Some(turn);
+        }
     }
-    Ok(())
+    None
 }
 
 // The same by a new pool of so many kits.
-fn decide_with<J: Site + Send + Sync + 'static, R: Threads + Wait + Abort + Copy + Send + 'static>(
+fn turns_of<J: Site + Send + Sync + 'static, R: Threads + Wait + Copy + Send + 'static>(
     rt: R,
     alloc: Global,
     keys: RandomState,
     blank: Blank,
     kits: usize,
-) -> Result<(), Fail>
+) -> Option<u64>
     requires some { 0 < kits }
     requires most { kits ≤ 64 }
     requires pool { blank.seen.book ≡ J.book }
     requires speak { (kit : _) → SpeaksFor J.Says (⟦<Tally as Rules>⟧.answers kit) }
 {
-    let begun = Arc::new(alloc, Counts::new(alloc, kits)?)?;
-    let mut pool = pool_of::<J, _, R>(rt, alloc, blank, kits, &begun)?;
-    let went = turns(&rt, alloc, keys, &mut pool, &begun, kits);
+    let Ok(counts) = Counts::new(alloc, kits) else {
+        return Some(0);
+    };
+    let Ok(begun) = Arc::new(alloc, counts) else {
+        return Some(0);
+    };
+    let Some(mut pool) = pool_of::<J, _, R>(rt, alloc, blank, kits, &begun) else {
+        return Some(0);
+    };
+    let other = first_other_turn(&rt, alloc, keys, &mut pool, &begun, kits);
     pool.end(&rt);
-    went
+    other
+}
+
+// The first number of kits that don't decide as they are to.
+fn first_other<R: Threads + Wait + Copy + Send + 'static>(
+    rt: R,
+    alloc: Global,
+    keys: Option<RandomState>,
+) -> Option<usize> {
+    for kits in [1, 2, 64] {
+        let other = match keys {
+            Some(keys) => turns_of::<Brand, _>(rt, alloc, keys, Blank::new(), kits),
+            None => Some(0),
+        };
+        if other.is_some() {
+            return Some(kits);
+        }
+    }
+    None
 }
 
 #[test]
-fn few_and_most_kits_decide(rt: HostRuntime) -> Result<(), Fail> {
-    for kits in [1, 2, 64] {
-        let keys = RandomState::new(&rt)?;
-        decide_with::<Brand, _>(rt, rt.alloc(), keys, Blank::new(), kits)?;
-    }
-    Ok(())
+fn few_and_most_kits_decide(rt: HostRuntime) {
+    let keys = RandomState::new(&rt).ok();
+    assert_eq!(rt; first_other(rt, rt.alloc(), keys), None);
 }
 
-// Two pieces wait for each other where they begin.
-fn meet_in<J: Site + Send + Sync + 'static, R: Threads + Wait + Abort + Copy + Send + 'static>(
+// Whether two pieces decide that wait for each other where they begin.
+fn decides_of_two<J: Site, R: Wait>(
+    rt: &R,
+    alloc: Global,
+    keys: RandomState,
+    pool: &mut Pool<J, Tally, Both>,
+) -> bool {
+    match (look(rt, alloc, keys, b"ab"), small_pod(alloc)) {
+        (Some(shown), Some(pod)) => decides(rt, pool, shown, &pod),
+        _ => false,
+    }
+}
+
+// The same by a new pool, and neither gave up waiting.
+fn two_meet<J: Site + Send + Sync + 'static, R: Threads + Wait + Copy + Send + 'static>(
     rt: R,
     alloc: Global,
     keys: RandomState,
     blank: Blank,
-) -> Result<(), Fail>
+) -> bool
     requires pool { blank.seen.book ≡ J.book }
     requires speak { (kit : _) → SpeaksFor J.Says (⟦<Tally as Rules>⟧.answers kit) }
 {
-    let gate = Arc::new(alloc, Both::new())?;
-    let mut pool = pool_of::<J, _, R>(rt, alloc, blank, 2, &gate)?;
-    let pod = pod(alloc)?;
-    let went = decides(&rt, &mut pool, look(&rt, alloc, keys, b"ab")?, &pod);
+    let Ok(gate) = Arc::new(alloc, Both::new()) else {
+        return false;
+    };
+    let Some(mut pool) = pool_of::<J, _, R>(rt, alloc, blank, 2, &gate) else {
+        return false;
+    };
+    let is_decided = decides_of_two(&rt, alloc, keys, &mut pool);
     pool.end(&rt);
-    assert!(rt; !gate.gave_up());
-    went
+    is_decided && !gate.gave_up()
+}
+
+fn two_meet_in_a_pool<R: Threads + Wait + Copy + Send + 'static>(
+    rt: R,
+    alloc: Global,
+    keys: Option<RandomState>,
+) -> bool {
+    match keys {
+        Some(keys) => two_meet::<Brand, _>(rt, alloc, keys, Blank::new()),
+        None => false,
+    }
 }
 
 #[test]
-fn pieces_are_judged_at_once(rt: HostRuntime) -> Result<(), Fail> {
-    let keys = RandomState::new(&rt)?;
-    meet_in::<Brand, _>(rt, rt.alloc(), keys, Blank::new())
+fn pieces_are_judged_at_once(rt: HostRuntime) {
+    let keys = RandomState::new(&rt).ok();
+    assert!(rt; two_meet_in_a_pool(rt, rt.alloc(), keys));
 }

@@ -1,4 +1,4 @@
-use Rattle.scheduler_tests.proofs.at_once.four_threads_place_pods.Given as goal
+use Rattle.scheduler_tests.proofs.at_once.tried.Given as goal
 
 -- the desk that was just opened, and its limits
 abbrev pub ghosts-at_once : goal.ghosts-at_once
