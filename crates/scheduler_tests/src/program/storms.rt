@@ -80,12 +80,12 @@ fn binders() -> &'static [&'static str] {
 }
 
 // Whether a storm of this script by these words writes this.
-fn storms<R: Files + Wait + Threads + Copy + Send + Sync + 'static>(
+fn storms<'a, R: Files + Wait + Threads + Copy + Send + Sync + 'static>(
     rt: &R,
     alloc: Global,
     keys: Option<RandomState>,
-    args: &[&str],
-    script: &[u8],
+    args: &'a [&'a str],
+    script: &'a [u8],
     out: &str,
 ) -> bool {
     let given = Given {
