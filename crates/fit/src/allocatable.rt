@@ -9,7 +9,7 @@ use std::marker::Model;
 /// What is allocatable of a node. Contracts see the amounts alone.
 ///
 /// A score needs the hundredths of what is left. They are guessed by a product with a factor that stands beside each amount, and
-/// the guess is tried, since that takes half the time of a division.
+/// the guess is tried, since that takes less time than a division.
 #[derive(Drop)]
 pub struct Allocatable {
     amounts: Res,
