@@ -1,0 +1,9 @@
+use Rattle.std.proofs.Common.{rules}
+use Rattle.engine.proofs.script.flush.Goals as goal
+
+-- `search rules` is found without this file too: with it, a wrong body that is tried here is refused without a second run
+pub returns-clause-written : goal.returns-clause-written
+returns-clause-written g c = search rules
+
+pub returns-in_err-map_err-clause-front : goal.returns-in_err-map_err-clause-front
+returns-in_err-map_err-clause-front g c = search rules
