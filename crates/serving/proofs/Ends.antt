@@ -11,9 +11,9 @@ use Rattle.engine.specs.declared.fault.RunFault.{RunFault}
 use Rattle.engine.specs.declared.fault.RunFault.TheVariants as run_fault
 use Rattle.command.specs.Words.{SpecSyntax}
 use Rattle.command.specs.declared.fault.WordFault.TheVariants as word_fault
-use Rattle.serving.specs.declared.faults.Fault.{Fault}
-use Rattle.serving.specs.declared.faults.Fault.TheVariants.{Words, Misused, Plugin, Unread, Run}
-use Rattle.serving.specs.Fault.{status_of}
+use Rattle.faults.specs.declared.fault.Fault.{Fault}
+use Rattle.faults.specs.declared.fault.Fault.TheVariants.{Words, Misused, Plugin, Unread, Run}
+use Rattle.faults.specs.Fault.{status_of}
 use Rattle.serving.specs.Run.{IsSiteRun, TellsFailures, TellsFault}
 use Rattle.serving.specs.Site.{AreSiteKits, IsToldAs, SiteFaulty, SiteFront, SiteRefused, UnreadPlugin, WhyNoModules, WhyNoPlugin, WhyNoSite, names_of}
 use Rattle.serving.proofs.Quiet.{at_a_line, no_memory_told}

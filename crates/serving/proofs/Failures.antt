@@ -4,7 +4,7 @@ use Rattle.std.specs.Prelude.{⊤}
 use Rattle.engine.specs.Device.{DeviceUse}
 use Rattle.engine.specs.declared.fault.RunFault.TheVariants as run_fault
 use Rattle.command.specs.Words.{SpecSyntax, Asked, run, explain, check, storm}
-use Rattle.serving.specs.declared.faults.Fault.TheVariants.{Run, Unread}
+use Rattle.faults.specs.declared.fault.Fault.TheVariants.{Run, Unread}
 use Rattle.serving.specs.Failures.{lacks_file, left_unread, not_begun}
 use Rattle.serving.specs.Run.{TellsFailures, TellsFault}
 use Rattle.serving.specs.Site.{UnreadPlugin}

@@ -1,10 +1,8 @@
 pub mod Ends
 pub mod Failures
-pub mod Lengths
 pub mod Fronts
 pub mod Quiet
 pub mod Verdicts
-pub mod Texts
 pub mod Sites
 pub mod SiteOutput
 pub mod SameSite

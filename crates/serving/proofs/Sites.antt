@@ -13,8 +13,8 @@ use Rattle.command.specs.Within.{HaveDistinctNames}
 use Rattle.command.specs.declared.asked.Spec.{Spec}
 use Rattle.serving.specs.Verdict.{front_of}
 use Rattle.engine.specs.declared.fault.RunFault.TheVariants as run_fault
-use Rattle.serving.specs.declared.faults.Fault.{Fault}
-use Rattle.serving.specs.declared.faults.Fault.TheVariants.{Words, Misused, Plugin, Unread, Run}
+use Rattle.faults.specs.declared.fault.Fault.{Fault}
+use Rattle.faults.specs.declared.fault.Fault.TheVariants.{Words, Misused, Plugin, Unread, Run}
 use Rattle.serving.specs.Site.{ArePlugins, IsPlugin, ModuleRefused, WhyNoModule, WhyNoModules, WhyNoPlugin, AreFromFiles, names_of}
 
 -- ---- lists

@@ -14,9 +14,9 @@ use Rattle.storm.specs.Cycles.{OneCycle, Cycles}
 use Rattle.storm.specs.Script.{first_storm_fault, script_steps}
 use Rattle.storm.specs.Storm.{IsAudit, IsStormRun, Storms, cycler, desk_for}
 use Rattle.command.specs.Words.{SpecSyntax}
-use Rattle.serving.specs.declared.faults.Fault.{Fault}
-use Rattle.serving.specs.declared.faults.Fault.TheVariants.{Run}
-use Rattle.serving.specs.Fault.{status_of}
+use Rattle.faults.specs.declared.fault.Fault.{Fault}
+use Rattle.faults.specs.declared.fault.Fault.TheVariants.{Run}
+use Rattle.faults.specs.Fault.{status_of}
 use Rattle.serving.specs.Run.{TellsFailures, TellsFault}
 use Rattle.serving.specs.Site.{AreSiteKits, SiteRefused, WhyNoSite}
 use Rattle.serving.specs.Storm.{IsSiteStorm, SiteStorms, StormFaulty, audit_status}

@@ -1,10 +1,6 @@
 pub mod Failures
-pub mod Fault
 pub mod Laws
-pub mod Message
-pub mod Refusal
 pub mod Run
 pub mod Site
 pub mod Storm
-pub mod Text
 pub mod Verdict

@@ -14,10 +14,10 @@ use Rattle.engine.specs.Telling.{Telling, telling}
 use Rattle.engine.specs.Output.{first_fault, IsOutput, BeginsOutput, WritesOutput, WritesFront}
 use Rattle.engine.specs.declared.fault.RunFault.TheVariants as run_fault
 use Rattle.command.specs.Words.{SpecSyntax}
-use Rattle.serving.specs.declared.faults.Fault.{Fault}
-use Rattle.serving.specs.declared.faults.Fault.TheVariants.{Plugin, Unread, Run}
-use Rattle.serving.specs.declared.refusal.Refusal.TheVariants.{NotReady}
-use Rattle.serving.specs.Fault.{status_of}
+use Rattle.faults.specs.declared.fault.Fault.{Fault}
+use Rattle.faults.specs.declared.fault.Fault.TheVariants.{Plugin, Unread, Run}
+use Rattle.faults.specs.declared.refusal.Refusal.TheVariants.{NotReady}
+use Rattle.faults.specs.Fault.{status_of}
 use Rattle.serving.specs.Verdict.{IsRefusedFor, front_of}
 
 -- the names that plugins are given

@@ -7,8 +7,8 @@ use Rattle.engine.specs.declared.fault.RunFault.TheVariants as run_fault
 use Rattle.storm.specs.Script.{first_storm_fault, script_steps}
 use Rattle.storm.specs.Storm.{Storms}
 use Rattle.command.specs.Words.{SpecSyntax}
-use Rattle.serving.specs.declared.faults.Fault.{Fault}
-use Rattle.serving.specs.declared.faults.Fault.TheVariants.{Run}
+use Rattle.faults.specs.declared.fault.Fault.{Fault}
+use Rattle.faults.specs.declared.fault.Fault.TheVariants.{Run}
 use Rattle.serving.specs.Run.{TellsFault}
 use Rattle.serving.specs.Site.{AreSiteKits, SiteRefused}
 

@@ -3,15 +3,14 @@ ghost use Rattle.std.specs.Prelude.{◌≡◌, ◌≢◌, ◌⊎◌, ◌^◌, �
 ghost use Rattle.std.specs.Io.KnownBytes.{Appends};
 ghost use Rattle.engine.specs.Device.{AppendsFront};
 ghost use Rattle.engine.specs.declared.fault.RunFault.TheVariants as run_fault;
-ghost use Rattle.serving.specs.declared.faults.Fault.TheVariants.{Run};
-ghost use Rattle.serving.specs.Message.{Tells, message_of};
+ghost use Rattle.faults.specs.declared.fault.Fault.TheVariants.{Run};
+ghost use Rattle.faults.specs.Message.{Tells, message_of};
 ghost use Rattle.serving.specs.Verdict.{TellsFront, TellsVerdict, status_for, verdict_line};
 
-use crate::faults::Fault;
 use crate::folder::Files;
-use crate::message::report;
 use crate::verdict::{Verdict, line_of, verdict_on};
 use engine::{RunFault, Sink, write_all};
+use faults::{Fault, report};
 use std::alloc::Global;
 use wbin::LONGEST;
 

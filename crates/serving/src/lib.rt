@@ -3,20 +3,16 @@
 //! - `program`: what is done from the words to the status: a run by `site_run`, a storm by `storm_run`, a check by `check`.
 //! - `site`: a site's plugins, from what the words configure and the files have to kits.
 //! - `stand_in`: binders that stand in for a cluster.
-//! - `faults`, `refusal`: why the program ends early, and its status; why a module is refused.
-//! - `message`: the line that tells a fault; `verdict`: what is found of a module, and its line.
+//! - `verdict`: what is found of a module, and the line that tells it.
 //! - `device`, `folder`: standard input and output, and files, as the engine reads and writes.
 //! - `laws`: that a site's script has one output.
 #![tactic(auto)]
 
 mod check;
 mod device;
-mod faults;
 mod folder;
 mod laws;
-mod message;
 mod program;
-mod refusal;
 mod site;
 mod site_run;
 mod stand_in;
@@ -25,12 +21,10 @@ mod verdict;
 
 pub use check::{check_file, check_module};
 pub use device::{Input, Output};
-pub use faults::Fault;
+pub use faults::{Fault, Refusal, report};
 pub use folder::{Files, Folder};
 pub use laws::one_site_output;
-pub use message::report;
 pub use program::answer;
-pub use refusal::Refusal;
 pub use site::{modules_in, site_kits};
 pub use site_run::serve;
 pub use stand_in::StandIn;

@@ -2,8 +2,8 @@
 ghost use Rattle.std.specs.Prelude.{◌≡◌, ◌≢◌, ◌⊎◌, ◌^◌, ◌<◌, ◌≤◌, ℕ, Bool, true, false, List, Some, None, map, IfErr, IfSome};
 ghost use Rattle.engine.specs.Device.{use_of};
 ghost use Rattle.command.specs.Words.{SpecSyntax, asked_by, run, explain, check, storm};
-ghost use Rattle.serving.specs.declared.faults.Fault.TheVariants as faults;
-ghost use Rattle.serving.specs.Fault.{status_of};
+ghost use Rattle.faults.specs.declared.fault.Fault.TheVariants as faults;
+ghost use Rattle.faults.specs.Fault.{status_of};
 ghost use Rattle.serving.specs.Failures.{lacks_file, left_unread, not_begun};
 ghost use Rattle.serving.specs.Run.{IsSiteRun, TellsFailures, TellsFault, told_of};
 ghost use Rattle.serving.specs.Site.{AreFromFiles};
@@ -11,13 +11,12 @@ ghost use Rattle.serving.specs.Storm.{IsSiteStorm};
 ghost use Rattle.serving.specs.Verdict.{TellsFront, TellsVerdict};
 
 use crate::check::check_file;
-use crate::faults::Fault;
 use crate::folder::Files;
-use crate::message::report;
 use crate::site_run::serve_plan;
 use crate::storm_run::storm_plan;
 use command::{WordFault, Words, misuse_of, words};
 use engine::{Sink, Source};
+use faults::{Fault, report};
 use std::alloc::Global;
 use std::convert::AsStr;
 use std::hash::RandomState;

@@ -10,16 +10,15 @@ ghost use Rattle.fleet.specs.Alike.{JudgeAlike};
 ghost use Rattle.command.specs.Within.{AreWithinLimits, IsWithinLimits};
 ghost use Rattle.command.specs.Words.{syntax_of};
 ghost use Rattle.engine.specs.declared.fault.RunFault.TheVariants as run_fault;
-ghost use Rattle.serving.specs.declared.faults.Fault.TheVariants.{Run};
+ghost use Rattle.faults.specs.declared.fault.Fault.TheVariants.{Run};
 ghost use Rattle.serving.specs.Site.{IsToldAs, AreFromFiles, ArePlugins, AreSiteKits, IsPlugin, NoKit, ModuleRefused, WhyNoModule, WhyNoModules, WhyNoPlugin, WhyNoSite};
 ghost use Rattle.serving.specs.Verdict.{front_of};
 
-use crate::faults::Fault;
 use crate::folder::Files;
-use crate::refusal::Refusal;
 use crate::verdict::{Unaccepted, accepted_in};
 use command::Spec;
 use engine::RunFault;
+use faults::{Fault, Refusal};
 use plugin::{AddFault, Kit, KitFault, KitRules, Plugin, Plugins, kits_are_alike};
 use quant::Name;
 use std::alloc::Global;

@@ -6,12 +6,11 @@ ghost use Rattle.command.specs.Words.{syntax_of};
 ghost use Rattle.serving.specs.Run.{IsSiteRun, TellsFailures};
 ghost use Rattle.serving.specs.Site.{AreFromFiles, UnreadPlugin, names_of};
 
-use crate::faults::Fault;
 use crate::folder::Files;
-use crate::message::report;
 use crate::site::{modules_in, site_kits};
 use command::{Plan, Spec};
 use engine::{RunFault, Sink, Source, run_with_kits};
+use faults::{Fault, report};
 use quant::Name;
 use std::alloc::{AllocError, Global};
 use std::hash::RandomState;

@@ -7,13 +7,12 @@ ghost use Rattle.serving.specs.Run.{TellsFailures};
 ghost use Rattle.serving.specs.Site.{AreFromFiles, UnreadPlugin};
 ghost use Rattle.serving.specs.Storm.{IsSiteStorm, audit_status};
 
-use crate::faults::Fault;
 use crate::folder::Files;
-use crate::message::report;
 use crate::site::{modules_in, site_kits};
 use crate::stand_in::storm_by;
 use command::StormPlan;
 use engine::{RunFault, Sink, Source};
+use faults::{Fault, report};
 use fleet::Fleet;
 use plugin::KitRules;
 use std::alloc::{AllocError, Global};

@@ -1,7 +1,7 @@
 use Rattle.std.proofs.Common.{◌≡◌, ◌∙◌, IfSome, inl, inr, refl, ap, sym, subst, arith, rules}
-use Rattle.serving.specs.Fault.{status_of}
-use Rattle.serving.specs.Message.{Tells, message_of}
-use Rattle.serving.specs.declared.faults.Fault.TheVariants.{Run}
+use Rattle.faults.specs.Fault.{status_of}
+use Rattle.faults.specs.Message.{Tells, message_of}
+use Rattle.faults.specs.declared.fault.Fault.TheVariants.{Run}
 use Rattle.serving.specs.Verdict.{front_of}
 use Rattle.serving.proofs.Verdicts.{tells_whole, fronts_whole}
 use Rattle.serving.proofs.check.check_file.Goals as goal

@@ -1,7 +1,7 @@
 use Rattle.std.proofs.Common.{◌∙◌, map, refl, ap}
 use Rattle.command.specs.Words.{asked_by, syntax_of}
 use Rattle.command.specs.declared.fault.WordFault.TheVariants as word_fault
-use Rattle.serving.specs.declared.faults.Fault.TheVariants.{Words}
+use Rattle.faults.specs.declared.fault.Fault.TheVariants.{Words}
 use Rattle.serving.proofs.Ends.{told}
 use Rattle.serving.proofs.Failures.{failures_of_check, failures_of_explain, failures_of_run, failures_of_storm}
 use Rattle.serving.proofs.SiteOutput.{same_explained, same_specs, same_storm}

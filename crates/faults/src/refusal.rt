@@ -1,6 +1,6 @@
 //! Why a plugin's module is refused, and the words that tell it.
 ghost use Rattle.std.specs.Prelude.{◌≡◌, ◌+◌, ◌≤◌, ◌++◌, length};
-ghost use Rattle.serving.specs.Refusal.{bin_text, where_text, type_text, instance_text, refusal_text};
+ghost use Rattle.faults.specs.Refusal.{bin_text, where_text, type_text, instance_text, refusal_text};
 
 use crate::message::{Message, push, push_fault, push_number};
 use thiserror::Error;
@@ -83,7 +83,7 @@ fn push_instance_fault(message: &mut Message, fault: InstanceFault)
 
 /// Adds why a module is refused.
 #[tactic(auto, unfolding(crate::specs::Refusal::refusal_text))]
-pub(crate) fn push_refusal(message: &mut Message, refusal: Refusal)
+pub fn push_refusal(message: &mut Message, refusal: Refusal)
     requires { length message.old.items + 120 ≤ 320 }
     ensures text { message.new.items ≡ message.old.items ++ refusal_text refusal }
     ensures len { length message.new.items ≤ length message.old.items + 120 }

@@ -1,12 +1,12 @@
 //! The line by which the program tells a fault.
 ghost use Rattle.std.specs.Prelude.{◌≡◌, ◌+◌, ◌^◌, ◌<◌, ◌≤◌, ◌++◌, codes, length, decimal};
-ghost use Rattle.serving.specs.Fault.{status_of};
-ghost use Rattle.serving.specs.declared.faults.Fault.TheVariants.{Misused, Unread};
-ghost use Rattle.serving.specs.Text.{fault_text};
-ghost use Rattle.serving.specs.Refusal.{refusal_text};
-ghost use Rattle.serving.specs.Message.{Tells, line_fault_text, run_text, part_name, count_letter, misuse_text, usage, text_of, message_of};
+ghost use Rattle.faults.specs.Fault.{status_of};
+ghost use Rattle.faults.specs.declared.fault.Fault.TheVariants.{Misused, Unread};
+ghost use Rattle.faults.specs.Text.{fault_text};
+ghost use Rattle.faults.specs.Refusal.{refusal_text};
+ghost use Rattle.faults.specs.Message.{Tells, line_fault_text, run_text, part_name, count_letter, misuse_text, usage, text_of, message_of};
 
-use crate::faults::Fault;
+use crate::fault::Fault;
 use crate::refusal::{Refusal, push_refusal};
 use arrayvec::ArrayVec;
 use command::{Count, Misuse, Part, WordFault};
@@ -24,10 +24,10 @@ const USAGE: &[u8] =
     b"; usage: wsched run [--workers N] [SPEC]... or wsched explain [--workers N] [SPEC]... or wsched storm [--cycles C] [--binders B] [--flaky] [SPEC]... or wsched check MODULE; a SPEC is NAME:WEIGHT:FUEL:FILE";
 
 /// A line that is made without memory, so that want of memory can be told.
-pub(crate) type Message = ArrayVec<u8, MAX_MESSAGE>;
+pub type Message = ArrayVec<u8, MAX_MESSAGE>;
 
 /// Adds a piece to a message.
-pub(crate) fn push(message: &mut Message, piece: &[u8])
+pub fn push(message: &mut Message, piece: &[u8])
     requires { length message.old.items + length piece.now ≤ 320 }
     ensures text { message.new.items ≡ message.old.items ++ piece.now }
     ensures len { length message.new.items ≡ length message.old.items + length piece.now }

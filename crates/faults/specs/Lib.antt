@@ -1,0 +1,4 @@
+pub mod Fault
+pub mod Message
+pub mod Refusal
+pub mod Text
