@@ -1,5 +1,6 @@
-//! The tests of the sandbox's crates, from numbers of the binary format to kits of plugins, each through what its crate offers. They
-//! stand together since a crate with tests is proved twice. Nothing stands on this crate.
+//! The tests of the sandbox's crates, from numbers of the binary format to kits of plugins, each through what its crate offers, and
+//! of the machine beside the definition of calls (`comparison`). They stand together since a crate with tests is proved twice, and
+//! each program of tests reads and compiles all that it stands on. Nothing stands on this crate.
 //!
 //! A table is a constant of a few dozen rows that a function of its own gives out: what loops over it is then not proved in the midst
 //! of the table's parts. What owns a module, a store, an instance or a kit gives a number, a fault or a small enum of it, and tests
@@ -12,6 +13,8 @@ mod acceptance;
 mod at_image;
 #[cfg(test)]
 mod bodies;
+#[cfg(test)]
+mod comparison;
 #[cfg(test)]
 mod instances;
 #[cfg(test)]

@@ -1,8 +1,8 @@
 //! Small modules as they stand, and what a call of each gives. Values are those that `node` gives; traps and costs were counted by
 //! hand from the tables of docs/WEBASSEMBLY.md.
 
-use crate::tests::rows::NEVER;
-use crate::tests::sides::Ended;
+use crate::comparison::rows::NEVER;
+use crate::comparison::sides::Ended;
 use wmach::Export;
 use wmach::Export::{Filter, Score, Start};
 

@@ -1,6 +1,6 @@
 //! A call of a module, made by the machine and by the plain evaluator of the definition.
 
-use crate::tests::definition::{first_globals, first_store, setting_of};
+use crate::comparison::definition::{first_globals, first_store, setting_of};
 use std::alloc::Global;
 use std::panic::Expect;
 use std::process::Abort;
@@ -45,7 +45,7 @@ pub const POD: &[u8] = &[7; 257];
 struct PodAlone<'a>(&'a [u8]);
 
 impl Host for PodAlone<'_> {
-    ghost use Rattle.wcompare.specs.Records.{pod_alone};
+    ghost use Rattle.sandbox_tests.specs.Records.{pod_alone};
 
     ghost records = { λ handed. pod_alone handed.0.now };
 
