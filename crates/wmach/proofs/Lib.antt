@@ -69,6 +69,7 @@ pub mod OverEnds
 pub mod Branching
 pub mod Invoking
 pub mod Zeros
+pub mod Opcodes
 pub mod Words
 pub mod Shapes
 pub mod Recorded

@@ -19,4 +19,5 @@ pub mod Coded
 pub mod Calling
 pub mod Known
 pub mod Kept
+pub mod Families
 pub mod Went

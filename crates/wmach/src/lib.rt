@@ -2,8 +2,17 @@
 //! and what holds of every call.
 //!
 //! The rules stand in the definitions: `Reduction` has one case for each instruction, and `HasOutcome` says how chains of
-//! reductions end. The laws are functions that do nothing and promise what the rules keep. The `Machine` runs the module's own
-//! bytes: one step of it (`step`) is a chain of reductions of the same cost.
+//! reductions end. The laws are functions that do nothing and promise what the rules keep (`laws`). The `Machine` runs the module's
+//! own bytes: one step of it is a chain of reductions of the same cost.
+//!
+//! | Question | Module |
+//! |---|---|
+//! | What can be called, what do host functions hand over, how does a call end? | `export`, `host`, `outcome` |
+//! | What does a machine keep, and what of it stays as it is while a call runs? | `machine`, `code`: `shape`, `records`, `widest` |
+//! | How does a call begin, go on and stop? | `invocation`, `run` |
+//! | Where is a call, and where do the functions stand that wait? | `state`, `activation` |
+//! | Which instruction stands there, and what did it come to? | `step`, `families`, `over`, `over_control`; `went` |
+//! | What does an instruction do? | `plain` with `numbers`, `control`, `calls` with `signature` |
 #![tactic(auto)]
 
 mod activation;
@@ -12,7 +21,6 @@ mod code;
 mod control;
 mod export;
 mod families;
-mod frequent;
 mod host;
 mod invocation;
 mod laws;

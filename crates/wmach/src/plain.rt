@@ -18,6 +18,7 @@ use wmem::{Load, Width};
 use wstore::Store;
 
 /// unreachable
+#[inline(always)]
 pub fn unreachable_here(slots: &[u64], state: State, next: usize) -> Result<State, Stop>
     requires { (waiting : List Waits) × (store : StoreState) × Ready (one plains.Unreachable) next state waiting slots.now store }
     ensures { (waiting : List Waits) (store : StoreState) → Goes (one plains.Unreachable) next state waiting slots.now store result waiting slots.now store }
@@ -416,6 +417,7 @@ pub fn store(
 }
 
 /// memory.size
+#[inline(always)]
 pub fn memory_size(
     store: &Store,
     slots: &mut [u64],
@@ -436,6 +438,7 @@ pub fn memory_size(
 }
 
 /// memory.grow
+#[inline(always)]
 pub fn memory_grow(
     store: &mut Store,
     slots: &mut [u64],

@@ -1,5 +1,5 @@
 //! The bytes of a memory beside its image, and which of them may differ.
-ghost use Rattle.std.specs.Prelude.{◌≡◌, ◌+◌, ◌*◌, ◌<◌, ◌≤◌, length, replicate, slice_set, slice_index_or, true, false, count_by, IfOk, ℕ, ◌/◌, [], take, drop, ◌++◌};
+ghost use Rattle.std.specs.Prelude.{◌≡◌, ◌+◌, ◌-◌, ◌*◌, ◌^◌, ◌<◌, ◌≤◌, length, replicate, slice_set, slice_index_or, true, false, count_by, IfOk, ℕ, ◌/◌, [], take, drop, ◌++◌};
 ghost use Rattle.wmem.specs.Access.{byte_count, with_bytes};
 ghost use Rattle.wmem.specs.Bytes.{bytes_of};
 ghost use Rattle.wmem.specs.Noted.{is_set};
@@ -39,6 +39,15 @@ impl Model for Tracked {
 
     ghost invariant = { λ t. IsTracked (record { bytes = t.bytes.items; image = t.image.items; noted = t.noted })
         × (stretch * t.noted.room ≤ vec_capacity t.bytes) × (stretch * t.noted.room ≤ vec_capacity t.image) };
+}
+
+// The page of the last of the bytes that a write touches.
+#[inline(always)]
+fn last_page(at: usize, width: Width) -> usize
+    requires { at + byte_count width < 2 ^ 63 }
+    ensures { result ≡ (at + byte_count width - 1) / stretch }
+{
+    (at + width.bytes() - 1) / STRETCH
 }
 
 impl Tracked {
@@ -104,7 +113,7 @@ impl Tracked {
         ensures room { self.new.noted.room ≡ self.old.noted.room }
     {
         self.noted.note(at / STRETCH);
-        let last = (at + width.bytes() - 1) / STRETCH;
+        let last = last_page(at, width);
         self.noted.note(last);
         buffer::write(&mut self.bytes, at, width, value);
     }

@@ -5,6 +5,7 @@ use Rattle.wmach.specs.declared.outcome.Trap.TheVariants.{UndefinedElement, Unin
 use Rattle.wmach.specs.declared.state.Stop.TheVariants as stop
 use Rattle.wmach.specs.Operands.{value_of}
 use Rattle.wmach.specs.Running.{bytes_of, activation_of, Stopped}
+use Rattle.wmach.specs.Went.{IsCall}
 use Rattle.wmach.specs.Calling.{ElementGives}
 use Rattle.wmach.proofs.AcceptedFunctions.{functions_right}
 use Rattle.wmach.proofs.Arms.{one_there}
@@ -12,6 +13,7 @@ use Rattle.wmach.proofs.Stepping.{cut_off, no_fuel}
 use Rattle.wmach.proofs.Invoking.{can_invoke, invokes, imports_right, found_there, indirect_next}
 use Rattle.wmach.proofs.OverArms.{i32_slot}
 use Rattle.wmach.proofs.OverIndirect.{indirect_here, indirect_spent, over_undefined, over_uninitialized, over_mismatch}
+use Rattle.wmach.proofs.Words.{bytes_are}
 use Rattle.wmach.proofs.calls.call_indirect_own.Goals as goal
 
 pub returns-in-Err-clause-goes : goal.returns-in-Err-clause-goes
@@ -95,3 +97,8 @@ returns-clause-goes c r h q =
     let own : length code.records.now ≤ c.in-Ok-function_at.function = omega (arith, c.if-index-code.false) in
     invokes r s w slots st h code coded 1 c.in-Ok-function_at.function c.args.next (s.top - 1) c.in-Ok.left k c.args.waiting.now.items c.enter.result c.enter.new.waiting.items c.enter.new.slots st refl c.in-Ok.ensures.some (omega arith) (let t = h.top in omega (arith, t))
     (inr (own, refl, c.enter.ensures.entered))
+
+pub returns-then-index-code-clause-goes : goal.returns-then-index-code-clause-goes
+returns-then-index-code-clause-goes c r h q =
+    let w = reverse c.args.waiting.now.items in let st = c.args.store.now in let s = c.args.state in let slots = c.args.slots.now in let code = c.args.code.now in
+    (refl, refl, refl, subst (λ b. IsCall b s.at) (bytes_are r s w slots st h code c.requires.coded) c.requires.call)

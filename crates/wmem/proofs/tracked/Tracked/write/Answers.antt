@@ -19,7 +19,7 @@ invariant_of-self c =
     let first = c.note.ensures.flags in
     let flags : List Bool = set t.noted.flags (c.args.at / stretch) true in
     let last_page : ℕ = (c.args.at + count - 1) / stretch in
-    let same : (c.args.at + c.bytes.result - 1) / stretch ≡ last_page = omega (arith, c.bytes.ensures) in
+    let same : c.last_page-last.result ≡ last_page = c.last_page-last.ensures in
     let last : c.note-2.new.self.flags ≡ set flags last_page true =
     c.note-2.ensures.flags ∙ ap (λ (n : ℕ). set c.note.new.self.flags n true) same ∙ ap (λ (xs : List Bool). set xs last_page true) first in
     let inner : length flags ≡ length t.noted.flags = length-set t.noted.flags (c.args.at / stretch) true in (
