@@ -1,5 +1,5 @@
 -- What is asked for by what `clap` found.
-use Rattle.std.proofs.Common.{◌≡◌, ◌∙◌, ℕ, Bool, true, false, List, [], Option, Some, None, map, option_map, codes, cond, refl, sym, ap, ap₂, Bor}
+use Rattle.std.proofs.Common.{◌≡◌, ℕ, Bool, true, false, List, [], Option, Some, None, map, option_map, codes, cond, refl, sym, ap, ap₂, Bor}
 use Rattle.std.specs.Prelude.{unwrap_or}
 use Rattle.std.specs.Str.{bytes_eq}
 use Rattle.clap.specs.Words.{Row, Text, first_of, subcommand_name_of, subcommand_of, subcommand_rows_of}

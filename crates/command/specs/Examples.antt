@@ -86,6 +86,9 @@ pub record WorkedExamples : Type 0 where
   pub version : meaning (codes "--version" ∷ []) ≡ None
   pub end_of_options : meaning (codes "--" ∷ codes "run" ∷ []) ≡ None
   pub another_command : meaning (codes "runs" ∷ []) ≡ None
+  pub hyphened_behind_the_end : meaning (codes "run" ∷ codes "--" ∷ codes "-a:1:1:f" ∷ []) ≡ Some (run 1 (plugin (codes "-a") 1 1 (codes "f") ∷ []))
+  pub hyphened_before_the_end : meaning (codes "run" ∷ codes "-a:1:1:f" ∷ []) ≡ None
+  pub an_option_behind_the_end : meaning (codes "storm" ∷ codes "--" ∷ codes "--binders" ∷ codes "8" ∷ []) ≡ None
   -- what is wrong with words
   pub of_nothing : misuse_of [] ≡ Command
   pub of_help : misuse_of (codes "--help" ∷ []) ≡ Command
@@ -106,3 +109,10 @@ pub record WorkedExamples : Type 0 where
   pub of_workers_of_a_storm : misuse_of (codes "storm" ∷ codes "--workers=2" ∷ []) ≡ Plugin Spec 2
   pub of_cycles_of_a_run : misuse_of (codes "run" ∷ codes "--cycles=2" ∷ []) ≡ Plugin Spec 2
   pub of_an_explanation : misuse_of (codes "explain" ∷ codes "--workers" ∷ codes "65" ∷ []) ≡ Number Workers 3
+  pub of_a_hyphen : misuse_of (codes "run" ∷ codes "-p:1:1:f" ∷ codes "p:0:1:f" ∷ []) ≡ Plugin Spec 2
+  pub of_a_hyphen_and_an_equals_sign : misuse_of (codes "run" ∷ codes "--a:1:1:f=" ∷ []) ≡ Plugin Spec 2
+  pub of_an_option_behind_the_end : misuse_of (codes "storm" ∷ codes "--" ∷ codes "--binders" ∷ codes "8" ∷ []) ≡ Plugin Spec 3
+  pub of_a_second_end : misuse_of (codes "run" ∷ codes "--" ∷ codes "-a:1:1:f" ∷ codes "--" ∷ []) ≡ Plugin Spec 4
+  pub of_a_weight_behind_the_end : misuse_of (codes "run" ∷ codes "--" ∷ codes "-a:0:1:f" ∷ []) ≡ Plugin Weight 3
+  pub of_the_end_as_a_number : misuse_of (codes "run" ∷ codes "--workers" ∷ codes "--" ∷ []) ≡ Number Workers 3
+  pub of_one_name_twice_behind_the_end : misuse_of (codes "run" ∷ codes "--" ∷ codes "a:1:1:f" ∷ codes "a:2:2:g" ∷ []) ≡ Together

@@ -1,8 +1,8 @@
 //! What the program's words ask for.
 ghost use Rattle.std.specs.Prelude.{◌≡◌, ◌≤◌, Some, None, Err, true, false, map, option_map, IfErr, IfOk};
-ghost use Rattle.clap.specs.Words.{app_of, found_of, rows_of, rule_of, subcommand_of, subcommand_rows_of};
+ghost use Rattle.clap.specs.Words.{app_of, found_of, rows_of, rule_of, subcommand_of, subcommand_rows_of, with_rule, with_subcommand};
 ghost use Rattle.command.specs.Count.{most_of};
-ghost use Rattle.command.specs.Words.{IsLocal, are_taken, asked_of, command_line, found, is_told, meaning, number_found, option_rule, plan_found, planned, run_command, specs_found, storm_command, storm_found, storm_planned, syntax_of};
+ghost use Rattle.command.specs.Words.{IsLocal, are_taken, asked_of, check_command, command_line, file_rule, flaky_rule, found, is_told, meaning, number_found, option_rule, plan_found, planned, program, run_command, specs_found, specs_rule, storm_command, storm_found, storm_planned, syntax_of};
 ghost use Rattle.command.specs.Within.{AreWithinLimits, IsPlan, IsStormPlan, IsWithin};
 
 use crate::asked::{Plan, Spec, StormPlan, Words};
@@ -24,15 +24,57 @@ fn option<'a>(alloc: Global, name: &'a str) -> Arg<'a>
     Arg::new(alloc, name).long(name).action(ArgAction::Set)
 }
 
+// The flag that makes binds of a storm fail.
+fn flaky<'a>(alloc: Global) -> Arg<'a>
+    ensures rule { rule_of result ≡ flaky_rule }
+    ensures local { result.global ≡ false }
+{
+    Arg::new(alloc, "flaky")
+        .long("flaky")
+        .action(ArgAction::SetTrue)
+}
+
+// Any number of plugins.
+fn plugins<'a>(alloc: Global) -> Arg<'a>
+    ensures rule { rule_of result ≡ specs_rule }
+    ensures local { result.global ≡ false }
+{
+    Arg::new(alloc, "SPEC").action(ArgAction::Append)
+}
+
+// The one argument of `check`.
+fn module<'a>(alloc: Global) -> Arg<'a>
+    ensures rule { rule_of result ≡ file_rule }
+    ensures local { result.global ≡ false }
+{
+    Arg::new(alloc, "MODULE").required(true)
+}
+
+// A command with one argument more. Of all that `clap` says of it this is what is needed here.
+fn with_argument<'a>(command: Command<'a>, argument: Arg<'a>) -> Result<Command<'a>, AllocError>
+    requires { argument.global ≡ false }
+    ensures shape { IfOk result (λ new. app_of new ≡ with_rule (app_of command.entry) (rule_of argument.entry)) }
+    ensures local { IsLocal command.entry → IfOk result IsLocal }
+{
+    command.arg(argument)
+}
+
+// A command with one command more below it.
+fn with_command<'a>(command: Command<'a>, below: Command<'a>) -> Result<Command<'a>, AllocError>
+    requires { IsLocal below }
+    ensures { IfOk result (λ new. app_of new ≡ with_subcommand (app_of command.entry) (app_of below.entry).top) }
+{
+    command.subcommand(below)
+}
+
 // A command of this name that asks for a run: `run` or `explain`.
 fn run_command<'a>(alloc: Global, name: &'a str) -> Result<Command<'a>, AllocError>
     ensures shape { IfOk result (λ command. app_of command ≡ run_command name.entry.now) }
     ensures local { IfOk result IsLocal }
 {
-    let specs = Arg::new(alloc, "SPEC").action(ArgAction::Append);
-    Command::new(alloc, name)
-        .arg(option(alloc, "workers"))?
-        .arg(specs)
+    let run = Command::new(alloc, name);
+    let run = with_argument(run, option(alloc, "workers"))?;
+    with_argument(run, plugins(alloc))
 }
 
 // The command `storm`.
@@ -40,35 +82,44 @@ fn storm_command<'a>(alloc: Global) -> Result<Command<'a>, AllocError>
     ensures shape { IfOk result (λ command. app_of command ≡ storm_command) }
     ensures local { IfOk result IsLocal }
 {
-    let flaky = Arg::new(alloc, "flaky")
-        .long("flaky")
-        .action(ArgAction::SetTrue);
-    let specs = Arg::new(alloc, "SPEC").action(ArgAction::Append);
-    Command::new(alloc, "storm")
-        .arg(option(alloc, "cycles"))?
-        .arg(option(alloc, "binders"))?
-        .arg(flaky)?
-        .arg(specs)
+    let storm = Command::new(alloc, "storm");
+    let storm = with_argument(storm, option(alloc, "cycles"))?;
+    let storm = with_argument(storm, option(alloc, "binders"))?;
+    let storm = with_argument(storm, flaky(alloc))?;
+    with_argument(storm, plugins(alloc))
 }
 
-// The program's command line, as `clap` reads it: one of its commands is wanted.
-fn command_line<'a>(alloc: Global) -> Result<Command<'a>, AllocError>
-    ensures { IfOk result (λ command. app_of command ≡ command_line) }
+// The command `check`.
+fn check_command<'a>(alloc: Global) -> Result<Command<'a>, AllocError>
+    ensures shape { IfOk result (λ command. app_of command ≡ check_command) }
+    ensures local { IfOk result IsLocal }
 {
-    let run = run_command(alloc, "run")?;
-    let explain = run_command(alloc, "explain")?;
-    let storm = storm_command(alloc)?;
-    let file = Arg::new(alloc, "MODULE").required(true);
-    let check = Command::new(alloc, "check").arg(file)?;
+    with_argument(Command::new(alloc, "check"), module(alloc))
+}
+
+// The program, of which one of its commands is wanted.
+fn program<'a>(alloc: Global) -> Command<'a>
+    ensures { app_of result ≡ program }
+{
     Command::new(alloc, "wsched")
         .no_binary_name(true)
         .disable_help_flag(true)
         .disable_help_subcommand(true)
         .subcommand_required(true)
-        .subcommand(run)?
-        .subcommand(explain)?
-        .subcommand(storm)?
-        .subcommand(check)
+}
+
+// The program's command line, as `clap` reads it.
+fn command_line<'a>(alloc: Global) -> Result<Command<'a>, AllocError>
+    ensures { IfOk result (λ command. app_of command ≡ command_line) }
+{
+    let run = run_command(alloc, "run")?;
+    let line = with_command(program(alloc), run)?;
+    let explain = run_command(alloc, "explain")?;
+    let line = with_command(line, explain)?;
+    let storm = storm_command(alloc)?;
+    let line = with_command(line, storm)?;
+    let check = check_command(alloc)?;
+    with_command(line, check)
 }
 
 // The plugins that were found behind a command.

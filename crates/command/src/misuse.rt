@@ -1,6 +1,6 @@
 //! What is wrong with words that ask for nothing, told to whoever wrote them.
-ghost use Rattle.std.specs.Prelude.{◌≡◌, ◌<◌, length, map, drop, None, option_map};
-ghost use Rattle.command.specs.Misuse.{at_end, at_equals, awaited_behind, count_named, is_option, misuse_in, misuse_of, part_of, wrong_count, wrong_part, wrong_plugin, wrong_word};
+ghost use Rattle.std.specs.Prelude.{◌≡◌, ◌<◌, length, map, drop, option_map};
+ghost use Rattle.command.specs.Misuse.{at_end, at_equals, count_named, is_hyphened, is_option, misuse_in, misuse_of, part_of, read_behind, wrong_count, wrong_other, wrong_part, wrong_plugin, wrong_word};
 
 use crate::count::{Count, number_for};
 use crate::plugin_words::{cut, digits_up_to};
@@ -41,6 +41,17 @@ pub enum Misuse {
     /// `check` has another number of words than one.
     #[error("")]
     Together,
+}
+
+/// What a word behind a command is read as.
+#[derive(Clone, Copy, Debug, PartialEq, Eq)]
+enum ReadAs {
+    /// An option, the end of the options, or a plugin.
+    Anything,
+    /// The value of the option before it.
+    Value(Count),
+    /// A plugin, since it stands behind the end of the options.
+    NoOption,
 }
 
 // The first of a plugin's parts that is wrong.
@@ -112,7 +123,7 @@ fn wrong_count(number: usize, count: Count, value: &str) -> Option<Misuse>
     }
 }
 
-// What is wrong with a word that is no option.
+// What is wrong with a word that is to be a plugin.
 fn wrong_plugin(number: usize, word: &str) -> Option<Misuse>
     ensures { result ≡ wrong_plugin number word.now }
 {
@@ -122,60 +133,84 @@ fn wrong_plugin(number: usize, word: &str) -> Option<Misuse>
     }
 }
 
-// What is wrong with the word of this number behind a command, which is the value of an option or not.
-#[tactic(auto, unfolding(crate::specs::Misuse::wrong_word))]
-fn wrong_word(is_storm: bool, number: usize, awaited: Option<Count>, word: &str) -> Option<Misuse>
-    ensures { result ≡ wrong_word is_storm number awaited word.now }
+// Whether a word begins with a hyphen.
+fn is_hyphened(word: &str) -> bool
+    ensures { result ≡ is_hyphened word.now }
 {
-    if let Some(count) = awaited {
-        return wrong_count(number, count, word);
+    word.as_bytes().starts_with(b"-")
+}
+
+// What is wrong with a word that is no option where one could stand: `clap` takes one with a hyphen in front for an option.
+fn wrong_other(number: usize, word: &str) -> Option<Misuse>
+    ensures { result ≡ wrong_other number word.now }
+{
+    if is_hyphened(word) {
+        return Some(Misuse::Plugin(Part::Spec, number));
+    }
+    wrong_plugin(number, word)
+}
+
+// What is wrong with the word of this number behind a command.
+#[tactic(auto, unfolding(crate::specs::Misuse::wrong_word))]
+fn wrong_word(is_storm: bool, number: usize, read_as: ReadAs, word: &str) -> Option<Misuse>
+    ensures { result ≡ wrong_word is_storm number read_as word.now }
+{
+    match read_as {
+        ReadAs::Value(count) => return wrong_count(number, count, word),
+        ReadAs::NoOption => return wrong_plugin(number, word),
+        ReadAs::Anything => {}
     }
     if is_option(is_storm, word) {
         return None;
     }
     let Some((name, value)) = at_equals(word) else {
-        return wrong_plugin(number, word);
+        return wrong_other(number, word);
     };
     match count_named(is_storm, name) {
         Some(count) => wrong_count(number, count, value),
-        None => wrong_plugin(number, word),
+        None => wrong_other(number, word),
     }
 }
 
-// The option of which the next word is the value.
-fn awaited_behind(is_storm: bool, awaited: Option<Count>, word: &str) -> Option<Count>
-    ensures { result ≡ awaited_behind is_storm awaited word.now }
+// What the word behind one that is read so is read as.
+fn read_behind(is_storm: bool, read_as: ReadAs, word: &str) -> ReadAs
+    ensures { result ≡ read_behind is_storm read_as word.now }
 {
-    match awaited {
-        Some(_) => None,
-        None => count_named(is_storm, word),
+    match read_as {
+        ReadAs::NoOption => ReadAs::NoOption,
+        ReadAs::Value(_) => ReadAs::Anything,
+        ReadAs::Anything if word == "--" => ReadAs::NoOption,
+        ReadAs::Anything => match count_named(is_storm, word) {
+            Some(count) => ReadAs::Value(count),
+            None => ReadAs::Anything,
+        },
     }
 }
 
 // What is wrong where each word may stand where it does, the last of which has this number.
-fn at_end(number: usize, awaited: Option<Count>) -> Misuse
-    ensures { result ≡ at_end number awaited }
+fn at_end(number: usize, read_as: ReadAs) -> Misuse
+    ensures { result ≡ at_end number read_as }
 {
-    match awaited {
-        Some(count) => Misuse::Number(count, number),
-        None => Misuse::Together,
+    match read_as {
+        ReadAs::Value(count) => Misuse::Number(count, number),
+        ReadAs::Anything | ReadAs::NoOption => Misuse::Together,
     }
 }
 
 // What is wrong with the words behind a command, which is the first.
 fn misuse_behind<S: AsStr>(is_storm: bool, args: &[S]) -> Misuse
     requires { 0 < length args.now }
-    ensures { result ≡ misuse_in is_storm 2 None (map S.text (drop 1 args.now)) }
+    ensures { result ≡ misuse_in is_storm 2 ReadAs.Anything (map S.text (drop 1 args.now)) }
 {
-    let mut awaited = None;
+    let mut read_as = ReadAs::Anything;
     for at in 1..args.len() {
         let word = args[at].as_str();
-        if let Some(misuse) = wrong_word(is_storm, at + 1, awaited, word) {
+        if let Some(misuse) = wrong_word(is_storm, at + 1, read_as, word) {
             return misuse;
         }
-        awaited = awaited_behind(is_storm, awaited, word);
+        read_as = read_behind(is_storm, read_as, word);
     }
-    at_end(args.len(), awaited)
+    at_end(args.len(), read_as)
 }
 
 /// What is wrong with words that ask for nothing: the first that can't stand where it does.

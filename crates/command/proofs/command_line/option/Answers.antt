@@ -1,4 +1,4 @@
-use Rattle.std.proofs.Common.{Some, false, ap, ◌≡◌, ◌∙◌}
+use Rattle.std.proofs.Common.{Some, ap, ◌∙◌}
 use Rattle.clap.specs.declared.builder.arg.Arg.{Arg}
 use Rattle.clap.specs.declared.builder.action.ArgAction.TheVariants.{Set}
 use Rattle.clap.specs.Words.{Rule, rule_of}
