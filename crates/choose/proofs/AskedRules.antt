@@ -4,9 +4,8 @@ use Rattle.std.specs.List.{AllZip}
 use Rattle.std.proofs.lemmas.List.{get_or_append_left, get_or_push}
 use Rattle.std.proofs.lemmas.Nat.{mul-le}
 use borrow.Author.Count.{below_more}
-use Rattle.whost.specs.declared.records.Records.{Records}
-use Rattle.plugin.specs.RuleSet.{RuleSet}
-use Rattle.plugin.specs.declared.verdict.ScoreVerdict.TheVariants as score
+use Rattle.rules.specs.RuleSet.{RuleSet, Told}
+use Rattle.rules.specs.declared.verdict.ScoreVerdict.TheVariants as score
 use Rattle.quant.specs.declared.objects.Pod.{Pod}
 use Rattle.desk.specs.Shown.{Shown}
 use Rattle.choose.specs.declared.decision.Reason.{Reason}
@@ -17,7 +16,7 @@ use Rattle.choose.specs.Choice.{AreVerdicts}
 use Rattle.choose.specs.Finding.{IsBuiltIn}
 
 -- the scores of the rules before a place are good, and this is their weighted sum
-pub record GoodBefore (rules : RuleSet) (told : Records) (place sum : ℕ) : Type 0 where
+pub record GoodBefore (rules : RuleSet) (told : Told) (place sum : ℕ) : Type 0 where
   pub scores : List ℕ
   pub many : length scores ≡ place
   pub are : AreScores rules told scores
@@ -28,7 +27,7 @@ pub nothing : (weights : List ℕ) → 0 ≡ weighted weights []
 nothing [] = refl
 nothing (w ∷ ws) = refl
 
-pub good_before_none : (rules : RuleSet) (told : Records) → GoodBefore rules told 0 0
+pub good_before_none : (rules : RuleSet) (told : Told) → GoodBefore rules told 0 0
 good_before_none rules told = record {
   scores = [];
   many = refl;
@@ -49,14 +48,14 @@ weighted_push (v ∷ weights) (x ∷ scores) w s at =
     omega (arith, more)
 
 -- one good score more
-are_push : (rules : RuleSet) (told : Records) (scores : List ℕ) (s : ℕ) → AreScores rules told scores → rules.Scores (length scores) told (score.Good s) → AreScores rules told (scores ++ s ∷ [])
+are_push : (rules : RuleSet) (told : Told) (scores : List ℕ) (s : ℕ) → AreScores rules told scores → rules.Scores (length scores) told (score.Good s) → AreScores rules told (scores ++ s ∷ [])
 are_push rules told scores s are says = λ k below.
     below_more (λ n. rules.Scores n told (score.Good (get_or (scores ++ s ∷ []) n 0))) (length scores)
     (λ n lower. subst (λ v. rules.Scores n told (score.Good v)) (sym (get_or_append_left scores (s ∷ []) 0 n lower)) (are n lower))
     (subst (λ v. rules.Scores (length scores) told (score.Good v)) (sym (get_or_push scores s 0 (length scores) refl)) says)
     k (omega (arith, below, length-append scores (s ∷ [])))
 
-pub good_before_more : (rules : RuleSet) (told : Records) (place sum w s : ℕ) → GoodBefore rules told place sum → slice_get rules.weights place ≡ Some w → rules.Scores place told (score.Good s) → GoodBefore rules told (place + 1) (sum + w * s)
+pub good_before_more : (rules : RuleSet) (told : Told) (place sum w s : ℕ) → GoodBefore rules told place sum → slice_get rules.weights place ≡ Some w → rules.Scores place told (score.Good s) → GoodBefore rules told (place + 1) (sum + w * s)
 good_before_more rules told place sum w s before at says = record {
   scores = before.scores ++ s ∷ [];
   many = simp length-append (omega (arith, before.many));

@@ -4,7 +4,7 @@ use Rattle.std.specs.List.{All, fold}
 use Rattle.std.proofs.lemmas.List.Elements.{All-nil, All-cons, All-weaker}
 use Rattle.quant.specs.Request.{greatest_by}
 use Rattle.desk.specs.Shown.{Shown}
-use Rattle.plugin.specs.declared.verdict.Cause.{Cause}
+use Rattle.rules.specs.declared.verdict.Cause.{Cause}
 use Rattle.choose.specs.declared.decision.Verdict.{Verdict}
 use Rattle.choose.specs.declared.decision.Verdict.TheVariants.{Rejected, RejectedBy, Errs, Passes}
 use Rattle.choose.specs.declared.decision.Reason.{Reason}

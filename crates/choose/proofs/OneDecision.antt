@@ -11,8 +11,8 @@ use Rattle.std.proofs.lemmas.List.{get_or_default}
 use Rattle.std.proofs.lemmas.List.Elements.{All-contains}
 use Rattle.quant.specs.declared.objects.Pod.{Pod}
 use Rattle.desk.specs.Shown.{Shown}
-use Rattle.plugin.specs.declared.verdict.Cause.{Cause}
-use Rattle.plugin.specs.RuleSet.{RuleSet, SayOneThing}
+use Rattle.rules.specs.declared.verdict.Cause.{Cause}
+use Rattle.rules.specs.RuleSet.{RuleSet, SayOneThing}
 use Rattle.choose.specs.declared.decision.Verdict.{Verdict}
 use Rattle.choose.specs.declared.decision.Verdict.TheVariants.{Errs}
 use Rattle.choose.specs.declared.decision.Decision.{Decision}

@@ -5,10 +5,9 @@ use Rattle.std.proofs.lemmas.Bool.{ltb-true, ltb-false}
 use Rattle.std.proofs.lemmas.Grind.{same_number_lists}
 use Rattle.quant.specs.declared.objects.Pod.{Pod}
 use Rattle.desk.specs.Shown.{Shown}
-use Rattle.whost.specs.declared.records.Records.{Records}
-use Rattle.plugin.specs.RuleSet.{RuleSet, SayOneThing}
-use Rattle.plugin.specs.declared.verdict.FilterVerdict.TheVariants as filter
-use Rattle.plugin.specs.declared.verdict.ScoreVerdict.TheVariants as score
+use Rattle.rules.specs.RuleSet.{RuleSet, Told, SayOneThing}
+use Rattle.rules.specs.declared.verdict.FilterVerdict.TheVariants as filter
+use Rattle.rules.specs.declared.verdict.ScoreVerdict.TheVariants as score
 use Rattle.choose.specs.declared.decision.Reason.{Reason}
 use Rattle.choose.specs.declared.decision.Verdict.{Verdict}
 use Rattle.choose.specs.declared.decision.Verdict.TheVariants.{Rejected, Errs}
@@ -24,13 +23,13 @@ pub three_ways : (m n : ℕ) → (m < n) ⊎ ((m ≡ n) ⊎ (n < m))
 three_ways m n = by_less m n (nat_lt m n) refl (nat_lt n m) refl
 
 -- where a rule's filter passes, it doesn't stop there
-not_stopped : (rules : RuleSet) (told : Records) (verdict : Verdict) → SayOneThing rules → (stops : StopsAt rules told verdict) → rules.Filters stops.place told filter.Passes → ⊥
+not_stopped : (rules : RuleSet) (told : Told) (verdict : Verdict) → SayOneThing rules → (stops : StopsAt rules told verdict) → rules.Filters stops.place told filter.Passes → ⊥
 not_stopped rules told verdict once stops passes =
     let same : stops.said ≡ filter.Passes = once.filter stops.place told stops.said filter.Passes stops.says passes in
     let none : stopped_by stops.place stops.said ≡ None = ap (stopped_by stops.place) same in
     cc (stops.makes)
 
-one_stop : (rules : RuleSet) (told : Records) (v w : Verdict) → SayOneThing rules → StopsAt rules told v → StopsAt rules told w → v ≡ w
+one_stop : (rules : RuleSet) (told : Told) (v w : Verdict) → SayOneThing rules → StopsAt rules told v → StopsAt rules told w → v ≡ w
 one_stop rules told v w once one other = elim (three_ways one.place other.place) [
   | inl less ↦ absurd (not_stopped rules told v once one (other.before one.place less))
   | inr more ↦ elim more [
@@ -44,24 +43,24 @@ one_stop rules told v w once one other = elim (three_ways one.place other.place)
   ]
 ]
 
-one_filtered : (rules : RuleSet) (told : Records) (one other : Option Verdict) → SayOneThing rules → Filtered rules told one → Filtered rules told other → one ≡ other
+one_filtered : (rules : RuleSet) (told : Told) (one other : Option Verdict) → SayOneThing rules → Filtered rules told one → Filtered rules told other → one ≡ other
 one_filtered rules told None None once a b = refl
 one_filtered rules told None (Some w) once a b = absurd (not_stopped rules told w once b (a b.place b.there))
 one_filtered rules told (Some v) None once a b = absurd (not_stopped rules told v once a (b a.place a.there))
 one_filtered rules told (Some v) (Some w) once a b = ap (λ x. Some x) (one_stop rules told v w once a b)
 
 -- a score that is good doesn't err
-not_erring : (rules : RuleSet) (told : Records) (verdict : Verdict) (scores : List ℕ) → SayOneThing rules → (errs : ScoreErrs rules told verdict) → AreScores rules told scores → length errs.before < length scores → ⊥
+not_erring : (rules : RuleSet) (told : Told) (verdict : Verdict) (scores : List ℕ) → SayOneThing rules → (errs : ScoreErrs rules told verdict) → AreScores rules told scores → length errs.before < length scores → ⊥
 not_erring rules told verdict scores once errs are there =
     let same : score.Errs errs.why ≡ score.Good (slice_index scores (length errs.before)) = once.score (length errs.before) told _ _ errs.says (are (length errs.before) there) in
     cc
 
-same_scores : (rules : RuleSet) (told : Records) (xs ys : List ℕ) → SayOneThing rules → length xs ≡ length ys → AreScores rules told xs → AreScores rules told ys → xs ≡ ys
+same_scores : (rules : RuleSet) (told : Told) (xs ys : List ℕ) → SayOneThing rules → length xs ≡ length ys → AreScores rules told xs → AreScores rules told ys → xs ≡ ys
 same_scores rules told xs ys once many one other = same_number_lists xs ys many (λ k below.
     let same : score.Good (get_or xs k 0) ≡ score.Good (get_or ys k 0) = once.score k told _ _ (one k below) (other k (omega (arith, below, many))) in
     cc)
 
-one_error : (rules : RuleSet) (told : Records) (v w : Verdict) → SayOneThing rules → ScoreErrs rules told v → ScoreErrs rules told w → v ≡ w
+one_error : (rules : RuleSet) (told : Told) (v w : Verdict) → SayOneThing rules → ScoreErrs rules told v → ScoreErrs rules told w → v ≡ w
 one_error rules told v w once one other = elim (three_ways (length one.before) (length other.before)) [
   | inl less ↦ absurd (not_erring rules told v other.before once one other.are less)
   | inr more ↦ elim more [
@@ -74,7 +73,7 @@ one_error rules told v w once one other = elim (three_ways (length one.before) (
   ]
 ]
 
-one_scored : (rules : RuleSet) (told : Records) (one other : Result ℕ Verdict) → SayOneThing rules → Scored rules told one → Scored rules told other → one ≡ other
+one_scored : (rules : RuleSet) (told : Told) (one other : Result ℕ Verdict) → SayOneThing rules → Scored rules told one → Scored rules told other → one ≡ other
 one_scored rules told (Ok m) (Ok n) once a b =
     let same : a.scores ≡ b.scores = same_scores rules told a.scores b.scores once (a.all ∙ sym b.all) a.are b.are in
     ap (λ x. Ok x) (a.adds ∙ (ap (weighted rules.weights) same ∙ sym b.adds))

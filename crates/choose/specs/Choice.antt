@@ -6,7 +6,7 @@ use Rattle.quant.specs.Name.{is_before}
 use Rattle.quant.specs.Request.{greatest_by}
 use Rattle.taints.specs.TaintScore.{taint_score}
 use Rattle.desk.specs.Shown.{Shown}
-use Rattle.plugin.specs.RuleSet.{RuleSet}
+use Rattle.rules.specs.RuleSet.{RuleSet}
 use Rattle.choose.specs.declared.decision.Reason.{Reason}
 use Rattle.choose.specs.declared.decision.Reason.TheVariants.{Marked, Taint, Cpu, Memory, Pods, Plugin, Final}
 use Rattle.choose.specs.declared.decision.Verdict.{Verdict}

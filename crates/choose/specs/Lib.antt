@@ -2,3 +2,4 @@ pub mod Verdict
 pub mod Choice
 pub mod Finding
 pub mod Laws
+pub mod Kits

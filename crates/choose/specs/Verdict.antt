@@ -9,15 +9,13 @@ use Rattle.taints.specs.declared.tolerance.Rejection.{Rejection as TaintRejectio
 use Rattle.taints.specs.declared.tolerance.Rejection.TheVariants as taint
 use Rattle.taints.specs.Tolerance.{rejection, prefer_not}
 use Rattle.desk.specs.Shown.{Shown}
-use Rattle.whost.specs.Handed.{told_of}
-use Rattle.whost.specs.declared.records.Records.{Records}
-use Rattle.plugin.specs.RuleSet.{RuleSet}
-use Rattle.plugin.specs.declared.verdict.Rejection.{Rejection}
-use Rattle.plugin.specs.declared.verdict.Rejection.TheVariants.{Unschedulable, UnschedulableAndUnresolvable}
-use Rattle.plugin.specs.declared.verdict.Cause.{Cause}
-use Rattle.plugin.specs.declared.verdict.FilterVerdict.{FilterVerdict}
-use Rattle.plugin.specs.declared.verdict.FilterVerdict.TheVariants as filter
-use Rattle.plugin.specs.declared.verdict.ScoreVerdict.TheVariants as score
+use Rattle.rules.specs.RuleSet.{RuleSet, Told}
+use Rattle.rules.specs.declared.verdict.Rejection.{Rejection}
+use Rattle.rules.specs.declared.verdict.Rejection.TheVariants.{Unschedulable, UnschedulableAndUnresolvable}
+use Rattle.rules.specs.declared.verdict.Cause.{Cause}
+use Rattle.rules.specs.declared.verdict.FilterVerdict.{FilterVerdict}
+use Rattle.rules.specs.declared.verdict.FilterVerdict.TheVariants as filter
+use Rattle.rules.specs.declared.verdict.ScoreVerdict.TheVariants as score
 use Rattle.choose.specs.declared.decision.Reason.{Reason}
 use Rattle.choose.specs.declared.decision.Reason.TheVariants.{Marked, Taint, Cpu, Memory, Pods, Plugin, Final}
 use Rattle.choose.specs.declared.decision.Verdict.{Verdict}
@@ -51,11 +49,15 @@ stopped_by place (filter.Rejects how) = Some (RejectedBy place how)
 stopped_by place (filter.Errs why) = Some (Errs place why)
 
 -- the filters of all rules before a place pass a node
-abbrev pub PassBefore : RuleSet → (place : ℕ) → (told : Records) → Type 0
+abbrev pub PassBefore : RuleSet → (place : ℕ) → (told : Told) → Type 0
 PassBefore rules place told = (k : ℕ) → k < place → rules.Filters k told filter.Passes
 
+-- what the rules are told of a node that is shown, for a pod
+abbrev pub told_of : Pod → Shown → Told
+told_of pod shown = record { pod = pod; node = shown.node; used = shown.used }
+
 -- the first rule whose filter doesn't pass a node
-pub record StopsAt (rules : RuleSet) (told : Records) (verdict : Verdict) : Type 0 where
+pub record StopsAt (rules : RuleSet) (told : Told) (verdict : Verdict) : Type 0 where
   pub place : ℕ
   pub there : place < length rules.weights
   pub before : PassBefore rules place told
@@ -64,12 +66,12 @@ pub record StopsAt (rules : RuleSet) (told : Records) (verdict : Verdict) : Type
   pub makes : stopped_by place said ≡ Some verdict
 
 -- what the filters of the rules make of a node: nothing where all of them pass
-abbrev pub Filtered : RuleSet → (told : Records) → Option Verdict → Type 0
+abbrev pub Filtered : RuleSet → (told : Told) → Option Verdict → Type 0
 Filtered rules told None = PassBefore rules (length rules.weights) told
 Filtered rules told (Some verdict) = StopsAt rules told verdict
 
 -- these are the scores of the first rules, all of them good
-abbrev pub AreScores : RuleSet → (told : Records) → (scores : List ℕ) → Type 0
+abbrev pub AreScores : RuleSet → (told : Told) → (scores : List ℕ) → Type 0
 AreScores rules told scores = (k : ℕ) → k < length scores → rules.Scores k told (score.Good (slice_index scores k))
 
 -- each score as often as its rule's weight says, added up
@@ -79,14 +81,14 @@ weighted (w ∷ ws) [] = 0
 weighted (w ∷ ws) (s ∷ ss) = w * s + weighted ws ss
 
 -- all rules give good scores, and this is their weighted sum
-pub record ScoresSum (rules : RuleSet) (told : Records) (sum : ℕ) : Type 0 where
+pub record ScoresSum (rules : RuleSet) (told : Told) (sum : ℕ) : Type 0 where
   pub scores : List ℕ
   pub all : length scores ≡ length rules.weights
   pub are : AreScores rules told scores
   pub adds : sum ≡ weighted rules.weights scores
 
 -- the first rule whose score isn't good
-pub record ScoreErrs (rules : RuleSet) (told : Records) (verdict : Verdict) : Type 0 where
+pub record ScoreErrs (rules : RuleSet) (told : Told) (verdict : Verdict) : Type 0 where
   pub before : List ℕ
   pub there : length before < length rules.weights
   pub are : AreScores rules told before
@@ -95,7 +97,7 @@ pub record ScoreErrs (rules : RuleSet) (told : Records) (verdict : Verdict) : Ty
   pub makes : verdict ≡ Errs (length before) why
 
 -- what the scores of the rules make of a node that all filters pass
-abbrev pub Scored : RuleSet → (told : Records) → Result ℕ Verdict → Type 0
+abbrev pub Scored : RuleSet → (told : Told) → Result ℕ Verdict → Type 0
 Scored rules told (Ok sum) = ScoresSum rules told sum
 Scored rules told (Err verdict) = ScoreErrs rules told verdict
 
@@ -112,13 +114,13 @@ made_by shown pod (Err verdict) = verdict
 -- the verdict on a node that all filters pass: the first score that isn't good, else it passes
 pub record ByScores (rules : RuleSet) (pod : Pod) (shown : Shown) (verdict : Verdict) : Type 0 where
   pub scored : Result ℕ Verdict
-  pub are : Scored rules (told_of pod shown.node shown.used) scored
+  pub are : Scored rules (told_of pod shown) scored
   pub is : verdict ≡ made_by shown pod scored
 
 -- the verdict on a node that no built-in filter rejects: the first filter of the rules that doesn't pass, else by the scores
 pub record ByRules (rules : RuleSet) (pod : Pod) (shown : Shown) (verdict : Verdict) : Type 0 where
   pub filtered : Option Verdict
-  pub are : Filtered rules (told_of pod shown.node shown.used) filtered
+  pub are : Filtered rules (told_of pod shown) filtered
   pub is : MatchOption filtered (ByScores rules pod shown verdict) (λ stopped. verdict ≡ stopped)
 
 -- the verdict on a node

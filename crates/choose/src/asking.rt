@@ -1,18 +1,21 @@
 //! What the rules make of a node.
 ghost use Rattle.std.specs.Prelude.{◌≡◌, ◌≤◌, IfOk};
+ghost use Rattle.quant.specs.declared.amount.Res.{Res};
+ghost use Rattle.rules.specs.RuleSet.{Told};
 ghost use Rattle.choose.specs.Verdict.{Filtered, Scored};
 
 use crate::decision::Verdict;
-use plugin::{FilterVerdict, Rules, ScoreVerdict};
-use whost::Records;
+use rules::{FilterVerdict, Rules, ScoreVerdict};
 
-/// What the filters of the rules make of the node whose record is shown, in their order: the first that doesn't pass ends it.
-pub fn filtered<R: Rules>(records: &Records, rules: &mut R) -> Option<Verdict>
-    ensures is { Filtered (R.answers rules.old) records.now result }
+/// What the filters of the rules make of the node that is shown, in their order: the first that doesn't pass ends it.
+pub fn filtered<R: Rules>(notes: &mut R::Notes, rules: &mut R) -> Option<Verdict>
+    ensures is { (told : Told) → R.OfPod notes.old told.pod → R.OfNode notes.old told.node told.used
+        → Filtered (R.answers rules.old) told result }
+    ensures notes { notes.new ≡ notes.old }
     ensures stays { rules.new ≡ rules.old }
 {
     for place in 0..rules.count() {
-        match rules.filter(place, records) {
+        match rules.filter(place, notes) {
             FilterVerdict::Passes => {}
             FilterVerdict::Rejects(how) => return Some(Verdict::RejectedBy(place, how)),
             FilterVerdict::Errs(why) => return Some(Verdict::Errs(place, why)),
@@ -21,16 +24,18 @@ pub fn filtered<R: Rules>(records: &Records, rules: &mut R) -> Option<Verdict>
     None
 }
 
-/// What the scores of the rules add to the node whose record is shown, each as often as its weight says, or the verdict where
-/// one isn't good.
-pub fn scored<R: Rules>(records: &Records, rules: &mut R) -> Result<u16, Verdict>
-    ensures is { Scored (R.answers rules.old) records.now result }
+/// What the scores of the rules add to the node that is shown, each as often as its weight says, or the verdict where one isn't
+/// good.
+pub fn scored<R: Rules>(notes: &mut R::Notes, rules: &mut R) -> Result<u16, Verdict>
+    ensures is { (told : Told) → R.OfPod notes.old told.pod → R.OfNode notes.old told.node told.used
+        → Scored (R.answers rules.old) told result }
+    ensures notes { notes.new ≡ notes.old }
     ensures stays { rules.new ≡ rules.old }
     ensures few { IfOk result (λ sum. sum ≤ 16000) }
 {
     let mut sum = 0;
     for place in 0..rules.count() {
-        match rules.score(place, records) {
+        match rules.score(place, notes) {
             ScoreVerdict::Good(score) => {
                 sum += u16::from(rules.weight(place)) * u16::from(score);
             }

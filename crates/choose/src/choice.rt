@@ -9,8 +9,8 @@ use crate::counts::counts;
 use crate::decision::{Decision, Verdict};
 use crate::judging::verdicts_of;
 use desk::{NoMemory, Row, Snapshot};
-use plugin::Rules;
 use quant::{Name, Pod};
+use rules::Rules;
 use std::alloc::Global;
 
 /// The decision by the verdicts on nodes, in their order. Where a node errs, the one of the least name decides. Else the node

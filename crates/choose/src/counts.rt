@@ -5,7 +5,7 @@ ghost use Rattle.choose.specs.Verdict.{reason_of};
 ghost use Rattle.choose.specs.Finding.{counts_in};
 
 use crate::decision::{Counts, Reason, Verdict};
-use plugin::Rejection;
+use rules::Rejection;
 
 /// How many of the verdicts reject for each reason.
 pub fn counts(verdicts: &[Verdict]) -> Counts

@@ -1,6 +1,6 @@
 //! What is decided of a node, and of a pod.
-use plugin::{Cause, Rejection};
 use quant::Name;
+use rules::{Cause, Rejection};
 
 /// The first reason for which a node isn't for a pod.
 #[derive(Clone, Copy, PartialEq, Eq, Debug)]

@@ -3,7 +3,6 @@ ghost use Rattle.std.specs.Prelude.{◌≡◌, ◌≤◌, length, IfOk, map};
 ghost use Rattle.std.specs.List.{AllZip};
 ghost use Rattle.taints.specs.Tolerance.{prefer_not};
 ghost use Rattle.desk.specs.Shown.{shown};
-ghost use Rattle.whost.specs.Handed.{pod_records};
 ghost use Rattle.choose.specs.Verdict.{HasVerdict, built_in, passing};
 ghost use Rattle.choose.specs.Choice.{AreVerdicts};
 ghost use Rattle.choose.specs.Finding.{IsBuiltIn};
@@ -12,11 +11,10 @@ use crate::asking::{filtered, scored};
 use crate::decision::{Reason, UNJUDGED, Verdict};
 use desk::Row;
 use fit::{Shortage, fits};
-use plugin::Rules;
 use quant::Pod;
+use rules::Rules;
 use std::alloc::{AllocError, Global};
 use taints::{Rejection, prefer_count, rejected_by};
-use whost::Records;
 
 /// The first of the built-in filters that rejects a node: its mark, its taints, its CPU, its memory and its number of pods. A
 /// plain node isn't looked into.
@@ -59,7 +57,7 @@ fn passing(row: &Row, pod: &Pod, sum: u16) -> Verdict
     Verdict::Passes(untolerated(row, pod), u16::from(free) + sum)
 }
 
-// The verdict on a node where there is no rule. It needs no records.
+// The verdict on a node where there is no rule. It need be shown to none.
 fn built_in_verdict(row: &Row, pod: &Pod) -> Verdict
     ensures { IsBuiltIn pod.now (shown row.now) result }
 {
@@ -69,28 +67,28 @@ fn built_in_verdict(row: &Row, pod: &Pod) -> Verdict
     }
 }
 
-/// The verdict on a node. Its records are written where no built-in filter rejects the node; the pod's stand already.
-pub fn verdict_of<R: Rules>(row: &Row, pod: &Pod, records: &mut Records, rules: &mut R) -> Verdict
-    requires { records.old.pod ≡ pod_records pod.now }
+/// The verdict on a node. The rules are shown it where no built-in filter rejects it; the pod was shown to them already.
+pub fn verdict_of<R: Rules>(row: &Row, pod: &Pod, notes: &mut R::Notes, rules: &mut R) -> Verdict
+    requires { R.OfPod notes.old pod.now }
     ensures is { HasVerdict (R.answers rules.old) pod.now (shown row.now) result }
     ensures stays { rules.new ≡ rules.old }
-    ensures pod { records.new.pod ≡ records.old.pod }
+    ensures pod { R.OfPod notes.new pod.now }
 {
     if let Some(reason) = built_in(row, pod) {
         return Verdict::Rejected(reason);
     }
-    records.show_node(&row.node, &row.used);
-    if let Some(stopped) = filtered(records, rules) {
+    rules.show_node(notes, &row.node, &row.used);
+    if let Some(stopped) = filtered(notes, rules) {
         return stopped;
     }
-    match scored(records, rules) {
+    match scored(notes, rules) {
         Ok(sum) => passing(row, pod, sum),
         Err(erring) => erring,
     }
 }
 
-/// Writes the verdicts on nodes into the places for them, in the nodes' order. Where there is a rule the pod's records are
-/// written, once. No memory is taken.
+/// Writes the verdicts on nodes into the places for them, in the nodes' order. Where there is a rule the pod is shown to the
+/// rules, once. No memory is taken.
 pub fn judge<R: Rules>(rows: &[Row], pod: &Pod, rules: &mut R, verdicts: &mut [Verdict])
     requires { length verdicts.old ≡ length rows.now }
     ensures are { AreVerdicts (R.answers rules.old) pod.now (map shown rows.now) verdicts.new }
@@ -113,16 +111,15 @@ fn judge_alone(rows: &[Row], pod: &Pod, verdicts: &mut [Verdict])
     }
 }
 
-// Writes the verdicts on nodes, of which the rules are told by records.
+// Writes the verdicts on nodes, which the rules are shown.
 fn judge_by_rules<R: Rules>(rows: &[Row], pod: &Pod, rules: &mut R, verdicts: &mut [Verdict])
     requires { length verdicts.old ≡ length rows.now }
     ensures are { AreVerdicts (R.answers rules.old) pod.now (map shown rows.now) verdicts.new }
     ensures stays { rules.new ≡ rules.old }
 {
-    let mut records = Records::new();
-    records.show_pod(pod);
+    let mut notes = rules.show_pod(pod);
     for at in 0..rows.len() {
-        verdicts[at] = verdict_of(&rows[at], pod, &mut records, rules);
+        verdicts[at] = verdict_of(&rows[at], pod, &mut notes, rules);
     }
 }
 

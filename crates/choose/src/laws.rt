@@ -1,7 +1,7 @@
 //! What holds of every choice. The functions do nothing: their contracts are the laws.
 ghost use Rattle.choose.specs.Laws.{OneVerdict, OneDecision, VerdictsDecide, RejectedOnlyCount};
 
-use plugin::Rules;
+use rules::Rules;
 
 /// There is one verdict on a node, by the node, the pod and the rules alone.
 pub fn one_verdict<R: Rules>(_rules: &R)

@@ -20,7 +20,7 @@ use Rattle.desk.specs.Shared.{Pass, Desk, IsPassOf, IsApplied, IsLooked}
 use Rattle.desk.specs.Alone.{state_seen, AnswersAlone, LooksAlone}
 use Rattle.desk.proofs.Fair.{answered_next}
 use Rattle.desk.specs.Shown.{Shown}
-use Rattle.plugin.specs.RuleSet.{RuleSet}
+use Rattle.rules.specs.RuleSet.{RuleSet}
 use Rattle.choose.specs.declared.decision.Decision.{Decision}
 use Rattle.choose.specs.declared.decision.Decision.TheVariants as decisions
 use Rattle.choose.specs.declared.decision.Verdict.{Verdict}

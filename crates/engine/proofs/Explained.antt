@@ -2,7 +2,7 @@
 use Rattle.std.proofs.Common.{◌≡◌, ℕ, true, false, List, [], ◌∷◌, ◌++◌, refl, sym, ap, subst, ◌∙◌, append_assoc}
 use Rattle.std.proofs.lemmas.List.Elements.{All-nil, All-cons}
 use Rattle.quant.specs.declared.name.Name.{Name}
-use Rattle.plugin.specs.RuleSet.{RuleSet}
+use Rattle.rules.specs.RuleSet.{RuleSet}
 use Rattle.desk.specs.Machine.{State}
 use Rattle.engine.specs.declared.asked.Asked.{Asked}
 use Rattle.engine.specs.declared.asked.Asked.TheVariants as asked

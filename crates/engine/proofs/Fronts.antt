@@ -2,7 +2,7 @@
 use Rattle.std.proofs.Common.{◌≡◌, ℕ, ◌⊎◌, inl, inr, List, [], ◌∷◌, ◌++◌, refl, sym, ap, subst, ◌∙◌}
 use Rattle.std.proofs.lemmas.List.{append_assoc}
 use Rattle.engine.specs.Telling.{Telling}
-use Rattle.plugin.specs.RuleSet.{RuleSet, SayOneThing}
+use Rattle.rules.specs.RuleSet.{RuleSet, SayOneThing}
 use Rattle.engine.specs.declared.asked.Asked.{Asked}
 use Rattle.engine.specs.Answers.{State, opening, limits, AllAnswered}
 use Rattle.engine.specs.Laws.{Begins, FrontsBeginOutput, FrontsAgree}

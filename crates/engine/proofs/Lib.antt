@@ -4,7 +4,6 @@ pub mod Ends
 pub mod Explained
 pub mod Fronts
 pub mod Indented
-pub mod Kits
 pub mod Known
 pub mod Nodes
 pub mod OneOutput

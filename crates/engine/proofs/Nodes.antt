@@ -9,7 +9,7 @@ use Rattle.desk.specs.Machine as machine
 use Rattle.desk.specs.Machine.{State, reply, snapshot}
 use Rattle.desk.specs.Shown.{Shown, shown}
 use Rattle.desk.specs.declared.snapshot.Row.{Row}
-use Rattle.plugin.specs.RuleSet.{RuleSet}
+use Rattle.rules.specs.RuleSet.{RuleSet}
 use Rattle.choose.specs.declared.decision.Decision.{Decision}
 use Rattle.choose.specs.declared.decision.Decision.TheVariants as decisions
 use Rattle.choose.specs.declared.decision.Verdict.{Verdict}

@@ -10,7 +10,7 @@ use Rattle.desk.specs.declared.step.Reply.{Reply}
 use Rattle.desk.specs.declared.step.Reply.TheVariants as replies
 use Rattle.desk.specs.Machine as machine
 use Rattle.desk.specs.Machine.{State, reply, snapshot}
-use Rattle.plugin.specs.RuleSet.{RuleSet, SayOneThing}
+use Rattle.rules.specs.RuleSet.{RuleSet, SayOneThing}
 use Rattle.choose.specs.declared.decision.Decision.{Decision}
 use Rattle.choose.specs.declared.decision.Decision.TheVariants as decisions
 use Rattle.choose.specs.Laws.{HaveOwnNames}

@@ -8,11 +8,11 @@ use Rattle.quant.specs.declared.objects.Node.{Node}
 use Rattle.book.specs.declared.refusal.Refusal.{Refusal}
 use Rattle.book.specs.declared.refusal.Refusal.TheVariants as refusal
 use Rattle.book.specs.Refusal as book
-use Rattle.wmach.specs.declared.outcome.Trap.{Trap}
-use Rattle.wmach.specs.declared.outcome.Trap.TheVariants as traps
-use Rattle.wmach.specs.Trap as trap
-use Rattle.plugin.specs.declared.verdict.Cause.{Cause}
-use Rattle.plugin.specs.declared.verdict.Cause.TheVariants as cause
+use Rattle.rules.specs.declared.trap.Trap.{Trap}
+use Rattle.rules.specs.declared.trap.Trap.TheVariants as traps
+use Rattle.rules.specs.Trap as trap
+use Rattle.rules.specs.declared.verdict.Cause.{Cause}
+use Rattle.rules.specs.declared.verdict.Cause.TheVariants as cause
 use Rattle.choose.specs.declared.decision.Counts.{Counts}
 use Rattle.choose.specs.declared.decision.Reason.{Reason}
 use Rattle.choose.specs.declared.decision.Reason.TheVariants as reason

@@ -6,7 +6,7 @@ use Rattle.std.proofs.lemmas.List.{length-take, append-nil, take_all}
 use Rattle.std.specs.Io.KnownBytes.{Appends, Consumes, IsAtEnd, prepend_known}
 use Rattle.manifest.specs.declared.fault.LineFault.{LineFault}
 use Rattle.engine.specs.Telling.{Telling}
-use Rattle.plugin.specs.RuleSet.{RuleSet}
+use Rattle.rules.specs.RuleSet.{RuleSet}
 use Rattle.engine.specs.declared.asked.Asked.{Asked}
 use Rattle.manifest.specs.Line.{meaning}
 use Rattle.engine.specs.Device.{AppendsFront, WritesSome}

@@ -9,7 +9,7 @@ use Rattle.desk.specs.declared.step.Reply.TheVariants as replies
 use Rattle.desk.specs.Machine as machine
 use Rattle.desk.specs.Machine.{State, reply}
 use Rattle.desk.specs.Shown.{Shown}
-use Rattle.plugin.specs.RuleSet.{RuleSet}
+use Rattle.rules.specs.RuleSet.{RuleSet}
 use Rattle.choose.specs.declared.decision.Decision.{Decision}
 use Rattle.choose.specs.declared.decision.Verdict.{Verdict}
 use Rattle.choose.specs.Verdict.{HasVerdict}

@@ -13,7 +13,7 @@ use Rattle.desk.specs.Shown.{Shown}
 use Rattle.manifest.specs.declared.command.Command.{Command}
 use Rattle.manifest.specs.declared.command.Command.TheVariants as commands
 use Rattle.desk.specs.Caller as caller
-use Rattle.plugin.specs.RuleSet.{RuleSet}
+use Rattle.rules.specs.RuleSet.{RuleSet}
 use Rattle.engine.specs.declared.asked.Asked.{Asked}
 use Rattle.engine.specs.declared.asked.Asked.TheVariants as asked
 use Rattle.engine.specs.declared.one_cycle.Cycled.{Cycled}

@@ -10,7 +10,7 @@ use Rattle.desk.specs.declared.step.Reply.{Reply}
 use Rattle.desk.specs.declared.step.Reply.TheVariants as replies
 use Rattle.desk.specs.Shown.{Shown}
 use Rattle.desk.specs.Shared.{Pass, Desk, IsApplied, IsLooked}
-use Rattle.plugin.specs.RuleSet.{RuleSet}
+use Rattle.rules.specs.RuleSet.{RuleSet}
 use Rattle.choose.specs.declared.decision.Decision.{Decision}
 use Rattle.choose.specs.declared.decision.Decision.TheVariants as decisions
 use Rattle.choose.specs.declared.decision.Verdict.{Verdict}

@@ -7,7 +7,7 @@ use Rattle.desk.specs.declared.step.Step.TheVariants.{Pop, Assume, Fail}
 use Rattle.desk.specs.declared.step.Reply.{Reply}
 use Rattle.desk.specs.declared.step.Reply.TheVariants as replies
 use Rattle.desk.specs.Machine.{State, reply, after, snapshot}
-use Rattle.plugin.specs.RuleSet.{RuleSet}
+use Rattle.rules.specs.RuleSet.{RuleSet}
 use Rattle.choose.specs.declared.decision.Decision.{Decision}
 use Rattle.choose.specs.declared.decision.Decision.TheVariants as decisions
 use Rattle.choose.specs.declared.decision.Verdict.{Verdict}

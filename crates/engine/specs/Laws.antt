@@ -4,8 +4,8 @@ use Rattle.std.specs.List.{All, flat_map}
 use Rattle.quant.specs.declared.name.Name.{Name}
 use Rattle.engine.specs.Telling.{Telling, telling}
 use Rattle.engine.specs.Indented.{AreLines, without_indented}
-use Rattle.plugin.specs.RuleSet.{RuleSet}
-use Rattle.fleet.specs.Alike.{JudgeAlike}
+use Rattle.rules.specs.RuleSet.{RuleSet}
+use Rattle.choose.specs.Kits.{JudgeAlike}
 use Rattle.engine.specs.Output.{IsOutput, BeginsOutput}
 
 -- There is one output of a script: it depends on the script, the rules, their names and whether verdicts are told alone.

@@ -2,7 +2,7 @@
 use Rattle.std.specs.Prelude.{◌≡◌, ◌≢◌, ◌<◌, ℕ, [], Some, None, Result, Err, IfSome, OnOk, OnErr}
 use Rattle.engine.specs.Telling.{Telling}
 use Rattle.manifest.specs.declared.fault.LineFault.{LineFault}
-use Rattle.plugin.specs.RuleSet.{RuleSet}
+use Rattle.rules.specs.RuleSet.{RuleSet}
 use Rattle.engine.specs.declared.fault.RunFault.{RunFault}
 use Rattle.engine.specs.declared.fault.RunFault.TheVariants.{Line, Read, Write}
 use Rattle.engine.specs.Device.{DeviceUse}

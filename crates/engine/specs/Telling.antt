@@ -6,9 +6,9 @@ use Rattle.desk.specs.declared.step.Reply.{Reply}
 use Rattle.desk.specs.declared.step.Reply.TheVariants as replies
 use Rattle.desk.specs.declared.step.Step.TheVariants.{Pop}
 use Rattle.desk.specs.Machine.{State, reply, after, snapshot}
-use Rattle.plugin.specs.RuleSet.{RuleSet}
-use Rattle.plugin.specs.declared.verdict.Rejection.{Rejection}
-use Rattle.plugin.specs.declared.verdict.Rejection.TheVariants.{Unschedulable, UnschedulableAndUnresolvable}
+use Rattle.rules.specs.RuleSet.{RuleSet}
+use Rattle.rules.specs.declared.verdict.Rejection.{Rejection}
+use Rattle.rules.specs.declared.verdict.Rejection.TheVariants.{Unschedulable, UnschedulableAndUnresolvable}
 use Rattle.choose.specs.declared.decision.Reason.{Reason}
 use Rattle.choose.specs.declared.decision.Reason.TheVariants.{Marked, Taint, Cpu, Memory, Pods, Plugin, Final}
 use Rattle.choose.specs.declared.decision.Verdict.{Verdict}

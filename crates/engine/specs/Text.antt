@@ -5,10 +5,10 @@ use Rattle.quant.specs.declared.amount.Res.{Res}
 use Rattle.quant.specs.declared.objects.Node.{Node}
 use Rattle.book.specs.declared.refusal.Refusal.{Refusal}
 use Rattle.book.specs.Refusal.{number_of, name_of}
-use Rattle.wmach.specs.Trap as trap
+use Rattle.rules.specs.Trap as trap
 use Rattle.quant.specs.declared.name.Name.{Name}
-use Rattle.plugin.specs.declared.verdict.Cause.{Cause}
-use Rattle.plugin.specs.declared.verdict.Cause.TheVariants as cause
+use Rattle.rules.specs.declared.verdict.Cause.{Cause}
+use Rattle.rules.specs.declared.verdict.Cause.TheVariants as cause
 use Rattle.choose.specs.declared.decision.Counts.{Counts}
 use Rattle.engine.specs.declared.one_cycle.Cycled.{Cycled}
 use Rattle.engine.specs.declared.one_cycle.Cycled.TheVariants as cycled

@@ -1,7 +1,7 @@
 //! What holds of every script. The functions do nothing: their contracts are the laws.
 ghost use Rattle.engine.specs.Laws.{OneOutput, FrontsBeginOutput, FrontsAgree, SameOutput, ExplainedOutput, PlainOutput};
 
-use plugin::Rules;
+use rules::Rules;
 
 /// A script has one output: it depends on the script, the rules and their names alone, and on no order in which threads took
 /// their turns. What a run writes that is cut short begins it.

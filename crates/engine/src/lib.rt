@@ -25,7 +25,6 @@ mod script;
 mod session;
 mod text;
 mod verdicts;
-mod with_kits;
 
 pub use device::{DeviceFailed, Sink, Source, write_all};
 pub use fault::RunFault;
@@ -34,4 +33,3 @@ pub use lines::LineReader;
 pub use one_cycle::{CutShort, Cycled, cycle};
 pub use script::run;
 pub use session::push_dump;
-pub use with_kits::run_with_kits;

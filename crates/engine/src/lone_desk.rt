@@ -2,13 +2,13 @@
 ghost use Rattle.std.specs.Prelude.{◌≡◌, ◌⊎◌, IfOk, IfErr, OnOk, OnErr};
 ghost use Rattle.desk.specs.Caller.{IsTimely};
 ghost use Rattle.desk.specs.Machine as machine;
-ghost use Rattle.fleet.specs.Team.{rules_of};
+ghost use Rattle.choose.specs.Kits.{rules_of};
 ghost use Rattle.engine.specs.CycleAlone.{DecideAlone, IsCycleAlone};
 
 use crate::fault::RunFault;
 use crate::one_cycle::{CutShort, Cycled, cycle};
+use choose::Decider;
 use desk::{Blank, Desk, Limits, Naming, NoMemory, Pass, Reply, Snapshot, Step, one_pass_is_alone};
-use fleet::Decider;
 use std::alloc::Global;
 use std::hash::RandomState;
 use std::marker::Model;

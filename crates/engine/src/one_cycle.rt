@@ -1,16 +1,15 @@
 //! One cycle of the scheduler: a pod is popped, a node is chosen for it, and its place is assumed.
 ghost use Rattle.std.specs.Prelude.{◌≡◌, IfOk, IfErr, OnOk, OnErr};
 ghost use Rattle.desk.specs.Shared.{IsPassOf};
-ghost use Rattle.fleet.specs.Team.{rules_of};
+ghost use Rattle.choose.specs.Kits.{rules_of};
 ghost use Rattle.engine.specs.CycleAlone.{is_idle};
 ghost use Rattle.engine.specs.Cycle.{IsFailed, EndsWith, IsAssumed, IsChosen, IsDecided, MayLook, IsGivenUp, IsLeft, IsCycle, IsCutShort, AreSeen, DecideCycle};
 
-use choose::{Counts, Decision};
+use choose::{Counts, Decider, Decision};
 use desk::{Desk, Naming, NoMemory, Pass, Refusal, Reply, Step};
-use fleet::Decider;
-use plugin::Cause;
 use quant::{Name, SharedPod, Ticket};
 use queue::Failure;
+use rules::Cause;
 use std::sync::Wait;
 use std::thread::Threads;
 

@@ -3,7 +3,7 @@ ghost use Rattle.std.specs.Prelude.{◌≡◌, ◌≢◌, ◌^◌, ◌<◌, Err,
 ghost use Rattle.std.specs.Io.KnownBytes.{Appends};
 ghost use Rattle.engine.specs.Device.{AppendsFront, WritesSome, CountsFailure, use_of};
 ghost use Rattle.manifest.specs.Reading.{Answers};
-ghost use Rattle.fleet.specs.Team.{rules_of};
+ghost use Rattle.choose.specs.Kits.{rules_of};
 ghost use Rattle.engine.specs.Output.{asked_by, IsAnswered, IsLineFault};
 ghost use Rattle.engine.specs.Run.{IsRun};
 ghost use Rattle.engine.specs.Telling.{telling};
@@ -14,8 +14,8 @@ use crate::device::{Sink, Source, write_all};
 use crate::fault::RunFault;
 use crate::lines::LineReader;
 use crate::session::Session;
+use choose::Decider;
 use desk::{Blank, Limits, Naming};
-use fleet::Decider;
 use manifest::{LineFault, read_line};
 use quant::Name;
 use std::alloc::Global;

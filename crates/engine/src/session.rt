@@ -3,7 +3,7 @@ ghost use Rattle.std.specs.Prelude.{◌≡◌, ◌++◌, ◌⊎◌, ℕ, List, t
 ghost use Rattle.desk.specs.Caller as caller;
 ghost use Rattle.desk.specs.Machine as machine;
 ghost use Rattle.engine.specs.Answers.{after, text_of, opening, limits, reply_lines, snapshot_lines, Answered, IsTimely};
-ghost use Rattle.fleet.specs.Team.{rules_of};
+ghost use Rattle.choose.specs.Kits.{rules_of};
 ghost use Rattle.engine.specs.CycleAlone.{IsCycleAlone};
 ghost use Rattle.engine.specs.Indented.{AreLines};
 ghost use Rattle.engine.specs.Telling.{TellsNodes, telling};
@@ -15,8 +15,8 @@ use crate::lone_desk::LoneDesk;
 use crate::one_cycle::Cycled;
 use crate::text::{push_clock, push_cycled, push_node, push_places, push_queue, push_refused};
 use crate::verdicts::push_verdicts;
+use choose::Decider;
 use desk::{Blank, Counts, Limits, Naming, Reply, Snapshot, Step};
-use fleet::Decider;
 use quant::Name;
 use std::alloc::{AllocError, Global};
 use std::hash::RandomState;

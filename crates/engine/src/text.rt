@@ -9,8 +9,8 @@ use crate::one_cycle::Cycled;
 use choose::Counts;
 use desk::Refusal;
 use itoa::Buffer;
-use plugin::Cause;
 use quant::{Name, Node, Res};
+use rules::Cause;
 use std::alloc::AllocError;
 
 // Adds a number in decimal.

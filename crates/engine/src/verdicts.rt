@@ -9,8 +9,8 @@ ghost use Rattle.engine.specs.Telling.{code_of, reason_text, verdict_line, verdi
 use crate::text::{name_at, push_cause, push_count, push_text};
 use choose::{Reason, Verdict, most_taints, total};
 use desk::Row;
-use plugin::Rejection;
 use quant::Name;
+use rules::Rejection;
 use std::alloc::AllocError;
 
 // The text of why a built-in filter rejects.

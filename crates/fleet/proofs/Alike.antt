@@ -1,9 +1,9 @@
 -- Kits that are the same judge alike.
 use Rattle.std.specs.List.{Contains}
-use Rattle.std.proofs.Common.{◌≡◌, List, [], ◌∷◌, slice_index_or, sym, subst, ◌∙◌, arith}
-use Rattle.plugin.specs.RuleSet.{RuleSet}
+use Rattle.std.proofs.Common.{◌≡◌, ◌<◌, List, [], ◌∷◌, All, length, slice_index_or, sym, subst, ◌∙◌, arith}
+use Rattle.rules.specs.RuleSet.{RuleSet}
 use Rattle.choose.specs.Verdict.{HasVerdict}
-use Rattle.fleet.specs.Alike.{JudgeAlike}
+use Rattle.choose.specs.Kits.{JudgeAlike, rules_of}
 
 pub alike_where_same : {Kit : Type 0} (answers : Kit → RuleSet) (kits : List Kit) → ((one other : Kit) → Contains kits one → Contains kits other → one ≡ other) → JudgeAlike answers kits
 alike_where_same answers kits same = λ one other pod shown verdict first second found.
@@ -18,3 +18,8 @@ alone kit other there =
 -- so one kit judges alike
 pub one_alike : {Kit : Type 0} (answers : Kit → RuleSet) (kit : Kit) → JudgeAlike answers (kit ∷ [])
 one_alike answers kit = alike_where_same answers (kit ∷ []) (λ one other first second. sym (alone kit one first) ∙ alone kit other second)
+
+-- what holds of the rules of each kit holds of the first's
+pub first_of_all : {Kit : Type 0} (answers : Kit → RuleSet) (Holds : RuleSet → Type 0) (kits : List Kit) → 0 < length kits → All (λ kit. Holds (answers kit)) kits → Holds (rules_of answers kits)
+first_of_all answers Holds [] some all = absurd (omega (arith, some))
+first_of_all answers Holds (kit ∷ kits) some all = all 0 kit some

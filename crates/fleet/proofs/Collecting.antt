@@ -4,7 +4,7 @@ use Rattle.std.proofs.lemmas.List.{length-map}
 use Rattle.quant.specs.declared.objects.Pod.{Pod}
 use Rattle.desk.specs.Shown.{Shown, shown}
 use Rattle.desk.specs.declared.snapshot.Row.{Row}
-use Rattle.plugin.specs.RuleSet.{RuleSet}
+use Rattle.rules.specs.RuleSet.{RuleSet}
 use Rattle.choose.specs.declared.decision.Verdict.{Verdict}
 use Rattle.choose.specs.declared.decision.Decision.{Decision}
 use Rattle.choose.specs.Choice.{judged, IsChoice, Choice, AreVerdicts}

@@ -4,12 +4,12 @@ use Rattle.std.specs.List.{All, Contains}
 use Rattle.std.proofs.lemmas.List.Elements.{Contains-get_or, Contains-append_left, Contains-append_right}
 use Rattle.quant.specs.declared.objects.Pod.{Pod}
 use Rattle.desk.specs.Shown.{Shown}
-use Rattle.plugin.specs.RuleSet.{RuleSet}
+use Rattle.rules.specs.RuleSet.{RuleSet}
 use Rattle.choose.specs.declared.decision.Verdict.{Verdict}
 use Rattle.choose.specs.Verdict.{HasVerdict}
 use Rattle.choose.specs.Choice.{AreVerdicts}
 use Rattle.choose.proofs.Verdicts.{all_zip_append}
-use Rattle.fleet.specs.Alike.{JudgeAlike}
+use Rattle.choose.specs.Kits.{JudgeAlike}
 
 -- the verdicts of one kit are those of another that judges alike
 pub verdicts_alike : (one other : RuleSet) (pod : Pod) → ((shown : Shown) (verdict : Verdict) → HasVerdict one pod shown verdict → HasVerdict other pod shown verdict) →

@@ -1,4 +1,3 @@
-pub mod Alike
 pub mod Asking
 pub mod Message
 pub mod Pieces

@@ -3,14 +3,14 @@ ghost use Rattle.std.specs.Prelude.{◌≡◌, ◌<◌, ◌≤◌, [], ◌∷◌
 ghost use Rattle.std.specs.List.{All};
 ghost use Rattle.desk.specs.Shown.{shown};
 ghost use Rattle.choose.specs.Choice.{AreVerdicts, Choice};
-ghost use Rattle.fleet.specs.Alike.{JudgeAlike};
+ghost use Rattle.choose.specs.Kits.{JudgeAlike};
 
 use crate::gate::Gate;
 use crate::pieces::{Work, judge_pieces};
 use choose::{Decision, NoMemory, UNJUDGED, Verdict, decide};
 use desk::{Row, Snapshot};
-use plugin::Rules;
 use quant::Pod;
+use rules::Rules;
 use std::alloc::Global;
 use std::marker::Model;
 use std::thread::Threads;
@@ -27,7 +27,7 @@ pub struct Fleet<K: Rules + Send> {
 
 impl<K: Rules + Send> Model for Fleet<K> {
     ghost use Rattle.std.specs.Prelude.{◌<◌, ◌≤◌, length, vec_capacity};
-    ghost use Rattle.fleet.specs.Alike.{JudgeAlike};
+    ghost use Rattle.choose.specs.Kits.{JudgeAlike};
     ghost use Rattle.fleet.specs.Team.{Team};
 
     ghost Value = { Team K };
@@ -67,6 +67,18 @@ impl<K: Rules + Send> Fleet<K> {
         }
     }
 
+    /// The verdicts of the last decision, in the order of the nodes.
+    pub fn verdicts(&self) -> &[Verdict]
+        ensures { result.now ≡ self.now.verdicts }
+    {
+        self.verdicts.as_slice()
+    }
+}
+
+impl<K: Rules + Send> Fleet<K>
+where
+    K::Notes: Send,
+{
     /// Where a pod goes, by a look at the nodes: the choice that each of the kits would make alone.
     ///
     /// The nodes are cut into as many pieces as there are kits, of which each is judged with a kit of its own: the first one here,
@@ -90,13 +102,6 @@ impl<K: Rules + Send> Fleet<K> {
         ensures kept { self.old.room ≤ self.new.room }
     {
         self.decide_among(rt, snapshot.rows(), pod, gate)
-    }
-
-    /// The verdicts of the last decision, in the order of the nodes.
-    pub fn verdicts(&self) -> &[Verdict]
-        ensures { result.now ≡ self.now.verdicts }
-    {
-        self.verdicts.as_slice()
     }
 
     // The decision among these nodes.

@@ -12,7 +12,7 @@ use crate::message::{Done, Job};
 use crate::pieces::judge_asked;
 use crate::worker::Hand;
 use choose::{UNJUDGED, Verdict};
-use plugin::Rules;
+use rules::Rules;
 use std::alloc::Global;
 use std::marker::Model;
 use std::mem;
@@ -51,6 +51,7 @@ impl<J: Site, K: Rules + Drop> Helper<J, K> {
     where
         J: Send + Sync + 'static,
         K: Send + 'static,
+        K::Notes: Send + 'static,
         requires { SpeaksFor J.Says (K.answers kit) }
     {
         let hand = match gate.clone() {

@@ -16,8 +16,7 @@ mod rule;
 mod worker;
 
 pub use asked::{Blank, Site};
-pub use choose::{Decision, NoMemory};
-pub use decider::Decider;
+pub use choose::{Decider, Decision, NoMemory};
 pub use fleet::{Fleet, MAX_KITS};
 pub use gate::{Gate, NoGate};
 pub use laws::{most_kits_are_these, pieces_are_all_nodes};

@@ -5,7 +5,7 @@ use crate::asked::{Order, Site};
 use crate::gate::Gate;
 use crate::pieces::judge_asked;
 use choose::Verdict;
-use plugin::Rules;
+use rules::Rules;
 use std::marker::Model;
 use std::sync::Arc;
 

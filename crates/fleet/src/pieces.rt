@@ -5,15 +5,15 @@ ghost use denote.Param.Send.{IsSync, IsSend};
 ghost use Rattle.desk.specs.Shown.{shown};
 ghost use Rattle.choose.specs.Choice.{AreVerdicts};
 ghost use Rattle.fleet.specs.Pieces.{nodes_of, ArePieces};
-ghost use Rattle.fleet.specs.Alike.{JudgeAlike};
+ghost use Rattle.choose.specs.Kits.{JudgeAlike};
 
 use crate::asked::Asked;
 use crate::cut::begin;
 use crate::gate::Gate;
 use choose::{Verdict, judge};
 use desk::Row;
-use plugin::Rules;
 use quant::Pod;
+use rules::Rules;
 use std::thread::{Threads, join_mut};
 
 /// What all workers of a decision read: the nodes, the pod, who is told that a piece begins, and into how many pieces the nodes
@@ -78,6 +78,8 @@ pub fn judge_pieces<R: Threads + Sync, K: Rules + Send, G: Gate + Sync>(
     kits: &mut [K],
     verdicts: &mut [Verdict],
 )
+where
+    K::Notes: Send,
     requires pieces { ArePieces (length work.now.rows.now) work.now.pieces first (length kits.old) (length verdicts.old) }
     requires alike { JudgeAlike K.answers kits.old }
     ensures are { All (λ kit. AreVerdicts (K.answers kit) work.now.pod.now (map shown
@@ -112,6 +114,8 @@ fn judge_both<R: Threads + Sync, K: Rules + Send, G: Gate + Sync>(
     kits_there: &mut [K],
     there: &mut [Verdict],
 )
+where
+    K::Notes: Send,
     requires pieces_here { ArePieces (length work.now.rows.now) work.now.pieces first (length kits_here.old) (length here.old) }
     requires pieces_there { ArePieces (length work.now.rows.now) work.now.pieces middle (length kits_there.old) (length there.old) }
     requires alike_here { JudgeAlike K.answers kits_here.old }
@@ -129,7 +133,7 @@ fn judge_both<R: Threads + Sync, K: Rules + Send, G: Gate + Sync>(
         return;
     }
     let mut mine = ||
-        requires { IsSync R.row × IsSync G.row × IsSend K.row
+        requires { IsSync R.row × IsSync G.row × IsSend K.row × IsSend K.Notes.row
             × ArePieces (length work.now.rows.now) work.now.pieces first (length kits_here.now) (length here.now)
             × JudgeAlike K.answers kits_here.now }
         ensures { All (λ kit. AreVerdicts (K.answers kit) work.entry.now.pod.now (map shown
@@ -137,7 +141,7 @@ fn judge_both<R: Threads + Sync, K: Rules + Send, G: Gate + Sync>(
             × (kits_here.exit.now ≡ kits_here.entry.now) }
     { judge_pieces(rt, work, first, kits_here, here) };
     let mut theirs = ||
-        requires { IsSync R.row × IsSync G.row × IsSend K.row
+        requires { IsSync R.row × IsSync G.row × IsSend K.row × IsSend K.Notes.row
             × ArePieces (length work.now.rows.now) work.now.pieces middle (length kits_there.now) (length there.now)
             × JudgeAlike K.answers kits_there.now }
         ensures { All (λ kit. AreVerdicts (K.answers kit) work.entry.now.pod.now (map shown

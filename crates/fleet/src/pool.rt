@@ -3,7 +3,7 @@ ghost use Rattle.std.specs.Prelude.{◌≡◌, ◌+◌, ◌<◌, [], ◌∷◌, 
 ghost use Rattle.std.specs.List.{All};
 ghost use Rattle.std.specs.Arc.{arc_value};
 ghost use Rattle.choose.specs.Choice.{Choice, AreVerdicts};
-ghost use Rattle.fleet.specs.Team.{rules_of};
+ghost use Rattle.choose.specs.Kits.{rules_of};
 ghost use Rattle.fleet.specs.Speaking.{SpeaksFor};
 
 use crate::asked::{Asked, Blank, History, Order, Site};
@@ -12,8 +12,8 @@ use crate::gate::Gate;
 use crate::lent_kit::{Helper, collect, judge_said, send_all};
 use choose::{Decision, NoMemory, UNJUDGED, Verdict, decide, judge};
 use desk::Snapshot;
-use plugin::Rules;
 use quant::SharedPod;
+use rules::Rules;
 use std::alloc::Global;
 use std::marker::Model;
 use std::sync::{Arc, Wait};
@@ -62,6 +62,7 @@ impl<J: Site, K: Rules + Drop, G: Gate + Drop> Pool<J, K, G> {
     where
         J: Send + Sync + 'static,
         K: Send + 'static,
+        K::Notes: Send + 'static,
         G: Send + Sync + 'static,
         requires most { vec_len others < MAX_KITS }
         requires pool { blank.seen.book ≡ J.book }

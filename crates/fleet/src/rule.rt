@@ -2,7 +2,7 @@
 use crate::asked::Site;
 use crate::message::{Done, Job};
 use crossbeam_channel::protocol::{Lesson, Outcome, Protocol, Split};
-use plugin::Rules;
+use rules::Rules;
 use std::marker::PhantomData;
 
 /// Each kit says what the pool's kits say.

@@ -9,7 +9,7 @@ use crate::gate::Gate;
 use crate::message::{Done, Job, judge_job};
 use crate::rule::{OfPool, Twin};
 use crossbeam_channel::{Pass, RuledReceiver, RuledSender, bounded_with};
-use plugin::Rules;
+use rules::Rules;
 use std::alloc::{AllocError, Global};
 use std::sync::{Arc, Wait};
 use std::thread;
@@ -63,6 +63,7 @@ impl<J: Site, K: Rules + Drop> Hand<J, K> {
     where
         J: Send + Sync + 'static,
         K: Send + 'static,
+        K::Notes: Send + 'static,
     {
         let (jobs, inbox, mut send) = bounded_with::<Job<J, K>, (), OfPool<J>, Global>(alloc, 1)?;
         let theirs = jobs.another::<Twin>(&mut send);

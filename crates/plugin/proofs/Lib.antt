@@ -2,3 +2,4 @@ pub mod KitLemmas
 pub mod LawLemmas
 pub mod EntryLemmas
 pub mod MakingLemmas
+pub mod CallLemmas

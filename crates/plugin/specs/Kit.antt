@@ -10,12 +10,13 @@ use Rattle.wmach.specs.Call.{MachineState, called_function}
 use Rattle.whost.specs.Calls.{CallsFromImage}
 use Rattle.whost.specs.Image.{IsImage}
 use Rattle.whost.specs.declared.records.Records.{Records}
-use Rattle.plugin.specs.declared.verdict.FilterVerdict.{FilterVerdict}
-use Rattle.plugin.specs.declared.verdict.FilterVerdict.TheVariants as filter
-use Rattle.plugin.specs.declared.verdict.ScoreVerdict.{ScoreVerdict}
-use Rattle.plugin.specs.declared.verdict.ScoreVerdict.TheVariants as score
+use Rattle.whost.specs.Handed.{told_of}
+use Rattle.rules.specs.declared.verdict.FilterVerdict.{FilterVerdict}
+use Rattle.rules.specs.declared.verdict.FilterVerdict.TheVariants as filter
+use Rattle.rules.specs.declared.verdict.ScoreVerdict.{ScoreVerdict}
+use Rattle.rules.specs.declared.verdict.ScoreVerdict.TheVariants as score
 use Rattle.plugin.specs.Verdict.{filter_said, score_said}
-use Rattle.plugin.specs.RuleSet.{RuleSet}
+use Rattle.rules.specs.RuleSet.{RuleSet, Told}
 use Rattle.plugin.specs.Plugins.{Configured, IsWeight}
 
 -- A plugin that is ready to be asked: how much its score counts, the fuel of each call, its module, and the image from which
@@ -67,12 +68,16 @@ FilterSays plugin told verdict = Says plugin export.Filter filter.Passes filter_
 abbrev pub ScoreSays : Ready → (told : Records) → ScoreVerdict → Type 0
 ScoreSays plugin told verdict = Says plugin export.Score (score.Good 0) score_said told verdict
 
--- what the plugins of a kit say, each at its place
+-- the records by which plugins are told of a pod, and of a node with what is used of it
+abbrev pub records_of : Told → Records
+records_of told = told_of told.pod told.node told.used
+
+-- what the plugins of a kit say, each at its place, by these records
 abbrev pub rules_of : List Ready → RuleSet
 rules_of kit = record {
   weights = map (λ p. p.weight) kit;
-  Filters = λ place told verdict. (p : Ready) × (slice_get kit place ≡ Some p) × FilterSays p told verdict;
-  Scores = λ place told verdict. (p : Ready) × (slice_get kit place ≡ Some p) × ScoreSays p told verdict;
+  Filters = λ place told verdict. (p : Ready) × (slice_get kit place ≡ Some p) × FilterSays p (records_of told) verdict;
+  Scores = λ place told verdict. (p : Ready) × (slice_get kit place ≡ Some p) × ScoreSays p (records_of told) verdict;
 }
 
 -- a plugin that is ready is this one, from its image

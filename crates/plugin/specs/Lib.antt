@@ -1,5 +1,4 @@
 pub mod Verdict
-pub mod RuleSet
 pub mod Plugins
 pub mod Entries
 pub mod Refused

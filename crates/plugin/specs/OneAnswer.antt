@@ -8,11 +8,11 @@ use Rattle.wmach.proofs.OneEnd.{one_outcome_is}
 use Rattle.whost.specs.Calls.{CallsAgree}
 use Rattle.whost.proofs.InstanceLemmas.{agreement}
 use Rattle.whost.specs.declared.records.Records.{Records}
-use Rattle.plugin.specs.declared.verdict.FilterVerdict.TheVariants as filter
-use Rattle.plugin.specs.declared.verdict.ScoreVerdict.TheVariants as score
-use Rattle.plugin.specs.RuleSet.{SayOneThing}
+use Rattle.rules.specs.declared.verdict.FilterVerdict.TheVariants as filter
+use Rattle.rules.specs.declared.verdict.ScoreVerdict.TheVariants as score
+use Rattle.rules.specs.RuleSet.{SayOneThing}
 use Rattle.plugin.specs.Verdict.{filter_said, score_said}
-use Rattle.plugin.specs.Kit.{Ready, at_image, called, Ends, Says, FilterSays, ScoreSays, rules_of}
+use Rattle.plugin.specs.Kit.{Ready, at_image, called, Ends, Says, FilterSays, ScoreSays, records_of, rules_of}
 
 -- two calls of a plugin with the same records end alike
 one_end : (p : Ready) (export : Export) (told : Records) (one other : Outcome) → Ends p export told one → Ends p export told other → one ≡ other
@@ -40,9 +40,9 @@ one_there o a b p q = cc
 pub one_answer : (kit : List Ready) → SayOneThing (rules_of kit)
 one_answer kit = record {
   filter = λ place told one other (p, there, says) (q, at, also).
-      let also' = subst (λ x. FilterSays x told other) (one_there (slice_get kit place) p q there at) also in
-      one_said p export.Filter filter.Passes filter_said told one other says also';
+      let also' = subst (λ x. FilterSays x (records_of told) other) (one_there (slice_get kit place) p q there at) also in
+      one_said p export.Filter filter.Passes filter_said (records_of told) one other says also';
   score = λ place told one other (p, there, says) (q, at, also).
-      let also' = subst (λ x. ScoreSays x told other) (one_there (slice_get kit place) p q there at) also in
-      one_said p export.Score (score.Good 0) score_said told one other says also';
+      let also' = subst (λ x. ScoreSays x (records_of told) other) (one_there (slice_get kit place) p q there at) also in
+      one_said p export.Score (score.Good 0) score_said (records_of told) one other says also';
 }

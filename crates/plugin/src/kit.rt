@@ -2,14 +2,14 @@
 ghost use Rattle.std.specs.Prelude.{◌≡◌, ◌<◌, ◌≤◌, length, IfErr, IfOk, IfSome, slice_get};
 ghost use Rattle.std.specs.List.{All};
 ghost use Rattle.plugin.specs.Plugins.{IsWeight};
-ghost use Rattle.plugin.specs.Verdict.{IsWithin};
+ghost use Rattle.rules.specs.Verdict.{IsWithin};
 ghost use Rattle.plugin.specs.Kit.{IsKitOf, ready_parts, IsAtImage, FilterSays, ScoreSays, OnlyItsStore};
 ghost use Rattle.plugin.specs.Refused.{WhyNoKit};
 
 use crate::fault::KitFault;
 use crate::member::Member;
 use crate::plugins::Plugins;
-use crate::verdict::{FilterVerdict, ScoreVerdict};
+use rules::{FilterVerdict, ScoreVerdict};
 use std::alloc::Global;
 use std::marker::Model;
 use whost::Records;

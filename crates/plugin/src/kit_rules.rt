@@ -3,8 +3,8 @@ ghost use Rattle.std.specs.Prelude.{◌≡◌};
 ghost use Rattle.plugin.specs.Kit.{ready_parts};
 
 use crate::kit::Kit;
-use crate::rules::Rules;
-use crate::verdict::{FilterVerdict, ScoreVerdict};
+use quant::{Pod, Res, SharedNode};
+use rules::{FilterVerdict, Rules, ScoreVerdict};
 use std::marker::Model;
 use whost::Records;
 
@@ -39,10 +39,19 @@ impl KitRules {
 }
 
 impl Rules for KitRules {
+    ghost use Rattle.std.specs.Prelude.{◌≡◌};
+    ghost use Rattle.whost.specs.Handed.{pod_records, node_records};
     ghost use Rattle.plugin.specs.Kit.{rules_of};
     ghost use Rattle.plugin.specs.OneAnswer.{one_answer};
 
+    /// The records by which the plugins are told. Each is kilobytes large and is written in place.
+    type Notes = Records;
+
     ghost answers = { rules_of };
+
+    ghost OfPod = { λ records pod. records.pod ≡ pod_records pod };
+
+    ghost OfNode = { λ records node used. records.node ≡ node_records node used };
 
     fn count(&self) -> usize {
         self.kit.count()
@@ -52,11 +61,21 @@ impl Rules for KitRules {
         self.kit.weight(place)
     }
 
-    fn filter(&mut self, place: usize, records: &Records) -> FilterVerdict {
+    fn show_pod(&mut self, pod: &Pod) -> Records {
+        let mut records = Records::new();
+        records.show_pod(pod);
+        records
+    }
+
+    fn show_node(&mut self, records: &mut Records, node: &SharedNode, used: &Res) {
+        records.show_node(node, used);
+    }
+
+    fn filter(&mut self, place: usize, records: &mut Records) -> FilterVerdict {
         self.kit.filter(place, records)
     }
 
-    fn score(&mut self, place: usize, records: &Records) -> ScoreVerdict {
+    fn score(&mut self, place: usize, records: &mut Records) -> ScoreVerdict {
         self.kit.score(place, records)
     }
 

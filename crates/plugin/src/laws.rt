@@ -1,5 +1,5 @@
-//! What holds of all kits. The function does nothing: its contract is the law.
-ghost use Rattle.plugin.specs.Laws.{KitsAreAlike};
+//! What holds of all kits. The functions do nothing: their contracts are the laws.
+ghost use Rattle.plugin.specs.Laws.{KitsAreAlike, RulesAreCalls};
 
 /// All kits of the same plugins are alike: they say the same, whatever each was asked before.
 pub fn kits_are_alike()
@@ -7,3 +7,9 @@ pub fn kits_are_alike()
 {
     whost::one_image();
 }
+
+/// What a kit's rules say of a pod, a node and what is used of it, is what each plugin's call gives that begins from its image,
+/// with the records of these.
+pub fn rules_are_calls()
+    ensures { RulesAreCalls }
+{}

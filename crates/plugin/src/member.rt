@@ -4,10 +4,11 @@ ghost use Rattle.std.specs.Arc.{arc_value};
 ghost use Rattle.wbin.specs.Syntax.{module_of};
 ghost use Rattle.whost.specs.Image.{IsImage};
 ghost use Rattle.whost.specs.Refused.{WhyRefused};
-ghost use Rattle.plugin.specs.Verdict.{IsWithin};
+ghost use Rattle.rules.specs.Verdict.{IsWithin};
 ghost use Rattle.plugin.specs.Kit.{FilterSays, ScoreSays, IsAtImage};
 
-use crate::verdict::{FilterVerdict, ScoreVerdict, filter_verdict, score_verdict};
+use crate::verdict::{filter_verdict, score_verdict};
+use rules::{FilterVerdict, ScoreVerdict};
 use std::alloc::Global;
 use std::marker::Model;
 use std::sync::Arc;

@@ -1,48 +1,34 @@
-//! What a rule says, read from how its call ended.
+//! What a plugin says, read from how its call ended.
 ghost use Rattle.std.specs.Prelude.{◌≡◌, ◌≤◌, Some};
 ghost use Rattle.wcode.specs.declared.value.ValueType.TheVariants.{I32, I64};
 ghost use Rattle.wmach.specs.Call.{ResultFits};
-ghost use Rattle.plugin.specs.Verdict.{filter_said, score_said, IsWithin};
+ghost use Rattle.wmach.specs.Trap as ended;
+ghost use Rattle.rules.specs.Trap as told;
+ghost use Rattle.rules.specs.Verdict.{IsWithin};
+ghost use Rattle.plugin.specs.Verdict.{filter_said, score_said, trap_told};
 
+use rules::{Cause, FilterVerdict, Rejection, ScoreVerdict, Trap};
 use wcode::Value;
-use wmach::{Outcome, Trap};
+use wmach::Outcome;
 
-/// Why a rule keeps a pod off a node (the names of the Kubernetes page "Scheduling Framework").
-#[derive(Clone, Copy, PartialEq, Eq, Debug)]
-pub enum Rejection {
-    /// The pod may not stand here now.
-    Unschedulable,
-    /// Nor would it help to take other pods away.
-    UnschedulableAndUnresolvable,
-}
-
-/// Why a call of a rule says nothing of the node.
-#[derive(Clone, Copy, PartialEq, Eq, Debug)]
-pub enum Cause {
-    /// Its filter answered this number, which is no code.
-    Code(i32),
-    /// It gave this score, which is not from 0 to 100.
-    Score(i64),
-    /// It was cut off.
-    Trap(Trap),
-    /// Its fuel was used up.
-    Exhausted,
-}
-
-/// What a rule's filter says of a node.
-#[derive(Clone, Copy, PartialEq, Eq, Debug)]
-pub enum FilterVerdict {
-    Passes,
-    Rejects(Rejection),
-    Errs(Cause),
-}
-
-/// What a rule's score says of a node.
-#[derive(Clone, Copy, PartialEq, Eq, Debug)]
-pub enum ScoreVerdict {
-    /// A score from 0 to 100.
-    Good(u8),
-    Errs(Cause),
+/// The trap as it is told of a rule: the one of the same number and name.
+pub fn trap_told(trap: wmach::Trap) -> Trap
+    ensures is { result ≡ trap_told trap }
+    ensures number { told.number_of result ≡ ended.number_of trap }
+    ensures name { told.name_of result ≡ ended.name_of trap }
+{
+    match trap {
+        wmach::Trap::Unreachable => Trap::Unreachable,
+        wmach::Trap::DivideByZero => Trap::DivideByZero,
+        wmach::Trap::IntegerOverflow => Trap::IntegerOverflow,
+        wmach::Trap::MemoryOutOfBounds => Trap::MemoryOutOfBounds,
+        wmach::Trap::UndefinedElement => Trap::UndefinedElement,
+        wmach::Trap::UninitializedElement => Trap::UninitializedElement,
+        wmach::Trap::SignatureMismatch => Trap::SignatureMismatch,
+        wmach::Trap::CallDepth => Trap::CallDepth,
+        wmach::Trap::HostOutOfBounds => Trap::HostOutOfBounds,
+        wmach::Trap::NoRecord => Trap::NoRecord,
+    }
 }
 
 /// What a filter said, by how its call ended: the code 0 passes, 2 is `Unschedulable` and 3 is
@@ -59,7 +45,7 @@ pub fn filter_verdict(outcome: Outcome) -> FilterVerdict
             _ => FilterVerdict::Errs(Cause::Code(bits.cast_signed())),
         },
         Outcome::Value(_, _) => unreachable!(),
-        Outcome::Trap(trap, _) => FilterVerdict::Errs(Cause::Trap(trap)),
+        Outcome::Trap(trap, _) => FilterVerdict::Errs(Cause::Trap(trap_told(trap))),
         Outcome::Exhausted(_) => FilterVerdict::Errs(Cause::Exhausted),
     }
 }
@@ -80,7 +66,7 @@ pub fn score_verdict(outcome: Outcome) -> ScoreVerdict
             }
         }
         Outcome::Value(_, _) => unreachable!(),
-        Outcome::Trap(trap, _) => ScoreVerdict::Errs(Cause::Trap(trap)),
+        Outcome::Trap(trap, _) => ScoreVerdict::Errs(Cause::Trap(trap_told(trap))),
         Outcome::Exhausted(_) => ScoreVerdict::Errs(Cause::Exhausted),
     }
 }

@@ -13,15 +13,14 @@ use crate::small_modules::{
 use arrayvec::ArrayVec;
 use plugin::{
     AddFault, Cause, FilterVerdict, Kit, KitFault, KitRules, Plugin, Plugins, Rejection, Rules,
-    ScoreVerdict,
+    ScoreVerdict, Trap,
 };
-use quant::{Bytes, Cpu, Name, Node, Pod, Request, Res};
+use quant::{Bytes, Cpu, Name, Node, Pod, Request, Res, SharedNode};
 use std::alloc::Global;
 use std::sync::Arc;
 use std::test::Fail;
 use std::thread;
 use whost::Records;
-use wmach::Trap;
 use wtype::Checked;
 
 // Bodies of a score: 50, and 101.
@@ -352,20 +351,14 @@ const USED: Res = Res {
     pods: 149_999,
 };
 
-// The records of both.
-fn records() -> Option<Records> {
-    let mut records = Records::new();
-    records.show_pod(&pod()?);
-    records.show_node(&node()?, &USED);
-    Some(records)
-}
-
-// What the first rule's score says.
-fn first_score<R: Rules>(rules: &mut R, records: &Records) -> Option<ScoreVerdict> {
+// What the first rule's score says, where the rules are shown both.
+fn first_score<R: Rules>(alloc: Global, rules: &mut R) -> Option<ScoreVerdict> {
     if rules.count() == 0 {
         return None;
     }
-    Some(rules.score(0, records))
+    let mut notes = rules.show_pod(&pod()?);
+    rules.show_node(&mut notes, &SharedNode::new(alloc, node()?).ok()?, &USED);
+    Some(rules.score(0, &mut notes))
 }
 
 fn reader_module() -> &'static [u8] {
@@ -383,7 +376,7 @@ fn reader(alloc: Global) -> Option<KitRules> {
 }
 
 fn told_by_reader(alloc: Global) -> Option<ScoreVerdict> {
-    first_score(&mut reader(alloc)?, &records()?)
+    first_score(alloc, &mut reader(alloc)?)
 }
 
 #[test]

@@ -1,9 +1,9 @@
 -- What the kits of workers' tests say: the filter of their one rule uses up its fuel at every node.
 use Rattle.std.proofs.Common.{◌≡◌, [], ◌∷◌}
-use Rattle.plugin.specs.RuleSet.{RuleSet}
-use Rattle.plugin.specs.declared.verdict.Cause.TheVariants.{Exhausted}
-use Rattle.plugin.specs.declared.verdict.FilterVerdict.TheVariants as filter
-use Rattle.plugin.specs.declared.verdict.ScoreVerdict.TheVariants as score
+use Rattle.rules.specs.RuleSet.{RuleSet}
+use Rattle.rules.specs.declared.verdict.Cause.TheVariants.{Exhausted}
+use Rattle.rules.specs.declared.verdict.FilterVerdict.TheVariants as filter
+use Rattle.rules.specs.declared.verdict.ScoreVerdict.TheVariants as score
 use Rattle.choose.specs.Verdict.{HasVerdict}
 use Rattle.fleet.specs.Speaking.{SpeaksFor}
 

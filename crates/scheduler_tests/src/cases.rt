@@ -1,11 +1,11 @@
 //! What nodes and pods are like among which it is chosen, and what is decided, in short.
 use arrayvec::ArrayVec;
 use choose::{Counts, Decision};
-use plugin::Cause;
 use quant::{
     Bytes, Cpu, Effect, MAX_TAINTS, MAX_TOLERATIONS, Name, Node, Operator, Pod, Request, Res,
     Taint, Text, Toleration,
 };
+use rules::Cause;
 
 /// What a node is like. Each has room for 110 pods.
 #[derive(Clone, Copy)]

@@ -11,13 +11,13 @@ use crate::looks::look;
 use crate::objects::{node_set, pod_bound};
 use choose::{Counts, choose};
 use desk::Snapshot;
-use plugin::{Cause, Kit, KitRules, Plugin, Plugins};
+use plugin::{Kit, KitRules, Plugin, Plugins};
 use quant::{Event, Name, Pod};
+use rules::{Cause, Trap};
 use std::alloc::Global;
 use std::hash::RandomState;
 use std::sync::{Arc, Wait};
 use wbin::decode;
-use wmach::Trap;
 use wtype::validate;
 
 /// The nodes that a desk is told of; how many marked ones before them; what a pod is like; a plugin of weight 2, or no bytes where

@@ -7,11 +7,9 @@ use crate::cases::{
 };
 use choose::{Counts, decide, verdicts_of};
 use desk::Row;
-use plugin::{Cause, FilterVerdict, Rejection, Rules, ScoreVerdict};
 use quant::{Bytes, Cpu, Name, Pod, Res, SharedNode};
+use rules::{Cause, FilterVerdict, Rejection, Rules, ScoreVerdict, Trap};
 use std::alloc::Global;
-use whost::Records;
-use wmach::Trap;
 
 /// A rule of weight 2, or none. Its filter says one thing of node `b`, and one of all others; its score is 50, or errs.
 #[derive(Clone, Copy, Drop)]
@@ -22,16 +20,28 @@ struct Site {
     errs: Option<Cause>,
 }
 
+/// Whether the node is the one of name `b`.
+#[derive(Drop)]
+struct Seen {
+    is_b: bool,
+}
+
 impl Rules for Site {
-    ghost use Rattle.std.specs.Prelude.{◌≡◌, [], ◌∷◌, None, Some, if◌then◌else◌, ◌==◌, slice_index};
+    ghost use Rattle.std.specs.Prelude.{◌≡◌, [], ◌∷◌, ⊤, None, Some, if◌then◌else◌, ◌==◌, slice_index};
     ghost use Rattle.std.proofs.Common.{sym, ◌∙◌};
-    ghost use Rattle.plugin.specs.declared.verdict.ScoreVerdict.TheVariants.{Good, Errs};
+    ghost use Rattle.rules.specs.declared.verdict.ScoreVerdict.TheVariants.{Good, Errs};
+
+    type Notes = Seen;
 
     ghost answers = { λ site. record {
       weights = if site.there then 2 ∷ [] else [];
-      Filters = λ place told said. said ≡ (if slice_index told.node.first 3 == 98 then site.on_b else site.on_others);
+      Filters = λ place told said. said ≡ (if slice_index told.node.name 0 == 98 then site.on_b else site.on_others);
       Scores = λ place told said. said ≡ elim site.errs [ None ↦ Good 50 | Some why ↦ Errs why ];
     } };
+
+    ghost OfPod = { λ seen pod. ⊤ };
+
+    ghost OfNode = { λ seen node used. seen.is_b ≡ (slice_index node.name 0 == 98) };
 
     fn count(&self) -> usize {
         usize::from(self.there)
@@ -41,17 +51,20 @@ impl Rules for Site {
         2
     }
 
-    // A name's first byte is the fourth of a node's record.
-    fn filter(&mut self, _place: usize, records: &Records) -> FilterVerdict {
-        let node = records.node().as_bytes();
-        if node.len() > 3 && node[3] == b'b' {
-            self.on_b
-        } else {
-            self.on_others
-        }
+    fn show_pod(&mut self, _pod: &Pod) -> Seen {
+        Seen { is_b: false }
     }
 
-    fn score(&mut self, _place: usize, _records: &Records) -> ScoreVerdict {
+    fn show_node(&mut self, seen: &mut Seen, node: &SharedNode, _used: &Res) {
+        let name = node.name.as_bytes();
+        seen.is_b = !name.is_empty() && name[0] == b'b';
+    }
+
+    fn filter(&mut self, _place: usize, seen: &mut Seen) -> FilterVerdict {
+        if seen.is_b { self.on_b } else { self.on_others }
+    }
+
+    fn score(&mut self, _place: usize, _seen: &mut Seen) -> ScoreVerdict {
         match self.errs {
             None => ScoreVerdict::Good(50),
             Some(why) => ScoreVerdict::Errs(why),

@@ -2,22 +2,21 @@
 //! that stay decide as those that are started for each decision.
 ghost use Rattle.std.specs.Prelude.{◌≡◌, ◌<◌, ◌≤◌, vec_len, IfOk};
 ghost use Rattle.std.specs.List.{All};
-ghost use Rattle.fleet.specs.Alike.{JudgeAlike};
+ghost use Rattle.choose.specs.Kits.{JudgeAlike};
 
 use crate::texts::repeated;
 use choose::Verdict;
 use desk::Snapshot;
-use engine::{DeviceFailed, RunFault, Sink, Source, run, run_with_kits};
+use engine::{DeviceFailed, RunFault, Sink, Source, run};
 use fleet::{Decider, Decision, Fleet, NoGate, NoMemory};
-use plugin::{Cause, FilterVerdict, Rejection, Rules, ScoreVerdict};
-use quant::{Name, SharedPod};
+use quant::{Name, Pod, Res, SharedNode, SharedPod};
+use rules::{Cause, FilterVerdict, Rejection, Rules, ScoreVerdict, Trap};
+use serving::run_with_kits;
 use std::alloc::{AllocError, Global};
 use std::cell::Cell;
 use std::hash::RandomState;
 use std::sync::Wait;
 use std::thread::Threads;
-use whost::Records;
-use wmach::Trap;
 
 // A script that comes in pieces, one a read. Read i fails where the output is not `answered[i]` bytes
 // long by then.
@@ -105,15 +104,21 @@ struct Same {
 }
 
 impl Rules for Same {
-    ghost use Rattle.std.specs.Prelude.{◌≡◌, [], ◌∷◌, None, Some, if◌then◌else◌};
+    ghost use Rattle.std.specs.Prelude.{◌≡◌, [], ◌∷◌, ⊤, None, Some, if◌then◌else◌};
     ghost use Rattle.std.proofs.Common.{◌∙◌, sym};
-    ghost use Rattle.plugin.specs.declared.verdict.ScoreVerdict.TheVariants.{Good, Errs};
+    ghost use Rattle.rules.specs.declared.verdict.ScoreVerdict.TheVariants.{Good, Errs};
+
+    type Notes = ();
 
     ghost answers = { λ r. record {
       weights = if r.there then 2 ∷ [] else [];
       Filters = λ place told said. said ≡ r.filter;
       Scores = λ place told said. said ≡ elim r.errs [ None ↦ Good 50 | Some why ↦ Errs why ];
     } };
+
+    ghost OfPod = { λ notes pod. ⊤ };
+
+    ghost OfNode = { λ notes node used. ⊤ };
 
     fn count(&self) -> usize {
         usize::from(self.there)
@@ -123,11 +128,15 @@ impl Rules for Same {
         2
     }
 
-    fn filter(&mut self, _place: usize, _records: &Records) -> FilterVerdict {
+    fn show_pod(&mut self, _pod: &Pod) {}
+
+    fn show_node(&mut self, _notes: &mut (), _node: &SharedNode, _used: &Res) {}
+
+    fn filter(&mut self, _place: usize, _notes: &mut ()) -> FilterVerdict {
         self.filter
     }
 
-    fn score(&mut self, _place: usize, _records: &Records) -> ScoreVerdict {
+    fn score(&mut self, _place: usize, _notes: &mut ()) -> ScoreVerdict {
         match self.errs {
             None => ScoreVerdict::Good(50),
             Some(why) => ScoreVerdict::Errs(why),

@@ -5,9 +5,10 @@ use binder::{BindAnswer, Binder, Tally};
 use choose::Verdict;
 use desk::Snapshot;
 use engine::{DeviceFailed, Sink, Source};
-use fleet::{Decider, Decision, Fleet, NoMemory};
+use fleet::{Decider, Decision, NoMemory};
 use plugin::{Kit, KitRules, Plugins};
 use quant::{Name, SharedPod};
+use serving::SiteFleet;
 use std::alloc::Global;
 use std::hash::RandomState;
 use std::sync::atomic::{AtomicU64, Ordering};
@@ -185,20 +186,17 @@ fn two_hands(alloc: Global) -> Option<Vec<Box<dyn Binder + Send>>>
 }
 
 /// A decider without plugins.
-fn turning_decider(
-    alloc: Global,
-    begun: &Arc<AtomicU64, Global>,
-) -> Option<Turning<Fleet<KitRules>>> {
+fn turning_decider(alloc: Global, begun: &Arc<AtomicU64, Global>) -> Option<Turning<SiteFleet>> {
     let plugins = Plugins::new(alloc);
     let kit = KitRules::new(Kit::new(alloc, &plugins).ok()?);
     Some(Turning {
-        decider: Fleet::of_one(alloc, kit).ok()?,
+        decider: SiteFleet::of_one(alloc, kit).ok()?,
         pair: pair_by(begun)?,
     })
 }
 
 /// Two deciders, each of which waits for the other.
-fn two_turning(alloc: Global) -> Option<Vec<Turning<Fleet<KitRules>>>>
+fn two_turning(alloc: Global) -> Option<Vec<Turning<SiteFleet>>>
     ensures { IfSome result (λ deciders. vec_len deciders ≡ 2) }
 {
     let begun = Arc::new(alloc, AtomicU64::new(0)).ok()?;

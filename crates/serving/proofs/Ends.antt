@@ -2,8 +2,8 @@
 use Rattle.std.proofs.Common.{◌≡◌, ◌≢◌, ◌⊎◌, ◌∙◌, ◌<◌, ◌≤◌, ℕ, Bool, List, Ok, Err, inl, inr, refl, sym, subst, ap, arith}
 use Rattle.quant.specs.declared.name.Name.{Name}
 use Rattle.plugin.specs.Kit.{Ready, rules_of}
-use Rattle.plugin.specs.RuleSet.{RuleSet}
-use Rattle.fleet.specs.Team as team
+use Rattle.rules.specs.RuleSet.{RuleSet}
+use Rattle.choose.specs.Kits as choosing
 use Rattle.engine.specs.Device.{DeviceUse}
 use Rattle.engine.specs.Run.{IsRun}
 use Rattle.engine.specs.Telling.{Telling, telling}
@@ -213,7 +213,7 @@ module _ (explains : Bool) (AreGiven : List (List ℕ) → Type 0) (specs : List
   module _ (modules : List (List ℕ)) (workers : ℕ) (kits : List (List Ready)) (names : List Name) (some : 1 ≤ workers) (are : AreSiteKits specs modules workers kits)
       (named : names ≡ names_of specs) (given : AreGiven modules) where
     -- the whole script was served
-    pub served : {T : Type 0} (x : T) → IsRun (team.rules_of rules_of kits) (telling names explains) source out (Ok x) → ended ≡ 0 → IsSiteRun explains AreGiven specs source out err ended
+    pub served : {T : Type 0} (x : T) → IsRun (choosing.rules_of rules_of kits) (telling names explains) source out (Ok x) → ended ≡ 0 → IsSiteRun explains AreGiven specs source out err ended
     served x run is =
         let done = site_done explains specs modules workers kits names some are named source.old source.new out.old out.new run.done in
         record {
@@ -224,7 +224,7 @@ module _ (explains : Bool) (AreGiven : List (List ℕ) → Type 0) (specs : List
         }
 
     -- it was not
-    pub cut_short : {T : Type 0} (fault : RunFault) → IsRun {T = T} (team.rules_of rules_of kits) (telling names explains) source out (Err fault) → ended ≡ status_of (Run fault) → TellsFault err (Run fault)
+    pub cut_short : {T : Type 0} (fault : RunFault) → IsRun {T = T} (choosing.rules_of rules_of kits) (telling names explains) source out (Err fault) → ended ≡ status_of (Run fault) → TellsFault err (Run fault)
         → IsSiteRun explains AreGiven specs source out err ended
     cut_short fault run is tells = record {
       status = inr (status_by fault is);

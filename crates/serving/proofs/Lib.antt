@@ -1,6 +1,9 @@
+pub mod Agreeing
+pub mod Decisions
 pub mod Ends
 pub mod Failures
 pub mod Fronts
+pub mod Kits
 pub mod Quiet
 pub mod Verdicts
 pub mod Sites

@@ -1,6 +1,6 @@
 -- What holds where a fault of the words ends the program.
 use Rattle.std.proofs.Common.{◌≡◌, List, [], ℕ, Option, sym, refl, arith}
-use Rattle.plugin.specs.RuleSet.{RuleSet}
+use Rattle.rules.specs.RuleSet.{RuleSet}
 use Rattle.std.proofs.lemmas.List.{append-nil}
 use Rattle.engine.specs.Lines.{lines_of}
 use Rattle.engine.specs.Output.{asked_in, WritesOutput, WritesFront}

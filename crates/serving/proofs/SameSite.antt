@@ -1,7 +1,5 @@
 -- A site's script has one output: what its plugins say depends on the modules that their bytes spell, their images and their fuels.
-use Rattle.std.proofs.Common.{◌≡◌, ◌∙◌, ℕ, zero, suc, Bool, List, [], ◌∷◌, length, map, Option, Some, None, Result, Ok, Err, IfSome, MatchOption, slice_get, slice_index, inl, inr, refl, sym, subst, ap, arith}
-use Rattle.quant.specs.declared.objects.Pod.{Pod}
-use Rattle.desk.specs.Shown.{Shown}
+use Rattle.std.proofs.Common.{◌≡◌, ◌∙◌, ℕ, zero, suc, Bool, List, [], ◌∷◌, map, Option, Some, None, IfSome, slice_get, inl, inr, refl, sym, subst, ap, arith}
 use Rattle.wbin.specs.Syntax.{ModuleSyntax, module_of}
 use Rattle.wbin.specs.Grammar.{Spells}
 use Rattle.wmach.specs.declared.export.Export.{Export}
@@ -14,19 +12,12 @@ use Rattle.whost.specs.declared.records.Records.{Records}
 use Rattle.whost.specs.Handed.{record_of}
 use Rattle.whost.specs.Image.{IsImage}
 use Rattle.whost.specs.Refused.{OneImage}
-use Rattle.plugin.specs.declared.verdict.FilterVerdict.{FilterVerdict}
-use Rattle.plugin.specs.declared.verdict.FilterVerdict.TheVariants as filter
-use Rattle.plugin.specs.declared.verdict.ScoreVerdict.{ScoreVerdict}
-use Rattle.plugin.specs.declared.verdict.ScoreVerdict.TheVariants as score
+use Rattle.rules.specs.declared.verdict.FilterVerdict.TheVariants as filter
+use Rattle.rules.specs.declared.verdict.ScoreVerdict.TheVariants as score
 use Rattle.plugin.specs.Verdict.{filter_said, score_said}
-use Rattle.plugin.specs.RuleSet.{RuleSet}
 use Rattle.plugin.specs.Plugins.{Configured}
-use Rattle.plugin.specs.Kit.{Ready, Ends, Says, IsKitOf, IsReadyOf, rules_of}
+use Rattle.plugin.specs.Kit.{Ready, Ends, Says, IsKitOf, IsReadyOf, records_of, rules_of}
 use Rattle.plugin.specs.OneAnswer.{one_answer}
-use Rattle.choose.specs.declared.decision.Reason.{Reason}
-use Rattle.choose.specs.declared.decision.Verdict.{Verdict}
-use Rattle.choose.specs.declared.decision.Verdict.TheVariants.{Rejected}
-use Rattle.choose.specs.Verdict.{built_in, weighted, Filtered, Scored, ByScores, ByRules, HasVerdict}
 use Rattle.engine.specs.Output.{IsOutput, BeginsOutput, asked_in}
 use Rattle.engine.specs.Lines.{lines_of}
 use Rattle.engine.specs.Answers.{opening}
@@ -38,68 +29,11 @@ use Rattle.engine.proofs.Explained.{explained_output, plain_output}
 use Rattle.serving.specs.Laws.{FilesGiveModules, OneSiteOutput, SiteExplainedOutput, SiteFrontsAgree, SiteFrontsBeginOutput, SitePlainOutput}
 use Rattle.serving.specs.Site.{ArePlugins, IsPlugin, IsSiteKit, names_of, told_by}
 use Rattle.serving.specs.Verdict.{front_of}
+use Rattle.serving.proofs.Agreeing.{Agree, verdict_by}
 
 -- bytes spell one module
 abbrev pub OneModule : Type 0
 OneModule = (bytes : List ℕ) (m n : ModuleSyntax) → Spells bytes m → Spells bytes n → m ≡ n
-
--- ---- rules that say the same
-
--- what the one says the other says
-record Agree (one other : RuleSet) : Type 0 where
-  weights : one.weights ≡ other.weights
-  filters : (place : ℕ) (told : Records) (verdict : FilterVerdict) → one.Filters place told verdict → other.Filters place told verdict
-  scores : (place : ℕ) (told : Records) (verdict : ScoreVerdict) → one.Scores place told verdict → other.Scores place told verdict
-
-module _ (one other : RuleSet) (agree : Agree one other) where
-  as_many : length other.weights ≡ length one.weights
-  as_many = ap length (sym agree.weights)
-
-  filtered : (told : Records) (f : Option Verdict) → Filtered one told f → Filtered other told f
-  filtered told None passes = λ k below. agree.filters k told filter.Passes (passes k (omega (arith, below, as_many)))
-  filtered told (Some verdict) stops = record {
-    place = stops.place;
-    there = omega (arith, stops.there, as_many);
-    before = λ k below. agree.filters k told filter.Passes (stops.before k below);
-    said = stops.said;
-    says = agree.filters stops.place told stops.said stops.says;
-    makes = stops.makes;
-  }
-
-  scored : (told : Records) (r : Result ℕ Verdict) → Scored one told r → Scored other told r
-  scored told (Ok sum) sums = record {
-    scores = sums.scores;
-    all = sums.all ∙ sym as_many;
-    are = λ k below. agree.scores k told (score.Good (slice_index sums.scores k)) (sums.are k below);
-    adds = subst (λ ws. sum ≡ weighted ws sums.scores) agree.weights sums.adds;
-  }
-  scored told (Err verdict) errs = record {
-    before = errs.before;
-    there = omega (arith, errs.there, as_many);
-    are = λ k below. agree.scores k told (score.Good (slice_index errs.before k)) (errs.are k below);
-    why = errs.why;
-    says = agree.scores (length errs.before) told (score.Errs errs.why) errs.says;
-    makes = errs.makes;
-  }
-
-  by_scores : (pod : Pod) (shown : Shown) (verdict : Verdict) → ByScores one pod shown verdict → ByScores other pod shown verdict
-  by_scores pod shown verdict by = record { scored = by.scored; are = scored _ by.scored by.are; is = by.is }
-
-  or_by_scores : (f : Option Verdict) (pod : Pod) (shown : Shown) (verdict : Verdict) → MatchOption f (ByScores one pod shown verdict) (λ stopped. verdict ≡ stopped)
-      → MatchOption f (ByScores other pod shown verdict) (λ stopped. verdict ≡ stopped)
-  or_by_scores None pod shown verdict by = by_scores pod shown verdict by
-  or_by_scores (Some stopped) pod shown verdict is = is
-
-  by_rules : (pod : Pod) (shown : Shown) (verdict : Verdict) → ByRules one pod shown verdict → ByRules other pod shown verdict
-  by_rules pod shown verdict by = record { filtered = by.filtered; are = filtered _ by.filtered by.are; is = or_by_scores by.filtered pod shown verdict by.is }
-
-  -- have the same verdicts
-  verdict_by : (pod : Pod) (shown : Shown) (verdict : Verdict) → HasVerdict one pod shown verdict → HasVerdict other pod shown verdict
-  verdict_by pod shown verdict has = by (built_in shown pod) has
-    where
-      by : (b : Option Reason) → MatchOption b (ByRules one pod shown verdict) (λ reason. verdict ≡ Rejected reason) → MatchOption b (ByRules other pod shown verdict) (λ reason. verdict ≡ Rejected reason)
-      by None rules = by_rules pod shown verdict rules
-      by (Some reason) is = is
 
 -- ---- kits of a site
 
@@ -158,10 +92,10 @@ agree_alike one other all = record {
   weights = weights_alike one other all;
   filters = λ place told verdict said.
       let at = alike_at one other place said.0 all said.1 in
-      (at.0, at.1, say_alike said.0 at.0 export.Filter filter.Passes filter_said told verdict at.2 said.2);
+      (at.0, at.1, say_alike said.0 at.0 export.Filter filter.Passes filter_said (records_of told) verdict at.2 said.2);
   scores = λ place told verdict said.
       let at = alike_at one other place said.0 all said.1 in
-      (at.0, at.1, say_alike said.0 at.0 export.Score (score.Good 0) score_said told verdict at.2 said.2);
+      (at.0, at.1, say_alike said.0 at.0 export.Score (score.Good 0) score_said (records_of told) verdict at.2 said.2);
 }
 
 module _ (one_module : OneModule) (one_image : OneImage) where

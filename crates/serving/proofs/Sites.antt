@@ -2,11 +2,11 @@
 use Rattle.std.proofs.Common.{◌≡◌, ℕ, zero, suc, ◌+◌, ◌<◌, ◌≤◌, List, [], ◌∷◌, ◌++◌, length, map, take, Option, Some, IfSome, slice_get, slice_index_or, All, refl, sym, ap, subst, ◌∙◌, arith, add-one}
 use Rattle.std.proofs.lemmas.List.{length-map, map-append, take_all}
 use Rattle.std.proofs.lemmas.List.Elements.{All-contains}
-use Rattle.plugin.specs.RuleSet.{RuleSet}
+use Rattle.rules.specs.RuleSet.{RuleSet}
 use Rattle.plugin.specs.Plugins.{Configured, IsTaken, names}
 use Rattle.plugin.specs.Kit.{Ready, IsKitOf}
 use Rattle.plugin.specs.Laws.{KitsAreAlike}
-use Rattle.fleet.specs.Alike.{JudgeAlike}
+use Rattle.choose.specs.Kits.{JudgeAlike}
 use Rattle.fleet.proofs.Alike.{alike_where_same}
 use Rattle.command.specs.Words.{SpecSyntax, syntax_of}
 use Rattle.command.specs.Within.{HaveDistinctNames}

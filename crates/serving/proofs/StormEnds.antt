@@ -6,7 +6,7 @@ use Rattle.desk.specs.declared.step.Step.{Step}
 use Rattle.desk.specs.History.{Call, Legal}
 use Rattle.desk.specs.Shared.{Desk}
 use Rattle.plugin.specs.Kit.{Ready, rules_of}
-use Rattle.fleet.specs.Team as team
+use Rattle.choose.specs.Kits as choosing
 use Rattle.engine.specs.Device.{DeviceUse}
 use Rattle.engine.specs.declared.fault.RunFault.{RunFault}
 use Rattle.engine.specs.declared.fault.RunFault.TheVariants as run_fault
@@ -33,12 +33,12 @@ module _ {D : Type 0} (kits_in : D → List (List Ready)) (deciders : List D) (k
       ∙ (ap (λ (l : List (List (List Ready))). get_or l place []) same ∙ get_or-map (λ (kit : List Ready). kit ∷ []) kits place kit [] lt)
 
   cycles_by : (d : D) (desk : Desk) (counted : List Call) (place : ℕ) (made : List OneCycle) (kit : List Ready) → place < length kits
-      → Cycles (team.rules_of rules_of (kits_in (get_or deciders place d))) desk counted (cycler place) made → Cycles (rules_of (get_or kits place kit)) desk counted (cycler place) made
+      → Cycles (choosing.rules_of rules_of (kits_in (get_or deciders place d))) desk counted (cycler place) made → Cycles (rules_of (get_or kits place kit)) desk counted (cycler place) made
   cycles_by d desk counted place made kit lt cycles =
-      subst (λ (l : List (List Ready)). Cycles (team.rules_of rules_of l) desk counted (cycler place) made) (by_kit place d kit lt) cycles
+      subst (λ (l : List (List Ready)). Cycles (choosing.rules_of rules_of l) desk counted (cycler place) made) (by_kit place d kit lt) cycles
 
   -- a storm by the deciders is one by their kits
-  pub storms_by : D → (binders : ℕ) (fed : List Step) (out : DeviceUse) (answer : Bool) → Storms (λ d. team.rules_of rules_of (kits_in d)) deciders binders fed out answer
+  pub storms_by : D → (binders : ℕ) (fed : List Step) (out : DeviceUse) (answer : Bool) → Storms (λ d. choosing.rules_of rules_of (kits_in d)) deciders binders fed out answer
       → Storms rules_of kits binders fed out answer
   storms_by d binders fed out answer storms =
       let storm = storms.storm in
@@ -57,7 +57,7 @@ module _ {D : Type 0} (kits_in : D → List (List Ready)) (deciders : List D) (k
           feeders = storm.feeders;
           cycles = storm.cycles;
           cyclers = λ place kit lt. cycles_by d (desk_for (length kits) binders) storm.counted place (storm.cycles place) kit lt
-              (subst (λ (n : ℕ). Cycles (team.rules_of rules_of (kits_in (get_or deciders place d))) (desk_for n binders) storm.counted (cycler place) (storm.cycles place)) as_many
+              (subst (λ (n : ℕ). Cycles (choosing.rules_of rules_of (kits_in (get_or deciders place d))) (desk_for n binders) storm.counted (cycler place) (storm.cycles place)) as_many
               (storm.cyclers place d (omega (arith, lt, as_many))));
           idle = storm.idle;
           others = λ pass after. storm.others pass (omega (arith, after, as_many));
@@ -73,7 +73,7 @@ module _ {D : Type 0} (kits_in : D → List (List Ready)) (deciders : List D) (k
 
   -- the same, where it is known what the source has
   pub known_storms_by : D → (binders : ℕ) (known left : Option (List ℕ)) (out : DeviceUse) (answer : Bool)
-      → IfSome known (λ script. (first_storm_fault script ≡ None) × (left ≡ Some []) × Storms (λ d. team.rules_of rules_of (kits_in d)) deciders binders (script_steps script) out answer)
+      → IfSome known (λ script. (first_storm_fault script ≡ None) × (left ≡ Some []) × Storms (λ d. choosing.rules_of rules_of (kits_in d)) deciders binders (script_steps script) out answer)
       → IfSome known (λ script. (first_storm_fault script ≡ None) × (left ≡ Some []) × Storms rules_of kits binders (script_steps script) out answer)
   known_storms_by d binders None left out answer storms = tt
   known_storms_by d binders (Some script) left out answer (fine, read, storms) = (fine, read, storms_by d binders (script_steps script) out answer storms)
@@ -119,13 +119,13 @@ module _ (AreGiven : List (List ℕ) → Type 0) (specs : List SpecSyntax) (cycl
 
   module _ {D : Type 0} (kits_in : D → List (List Ready)) (deciders : List D) (kits : List (List Ready)) (modules : List (List ℕ)) (some : 1 ≤ cycles)
       (are : AreSiteKits specs modules cycles kits) (same : map kits_in deciders ≡ map (λ kit. kit ∷ []) kits) (given : AreGiven modules) where
-    storms : (answer : Bool) → IsStormRun (λ d. team.rules_of rules_of (kits_in d)) deciders binders source out (Ok answer) → SiteStorms AreGiven specs cycles binders source out answer
+    storms : (answer : Bool) → IsStormRun (λ d. choosing.rules_of rules_of (kits_in d)) deciders binders source out (Ok answer) → SiteStorms AreGiven specs cycles binders source out answer
     storms answer run =
         let d = first_of_some deciders (omega (arith, some, are.count, as_many kits_in deciders kits same)) in
         (modules, given, kits, are, known_storms_by kits_in deciders kits same d binders source.old source.new out answer run.done)
 
     -- the audit says yes
-    pub audit_ok : IsStormRun (λ d. team.rules_of rules_of (kits_in d)) deciders binders source out (Ok true) → ended ≡ 0 → IsSiteStorm AreGiven specs cycles binders source out err ended
+    pub audit_ok : IsStormRun (λ d. choosing.rules_of rules_of (kits_in d)) deciders binders source out (Ok true) → ended ≡ 0 → IsSiteStorm AreGiven specs cycles binders source out err ended
     audit_ok run is = record {
       status = inl is;
       done = λ _. storms true run;
@@ -135,7 +135,7 @@ module _ (AreGiven : List (List ℕ) → Type 0) (specs : List SpecSyntax) (cycl
     }
 
     -- it says no
-    pub audit_failed : IsStormRun (λ d. team.rules_of rules_of (kits_in d)) deciders binders source out (Ok false) → ended ≡ 1 → err.IsUntouched
+    pub audit_failed : IsStormRun (λ d. choosing.rules_of rules_of (kits_in d)) deciders binders source out (Ok false) → ended ≡ 1 → err.IsUntouched
         → IsSiteStorm AreGiven specs cycles binders source out err ended
     audit_failed run is untold = record {
       status = inr (inl is);
@@ -146,14 +146,14 @@ module _ (AreGiven : List (List ℕ) → Type 0) (specs : List SpecSyntax) (cycl
     }
 
     -- either
-    pub audited : (answer : Bool) → IsStormRun (λ d. team.rules_of rules_of (kits_in d)) deciders binders source out (Ok answer) → ended ≡ audit_status answer → err.IsUntouched
+    pub audited : (answer : Bool) → IsStormRun (λ d. choosing.rules_of rules_of (kits_in d)) deciders binders source out (Ok answer) → ended ≡ audit_status answer → err.IsUntouched
         → IsSiteStorm AreGiven specs cycles binders source out err ended
     audited true run is untold = audit_ok run is
     audited false run is untold = audit_failed run is untold
 
   -- there was no answer
   pub storm_cut_short : {D : Type 0} (kits_in : D → List (List Ready)) (deciders : List D) (fault : RunFault)
-      → IsStormRun (λ d. team.rules_of rules_of (kits_in d)) deciders binders source out (Err fault) → ended ≡ status_of (Run fault) → TellsFault err (Run fault)
+      → IsStormRun (λ d. choosing.rules_of rules_of (kits_in d)) deciders binders source out (Err fault) → ended ≡ status_of (Run fault) → TellsFault err (Run fault)
       → IsSiteStorm AreGiven specs cycles binders source out err ended
   storm_cut_short kits_in deciders run_fault.NoMemory run is tells = storm_not_begun (inl is) (run.quiet (λ e. cc))
   storm_cut_short kits_in deciders run_fault.NoPlace run is tells = storm_not_begun (inl is) (run.quiet (λ e. cc))
@@ -193,7 +193,7 @@ audit_told Left NotBegun NoFile source out err ended false is untold reads write
 
 -- what is so besides where a storm ends early
 pub besides_storm : {D : Type 0} (NotBegun : Type 0) (NoFile : Name → Type 0) (kits_in : D → List (List Ready)) (deciders : List D) (binders : ℕ) (source out : DeviceUse) (fault : RunFault)
-    → IsStormRun (λ d. team.rules_of rules_of (kits_in d)) deciders binders source out (Err fault) → Besides (Unit {0}) NotBegun NoFile source out (Run fault)
+    → IsStormRun (λ d. choosing.rules_of rules_of (kits_in d)) deciders binders source out (Err fault) → Besides (Unit {0}) NotBegun NoFile source out (Run fault)
 besides_storm NotBegun NoFile kits_in deciders binders source out (run_fault.Line number why) run = (run.read_told (λ e. cc), run.write_told (λ e. cc))
 besides_storm NotBegun NoFile kits_in deciders binders source out run_fault.NoMemory run = (run.read_told (λ e. cc), run.write_told (λ e. cc))
 besides_storm NotBegun NoFile kits_in deciders binders source out run_fault.NoPlace run = (tt, run.quiet (λ e. cc), run.read_told (λ e. cc), run.write_told (λ e. cc))

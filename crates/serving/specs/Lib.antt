@@ -1,3 +1,4 @@
+pub mod Decision
 pub mod Failures
 pub mod Laws
 pub mod Run

@@ -1,4 +1,5 @@
-//! What holds of every script of a site. The function does nothing: its contract is the law.
+//! What holds of every script of a site, and of every decision. The functions do nothing: their contracts are the laws.
+ghost use Rattle.serving.specs.Decision.{DecidedByCalls};
 ghost use Rattle.serving.specs.Laws.{FilesGiveModules, OneSiteOutput, SiteExplainedOutput, SiteFrontsAgree, SiteFrontsBeginOutput, SitePlainOutput};
 
 /// A site's script has one output: it depends on the script, on the plugins' names, weights and fuels, and on the bytes of their
@@ -15,4 +16,13 @@ pub fn one_site_output()
 {
     wbin::one_module();
     whost::one_image();
+}
+
+/// What is decided by the rules of a kit of a site's plugins is decided by the plugins' calls: each begins from the plugin's image,
+/// has its fuel, and is given the records of the pod, the node and what is used of the node. So what a run, an explanation and a
+/// storm promise by a kit's rules is promised by these calls.
+pub fn decided_by_calls()
+    ensures { DecidedByCalls }
+{
+    plugin::rules_are_calls();
 }

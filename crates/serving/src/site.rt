@@ -6,7 +6,7 @@ ghost use Rattle.wbin.specs.Grammar.{Spells};
 ghost use Rattle.wtype.specs.Accepted.{Accepted};
 ghost use Rattle.plugin.specs.Plugins.{IsTaken};
 ghost use Rattle.plugin.specs.Kit.{IsKitOf, rules_of};
-ghost use Rattle.fleet.specs.Alike.{JudgeAlike};
+ghost use Rattle.choose.specs.Kits.{JudgeAlike};
 ghost use Rattle.command.specs.Within.{AreWithinLimits, IsWithinLimits};
 ghost use Rattle.command.specs.Words.{syntax_of};
 ghost use Rattle.engine.specs.declared.fault.RunFault.TheVariants as run_fault;

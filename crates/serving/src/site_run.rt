@@ -8,8 +8,9 @@ ghost use Rattle.serving.specs.Site.{AreFromFiles, UnreadPlugin, names_of};
 
 use crate::folder::Files;
 use crate::site::{modules_in, site_kits};
+use crate::with_kits::run_with_kits;
 use command::{Plan, Spec};
-use engine::{RunFault, Sink, Source, run_with_kits};
+use engine::{RunFault, Sink, Source};
 use faults::{Fault, report};
 use quant::Name;
 use std::alloc::{AllocError, Global};

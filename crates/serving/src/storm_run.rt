@@ -9,11 +9,11 @@ ghost use Rattle.serving.specs.Storm.{IsSiteStorm, audit_status};
 
 use crate::folder::Files;
 use crate::site::{modules_in, site_kits};
+use crate::site_fleet::SiteFleet;
 use crate::stand_in::storm_by;
 use command::StormPlan;
 use engine::{RunFault, Sink, Source};
 use faults::{Fault, report};
-use fleet::Fleet;
 use plugin::KitRules;
 use std::alloc::{AllocError, Global};
 use std::hash::RandomState;
@@ -76,12 +76,12 @@ fn status_for(is_right: bool) -> u8
 }
 
 // One that decides for each kit, in the thread that asks it.
-fn deciders_of(alloc: Global, kits: Vec<KitRules>) -> Result<Vec<Fleet<KitRules>>, AllocError>
+fn deciders_of(alloc: Global, kits: Vec<KitRules>) -> Result<Vec<SiteFleet>, AllocError>
     ensures { IfOk result (λ deciders. map (λ d. d.kits) deciders.items ≡ map (λ kit. kit ∷ []) kits.items) }
 {
     let mut deciders = Vec::new(alloc);
     for kit in kits {
-        let Ok(decider) = Fleet::of_one(alloc, kit) else {
+        let Ok(decider) = SiteFleet::of_one(alloc, kit) else {
             return Err(AllocError);
         };
         if deciders.push(decider).is_err() {

@@ -8,8 +8,8 @@ use Rattle.desk.specs.declared.step.Counts.{Counts}
 use Rattle.desk.specs.History.{Call, GoesOn, AreHanded}
 use Rattle.desk.specs.Shared.{Pass, Desk}
 use Rattle.desk.specs.Shown.{Shown}
-use Rattle.plugin.specs.RuleSet.{RuleSet}
-use Rattle.fleet.specs.Team.{rules_of}
+use Rattle.rules.specs.RuleSet.{RuleSet}
+use Rattle.choose.specs.Kits.{rules_of}
 use Rattle.storm.specs.declared.worker.Worker.{Worker}
 use Rattle.storm.specs.Made.{BeginsWith, IsReport, IsReportOrCount, steps_of, newcomer}
 use Rattle.storm.specs.Cycles.{OneCycle, HasCycled, Cycles}

@@ -8,8 +8,8 @@ use Rattle.desk.specs.declared.step.Reply.{Reply}
 use Rattle.desk.specs.declared.step.Reply.TheVariants as replies
 use Rattle.desk.specs.History.{Call, GoesOn}
 use Rattle.desk.specs.Shared.{Pass, Desk, IsLooked}
-use Rattle.plugin.specs.RuleSet.{RuleSet}
-use Rattle.fleet.specs.Team.{rules_of}
+use Rattle.rules.specs.RuleSet.{RuleSet}
+use Rattle.choose.specs.Kits.{rules_of}
 use Rattle.engine.specs.declared.one_cycle.Cycled.{Cycled}
 use Rattle.engine.specs.declared.one_cycle.Cycled.TheVariants as cycled
 use Rattle.engine.specs.Cycle.{IsFailed, IsAssumed, AfterAssume, EndsWith, AfterPop, IsCycle}

@@ -10,8 +10,8 @@ use Rattle.desk.specs.declared.step.Counts.{Counts}
 use Rattle.desk.specs.History.{Call}
 use Rattle.desk.specs.Shared.{Pass, Desk, Closed}
 use Rattle.desk.specs.Shown.{Shown}
-use Rattle.plugin.specs.RuleSet.{RuleSet}
-use Rattle.fleet.specs.Team.{rules_of}
+use Rattle.rules.specs.RuleSet.{RuleSet}
+use Rattle.choose.specs.Kits.{rules_of}
 use Rattle.audit.specs.Audit.{ShowsSums}
 use Rattle.engine.specs.declared.fault.RunFault.{RunFault}
 use Rattle.engine.specs.declared.fault.RunFault.TheVariants.{Line, NoMemory, Read, Write, NoPlace}

@@ -4,8 +4,8 @@ use Rattle.std.proofs.lemmas.List.{append_assoc, get_or_default, get_or-set_same
 use Rattle.desk.specs.History.{Call}
 use Rattle.desk.specs.declared.step.Step.{Step}
 use Rattle.desk.specs.Shared.{Pass, Desk}
-use Rattle.plugin.specs.RuleSet.{RuleSet}
-use Rattle.fleet.specs.Team.{rules_of}
+use Rattle.rules.specs.RuleSet.{RuleSet}
+use Rattle.choose.specs.Kits.{rules_of}
 use Rattle.storm.specs.declared.worker.Worker.{Worker}
 use Rattle.storm.specs.Made.{BeginsWith, IsInformed}
 use Rattle.storm.specs.Cycles.{OneCycle, HasCycled, EndsIdle}

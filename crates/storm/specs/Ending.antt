@@ -5,7 +5,7 @@ use Rattle.desk.specs.declared.step.Step.{Step}
 use Rattle.desk.specs.declared.step.Counts.{Counts}
 use Rattle.desk.specs.Shared.{Pass, Desk, IsPassOf}
 use Rattle.desk.specs.Shown.{Shown}
-use Rattle.plugin.specs.RuleSet.{RuleSet}
+use Rattle.rules.specs.RuleSet.{RuleSet}
 use Rattle.storm.specs.declared.worker.Worker.{Worker}
 use Rattle.storm.specs.Made.{BeginsWith}
 use Rattle.storm.specs.Crew.{Each, HasFed, IsDumped}

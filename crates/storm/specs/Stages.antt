@@ -4,8 +4,8 @@ use Rattle.std.specs.List.{All, AllByRecursion}
 use Rattle.desk.specs.History.{Call, Legal}
 use Rattle.desk.specs.declared.step.Step.{Step}
 use Rattle.desk.specs.Shared.{Pass, Desk}
-use Rattle.plugin.specs.RuleSet.{RuleSet}
-use Rattle.fleet.specs.Team.{rules_of}
+use Rattle.rules.specs.RuleSet.{RuleSet}
+use Rattle.choose.specs.Kits.{rules_of}
 use Rattle.storm.specs.declared.worker.Worker.{Worker}
 use Rattle.storm.specs.Made.{BeginsWith, Makes, IsReport}
 use Rattle.storm.specs.Crew.{HaveMet}

@@ -12,7 +12,7 @@ use Rattle.desk.specs.History.{Call, Legal, state_after, snap}
 use Rattle.desk.specs.Machine as machine
 use Rattle.desk.specs.Shared.{Desk}
 use Rattle.desk.specs.Shown.{Shown}
-use Rattle.plugin.specs.RuleSet.{RuleSet}
+use Rattle.rules.specs.RuleSet.{RuleSet}
 use Rattle.audit.specs.Audit.{ShowsSums}
 use Rattle.engine.specs.declared.fault.RunFault.{RunFault}
 use Rattle.engine.specs.declared.fault.RunFault.TheVariants.{Line, Read, Write}

@@ -2,7 +2,7 @@
 ghost use Rattle.std.specs.Prelude.{◌≡◌, false, IfOk, OnOk, OnErr, List};
 ghost use Rattle.std.specs.Bool.{IsTrue};
 ghost use Rattle.desk.specs.Shared.{IsPassOf};
-ghost use Rattle.fleet.specs.Team.{rules_of};
+ghost use Rattle.choose.specs.Kits.{rules_of};
 ghost use Rattle.engine.specs.Cycle.{IsCycle};
 ghost use Rattle.engine.specs.declared.one_cycle.Cycled.{Cycled as Came};
 ghost use Rattle.engine.specs.declared.one_cycle.Cycled.TheVariants as cycled;
@@ -11,10 +11,10 @@ ghost use Rattle.storm.specs.Cycles.{OneCycle, HasCycled, EndsIdle};
 use crate::bell::Bell;
 use crate::worker::Worker;
 use binder::Job;
+use choose::Decider;
 use crossbeam_channel::Sender;
 use desk::{Desk, Naming, NoMemory, Pass};
 use engine::{Cycled, cycle};
-use fleet::Decider;
 use std::sync::Wait;
 use std::thread::Threads;
 

@@ -4,7 +4,7 @@ ghost use Rattle.std.specs.List.{All};
 ghost use Rattle.std.specs.Io.KnownBytes.{Appends};
 ghost use Rattle.desk.specs.Caller.{IsTimely};
 ghost use Rattle.desk.specs.Shared.{IsPassOf};
-ghost use Rattle.fleet.specs.Team.{rules_of};
+ghost use Rattle.choose.specs.Kits.{rules_of};
 ghost use Rattle.engine.specs.Answers.{limits};
 ghost use Rattle.engine.specs.Device.{use_of};
 ghost use Rattle.storm.specs.Made.{newcomer};
@@ -19,10 +19,11 @@ use crate::stages::{Stage, work};
 use crate::worker::{Worker, all_done, enlist};
 use audit::audit;
 use binder::Binder;
+use choose::Decider;
 use crossbeam_channel::unbounded;
 use desk::{Blank, Counts, Desk, Limits, Naming, Pass, Snapshot, Step};
 use engine::{RunFault, Sink, Source, push_dump, write_all};
-use fleet::Decider;
+use rules::Rules;
 use std::alloc::{AllocError, Global};
 use std::hash::RandomState;
 use std::marker::Brand;
@@ -71,7 +72,7 @@ fn hand_out<J: Naming, D: Decider + Drop>(
 fn work_and_dump<
     J: Naming + Send + Sync,
     R: Threads + Wait + Sync,
-    D: Decider<Kit: Send> + Send + Drop,
+    D: Decider<Kit: Rules<Notes: Send> + Send> + Send + Drop,
 >(
     rt: &R,
     alloc: Global,
@@ -112,7 +113,7 @@ fn work_and_dump<
 fn storm_to_dump<
     J: Naming + Send + Sync,
     R: Threads + Wait + Sync,
-    D: Decider<Kit: Send> + Send + Drop,
+    D: Decider<Kit: Rules<Notes: Send> + Send> + Send + Drop,
 >(
     rt: &R,
     alloc: Global,
@@ -178,7 +179,7 @@ fn tell<W: Sink>(
 fn storm_on<
     J: Naming + Send + Sync,
     R: Threads + Wait + Sync,
-    D: Decider<Kit: Send> + Send + Drop,
+    D: Decider<Kit: Rules<Notes: Send> + Send> + Send + Drop,
     W: Sink,
 >(
     rt: &R,
@@ -229,7 +230,12 @@ fn storm_on<
 ///
 /// Errors, by all of which but `Write` nothing is written: `Line` with the number of the first faulty line of the script and its
 /// fault; `NoMemory`; `Read`; `NoPlace` where there are more deciders and binders than 61. At `Write` a beginning is written.
-pub fn storm<R: Threads + Wait + Sync, D: Decider<Kit: Send> + Send + Drop, S: Source, W: Sink>(
+pub fn storm<
+    R: Threads + Wait + Sync,
+    D: Decider<Kit: Rules<Notes: Send> + Send> + Send + Drop,
+    S: Source,
+    W: Sink,
+>(
     rt: &R,
     alloc: Global,
     keys: RandomState,

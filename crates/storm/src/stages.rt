@@ -15,9 +15,10 @@ use crate::cycles::{schedule_beside, schedule_last};
 use crate::feed::feed;
 use crate::worker::Worker;
 use binder::Job;
+use choose::Decider;
 use crossbeam_channel::{Receiver, Sender};
 use desk::{Desk, Naming, Step};
-use fleet::Decider;
+use rules::Rules;
 use std::sync::Wait;
 use std::thread;
 use std::thread::{Threads, join_mut};
@@ -59,7 +60,7 @@ fn feed_all<J: Naming + Send + Sync, R: Threads + Wait + Sync>(
 fn cycle_all<
     J: Naming + Send + Sync,
     R: Threads + Wait + Sync,
-    D: Decider<Kit: Send> + Send + Drop,
+    D: Decider<Kit: Rules<Notes: Send> + Send> + Send + Drop,
 >(stage: &Stage<'_, J>, rt: &R, jobs: &Sender<Job>, cyclers: &mut [Worker<J, D>])
     requires { ArePassesOf stage.now.desk.now cyclers.old }
     ensures { Each (HasScheduled D.Kit.answers D.kits stage.now.desk.now) cyclers.old cyclers.new }
@@ -121,7 +122,11 @@ fn finish<J: Naming, R: Threads + Wait + Sync, D: Decider + Drop>(
 }
 
 // Feeders and cycle passes work beside each other; then the first cycle pass goes on alone, and no more jobs come.
-fn schedule<J: Naming + Send + Sync, R: Threads + Wait + Sync, D: Decider<Kit: Send> + Send + Drop>(
+fn schedule<
+    J: Naming + Send + Sync,
+    R: Threads + Wait + Sync,
+    D: Decider<Kit: Rules<Notes: Send> + Send> + Send + Drop,
+>(
     stage: &Stage<'_, J>,
     rt: &R,
     sender: &mut Option<Sender<Job>>,
@@ -159,7 +164,7 @@ fn schedule<J: Naming + Send + Sync, R: Threads + Wait + Sync, D: Decider<Kit: S
 pub(crate) fn work<
     J: Naming + Send + Sync,
     R: Threads + Wait + Sync,
-    D: Decider<Kit: Send> + Send + Drop,
+    D: Decider<Kit: Rules<Notes: Send> + Send> + Send + Drop,
     B: Reporting + Send,
 >(
     stage: &Stage<'_, J>,

@@ -4,14 +4,13 @@ use crate::objects::{named, node, node_set, pod};
 use choose::Decision;
 use desk::Snapshot;
 use fleet::Gate;
-use plugin::{Cause, FilterVerdict, Rules, ScoreVerdict};
-use quant::{Event, Name, SharedPod};
+use quant::{Event, Name, Pod, Res, SharedNode, SharedPod};
+use rules::{Cause, FilterVerdict, Rules, ScoreVerdict};
 use std::alloc::{AllocError, Global};
 use std::hash::RandomState;
 use std::sync::atomic::{AtomicBool, AtomicU64, Ordering};
 use std::sync::{Arc, Wait};
 use std::thread;
-use whost::Records;
 
 /// How often each of some came, by their places: kits that are asked, or pieces that begin.
 #[derive(Drop)]
@@ -56,17 +55,23 @@ pub struct Tally {
 }
 
 impl Rules for Tally {
-    ghost use Rattle.std.specs.Prelude.{◌≡◌, [], ◌∷◌};
+    ghost use Rattle.std.specs.Prelude.{◌≡◌, [], ◌∷◌, ⊤};
     ghost use Rattle.std.proofs.Common.{sym, ◌∙◌};
-    ghost use Rattle.plugin.specs.declared.verdict.Cause.TheVariants.{Exhausted};
-    ghost use Rattle.plugin.specs.declared.verdict.FilterVerdict.TheVariants as filter;
-    ghost use Rattle.plugin.specs.declared.verdict.ScoreVerdict.TheVariants as score;
+    ghost use Rattle.rules.specs.declared.verdict.Cause.TheVariants.{Exhausted};
+    ghost use Rattle.rules.specs.declared.verdict.FilterVerdict.TheVariants as filter;
+    ghost use Rattle.rules.specs.declared.verdict.ScoreVerdict.TheVariants as score;
+
+    type Notes = ();
 
     ghost answers = { λ _. record {
       weights = 1 ∷ [];
       Filters = λ place told said. said ≡ filter.Errs Exhausted;
       Scores = λ place told said. said ≡ score.Good 0;
     } };
+
+    ghost OfPod = { λ notes pod. ⊤ };
+
+    ghost OfNode = { λ notes node used. ⊤ };
 
     fn count(&self) -> usize {
         1
@@ -76,12 +81,16 @@ impl Rules for Tally {
         1
     }
 
-    fn filter(&mut self, _place: usize, _records: &Records) -> FilterVerdict {
+    fn show_pod(&mut self, _pod: &Pod) {}
+
+    fn show_node(&mut self, _notes: &mut (), _node: &SharedNode, _used: &Res) {}
+
+    fn filter(&mut self, _place: usize, _notes: &mut ()) -> FilterVerdict {
         self.asked.add(self.place);
         FilterVerdict::Errs(Cause::Exhausted)
     }
 
-    fn score(&mut self, _place: usize, _records: &Records) -> ScoreVerdict {
+    fn score(&mut self, _place: usize, _notes: &mut ()) -> ScoreVerdict {
         ScoreVerdict::Good(0)
     }
 

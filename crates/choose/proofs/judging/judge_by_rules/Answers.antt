@@ -14,6 +14,6 @@ loop-at-preserved g c =
       last = search rules;
       places = search rules;
       stays = search rules;
-      told = search rules;
+      of_pod = search rules;
       are = all_zip_set _ shown c.args.rows.now c.loop-at.verdicts c.loop-at.at c.index-rows-at.result c.verdict_of.result below room c.index-rows-at.is c.loop-at.invariant.are is;
     }

@@ -1,6 +1,5 @@
 use Rattle.std.proofs.Common.{◌≡◌, length, map, take}
 use Rattle.desk.specs.Shown.{shown}
-use Rattle.whost.specs.Handed.{pod_records}
 use Rattle.choose.specs.Choice.{AreVerdicts}
 use Rattle.choose.proofs.judging.judge_by_rules.Given as goal
 
@@ -9,6 +8,6 @@ invariant-loop-at g l = record {
   last : l.at-end ≡ length l.rows;
   places : length l.verdicts ≡ length l.rows;
   stays : l.rules ≡ l.fn.rules;
-  told : l.records.pod ≡ pod_records l.pod;
+  of_pod : g.R.Rules.OfPod l.notes l.pod;
   are : AreVerdicts (g.R.Rules.answers l.fn.rules) l.pod (map shown (take l.at l.rows)) (take l.at l.verdicts);
 }

@@ -1,6 +1,6 @@
 use Rattle.std.proofs.Common.{◌≡◌, ◌+◌, ◌≤◌, length}
 use Rattle.std.specs.Io.KnownBytes.{prepend_known}
-use Rattle.fleet.specs.Team.{rules_of}
+use Rattle.choose.specs.Kits.{rules_of}
 use Rattle.engine.specs.Telling.{telling}
 use Rattle.engine.proofs.Progress.{IsRunning}
 use Rattle.engine.proofs.script.run_lines.Given as goal

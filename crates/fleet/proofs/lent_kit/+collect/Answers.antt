@@ -26,10 +26,13 @@ collect-requires g t c κs within =
           (
             within.1.1.0,
             (
-              within.1.1.1,
+              within.1.1.1.0,
               (
-                rw (kits, places) (back_pieces nodes pieces c.args.first many 1 (length c.args.verdicts.now) (omega (arith, c.requires.pieces.some)) c.requires.pieces),
-                subst (λ kit. SpeaksFor g.J.Site.Says (g.K.Rules.answers kit)) (sym c.fill-2.ensures.stays) c.requires.speaks,
+                within.1.1.1.1,
+                (
+                  rw (kits, places) (back_pieces nodes pieces c.args.first many 1 (length c.args.verdicts.now) (omega (arith, c.requires.pieces.some)) c.requires.pieces),
+                  subst (λ kit. SpeaksFor g.J.Site.Says (g.K.Rules.answers kit)) (sym c.fill-2.ensures.stays) c.requires.speaks,
+                ),
               ),
             ),
           ),

@@ -4,7 +4,7 @@ use Rattle.std.proofs.lemmas.List.{map-append}
 use Rattle.desk.specs.Shown.{shown}
 use Rattle.choose.specs.Choice.{AreVerdicts}
 use Rattle.fleet.specs.Pieces.{places_of, nodes_of}
-use Rattle.fleet.specs.Alike.{JudgeAlike}
+use Rattle.choose.specs.Kits.{JudgeAlike}
 use Rattle.fleet.proofs.Cutting.{back_pieces, nodes_of_both}
 use Rattle.fleet.proofs.Together.{found_by_all}
 use Rattle.fleet.proofs.pieces.+pieces.Goals as goal

@@ -1,5 +1,5 @@
 use Rattle.std.proofs.Common.{◌≡◌, List}
-use Rattle.fleet.specs.Team.{rules_of}
+use Rattle.choose.specs.Kits.{rules_of}
 use Rattle.storm.specs.Cycles.{OneCycle, HasCycled}
 use Rattle.storm.proofs.cycles.cycle_beside.Given as goal
 

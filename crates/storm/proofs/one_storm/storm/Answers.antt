@@ -1,5 +1,5 @@
 use Rattle.std.proofs.Common.{length}
-use Rattle.fleet.specs.Team.{rules_of}
+use Rattle.choose.specs.Kits.{rules_of}
 use Rattle.engine.specs.Device.{use_of}
 use Rattle.engine.proofs.Steps.{limits_same}
 use Rattle.storm.proofs.Ending.{run_of}

@@ -1,6 +1,6 @@
 use Rattle.std.proofs.Common.{Err, length, ap, refl, ◌∙◌}
 use Rattle.std.proofs.lemmas.Result.{err_from_is_err_and}
-use Rattle.fleet.specs.Team.{rules_of}
+use Rattle.choose.specs.Kits.{rules_of}
 use Rattle.engine.specs.Device.{use_of}
 use Rattle.storm.proofs.Ending.{passed_on, passed_on_err, storms}
 use Rattle.storm.proofs.one_storm.storm_on.Goals as goal

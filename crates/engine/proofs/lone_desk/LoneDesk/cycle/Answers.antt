@@ -3,7 +3,7 @@ use Rattle.std.proofs.lemmas.Result.{IfOk-weaker, on_ok_weaker}
 use Rattle.desk.specs.Alone.{state_seen}
 use Rattle.desk.specs.declared.step.Step.TheVariants.{Pop}
 use Rattle.desk.specs.Machine.{after, reply}
-use Rattle.fleet.specs.Team.{rules_of}
+use Rattle.choose.specs.Kits.{rules_of}
 use Rattle.engine.specs.CycleAlone.{DecideAlone, IsCycleAlone}
 use Rattle.engine.proofs.Cycles.{cycle_alone, verdicts_alone}
 use Rattle.engine.proofs.lone_desk.LoneDesk.cycle.Goals as goal

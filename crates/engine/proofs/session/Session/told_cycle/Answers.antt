@@ -1,7 +1,7 @@
 use Rattle.std.proofs.Common.{◌≡◌, ◌∙◌, true, false, [], map, length, sym, ap, subst, refl, rules, append-nil}
 use Rattle.desk.specs.Shown.{shown}
 use Rattle.choose.specs.Choice.{judged}
-use Rattle.fleet.specs.Team.{rules_of}
+use Rattle.choose.specs.Kits.{rules_of}
 use Rattle.engine.specs.CycleAlone.{is_idle}
 use Rattle.engine.specs.Telling.{TellsNodes, verdict_lines}
 use Rattle.engine.proofs.Indented.{no_lines}

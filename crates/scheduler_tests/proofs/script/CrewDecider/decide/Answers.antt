@@ -1,6 +1,6 @@
 use Rattle.std.proofs.lemmas.Result.{IfOk-weaker}
 use Rattle.choose.specs.Choice.{AreVerdicts, Choice}
-use Rattle.scheduler_tests.proofs.SameKits.{first_of_all}
+use Rattle.fleet.proofs.Alike.{first_of_all}
 use Rattle.scheduler_tests.proofs.script.CrewDecider.decide.Goals as goal
 
 -- what each kit would choose alone is the choice by the rules of the first

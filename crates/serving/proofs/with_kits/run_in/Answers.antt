@@ -2,7 +2,7 @@ use Rattle.std.proofs.Common.{refl}
 use Rattle.std.proofs.lemmas.Result.{err_from_is_err_and}
 use Rattle.engine.proofs.Ends.{no_memory}
 use Rattle.engine.proofs.Progress.{nothing-written}
-use Rattle.engine.proofs.with_kits.run_in.Goals as goal
+use Rattle.serving.proofs.with_kits.run_in.Goals as goal
 
 -- without a pool nothing is written
 pub returns-in_default-clause-run : goal.returns-in_default-clause-run

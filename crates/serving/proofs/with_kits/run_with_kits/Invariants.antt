@@ -1,5 +1,5 @@
 use Rattle.choose.specs.Verdict.{HasVerdict}
-use Rattle.engine.proofs.with_kits.run_with_kits.Given as goal
+use Rattle.serving.proofs.with_kits.run_with_kits.Given as goal
 
 -- the pool that is started, and what its kits say
 abbrev pub ghosts-run_in : goal.ghosts-run_in

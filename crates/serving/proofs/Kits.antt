@@ -1,11 +1,11 @@
 -- Kits that judge alike, of which the first decides and the others work for it.
 use Rattle.std.proofs.Common.{◌≡◌, suc, ◌<◌, ◌+◌, List, [], ◌∷◌, ◌++◌, All, Contains, length, take, drop, slice_index_or, sym, ap, subst, arith}
 use Rattle.std.proofs.lemmas.List.Elements.{All-contains_itself}
-use Rattle.plugin.specs.RuleSet.{RuleSet}
+use Rattle.rules.specs.RuleSet.{RuleSet}
 use Rattle.choose.specs.Verdict.{HasVerdict}
-use Rattle.fleet.specs.Alike.{JudgeAlike}
+use Rattle.choose.specs.Kits.{JudgeAlike}
 use Rattle.fleet.specs.Speaking.{SpeaksFor}
-use Rattle.fleet.specs.Team.{rules_of}
+use Rattle.choose.specs.Kits.{rules_of}
 
 -- the rules of kits are those of the first
 pub first_rules : {Kit : Type 0} (answers : Kit → RuleSet) (kits : List Kit) (first : Kit) → 0 < length kits → first ≡ slice_index_or kits 0 first → answers first ≡ rules_of answers kits

@@ -1,9 +1,9 @@
--- Kits that are as good as one another.
+-- Kits of rules: those that are as good as one another, and for whose rules they stand.
 use Rattle.std.specs.List.{Contains}
-use Rattle.std.specs.Prelude.{List}
+use Rattle.std.specs.Prelude.{List, [], ◌∷◌}
 use Rattle.quant.specs.declared.objects.Pod.{Pod}
 use Rattle.desk.specs.Shown.{Shown}
-use Rattle.plugin.specs.RuleSet.{RuleSet}
+use Rattle.rules.specs.RuleSet.{RuleSet, no_rules}
 use Rattle.choose.specs.declared.decision.Verdict.{Verdict}
 use Rattle.choose.specs.Verdict.{HasVerdict}
 
@@ -12,3 +12,8 @@ abbrev pub JudgeAlike : {Kit : Type 0} → (answers : Kit → RuleSet) → (kits
 JudgeAlike answers kits =
     (one other : _) (pod : Pod) (shown : Shown) (verdict : Verdict) → Contains kits one → Contains kits other →
     HasVerdict (answers one) pod shown verdict → HasVerdict (answers other) pod shown verdict
+
+-- the rules of kits that judge alike: those of the first
+abbrev pub rules_of : {Kit : Type 0} → (answers : Kit → RuleSet) → List Kit → RuleSet
+rules_of answers [] = no_rules
+rules_of answers (kit ∷ kits) = answers kit

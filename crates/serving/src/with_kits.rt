@@ -1,19 +1,16 @@
 //! A run by a pool of kits, which lives as long as the run.
 ghost use Rattle.std.specs.Prelude.{◌≡◌, ◌^◌, ◌<◌, ◌≤◌, ◌∷◌, Err, vec_len};
 ghost use Rattle.std.specs.List.{All};
-ghost use Rattle.fleet.specs.Alike.{JudgeAlike};
+ghost use Rattle.choose.specs.Kits.{JudgeAlike, rules_of};
 ghost use Rattle.fleet.specs.Speaking.{SpeaksFor};
-ghost use Rattle.fleet.specs.Team.{rules_of};
 ghost use Rattle.engine.specs.Device.{use_of};
 ghost use Rattle.engine.specs.Run.{IsRun};
 ghost use Rattle.engine.specs.Telling.{telling};
 
-use crate::device::{Sink, Source};
-use crate::fault::RunFault;
-use crate::script::run;
+use engine::{RunFault, Sink, Source, run};
 use fleet::{Blank, MAX_KITS, NoGate, Pool, Site};
-use plugin::Rules;
 use quant::Name;
+use rules::Rules;
 use std::alloc::Global;
 use std::hash::RandomState;
 use std::marker::Brand;
@@ -39,6 +36,8 @@ fn run_in<
     source: &mut R,
     sink: &mut W,
 ) -> Result<(), RunFault>
+where
+    K::Notes: Send + 'static,
     requires most { vec_len others < MAX_KITS }
     requires pool { blank.seen.book ≡ J.book }
     requires first { SpeaksFor J.Says (K.answers first) }
@@ -59,7 +58,7 @@ fn run_in<
     done
 }
 
-/// Runs a script as `run` does, by a pool of 1 to 64 kits that judge alike, as those of the same plugins do: the first decides
+/// Runs a script as the engine's `run` does, by a pool of 1 to 64 kits that judge alike, as those of the same plugins do: the first decides
 /// in this thread, and each other one has a worker, which stays until the script has ended.
 ///
 /// Errors: those of `run`. `NoMemory` comes where there is none for the pool too.
@@ -78,6 +77,8 @@ pub fn run_with_kits<
     source: &mut R,
     sink: &mut W,
 ) -> Result<(), RunFault>
+where
+    K::Notes: Send + 'static,
     requires some { 0 < vec_len kits }
     requires most { vec_len kits ≤ MAX_KITS }
     requires alike { JudgeAlike K.answers kits.items }

@@ -1,0 +1,42 @@
+//! What decides where pods go.
+ghost use Rattle.std.specs.Prelude.{◌≡◌, List, IfOk, OnOk};
+ghost use denote.Param.Send.{IsSync};
+ghost use Rattle.choose.specs.Choice.{AreVerdicts, Choice};
+ghost use Rattle.choose.specs.declared.decision.Verdict.{Verdict};
+ghost use Rattle.choose.specs.Kits.{rules_of};
+
+use crate::decision::{Decision, Verdict};
+use desk::{NoMemory, Snapshot};
+use quant::SharedPod;
+use rules::Rules;
+use std::sync::Wait;
+use std::thread::Threads;
+
+/// What decides where pods go, by the built-in rules and those of its kits.
+pub trait Decider {
+    type Kit: Rules;
+
+    // The kits for whose rules it stands: the first for all.
+    ghost kits: { Self → List Self.Kit };
+
+    // The verdicts of its last decision.
+    ghost last: { Self → List Verdict };
+
+    /// Where a pod goes, by a look at the nodes: the choice that the first kit would make alone.
+    ///
+    /// Errors: `NoMemory`. Nothing is decided then, and it can be used again.
+    fn decide<R: Threads + Wait + Sync>(
+        &mut self,
+        rt: &R,
+        snapshot: Snapshot,
+        pod: &SharedPod,
+    ) -> Result<Decision, NoMemory>
+        requires { IsSync R.row }
+        ensures chosen { IfOk result (Choice (rules_of Self.Kit.answers (kits self.old)) snapshot pod.now) }
+        ensures judged { OnOk result (AreVerdicts (rules_of Self.Kit.answers (kits self.old)) pod.now snapshot (last self.new)) }
+        ensures kits { kits self.new ≡ kits self.old };
+
+    /// The verdicts of its last decision, in the order of the nodes.
+    fn verdicts(&self) -> &[Verdict]
+        ensures { result.now ≡ last self.now };
+}

@@ -1,0 +1,3 @@
+pub mod Trap
+pub mod Verdict
+pub mod RuleSet

@@ -1,0 +1,71 @@
+//! What a set of a site's rules promises.
+ghost use Rattle.std.specs.Prelude.{◌≡◌, ◌<◌, ◌≤◌, length, Some, slice_get};
+ghost use Rattle.quant.specs.declared.amount.Res.{Res};
+ghost use Rattle.quant.specs.declared.objects.Node.{Node};
+ghost use Rattle.quant.specs.declared.objects.Pod.{Pod};
+ghost use Rattle.rules.specs.RuleSet.{RuleSet, Told, SayOneThing};
+ghost use Rattle.rules.specs.Verdict.{IsWithin};
+
+use crate::verdict::{FilterVerdict, ScoreVerdict};
+use quant::{Pod, Res, SharedNode};
+
+/// A site's rules, in the order in which they are configured.
+///
+/// What a rule says depends on the rule, the pod, the node and what is used of the node alone, whatever was asked before: each
+/// call leaves the set as it was. In what form a set notes what it is shown, and what it keeps ready from one call to the next,
+/// is its own.
+pub trait Rules {
+    /// What a set notes of a pod and a node that it is shown.
+    type Notes: Drop;
+
+    // What the rules say, and how much their scores count.
+    ghost answers: { Self → RuleSet };
+
+    // Notes are of this pod, and of this node with so much used of it.
+    ghost OfPod: { Self.Notes → Pod → Type 0 };
+
+    ghost OfNode: { Self.Notes → Node → Res → Type 0 };
+
+    /// How many rules there are: at most 16.
+    fn count(&self) -> usize
+        ensures value { result ≡ length (answers self.now).weights }
+        ensures most { result ≤ 16 };
+
+    /// How much the score of the rule at a place counts: 1 to 10.
+    fn weight(&self, place: usize) -> u8
+        requires { place < length (answers self.now).weights }
+        ensures value { slice_get (answers self.now).weights place ≡ Some result }
+        ensures least { 1 ≤ result }
+        ensures most { result ≤ 10 };
+
+    /// Shows a pod, once a decision. The notes are of no node yet.
+    fn show_pod(&mut self, pod: &Pod) -> Self::Notes
+        ensures pod { OfPod result pod.now }
+        ensures stays { self.new ≡ self.old };
+
+    /// Shows a node on which pods use so much, once a node. The notes are of the same pod as before.
+    fn show_node(&mut self, notes: &mut Self::Notes, node: &SharedNode, used: &Res)
+        ensures node { OfNode notes.new node.now used.now }
+        ensures pod { (pod : Pod) → OfPod notes.old pod → OfPod notes.new pod }
+        ensures stays { self.new ≡ self.old };
+
+    /// Asks the filter of the rule at a place. A rule without one lets every node pass.
+    fn filter(&mut self, place: usize, notes: &mut Self::Notes) -> FilterVerdict
+        requires { place < length (answers self.old).weights }
+        ensures says { (told : Told) → OfPod notes.old told.pod → OfNode notes.old told.node told.used
+            → (answers self.old).Filters place told result }
+        ensures notes { notes.new ≡ notes.old }
+        ensures stays { self.new ≡ self.old };
+
+    /// Asks the score of the rule at a place. A rule without one adds nothing: it gives 0.
+    fn score(&mut self, place: usize, notes: &mut Self::Notes) -> ScoreVerdict
+        requires { place < length (answers self.old).weights }
+        ensures says { (told : Told) → OfPod notes.old told.pod → OfNode notes.old told.node told.used
+            → (answers self.old).Scores place told result }
+        ensures within { IsWithin result }
+        ensures notes { notes.new ≡ notes.old }
+        ensures stays { self.new ≡ self.old };
+
+    // A filter says one thing, and so does a score.
+    ghost say_one_thing: { (rules : Self) → SayOneThing (answers rules) };
+}

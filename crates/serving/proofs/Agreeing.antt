@@ -1,0 +1,82 @@
+-- Rules that say the same come to the same verdicts and choices.
+use Rattle.std.proofs.Common.{◌≡◌, ◌∙◌, ℕ, List, [], ◌∷◌, length, Option, Some, None, Result, Ok, Err, MatchOption, slice_index, sym, subst, ap, arith}
+use Rattle.quant.specs.declared.objects.Pod.{Pod}
+use Rattle.desk.specs.Shown.{Shown}
+use Rattle.rules.specs.declared.verdict.FilterVerdict.{FilterVerdict}
+use Rattle.rules.specs.declared.verdict.FilterVerdict.TheVariants as filter
+use Rattle.rules.specs.declared.verdict.ScoreVerdict.{ScoreVerdict}
+use Rattle.rules.specs.declared.verdict.ScoreVerdict.TheVariants as score
+use Rattle.rules.specs.RuleSet.{RuleSet, Told}
+use Rattle.choose.specs.declared.decision.Reason.{Reason}
+use Rattle.choose.specs.declared.decision.Verdict.{Verdict}
+use Rattle.choose.specs.declared.decision.Verdict.TheVariants.{Rejected}
+use Rattle.choose.specs.declared.decision.Decision.{Decision}
+use Rattle.choose.specs.Verdict.{built_in, weighted, Filtered, Scored, ByScores, ByRules, HasVerdict}
+use Rattle.choose.specs.Choice.{AreVerdicts, Choice}
+
+-- what the one says the other says
+pub record Agree (one other : RuleSet) : Type 0 where
+  pub weights : one.weights ≡ other.weights
+  pub filters : (place : ℕ) (told : Told) (verdict : FilterVerdict) → one.Filters place told verdict → other.Filters place told verdict
+  pub scores : (place : ℕ) (told : Told) (verdict : ScoreVerdict) → one.Scores place told verdict → other.Scores place told verdict
+
+module _ (one other : RuleSet) (agree : Agree one other) where
+  as_many : length other.weights ≡ length one.weights
+  as_many = ap length (sym agree.weights)
+
+  filtered : (told : Told) (f : Option Verdict) → Filtered one told f → Filtered other told f
+  filtered told None passes = λ k below. agree.filters k told filter.Passes (passes k (omega (arith, below, as_many)))
+  filtered told (Some verdict) stops = record {
+    place = stops.place;
+    there = omega (arith, stops.there, as_many);
+    before = λ k below. agree.filters k told filter.Passes (stops.before k below);
+    said = stops.said;
+    says = agree.filters stops.place told stops.said stops.says;
+    makes = stops.makes;
+  }
+
+  scored : (told : Told) (r : Result ℕ Verdict) → Scored one told r → Scored other told r
+  scored told (Ok sum) sums = record {
+    scores = sums.scores;
+    all = sums.all ∙ sym as_many;
+    are = λ k below. agree.scores k told (score.Good (slice_index sums.scores k)) (sums.are k below);
+    adds = subst (λ ws. sum ≡ weighted ws sums.scores) agree.weights sums.adds;
+  }
+  scored told (Err verdict) errs = record {
+    before = errs.before;
+    there = omega (arith, errs.there, as_many);
+    are = λ k below. agree.scores k told (score.Good (slice_index errs.before k)) (errs.are k below);
+    why = errs.why;
+    says = agree.scores (length errs.before) told (score.Errs errs.why) errs.says;
+    makes = errs.makes;
+  }
+
+  by_scores : (pod : Pod) (shown : Shown) (verdict : Verdict) → ByScores one pod shown verdict → ByScores other pod shown verdict
+  by_scores pod shown verdict by = record { scored = by.scored; are = scored _ by.scored by.are; is = by.is }
+
+  or_by_scores : (f : Option Verdict) (pod : Pod) (shown : Shown) (verdict : Verdict) → MatchOption f (ByScores one pod shown verdict) (λ stopped. verdict ≡ stopped)
+      → MatchOption f (ByScores other pod shown verdict) (λ stopped. verdict ≡ stopped)
+  or_by_scores None pod shown verdict by = by_scores pod shown verdict by
+  or_by_scores (Some stopped) pod shown verdict is = is
+
+  by_rules : (pod : Pod) (shown : Shown) (verdict : Verdict) → ByRules one pod shown verdict → ByRules other pod shown verdict
+  by_rules pod shown verdict by = record { filtered = by.filtered; are = filtered _ by.filtered by.are; is = or_by_scores by.filtered pod shown verdict by.is }
+
+  -- have the same verdicts
+  pub verdict_by : (pod : Pod) (shown : Shown) (verdict : Verdict) → HasVerdict one pod shown verdict → HasVerdict other pod shown verdict
+  verdict_by pod shown verdict has = by (built_in shown pod) has
+    where
+      by : (b : Option Reason) → MatchOption b (ByRules one pod shown verdict) (λ reason. verdict ≡ Rejected reason) → MatchOption b (ByRules other pod shown verdict) (λ reason. verdict ≡ Rejected reason)
+      by None rules = by_rules pod shown verdict rules
+      by (Some reason) is = is
+
+  -- on all nodes
+  pub verdicts_by : (pod : Pod) (nodes : List Shown) (verdicts : List Verdict) → AreVerdicts one pod nodes verdicts → AreVerdicts other pod nodes verdicts
+  verdicts_by pod [] [] are = tt
+  verdicts_by pod [] (v ∷ verdicts) are = absurd are
+  verdicts_by pod (x ∷ nodes) [] are = absurd are
+  verdicts_by pod (x ∷ nodes) (v ∷ verdicts) are = (verdict_by pod x v are.0, verdicts_by pod nodes verdicts are.1)
+
+  -- and the same choice
+  pub choice_by : (nodes : List Shown) (pod : Pod) (decision : Decision) → Choice one nodes pod decision → Choice other nodes pod decision
+  choice_by nodes pod decision choice = record { verdicts = choice.verdicts; are = verdicts_by pod nodes choice.verdicts choice.are; is = choice.is }
