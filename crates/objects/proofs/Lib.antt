@@ -1,0 +1,5 @@
+pub mod RatioLemmas
+pub mod Places
+pub mod Worth
+pub mod Items
+pub mod Peaks

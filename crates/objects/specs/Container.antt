@@ -1,0 +1,68 @@
+-- The containers of a pod, and what each asks for.
+use Rattle.std.specs.Prelude.{ℕ, suc, Bool, false, bytes_eq, codes, nat_le, List, [], ◌∷◌, ◌++◌, Option, Some, None, Result, Ok, Err, if◌then◌else◌}
+use Rattle.std.specs.Option.{ok_or}
+use Rattle.serde_json.specs.Data.{Data, Items, no_items, item}
+use Rattle.serde_json.specs.Find.{as_array, as_str}
+use Rattle.quant.specs.declared.amount.Request.{Request}
+use Rattle.quant.specs.declared.fault.QuantFault.{QuantFault}
+use Rattle.quant.specs.Request.{request_of}
+use Rattle.objects.specs.declared.container.Container.{Container}
+use Rattle.objects.specs.declared.key.Key.{Key}
+use Rattle.objects.specs.declared.key.Key.TheVariants as keys
+use Rattle.objects.specs.declared.fault.ObjectFault.{ObjectFault}
+use Rattle.objects.specs.declared.fault.ObjectFault.TheVariants.{BadField, TooMany, TooLarge}
+use Rattle.objects.specs.Quantity.{◌>>=◌}
+use Rattle.objects.specs.Reading.{field, asked, overhead, cpu_if, memory_if}
+
+-- a request, where it isn't too large
+abbrev pub whole : Result Request QuantFault → Result Request ObjectFault
+whole (Ok request) = Ok request
+whole (Err refusal) = Err TooLarge
+
+-- whether a container says that it goes on running (the Kubernetes page "Sidecar Containers")
+abbrev pub is_always : Option Data → Result Bool ObjectFault
+is_always None = Ok false
+is_always (Some value) = do
+  policy ← ok_or (as_str value) (BadField keys.RestartPolicy)
+  Ok (bytes_eq policy (codes "Always"))
+
+unfoldable pub goes_on : Data → Result Bool ObjectFault
+goes_on json = is_always (field keys.RestartPolicy json)
+
+-- what a container asks for, and whether it goes on running
+unfoldable pub container : Data → Result Container ObjectFault
+container json = do
+  cpu ← cpu_if (asked keys.Cpu json)
+  memory ← memory_if (asked keys.Memory json)
+  goes_on ← goes_on json
+  request ← whole (request_of cpu memory)
+  Ok (record { request = request; goes_on = goes_on })
+
+-- how many items there are
+abbrev pub count : Items → ℕ
+count no_items = 0
+count (item d ds) = suc (count ds)
+
+-- the containers of an array in their order; the first fault is told
+abbrev pub each : List Container → Items → Result (List Container) ObjectFault
+each before no_items = Ok before
+each before (item d ds) = do
+  x ← container d
+  each (before ++ x ∷ []) ds
+
+-- the containers that a value lists, of which there are none where there is no value
+abbrev pub listed : Key → Option Data → Result (List Container) ObjectFault
+listed key None = Ok []
+listed key (Some value) = do
+  found ← ok_or (as_array value) (BadField key)
+  if nat_le (count found) 65536 then each [] found else Err (TooMany key)
+
+unfoldable pub containers : Key → Data → Result (List Container) ObjectFault
+containers key spec = listed key (field key spec)
+
+-- what running a pod costs beside its containers (the Kubernetes page "Pod Overhead")
+unfoldable pub overhead_request : Data → Result Request ObjectFault
+overhead_request spec = do
+  cpu ← cpu_if (overhead keys.Cpu spec)
+  memory ← memory_if (overhead keys.Memory spec)
+  whole (request_of cpu memory)

@@ -1,0 +1,88 @@
+-- How much a quantity is (the Kubernetes API reference, "Quantity"): a sign or none, digits with a point among them
+-- or beside them or none, and a suffix.
+use Rattle.std.specs.Prelude.{ℕ, ◌*◌, ◌^◌, Bool, ◌&&◌, not, ◌==◌, nat_le, if◌then◌else◌, List, [], ◌++◌, length, take, drop, codes, bytes_eq, Result, Ok, Err}
+use Rattle.std.specs.List.{list_all}
+use Rattle.quant.specs.Amount.{number, leading_digits, after_digits}
+use Rattle.quant.specs.declared.amount.Cpu.{Cpu}
+use Rattle.quant.specs.declared.amount.Bytes.{Bytes}
+use Rattle.objects.specs.declared.fault.QuantityFault.{QuantityFault}
+use Rattle.objects.specs.declared.fault.QuantityFault.TheVariants.{NotAQuantity, Negative, TooLarge}
+use Rattle.objects.specs.declared.rounding.Rounding.{Rounding}
+use Rattle.objects.specs.declared.rounding.Rounding.TheVariants.{Up, Down}
+use Rattle.objects.specs.declared.suffix.Suffix.{Suffix}
+use Rattle.objects.specs.Ratio.{Ratio, rounded}
+use Rattle.objects.specs.Suffix.{has_minus, after_sign, suffix_named}
+
+-- one reading after another: the first fault ends both
+infixl 10 ◌>>=◌
+abbrev pub ◌>>=◌ : {A B E : Type 0} → Result A E → (A → Result B E) → Result B E
+(Ok x) >>= f = f x
+(Err e) >>= f = Err e
+
+-- whether a decimal point stands in front
+abbrev pub has_point : List ℕ → Bool
+has_point text = bytes_eq (take 1 text) (codes ".")
+
+-- the digits behind a decimal point in front, and what stands behind both
+abbrev pub fraction_digits : List ℕ → List ℕ
+fraction_digits text = if has_point text then leading_digits (drop 1 text) else []
+
+abbrev pub after_fraction : List ℕ → List ℕ
+after_fraction text = if has_point text then after_digits (drop 1 text) else text
+
+-- no digit but zeros
+abbrev pub is_zero : List ℕ → Bool
+is_zero digits = list_all (λ digit. digit == 48) digits
+
+-- what digits in front of a point and behind it are worth with a suffix, in thousandths where `places` is 3 and in ones where it is 0
+abbrev pub worth : (places : ℕ) → (whole fraction : List ℕ) → Suffix → Ratio
+worth places whole fraction suffix = record {
+  over = number (whole ++ fraction) * (10 ^ suffix.tens * 2 ^ suffix.twos) * 10 ^ places;
+  under = 10 ^ length fraction * 10 ^ suffix.tenths;
+}
+
+-- an amount that is no more than it may be
+abbrev pub at_most : (most : ℕ) → ℕ → Result ℕ QuantityFault
+at_most most n = if nat_le n most then Ok n else Err TooLarge
+
+-- what the digits and the suffix of a quantity come to
+abbrev pub amount_of : Rounding → (places most : ℕ) → (minus : Bool) → (whole fraction : List ℕ) → Suffix → Result ℕ QuantityFault
+amount_of rounding places most minus whole fraction suffix =
+    if minus && not (is_zero (whole ++ fraction)) then Err Negative
+    else at_most most (rounded rounding (worth places whole fraction suffix))
+
+-- what the parts of a quantity come to: a digit stands in front of the point or behind it
+abbrev pub parts_amount : Rounding → (places most : ℕ) → (minus : Bool) → (whole rest : List ℕ) → Result ℕ QuantityFault
+parts_amount rounding places most minus whole rest =
+    if nat_le 1 (length (whole ++ fraction_digits rest))
+    then suffix_named (after_fraction rest) >>= amount_of rounding places most minus whole (fraction_digits rest)
+    else Err NotAQuantity
+
+-- what a quantity comes to, rounded to so many decimal places, and no more than it may be
+unfoldable pub quantity : Rounding → (places most : ℕ) → List ℕ → Result ℕ QuantityFault
+quantity rounding places most text =
+    parts_amount rounding places most (has_minus text) (leading_digits (after_sign text)) (after_digits (after_sign text))
+
+-- thousandths of a core, as a container asks for them and as a node has them
+abbrev pub cpu : Result ℕ QuantityFault → Result Cpu QuantityFault
+cpu amount = amount >>= λ n. Ok (record { 0 = n })
+
+abbrev pub cpu_asked : List ℕ → Result Cpu QuantityFault
+cpu_asked text = cpu (quantity Up 3 (2 ^ 30) text)
+
+abbrev pub cpu_offered : List ℕ → Result Cpu QuantityFault
+cpu_offered text = cpu (quantity Down 3 (2 ^ 30) text)
+
+-- bytes of memory, as a container asks for them and as a node has them
+abbrev pub memory : Result ℕ QuantityFault → Result Bytes QuantityFault
+memory amount = amount >>= λ n. Ok (record { 0 = n })
+
+abbrev pub memory_asked : List ℕ → Result Bytes QuantityFault
+memory_asked text = memory (quantity Up 0 (2 ^ 44) text)
+
+abbrev pub memory_offered : List ℕ → Result Bytes QuantityFault
+memory_offered text = memory (quantity Down 0 (2 ^ 44) text)
+
+-- how many pods a node takes
+abbrev pub pods_offered : List ℕ → Result ℕ QuantityFault
+pods_offered text = quantity Down 0 150000 text

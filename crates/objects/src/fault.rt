@@ -1,0 +1,43 @@
+//! Why an amount is refused, and why an object doesn't tell amounts.
+use crate::key::Key;
+use thiserror::Error;
+
+/// Why a text of the API gives no amount.
+#[derive(Clone, Copy, Debug, PartialEq, Eq, Error)]
+pub enum QuantityFault {
+    /// The text is no quantity.
+    #[error("no quantity")]
+    NotAQuantity,
+    /// The exponent has more than two digits.
+    #[error("an exponent of more than two digits")]
+    FarExponent,
+    /// The quantity is below 0.
+    #[error("an amount below 0")]
+    Negative,
+    /// The amount is above its limit.
+    #[error("an amount above its limit")]
+    TooLarge,
+}
+
+/// Why an object doesn't tell what a node has or a pod asks for. Of several faults the first is told.
+#[derive(Clone, Copy, Debug, PartialEq, Eq, Error)]
+pub enum ObjectFault {
+    /// The field has another type than the API gives it, or is missing where it has to be there.
+    #[error("a field of another type")]
+    BadField(Key),
+    /// The field's amount is refused.
+    #[error("an amount that is refused")]
+    Quantity(Key, QuantityFault),
+    /// The field has more items than any object of the API can hold.
+    #[error("too many items")]
+    TooMany(Key),
+    /// The pod asks for resources as a whole, beside its containers.
+    #[error("resources of the whole pod")]
+    PodResources,
+    /// What the pod asks for in all is above the limit of a request.
+    #[error("a request above its limit")]
+    TooLarge,
+    /// No memory was left.
+    #[error("no memory")]
+    NoMemory,
+}

@@ -1,0 +1,98 @@
+//! What stands behind the digits of a quantity.
+ghost use Rattle.std.specs.Prelude.{◌≡◌, ◌≤◌, IfOk};
+ghost use Rattle.objects.specs.Suffix.{suffix_named, exponent, exponent_digits, power_of_ten, power_of_two};
+
+use crate::digits::{are_digits, number_of, split_sign};
+use crate::fault::QuantityFault;
+
+// The most digits of an exponent.
+const MAX_EXPONENT_DIGITS: usize = 2;
+
+/// What the digits of a quantity are multiplied by: 10 to `tens` times 2 to `twos`, over 10 to
+/// `tenths`. One of them at most isn't 0.
+#[derive(Clone, Copy)]
+pub(crate) struct Suffix {
+    /// The power of ten over the fraction.
+    pub tens: usize,
+    /// The power of ten under the fraction.
+    pub tenths: usize,
+    /// The power of two over the fraction.
+    pub twos: u32,
+}
+
+// The suffix that a text is.
+#[tactic(auto, unfolding(crate::specs::Suffix::suffix_named))]
+pub(crate) fn suffix_named(text: &[u8]) -> Result<Suffix, QuantityFault>
+    ensures value { result ≡ suffix_named text.now }
+    ensures tens { IfOk result (λ suffix. suffix.tens ≤ 99) }
+    ensures tenths { IfOk result (λ suffix. suffix.tenths ≤ 99) }
+    ensures twos { IfOk result (λ suffix. suffix.twos ≤ 60) }
+{
+    match text {
+        b"n" => Ok(power_of_ten(true, 9)),
+        b"u" => Ok(power_of_ten(true, 6)),
+        b"m" => Ok(power_of_ten(true, 3)),
+        [] => Ok(power_of_ten(false, 0)),
+        b"k" => Ok(power_of_ten(false, 3)),
+        b"M" => Ok(power_of_ten(false, 6)),
+        b"G" => Ok(power_of_ten(false, 9)),
+        b"T" => Ok(power_of_ten(false, 12)),
+        b"P" => Ok(power_of_ten(false, 15)),
+        b"E" => Ok(power_of_ten(false, 18)),
+        b"Ki" => Ok(power_of_two(10)),
+        b"Mi" => Ok(power_of_two(20)),
+        b"Gi" => Ok(power_of_two(30)),
+        b"Ti" => Ok(power_of_two(40)),
+        b"Pi" => Ok(power_of_two(50)),
+        b"Ei" => Ok(power_of_two(60)),
+        [b'e', exponent @ ..] => read_exponent(exponent),
+        [b'E', exponent @ ..] => read_exponent(exponent),
+        _ => Err(QuantityFault::NotAQuantity),
+    }
+}
+
+// The power of ten that the text behind `e` or `E` tells.
+fn read_exponent(text: &[u8]) -> Result<Suffix, QuantityFault>
+    ensures value { result ≡ exponent text.now }
+    ensures tens { IfOk result (λ suffix. suffix.tens ≤ 99) }
+    ensures tenths { IfOk result (λ suffix. suffix.tenths ≤ 99) }
+    ensures twos { IfOk result (λ suffix. suffix.twos ≤ 60) }
+{
+    let (below_one, digits) = split_sign(text);
+    if digits.is_empty() || !are_digits(digits) {
+        return Err(QuantityFault::NotAQuantity);
+    }
+    if digits.len() > MAX_EXPONENT_DIGITS {
+        return Err(QuantityFault::FarExponent);
+    }
+    Ok(power_of_ten(below_one, number_of(digits)))
+}
+
+// 10 to this power, or one over it.
+fn power_of_ten(below_one: bool, power: usize) -> Suffix
+    ensures { result ≡ power_of_ten below_one power }
+{
+    if below_one {
+        return Suffix {
+            tens: 0,
+            tenths: power,
+            twos: 0,
+        };
+    }
+    Suffix {
+        tens: power,
+        tenths: 0,
+        twos: 0,
+    }
+}
+
+// 2 to this power.
+fn power_of_two(power: u32) -> Suffix
+    ensures { result ≡ power_of_two power }
+{
+    Suffix {
+        tens: 0,
+        tenths: 0,
+        twos: power,
+    }
+}
