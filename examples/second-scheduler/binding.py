@@ -1,0 +1,120 @@
+"""Binds: each is made by a thread of its own, and ends with an answer whatever the API server does."""
+from __future__ import annotations
+
+import concurrent.futures
+import json
+import logging
+import queue
+import threading
+import time
+from typing import Any, NamedTuple
+
+import urllib3
+from kubernetes.client.rest import ApiException
+
+from pods import Pod
+from rows import SeenPod
+from watch import AWAY, message
+
+LOG = logging.getLogger("second-scheduler")
+# How many places may wait for their bind: a decision waits for none.
+UNDER_WAY = 512
+
+
+class Bind(NamedTuple):
+    """A bind, and what became of it. `turn` is when the pod had its turn, `seconds` how long the bind took."""
+
+    pod: Pod
+    node: str
+    # which node of that name was meant
+    node_uid: str
+    ticket: int
+    turn: float
+    is_bound: bool = False
+    is_posted: bool = True
+    seconds: float = 0.0
+
+
+class Newest:
+    """Which pods of one's own wait for a node, and which nodes there are, by the newest that was heard: told by the threads that hear of
+    them, before anyone else knows, and asked by those that bind."""
+
+    def __init__(self) -> None:
+        self.uids: dict[str, str] = {}
+        self.nodes: dict[str, str] = {}
+
+    def hear(self, key: str, uid: str, seen: SeenPod | None) -> None:
+        """`seen` is None of a pod that is gone, or isn't ours."""
+        if seen and not seen.node and not seen.is_leaving:
+            self.uids[key] = uid
+        else:
+            # (a name belongs to one pod at a time, so whoever had it before is gone too)
+            self.uids.pop(key, None)
+
+    def listed(self, uids: set[str]) -> None:
+        for key, uid in [*self.uids.items()]:
+            if uid not in uids:
+                self.uids.pop(key, None)
+
+    def hear_node(self, name: str, uid: str | None) -> None:
+        """`uid` is None of a node that is gone."""
+        if uid is None:
+            self.nodes.pop(name, None)
+        else:
+            self.nodes[name] = uid
+
+    def listed_nodes(self, names: set[str]) -> None:
+        for name in [it for it in self.nodes if it not in names]:
+            self.nodes.pop(name, None)
+
+    def holds(self, asked: Bind) -> bool:
+        """Whether the pod still waits, and the node that was meant is there."""
+        return self.uids.get(str(asked.pod)) == asked.pod.uid and self.nodes.get(asked.node) == asked.node_uid
+
+
+class Binders:
+    """The threads that bind. Each answer goes into the inbox, as `("bind", .., Bind)`."""
+
+    def __init__(self, api: Any, count: int, newest: Newest, inbox: queue.SimpleQueue[Any], stopping: threading.Event) -> None:
+        self.api, self.newest, self.inbox, self.stopping = api, newest, inbox, stopping
+        self.threads = concurrent.futures.ThreadPoolExecutor(count, "binder")
+
+    def bind(self, asked: Bind) -> None:
+        self.threads.submit(self.go, asked)
+
+    def go(self, asked: Bind) -> None:
+        began, is_bound = time.monotonic(), False
+        is_posted = self.newest.holds(asked)
+        if is_posted:
+            is_bound = self.post(asked.pod, asked.node)
+        else:
+            # an API server up to 1.20 would bind whatever has its name now
+            LOG.info("pod %s isn't bound to %s: one of them is gone or another by now, or the pod is bound", asked.pod, asked.node)
+        self.inbox.put(("bind", "", asked._replace(is_bound=is_bound, is_posted=is_posted, seconds=time.monotonic() - began)))
+
+    def post(self, pod: Pod, node: str) -> bool:
+        """Binds a pod. Where no answer tells what became of it, the pod itself is asked, until there is one."""
+        body = {"metadata": {"name": pod.name, "namespace": pod.namespace, "uid": pod.uid}, "target": {"apiVersion": "v1", "kind": "Node", "name": node}}
+        try:
+            # (an answer that is read gives its connection back)
+            self.api.create_namespaced_pod_binding(pod.name, pod.namespace, body, _preload_content=False, _request_timeout=(5, 30)).read()
+            return True
+        except AWAY as why:
+            LOG.warning("pod %s can't be bound to %s: %s", pod, node, message(why))
+        pause = 0.2
+        while not (self.stopping.is_set() and pause > 2):
+            is_bound = self.ask(pod, node)
+            if is_bound is not None:
+                return is_bound
+            time.sleep(pause)
+            pause = min(2 * pause, 5)
+        return False
+
+    def ask(self, pod: Pod, node: str) -> bool | None:
+        try:
+            now = json.loads(self.api.read_namespaced_pod(pod.name, pod.namespace, _preload_content=False, _request_timeout=(5, 30)).data)
+            return bool(now["metadata"]["uid"] == pod.uid and now["spec"].get("nodeName") == node)
+        except ApiException as other:
+            return False if other.status == 404 else None
+        except (urllib3.exceptions.HTTPError, OSError, ValueError):
+            return None

@@ -1,0 +1,149 @@
+"""`wsched run` as a child: lines are written, and each has its answer."""
+from __future__ import annotations
+
+import collections
+import json
+import logging
+import os
+import select
+import subprocess
+import time
+from typing import Callable, NamedTuple
+
+from record import Record
+
+LOG = logging.getLogger("second-scheduler")
+# Few enough lines and bytes at once that a pipe takes them all: so no write ever waits.
+LINES, BYTES = 100, 32768
+# For how long an answer may be waited for, in seconds: no cycle is so dear.
+PATIENCE = 15.0
+
+
+class CoreFault(Exception):
+    """The child has ended, or says nothing."""
+
+
+class Told(NamedTuple):
+    """A line, what its answer is handed to, and how the last line of its answer begins, where it has several."""
+
+    line: bytes
+    then: Callable[[str], None]
+    last: str
+
+
+class Core:
+    """The child, and the lines that it is to be told. It has a session of its own: what a terminal or a service manager sends to all
+    that belongs to this process isn't meant for it, which ends when its input does."""
+
+    def __init__(self, words: list[str], record: Record | None, beat: Callable[[], None]) -> None:
+        self.child = subprocess.Popen(words, stdin=subprocess.PIPE, stdout=subprocess.PIPE, bufsize=0, start_new_session=True)
+        assert self.child.stdin and self.child.stdout
+        self.input, self.output = self.child.stdin.fileno(), self.child.stdout.fileno()
+        self.record, self.beat, self.read = record, beat, b""
+        self.waiting: collections.deque[Told] = collections.deque()
+        self.ready = select.poll()
+        self.ready.register(self.output, select.POLLIN)
+
+    def tell(self, line: str, then: Callable[[str], None], last: str = "") -> None:
+        """Has a line written at the next flush, and its answer handed on."""
+        self.waiting.append(Told(line.encode() + b"\n", then, last))
+
+    def flush(self) -> None:
+        while self.waiting:
+            some, size = [self.waiting.popleft()], 0
+            while self.waiting and len(some) < LINES and size + len(self.waiting[0].line) < BYTES:
+                size += len(self.waiting[0].line)
+                some.append(self.waiting.popleft())
+            self.exchange(some)
+
+    def exchange(self, some: list[Told]) -> None:
+        lines = b"".join(it.line for it in some)
+        try:
+            written = 0
+            while written < len(lines):
+                written += os.write(self.input, lines[written:])
+        except BrokenPipeError:
+            pass
+        if not self.record:
+            for it in some:
+                it.then(self.answer(it))
+            return
+        # what was answered is in the record before anything is made of it
+        answers = [self.answer(it) for it in some]
+        try:
+            self.record.write(lines)
+        except OSError as why:
+            # (pods go on being placed, which is what this is for)
+            LOG.error("the record %s ends here: %s", self.record.path, why)
+            self.record = None
+        for it, answer in zip(some, answers):
+            it.then(answer)
+
+    def answer(self, told: Told) -> str:
+        line = self.line(told)
+        if not told.last:
+            return line
+        lines = [line]
+        while not lines[-1].startswith(told.last):
+            lines.append(self.line(told))
+        return "\n".join(lines)
+
+    def line(self, told: Told) -> str:
+        end = self.read.find(b"\n")
+        if end < 0:
+            end = self.more(told)
+        line, self.read = self.read[:end], self.read[end + 1 :]
+        self.beat()
+        return line.decode()
+
+    def more(self, told: Told) -> int:
+        """Reads until there is a whole line, and gives where it ends."""
+        pieces, deadline = [self.read], time.monotonic() + PATIENCE
+        while True:
+            left = deadline - time.monotonic()
+            if left <= 0 or not self.ready.poll(1000 * left):
+                self.kill()
+                raise CoreFault(f"wsched has said nothing for {PATIENCE:.0f} s, at {told.line.decode()}")
+            some = os.read(self.output, 65536)
+            if not some:
+                raise CoreFault(f"wsched ended with status {self.child.wait()} at {told.line.decode()}")
+            pieces.append(some)
+            if b"\n" in some:
+                self.read = b"".join(pieces)
+                return self.read.index(b"\n")
+
+    def kill(self) -> None:
+        self.child.kill()
+
+    def end(self) -> int:
+        """Ends its input, and waits for its status."""
+        assert self.child.stdin
+        self.child.stdin.close()
+        try:
+            return self.child.wait(PATIENCE)
+        except subprocess.TimeoutExpired as late:
+            self.kill()
+            raise CoreFault(f"wsched hasn't ended within {PATIENCE:.0f} s of its input") from late
+
+
+def command(program: str, workers: int, specs: list[str]) -> list[str]:
+    return [program, "run", "--workers", str(workers), *specs]
+
+
+def try_plugins(words: list[str]) -> str | None:
+    """Runs wsched on nothing, so that a plugin that can't be read or is refused is known before anything depends on it. Gives what is
+    wrong."""
+    try:
+        nothing, heard = subprocess.DEVNULL, subprocess.PIPE
+        tried = subprocess.run(words, stdin=nothing, stdout=nothing, stderr=heard, text=True, timeout=60, start_new_session=True, check=False)
+    except subprocess.TimeoutExpired:
+        return "wsched hasn't read its plugins within 60 s"
+    except OSError as why:
+        return f"wsched can't be run: {why}"
+    if tried.returncode == 0:
+        return None
+    return tried.stderr.strip() or f"wsched ended with status {tried.returncode}"
+
+
+def quoted(text: str) -> str:
+    return json.dumps(text)

@@ -1,0 +1,243 @@
+"""The loop: what the cluster says is told to wsched, cycles are asked for while pods wait, and each place is bound."""
+from __future__ import annotations
+
+import argparse
+import collections
+import functools
+import logging
+import os
+import queue
+import threading
+import time
+from typing import Any, Callable
+
+from affinity import NodeLabels
+from audit import Audit
+from binding import UNDER_WAY, Bind, Binders, Newest
+from claims import ClaimHearing, Claims, VolumeHearing, listed_after
+from core import PATIENCE, Core, command
+from desk import Desk
+from health import Health
+from hearing import Inbox, NodeHearing, PodHearing
+from metrics import Metrics
+from record import Record
+from telling import Telling
+from watch import Watched
+
+LOG = logging.getLogger("second-scheduler")
+# How many cycles are asked for at once at most, and for how long they are, in seconds, before the cluster is heard again.
+CYCLES, SLICE = 64, 0.1
+# What a unit of fuel takes on a slow machine, in seconds.
+UNIT = 5e-9
+# How often the desk is audited, in seconds, and nodes without room are tried again.
+AUDIT = 30.0
+WHY = {
+    "marked": "node(s) were unschedulable",
+    "taint": "node(s) had taints that the pod didn't tolerate",
+    "cpu": "Insufficient cpu",
+    "memory": "Insufficient memory",
+    "pods": "Too many pods",
+    "plugin": "node(s) were rejected by a plugin",
+    "final": "node(s) were rejected by a plugin for good",
+}
+
+
+def said_of_no_node(counts: list[str]) -> str:
+    """The message of kube-scheduler's kind, of the words and numbers that wsched answers."""
+    some = [(int(n), WHY[why]) for why, n in zip(counts[::2], counts[1::2]) if n != "0"]
+    why = ", ".join(f"{n} {why}" for n, why in sorted(some, key=lambda it: it[1]))
+    return f"0/{sum(n for n, _ in some)} nodes are available: {why}." if some else "0/0 nodes are available: there are none."
+
+
+class Scheduler:
+    """One that schedules: it has begun to list and watch once it is there, and `run` goes on until `stopping` is set."""
+
+    def __init__(self, given: argparse.Namespace, api: Any, metrics: Metrics, health: Health) -> None:
+        self.given, self.metrics, self.health = given, metrics, health
+        self.inbox: Inbox = queue.SimpleQueue()
+        self.stopping, self.is_audit_asked = threading.Event(), False
+        self.counts: collections.Counter[str] = collections.Counter()
+        # how many are asked for at once now, how long the dearest took of late, and the fuel that a node may take
+        self.cycles, self.dearest = 1, 0.0
+        self.fuel = sum(2 * int(it.split(":")[2]) for it in given.spec)
+        self.under_way, self.began, self.last = 0, time.monotonic(), 0.0
+        record = Record(given.record) if given.record else None
+        if record:
+            LOG.info("the record is %s", record.path)
+        self.core = Core(command(given.wsched, given.workers, given.spec), record, health.beat)
+        health.watch_over(self.core.kill)
+        newest = Newest()
+        self.telling = Telling(api, given.scheduler, given.dry_run, metrics)
+        self.binders = Binders(api, given.binders, newest, self.inbox, self.stopping)
+        labels = NodeLabels(given.settings)
+        self.desk = Desk(self.core, self.telling, metrics, labels)
+        self.audit = Audit(self.desk, self.telling, metrics)
+        only = {"label_selector": given.nodes} if given.nodes else {}
+        Watched(api.list_node, NodeHearing(self.inbox, metrics, newest, labels), **only)
+        claims = Claims(is_told=bool(given.node_affinity))
+        if given.node_affinity:
+            Watched(api.list_persistent_volume, VolumeHearing(claims, metrics))
+            Watched(api.list_persistent_volume_claim_for_all_namespaces, ClaimHearing(claims, metrics))
+        phases = "status.phase!=Succeeded,status.phase!=Failed"
+        Watched(listed_after(claims, api.list_pod_for_all_namespaces), PodHearing(self.inbox, metrics, given.scheduler, newest, claims), field_selector=phases)
+
+    # Decisions.
+
+    def can_decide(self) -> bool:
+        return self.desk.has_work and self.under_way < UNDER_WAY and not self.stopping.is_set()
+
+    def ask_for_cycles(self) -> None:
+        """Asks for cycles for a tenth of a second: no more at once than take about that long, be the rules quick or slow."""
+        began = last = self.last = time.monotonic()
+        while self.can_decide() and last - began < SLICE:
+            before = self.counts["decided"]
+            for _ in range(min(self.cycles, UNDER_WAY - self.under_way)):
+                # (what moves behind this line isn't known to this decision)
+                self.core.tell('{"op":"cycle"}', functools.partial(self.decided, self.desk.waiting.moves))
+            self.core.flush()
+            now = time.monotonic()
+            decided = self.counts["decided"] - before
+            if decided:
+                self.desk.waiting.decided(decided, now - last)
+                self.dearest = max((now - last) / decided, 0.98 * self.dearest)
+                self.cycles = max(1, min(2 * self.cycles, self.most_cycles(), int(SLICE / self.dearest)))
+            last = now
+
+    def most_cycles(self) -> int:
+        """How many cycles may be asked for at once. They are answered together: so few that the dearest that there can be, though all
+        before were cheap, are answered long before wsched is held to hang."""
+        longest = self.fuel * len(self.desk.nodes) * UNIT
+        return min(CYCLES, max(1, int(PATIENCE / 3 / longest))) if longest else CYCLES
+
+    def decided(self, moved: int, answer: str) -> None:
+        if answer == "idle":
+            self.desk.has_work = False
+            return
+        turn, self.last = self.last, time.monotonic()
+        uid, what, *rest = answer.split(" ")
+        self.counts["decided"] += 1
+        self.counts[what] += 1
+        pod = self.desk.pods.get(uid)
+        if what == "on":
+            self.metrics.attempts.labels(self.given.scheduler, "scheduled").inc()
+        else:
+            self.metrics.attempts.labels(self.given.scheduler, "unschedulable" if what == "unschedulable" else "error").inc()
+        if pod is None or pod.wait is None:
+            return
+        if what == "on":
+            node, ticket = rest[0], int(rest[-1])
+            self.desk.placed(pod, node, ticket)
+            if self.given.dry_run:
+                print(f"would bind {pod} to {node}", flush=True)
+                return
+            self.under_way += 1
+            meant = self.desk.nodes.get(node)
+            self.binders.bind(Bind(pod, node, meant.uid if meant else "", ticket, turn))
+        elif what == "unschedulable":
+            self.desk.failed(pod, moved)
+            self.telling.failed(pod, said_of_no_node(rest))
+        elif what == "error":
+            self.desk.failed(pod, -1)
+            self.telling.failed(pod, f"plugin {rest[1]} says nothing of node {rest[3]}: {' '.join(rest[4:])}", "SchedulerError")
+        else:
+            # its place was refused
+            self.desk.failed(pod, -1)
+            self.metrics.refused.labels("place").inc()
+            self.telling.failed(pod, f"its place was refused: {' '.join(rest)}", "SchedulerError")
+
+    def was_bound(self, bind: Bind) -> None:
+        self.under_way -= 1
+        self.counts["bound" if bind.is_bound else "not bound"] += 1
+        if not bind.is_posted:
+            self.metrics.not_posted.inc()
+        else:
+            self.metrics.binding.observe(bind.seconds)
+        if bind.is_bound:
+            self.metrics.e2e.labels(self.given.scheduler, "scheduled").observe(time.monotonic() - bind.turn)
+            self.telling.scheduled(bind.pod, bind.node)
+        else:
+            self.metrics.not_bound.inc()
+        self.desk.bound(bind.pod, bind.node, bind.ticket, bind.is_bound)
+
+    # On and on.
+
+    def hear(self, kind: str, event: str, what: Any) -> None:
+        if kind == "bind":
+            self.was_bound(what)
+        elif event == "LISTED":
+            self.desk.hear_list(kind, what)
+        elif event == "DELETED":
+            gone: Callable[[Any], None] = self.desk.lose_node if kind == "node" else self.desk.lose_pod
+            gone(what)
+        elif kind == "node":
+            self.desk.hear_node(what)
+        else:
+            self.desk.hear_pod(what)
+
+    def take(self, until: float) -> None:
+        """Takes what is in the inbox, for no longer than a slice, and waits for something until then."""
+        end = None
+        try:
+            while end is None or time.monotonic() < end:
+                self.hear(*self.inbox.get(timeout=max(0.0, until - time.monotonic())))
+                until = 0.0
+                end = end or time.monotonic() + 2 * SLICE
+                self.health.beat()
+        except queue.Empty:
+            pass
+        self.core.flush()
+        self.health.beat()
+
+    def tick(self) -> None:
+        self.core.tell(f'{{"op":"tick","at":{int(1000 * (time.monotonic() - self.began))}}}', lambda answer: None)
+        self.core.flush()
+        self.desk.has_work = True
+        self.desk.try_short()
+        it, now = self.metrics, time.monotonic()
+        for turn, count in self.desk.waiting.pending(now).items():
+            it.pending.labels(turn).set(count)
+        it.nodes.set(len(self.desk.nodes))
+        it.under_way.set(self.under_way)
+        it.left_out.labels("node").set(len(self.desk.unsaid))
+        it.left_out.labels("pod").set(len(self.desk.alone))
+        it.unread.set(len(self.desk.unread))
+        it.aside.set(len(self.desk.aside))
+
+    def run(self) -> int:
+        while self.desk.listed != {"node", "pod"} and not self.stopping.is_set():
+            self.take(time.monotonic() + 0.2)
+        self.health.is_listed = True
+        LOG.info("%d nodes, %d pods", len(self.desk.nodes), len(self.desk.pods))
+        ticks = audits = time.monotonic()
+        while not self.stopping.is_set():
+            now = time.monotonic()
+            if now >= ticks:
+                ticks = now + 1
+                self.tick()
+            if now >= audits or self.is_audit_asked:
+                self.is_audit_asked, audits = False, now + AUDIT
+                self.desk.use_again()
+                self.audit.run()
+            self.desk.feed(now)
+            self.ask_for_cycles()
+            self.telling.tick()
+            # (with more to decide, only what is there already is taken)
+            self.take(0.0 if self.can_decide() else min(ticks, self.desk.waiting.next_wake(now)))
+        return self.end()
+
+    def end(self) -> int:
+        # binds under way are waited for, so that their events and answers are told, and then the events
+        end = time.monotonic() + 10
+        while self.under_way and time.monotonic() < end:
+            self.take(time.monotonic() + 0.1)
+        self.telling.end(max(0.5, end - time.monotonic()))
+        self.health.beat()
+        status = self.core.end()
+        LOG.info("ended: %s; wsched's status %s", dict(self.counts), status)
+        return status
+
+
+def end_process(status: int) -> None:
+    """Without waiting for threads, of which each may be in a call."""
+    logging.shutdown()
+    os._exit(status)

@@ -1,0 +1,225 @@
+"""What people and other programs are told at the API server: events, and the condition PodScheduled of pods without a node.
+
+With measure: of a pod and reason at most one write in 30 seconds; the same message is counted up by a patch, after 10 minutes and again
+for as long as it lasts; and where there is more to tell than a hundred things a second, the rest waits.
+"""
+from __future__ import annotations
+
+import concurrent.futures
+import datetime
+import heapq
+import itertools
+import json
+import logging
+import queue
+import threading
+import time
+from typing import Any, Callable
+
+from kubernetes.client.rest import ApiException
+
+from metrics import Metrics
+from pods import Pod
+from watch import AWAY, message as message_of
+
+LOG = logging.getLogger("second-scheduler")
+# Seconds between two writes of one thing, and after which the same is said again.
+BETWEEN, AGAIN = 30.0, 600.0
+# How many things are told in a second, and at once where little was told before: an API server has more to do.
+RATE, BURST = 100.0, 300.0
+# How many writes may wait, and by how many threads they are made.
+ROOM, WRITERS = 2000, 4
+Json = dict[str, Any]
+Key = tuple[str, str]
+
+
+class Said:
+    """One thing that is told of one object, for as long as it lasts."""
+
+    def __init__(self, about: Json, reason: str) -> None:
+        self.about, self.reason = about, reason
+        self.wanted = self.said = ""
+        # how often since the last write, when that was, and when the next is due
+        self.times, self.at, self.timer = 0, float("-inf"), float("inf")
+        # the event that stands there, and its count
+        self.event: str | None = None
+        self.counted = 0
+        # the reason and message of the condition: as it is to be, and as it is
+        self.condition: tuple[str, str] | None = None
+        self.is_condition: tuple[str, str] | None = None
+
+    def due(self) -> float:
+        return self.at + (AGAIN if self.wanted == self.said else BETWEEN)
+
+
+def about_pod(pod: Pod) -> Json:
+    return {"apiVersion": "v1", "kind": "Pod", "namespace": pod.namespace, "name": pod.name, "uid": pod.uid}
+
+
+def about_node(name: str, uid: str) -> Json:
+    # (events of what has no namespace stand in `default`)
+    return {"apiVersion": "v1", "kind": "Node", "namespace": "default", "name": name, "uid": uid}
+
+
+def stamp() -> str:
+    return datetime.datetime.now(datetime.timezone.utc).strftime("%Y-%m-%dT%H:%M:%SZ")
+
+
+class Telling:
+    """All that is told. Its calls are made by the main loop alone; writes are made by threads of its own."""
+
+    def __init__(self, api: Any, scheduler: str, is_silent: bool, metrics: Metrics) -> None:
+        self.api, self.scheduler, self.is_silent, self.metrics = api, scheduler, is_silent, metrics
+        self.writers, self.room = concurrent.futures.ThreadPoolExecutor(WRITERS, "event"), threading.Semaphore(ROOM)
+        self.things: dict[Key, Said] = {}
+        self.timers: list[tuple[float, int, Key, Said]] = []
+        self.unwritten: queue.SimpleQueue[tuple[Key, Said]] = queue.SimpleQueue()
+        self.count = itertools.count()
+        # how many things may be told now, and since when
+        self.tokens, self.counted = BURST, time.monotonic()
+        # when the log last told of a write that failed
+        self.warned = float("-inf")
+
+    # What is to be told.
+
+    def failed(self, pod: Pod, message: str, reason: str = "Unschedulable", known: tuple[str, str] | None = None) -> None:
+        """No node was found for the pod, or none is looked for. `known` is what its condition says already: that a pod is gated the API
+        server says itself, and it stays."""
+        condition = known if known and known[0] == "SchedulingGated" else (reason, message)
+        said = self.say(about_pod(pod), (pod.uid, "FailedScheduling"), message, condition)
+        if said and known:
+            said.is_condition = said.is_condition or known
+
+    def warn(self, about: Json, reason: str, message: str) -> None:
+        self.say(about, (about["uid"], reason), message)
+
+    def done(self, uid: str, reason: str = "FailedScheduling") -> None:
+        self.things.pop((uid, reason), None)
+
+    def scheduled(self, pod: Pod, node: str) -> None:
+        self.once(about_pod(pod), "Normal", "Scheduled", f"Successfully assigned {pod} to {node}")
+
+    def say(self, about: Json, key: Key, message: str, condition: tuple[str, str] | None = None) -> Said | None:
+        if self.is_silent:
+            return None
+        said = self.things.get(key)
+        if not said:
+            said = self.things[key] = Said(about, key[1])
+        said.wanted, said.condition = message, condition
+        said.times += 1
+        self.set_timer(key, said, max(said.due(), time.monotonic()))
+        return said
+
+    def set_timer(self, key: Key, said: Said, when: float) -> None:
+        if when < said.timer:
+            said.timer = when
+            heapq.heappush(self.timers, (when, next(self.count), key, said))
+
+    def tick(self) -> None:
+        """Writes what is due."""
+        now = time.monotonic()
+        self.tokens, self.counted = min(BURST, self.tokens + RATE * (now - self.counted)), now
+        while not self.unwritten.empty():
+            key, said = self.unwritten.get()
+            said.said, said.at = "", now
+            self.set_timer(key, said, now + BETWEEN)
+        while self.timers and self.timers[0][0] <= now:
+            when, _, key, said = self.timers[0]
+            is_due = self.things.get(key) is said and said.timer == when
+            # (it is its turn once there is room)
+            if is_due and (self.tokens < 1 or not self.room.acquire(blocking=False)):
+                return
+            heapq.heappop(self.timers)
+            if is_due:
+                self.tokens -= 1
+                said.timer = float("inf")
+                self.write(key, said, now)
+
+    def write(self, key: Key, said: Said, now: float) -> None:
+        is_same, said.said, said.at = said.wanted == said.said, said.wanted, now
+        # (what lasts is said again, though nothing has happened)
+        said.times = max(said.times, 1)
+        times, said.times = said.times, 0
+        self.set_timer(key, said, now + AGAIN)
+        message, condition = said.wanted, said.condition
+
+        def go() -> None:
+            # (who may not write the one may be allowed the other)
+            fault: BaseException | None = None
+            try:
+                if condition and condition != said.is_condition:
+                    self.patch_condition(said.about, condition, said.is_condition is None)
+                    said.is_condition = condition
+            except AWAY as why:
+                fault = why
+            if not is_same or not said.event or not self.count_up(said, times):
+                said.event, said.counted = self.create_event(said.about, "Warning", said.reason, message), 1
+            if fault:
+                raise fault
+
+        self.submit(go, lambda: self.unwritten.put((key, said)))
+
+    def once(self, about: Json, kind: str, reason: str, message: str) -> None:
+        if self.is_silent:
+            return
+        if self.room.acquire(blocking=False):
+            self.submit(lambda: self.create_event(about, kind, reason, message), lambda: None)
+        else:
+            self.metrics.untold.inc()
+
+    # Writes, in threads of their own.
+
+    def submit(self, go: Callable[[], object], failed: Callable[[], None]) -> None:
+        """Has it written, in the room that was acquired for it."""
+
+        def one() -> None:
+            try:
+                go()
+            except (*AWAY, ValueError, KeyError) as why:
+                # (the pod is gone, or another has its name and so another uid, which 409 or 422 says: nobody is to be told any more)
+                if getattr(why, "status", None) in (404, 409, 422):
+                    return
+                self.metrics.untold.inc()
+                failed()
+                if time.monotonic() > self.warned + BETWEEN:
+                    self.warned = time.monotonic()
+                    LOG.warning("an event or a condition can't be written: %s", message_of(why))
+            finally:
+                self.room.release()
+
+        self.writers.submit(one)
+
+    def create_event(self, about: Json, kind: str, reason: str, message: str) -> str:
+        """Gives its name."""
+        now = stamp()
+        body: Json = {"metadata": {"generateName": f"{about['name']}.", "namespace": about["namespace"]}, "involvedObject": about}
+        body |= {"type": kind, "reason": reason, "message": message[:1024], "source": {"component": self.scheduler}}
+        body |= {"firstTimestamp": now, "lastTimestamp": now, "count": 1}
+        answer = self.api.create_namespaced_event(about["namespace"], body, _preload_content=False, _request_timeout=(5, 10))
+        return str(json.loads(answer.data)["metadata"]["name"])
+
+    def count_up(self, said: Said, times: int) -> bool:
+        """Counts up the event that says the same. False where it is no longer there."""
+        body = {"count": said.counted + times, "lastTimestamp": stamp()}
+        try:
+            self.api.patch_namespaced_event(said.event, said.about["namespace"], body, _preload_content=False, _request_timeout=(5, 10)).read()
+        except ApiException as why:
+            if why.status == 404:
+                return False
+            raise
+        said.counted += times
+        return True
+
+    def patch_condition(self, about: Json, said: tuple[str, str], is_new: bool) -> None:
+        condition = {"type": "PodScheduled", "status": "False", "reason": said[0], "message": said[1]}
+        # (the moment is that at which the status changed, and not that of another message)
+        condition |= {"lastTransitionTime": stamp()} if is_new else {}
+        # (with the uid: another pod of that name is refused)
+        body = {"metadata": {"uid": about["uid"]}, "status": {"conditions": [condition]}}
+        self.api.patch_namespaced_pod_status(about["name"], about["namespace"], body, _preload_content=False, _request_timeout=(5, 10)).read()
+
+    def end(self, patience: float) -> None:
+        """Waits until what is to be written has been, for so many seconds."""
+        ending = threading.Thread(target=self.writers.shutdown, daemon=True)
+        ending.start()
+        ending.join(patience)

@@ -1,0 +1,1 @@
+"""The trials of the second scheduler: `try` beside this folder runs them."""

@@ -1,0 +1,81 @@
+"""Amounts that are no whole number of bytes or of thousandths of a core: what is asked for is rounded up, what there is down."""
+import json
+import subprocess
+
+from trials.site import Site, wait_for, whom
+
+# as the API server keeps 0.1Gi, and as a node may say what it has
+TENTH, NODE = "107374182400m", "7134698291200m"
+
+
+def amounts_bound(site: Site) -> str:
+    """Nine bound pods of 0.1Gi (107374182400m) fill a node of 1Gi: one of 512Mi isn't bound there, and one of 100Mi is."""
+    site.node("small", memory="1Gi")
+    for i in range(9):
+        site.pod(f"tenth-{i}", memory=TENTH, on="small", scheduler="default-scheduler")
+    site.pod("half", memory="512Mi")
+    site.start()
+    wait_for(lambda: site.place("half") or site.events(about="half", reason="FailedScheduling"), 20, "a word about the pod of 512Mi")
+    assert site.place("half") is None, f"a pod of 512Mi was bound to a node of 1024 MiB where 921.6 MiB were in use: {site.watcher().wrong[0]}"
+    site.pod("last", memory="100Mi")
+    wait_for(lambda: site.place("last"), 20, "a pod of 100Mi is placed where 102.4 MiB are left")
+    return site.check()
+
+
+def amounts_waiting(site: Site) -> str:
+    """Pods of 0.1Gi that wait are placed, as many as there is room for, and a node with 7134698291200m of memory is used."""
+    site.node("odd", memory=NODE)
+    for i in range(70):
+        site.pod(f"tenth-{i}", memory=TENTH, cpu="10m")
+    site.start()
+    # 7134698291 bytes have room for 66 of 107374183
+    wait_for(lambda: site.placed() >= 66, 20, f"66 pods of 0.1Gi on a node of {NODE}: {site.placed()} are bound")
+    wait_for(lambda: len({whom(it)["name"] for it in site.events(reason="FailedScheduling")}) >= 4, 20, "the other four are said to fit nowhere")
+    assert site.placed() == 66, site.placed()
+    return site.check()
+
+
+def amounts_cpu(site: Site) -> str:
+    """CPU finer than a thousandth of a core: 1500u asks for 2m, a node of 3999u has 3m, so one such pod goes there and no second."""
+    site.node("fine", cpu="3999u")
+    site.pod("a", cpu="1500u")
+    site.start()
+    wait_for(lambda: site.place("a"), 15, "the first pod is placed")
+    site.pod("b", cpu="1500u")
+    wait_for(lambda: site.place("b") or site.events(about="b", reason="FailedScheduling"), 15, "a word about the second pod")
+    assert site.place("b") is None, "two pods of 2m are on a node of 3m"
+    return site.check()
+
+
+def amounts_unread(site: Site) -> str:
+    """A bound pod whose amounts no line can say counts as a pod at least, and the log names it."""
+    site.node("one", pods=1)
+    site.pod("giant", memory="64Ti", on="one", scheduler="default-scheduler")
+    site.pod("small")
+    scheduler = site.start()
+    wait_for(lambda: site.place("small") or site.events(about="small", reason="FailedScheduling"), 15, "a word about the pod that waits")
+    assert site.place("small") is None, "a second pod is on a node with room for one"
+    said = [it for it in scheduler.log().splitlines() if "default/giant" in it]
+    assert said, "the log doesn't name the pod that can't be read"
+    return f"{site.check()}; told: {said[0][24:140]}"
+
+
+def amounts_jq(site: Site) -> str:
+    """examples/from-kubectl.jq tells the same amounts, rounded the same way."""
+    site.node("odd", memory=NODE, cpu="3999u")
+    site.pod("bound", memory=TENTH, cpu="1500u", on="odd")
+    site.pod("waits", memory=TENTH, cpu="1500u")
+    listed = json.dumps({"items": [*site.store.all("nodes"), *site.store.all("pods")]})
+    words = ["jq", "-c", "--arg", "scheduler", "wsched", "-f", str(site.programs.client.parent / "from-kubectl.jq")]
+    ran = subprocess.run(words, input=listed, capture_output=True, text=True, check=False)
+    told = {it["op"]: it for it in map(json.loads, ran.stdout.splitlines())}
+    want = {"node": ("3m", "7134698291"), "bound": ("2m", "107374183"), "pod": ("2m", "107374183")}
+    for op, sizes in want.items():
+        assert op in told, f"no line `{op}`: {ran.stderr.strip()[:150]}"
+        line = told[op]
+        said = tuple(line["containers"][0]) if op == "pod" else (line["cpu"], line["mem"])
+        assert said == sizes, f"{op}: {said}, and not {sizes}"
+    return "a node, a bound and a waiting pod: rounded down, up and up"
+
+
+TRIALS = [amounts_bound, amounts_waiting, amounts_cpu, amounts_unread, amounts_jq]

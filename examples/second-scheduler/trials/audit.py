@@ -1,0 +1,86 @@
+"""The audit of the desk against the watch: no difference while all is well, and one that the trial makes is found and told."""
+import os
+import pathlib
+import re
+import signal
+import time
+
+from trials.limits import of_nodes
+from trials.metrics import scraped, value
+from trials.site import Site, wait_for, whom
+
+
+def relayed(site: Site) -> str:
+    """A program that stands before wsched and loses the lines of the bound pods whose uids stand in the file `lost`."""
+    (site.folder / "lost").write_text("", encoding="utf-8")
+    program = site.folder / "relay"
+    relay = pathlib.Path(__file__).parent / "relay.py"
+    program.write_text(f'#!/bin/sh\nexec "{relay}" "{site.programs.wsched}" "{site.folder}" "$@"\n', encoding="utf-8")
+    program.chmod(0o755)
+    return str(program)
+
+
+def lose(site: Site, name: str, node: str, cpu: str) -> None:
+    """A pod that runs on a node, and of which wsched isn't told."""
+    with site.store.changed:
+        uid = site.pod(name, cpu=cpu, on=node, scheduler="default-scheduler")["metadata"]["uid"]
+        with open(site.folder / "lost", "a", encoding="utf-8") as lost:
+            lost.write(f"{uid}\n")
+
+
+def audit(site: Site) -> str:
+    """A line of a bound pod that is lost: within 40 s a log line with both numbers, an event of the node and a metric; a second at once on SIGUSR1."""
+    for name in ("a", "b", "c"):
+        site.node(name, cpu="4")
+    site.pod("first")
+    program = relayed(site)
+    it = site.start(*site.listening(), wsched=program)
+    site.wait(lambda: site.place("first"), 20, "it binds")
+    lose(site, "lost-1", "a", "1500m")
+    began = time.monotonic()
+    first = wait_for(lambda: any("a" == whom(each)["name"] for each in of_nodes(site)), 40, "an event of the node whose pod wsched wasn't told of")
+    both = [[int(number) for number in re.findall(r"cpu (\d+)/4000", line)] for line in it.log().splitlines() if "node a" in line]
+    assert any(len(two) == 2 and two[1] - two[0] == 1500 for two in both), f"no log line with both numbers: {it.log()[-300:]}"
+    assert value(scraped(site), "wsched_audit_differences") == 1
+    lose(site, "lost-2", "b", "700m")
+    time.sleep(1)
+    os.kill(it.pid, signal.SIGUSR1)
+    asked = wait_for(lambda: any("b" == whom(each)["name"] for each in of_nodes(site)), 5, "an event of the second node, once SIGUSR1 has asked")
+    assert value(scraped(site), "wsched_audit_differences") == 2
+    assert not any("c" == whom(each)["name"] for each in of_nodes(site)), "an event of a node without a difference"
+    assert it.runs() and time.monotonic() - began < 60
+    return f"found after {first:.0f} s, and {asked:.1f} s after SIGUSR1: {of_nodes(site)[0]['message'][:120]}"
+
+
+def audit_quiet(site: Site) -> str:
+    """While pods come, are bound, end and go for 20 s, with an audit asked for each second and slow binds: no difference is ever found."""
+    for i in range(10):
+        site.node(f"node-{i}", cpu="4")
+    site.server.bind_takes = 0.2
+    it = site.start(*site.listening())
+    site.wait(lambda: len(site.server.watches) >= 2, 20, "it watches")
+    for turn in range(20):
+        for i in range(15):
+            site.pod(f"pod-{turn}-{i}", cpu="300m")
+        for i in range(15):
+            if turn > 2:
+                site.delete_pod(f"pod-{turn - 3}-{i}")
+        if turn == 10:
+            site.store.delete("nodes", "node-9")
+        if turn == 14:
+            site.node("node-9", cpu="2")
+        os.kill(it.pid, signal.SIGUSR1)
+        time.sleep(1)
+        assert it.runs(), f"it ended with status {it.wait(0)}"
+        found = scraped(site)
+        assert value(found, "wsched_audit_differences") == 0, it.log()[-500:]
+    audits = value(found, "wsched_audits_total")
+    assert audits >= 10 and not of_nodes(site), f"{audits} audits, {len(of_nodes(site))} events of nodes"
+    # (what is decided when a node goes may still be bound to it)
+    seen = site.watcher()
+    wrong = [each for each in seen.wrong if "isn't there" not in each]
+    assert not wrong, wrong[:3]
+    return f"{audits:.0f} audits without a difference; {seen.bound} bound, no node over its room, no pod moved"
+
+
+TRIALS = [audit, audit_quiet]

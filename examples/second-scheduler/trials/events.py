@@ -1,0 +1,121 @@
+"""What people see of a pod: the event that says why it has no node, the condition PodScheduled, and both with measure."""
+import sys
+import time
+from typing import Optional
+
+from trials.site import Site
+from trials.store import Thing
+
+# the client, with the time after which the same is said again cut from ten minutes to some seconds
+HURRIED = """
+import sys
+sys.path.insert(0, {folder!r})
+sys.argv = sys.argv[1:]
+import telling, second_scheduler
+telling.BETWEEN, telling.AGAIN = 3.0, 8.0
+second_scheduler.main()
+"""
+
+
+def condition(site: Site, name: str) -> Optional[Thing]:
+    """A pod's condition PodScheduled."""
+    found = [it for it in site.store.get("pods", f"default/{name}")["status"].get("conditions") or [] if it["type"] == "PodScheduled"]
+    return found[0] if found else None
+
+
+def left_alone(site: Site) -> str:
+    """Pods that are left alone have an event FailedScheduling that names what isn't known, and the condition PodScheduled=False."""
+    site.node("a", labels={"pool": "a"})
+    must = {"nodeSelectorTerms": [{"matchExpressions": [{"key": "pool", "operator": "In", "values": ["a"]}]}]}
+    alone = {
+        "selects": ({"nodeSelector": {"pool": "a"}}, "node selector"),
+        "affine": ({"affinity": {"nodeAffinity": {"requiredDuringSchedulingIgnoredDuringExecution": must}}}, "node affinity"),
+        "claims": ({"volumes": [{"name": "data", "persistentVolumeClaim": {"claimName": "data"}}]}, "volume data"),
+        "gated": ({"schedulingGates": [{"name": "example.org/wait"}]}, "scheduling gates"),
+    }
+    for name, (spec, _) in alone.items():
+        site.pod(name, spec=spec)
+    site.start()
+    shown = ""
+    for name, (_, what) in alone.items():
+        site.wait(lambda name=name: site.events(about=name, reason="FailedScheduling"), 20, f"an event of {name}, which has {what}")  # type: ignore[misc]
+        message = site.events(about=name, reason="FailedScheduling")[0]["message"]
+        assert what in message, f"{name}: {message}"
+        shown = shown or message
+        site.wait(lambda name=name: condition(site, name), 20, f"a condition of the pod {name}")  # type: ignore[misc]
+        it = condition(site, name) or {}
+        assert it["status"] == "False" and (it["reason"] == "Unschedulable" or name == "gated"), f"{name}: {it}"
+    return f"{len(alone)} kinds, as: {shown[:100]}"
+
+
+def conditions(site: Site) -> str:
+    """Every pod without a node has PodScheduled=False, Unschedulable, with the event's message; one that is bound then has not."""
+    site.node("a", cpu="1")
+    site.pod("runs", cpu="800m", on="a", scheduler="default-scheduler")
+    for i in range(3):
+        site.pod(f"waits-{i}", cpu="300m")
+    site.pod("ours-not", cpu="300m", scheduler="default-scheduler")
+    site.start()
+    for i in range(3):
+        site.wait(lambda i=i: condition(site, f"waits-{i}"), 20, f"a condition of the pod waits-{i}")  # type: ignore[misc]
+        it = condition(site, f"waits-{i}") or {}
+        assert (it["status"], it["reason"]) == ("False", "Unschedulable") and "Insufficient cpu" in it["message"], it
+        assert it.get("lastTransitionTime"), it
+    assert condition(site, "ours-not") is None, "a pod of another scheduler has a condition"
+    site.delete_pod("runs")
+    site.wait(lambda: all(site.place(f"waits-{i}") for i in range(3)), 20, "all three are bound when there is room")
+    time.sleep(2)
+    assert all((condition(site, f"waits-{i}") or {}).get("status") == "True" for i in range(3)), "PodScheduled=False of a pod that is bound"
+    return site.check()
+
+
+def writes(site: Site, name: str) -> list[float]:
+    """When events of a pod were made or counted up."""
+    names = {it["metadata"]["name"] for it in site.events(about=name)}
+    made = [it.when for it in site.server.all("create", "events") if it.body["involvedObject"]["name"] == name]
+    return sorted(made + [it.when for it in site.server.all("patch", "events") if it.key.rpartition("/")[2] in names])
+
+
+def measure(site: Site) -> str:
+    """A pod fits nowhere while a node comes each second, so that its message changes: no two writes of its event within 29 s, in 40 s."""
+    site.node("node-0", cpu="100m")
+    site.pod("waits", cpu="2")
+    site.start()
+    site.wait(lambda: site.events(about="waits"), 20, "an event of the pod")
+    for i in range(40):
+        site.node(f"node-{i + 1}", cpu="100m")
+        time.sleep(1)
+    when = writes(site, "waits")
+    gaps = [b - a for a, b in zip(when, when[1:])]
+    assert all(it > 29 for it in gaps), f"{len(when)} writes of one pod's event in 40 s, as little as {min(gaps):.1f} s apart"
+    assert len(when) >= 2, "what changed wasn't said after 30 s"
+    return f"{len(when)} writes, {', '.join(f'{it:.0f}' for it in gaps)} s apart"
+
+
+def counted_up(site: Site) -> str:
+    """The same message isn't a second event: once its time has come, the one that stands there is counted up by a patch, again and again."""
+    site.node("a", cpu="1")
+    site.pod("waits", cpu="2")
+    code = HURRIED.format(folder=str(site.programs.client))
+    site.start(words=[sys.executable, "-c", code, "second_scheduler.py"])
+    site.wait(lambda: len(site.server.all("patch", "events")) >= 2, 45, "the event is counted up twice")
+    events = site.events(about="waits")
+    assert len(events) == 1 and events[0]["count"] >= 3, f"{len(events)} events: {[it.get('count') for it in events]}"
+    when = writes(site, "waits")
+    assert all(b - a > 7 for a, b in zip(when, when[1:])), when
+    return f"one event, its count {events[0]['count']}"
+
+
+def few_events(site: Site) -> str:
+    """2,000 pods that fit nowhere: each has its event and its condition within 90 s, and none has two events."""
+    site.node("a", cpu="1")
+    for i in range(2000):
+        site.pod(f"waits-{i}", cpu="2")
+    site.start()
+    names = [f"waits-{i}" for i in range(2000)]
+    taken = site.wait(lambda: len(site.events()) >= 2000 and all(condition(site, it) for it in names), 90, "each has an event and a condition")
+    assert len(site.events()) == 2000, len(site.events())
+    return f"2,000 events and conditions after {taken:.0f} s"
+
+
+TRIALS = [left_alone, conditions, measure, counted_up, few_events]
