@@ -119,6 +119,66 @@ static inline const u8 *node_label(const struct node *n, const char *key)
 {
     return label(fields(n->bytes) + 41, key);
 }
+// A walk over labels, in the order of their keys' bytes:
+//
+//     struct label label;
+//     for (struct walk labels = pod_labels(pod); next_label(&labels, &label);)
+//         if (is(label.key, "app")) ..
+struct walk { const u8 *at; u32 left; };
+struct label { const u8 *key, *value; };
+static inline struct walk pod_labels(const struct pod *p)
+{
+    const u8 *labels = fields(p->bytes) + 20;
+    struct walk all = { labels + 1, *labels };
+    return all;
+}
+static inline struct walk node_labels(const struct node *n)
+{
+    const u8 *labels = fields(n->bytes) + 41;
+    struct walk all = { labels + 1, *labels };
+    return all;
+}
+
+// The next of a walk, if there is one.
+static inline int next_label(struct walk *labels, struct label *next)
+{
+    if (!labels->left) return 0;
+    labels->left--;
+    next->key = labels->at;
+    next->value = next->key + 1 + *next->key;
+    labels->at = next->value + 1 + *next->value;
+    return 1;
+}
+
+// A site's setting, which the script tells as the node's label `/cfg/NAME`: a text, or null where there is none.
+static inline const u8 *setting(const struct node *n, const char *name)
+{
+    static const char front[] = "/cfg/";
+    struct label it;
+    for (struct walk labels = node_labels(n); next_label(&labels, &it);) {
+        const char *word = name;
+        u32 i = 0;
+        while (i < *it.key && it.key[1 + i] == (u8)(i < 5 ? front[i] : *word))
+            if (i++ >= 5) word++;
+        if (i == *it.key && i > 5 && !*word) return it.value;
+    }
+    return 0;
+}
+// A setting that is a number in digits alone, at most 2^63 - 1, and `otherwise` where there is none. A text that is no such
+// number traps: a slip of the site's must not pass for a setting.
+static inline u64 setting_number(const struct node *n, const char *name, u64 otherwise)
+{
+    const u8 *text = setting(n, name);
+    if (!text) return otherwise;
+    u64 number = 0;
+    if (!*text) __builtin_trap();
+    for (u32 i = 1; i <= *text; i++) {
+        u32 digit = text[i] - '0';
+        if (digit > 9 || number > ((1ull << 63) - 1 - digit) / 10) __builtin_trap();
+        number = 10 * number + digit;
+    }
+    return number;
+}
 static inline const u8 *pod_uid(const struct pod *p) { return p->bytes + 2; }
 static inline const u8 *node_name(const struct node *n) { return n->bytes + 2; }
 
@@ -134,7 +194,6 @@ struct toleration { const u8 *key, *value; u8 compares, effect; };
 //     struct taint taint;
 //     for (struct walk taints = node_taints(node); next_taint(&taints, &taint);)
 //         if (is(taint.key, "spot")) ..
-struct walk { const u8 *at; u32 left; };
 
 // The list behind labels. Version 1 has none, so it traps there.
 static inline struct walk behind(const u8 *record, const u8 *labels)

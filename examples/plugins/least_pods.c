@@ -1,0 +1,14 @@
+// A score: pods that ask for no CPU and no memory go where the fewest pods are for the node's room. What they use is counted
+// nowhere, so that to the built-in scores a node looks the same however many of them it has.
+//
+//   examples/plugins/build least_pods.c
+#include "sched.h"
+
+SCORE
+{
+    const struct pod *pod = read_pod();
+    if (pod_cpu(pod) || pod_memory(pod)) return 0;
+    const struct node *node = read_node();
+    // A score is asked of nodes that pass every filter, so there is room for this pod.
+    return 100 * (node_pods(node) - node_used_pods(node) - 1) / node_pods(node);
+}
