@@ -17,11 +17,13 @@ from binding import UNDER_WAY, Bind, Binders, Newest
 from claims import ClaimHearing, Claims, VolumeHearing, listed_after
 from core import PATIENCE, Core, command
 from desk import Desk
+from explaining import Explaining
 from health import Health
 from hearing import Inbox, NodeHearing, PodHearing
 from metrics import Metrics
 from record import Record
 from telling import Telling
+from verdicts import is_of_rules, said_of_no_node
 from watch import Watched
 
 LOG = logging.getLogger("second-scheduler")
@@ -31,22 +33,6 @@ CYCLES, SLICE = 64, 0.1
 UNIT = 5e-9
 # How often the desk is audited, in seconds, and nodes without room are tried again.
 AUDIT = 30.0
-WHY = {
-    "marked": "node(s) were unschedulable",
-    "taint": "node(s) had taints that the pod didn't tolerate",
-    "cpu": "Insufficient cpu",
-    "memory": "Insufficient memory",
-    "pods": "Too many pods",
-    "plugin": "node(s) were rejected by a plugin",
-    "final": "node(s) were rejected by a plugin for good",
-}
-
-
-def said_of_no_node(counts: list[str]) -> str:
-    """The message of kube-scheduler's kind, of the words and numbers that wsched answers."""
-    some = [(int(n), WHY[why]) for why, n in zip(counts[::2], counts[1::2]) if n != "0"]
-    why = ", ".join(f"{n} {why}" for n, why in sorted(some, key=lambda it: it[1]))
-    return f"0/{sum(n for n, _ in some)} nodes are available: {why}." if some else "0/0 nodes are available: there are none."
 
 
 class Scheduler:
@@ -72,6 +58,7 @@ class Scheduler:
         labels = NodeLabels(given.settings)
         self.desk = Desk(self.core, self.telling, metrics, labels)
         self.audit = Audit(self.desk, self.telling, metrics)
+        self.explaining = Explaining([given.wsched, "explain", "--", *given.spec], self.desk, self.telling, self.inbox)
         only = {"label_selector": given.nodes} if given.nodes else {}
         Watched(api.list_node, NodeHearing(self.inbox, metrics, newest, labels), **only)
         claims = Claims(is_told=bool(given.node_affinity))
@@ -135,7 +122,7 @@ class Scheduler:
             self.binders.bind(Bind(pod, node, meant.uid if meant else "", ticket, turn))
         elif what == "unschedulable":
             self.desk.failed(pod, moved)
-            self.telling.failed(pod, said_of_no_node(rest))
+            self.telling.failed(pod, said_of_no_node(rest), is_of_rules=is_of_rules(rest))
         elif what == "error":
             self.desk.failed(pod, -1)
             self.telling.failed(pod, f"plugin {rest[1]} says nothing of node {rest[3]}: {' '.join(rest[4:])}", "SchedulerError")
@@ -164,6 +151,8 @@ class Scheduler:
     def hear(self, kind: str, event: str, what: Any) -> None:
         if kind == "bind":
             self.was_bound(what)
+        elif kind == "explained":
+            self.explaining.answered(what)
         elif event == "LISTED":
             self.desk.hear_list(kind, what)
         elif event == "DELETED":
@@ -221,6 +210,7 @@ class Scheduler:
             self.desk.feed(now)
             self.ask_for_cycles()
             self.telling.tick()
+            self.explaining.tick()
             # (with more to decide, only what is there already is taken)
             self.take(0.0 if self.can_decide() else min(ticks, self.desk.waiting.next_wake(now)))
         return self.end()

@@ -39,6 +39,12 @@ class Said:
     def __init__(self, about: Json, reason: str) -> None:
         self.about, self.reason = about, reason
         self.wanted = self.said = ""
+        # whether the rules that rejected a pod are to be named before it is written, whether somebody is finding that out, and the text
+        # that names them
+        self.is_of_rules = self.is_asked = False
+        self.named: str | None = None
+        # as it stands there
+        self.text = ""
         # how often since the last write, when that was, and when the next is due
         self.times, self.at, self.timer = 0, float("-inf"), float("inf")
         # the event that stands there, and its count
@@ -73,6 +79,8 @@ class Telling:
         self.writers, self.room = concurrent.futures.ThreadPoolExecutor(WRITERS, "event"), threading.Semaphore(ROOM)
         self.things: dict[Key, Said] = {}
         self.timers: list[tuple[float, int, Key, Said]] = []
+        # what is due, and whose rules aren't known yet
+        self.asked: dict[Key, None] = {}
         self.unwritten: queue.SimpleQueue[tuple[Key, Said]] = queue.SimpleQueue()
         self.count = itertools.count()
         # how many things may be told now, and since when
@@ -82,19 +90,41 @@ class Telling:
 
     # What is to be told.
 
-    def failed(self, pod: Pod, message: str, reason: str = "Unschedulable", known: tuple[str, str] | None = None) -> None:
+    def failed(
+        self, pod: Pod, message: str, reason: str = "Unschedulable", known: tuple[str, str] | None = None, is_of_rules: bool = False
+    ) -> None:
         """No node was found for the pod, or none is looked for. `known` is what its condition says already: that a pod is gated the API
-        server says itself, and it stays."""
+        server says itself, and it stays. `is_of_rules`: a rule rejected some node, and which did is found out before it is written."""
         condition = known if known and known[0] == "SchedulingGated" else (reason, message)
         said = self.say(about_pod(pod), (pod.uid, "FailedScheduling"), message, condition)
-        if said and known:
+        if said:
+            said.is_of_rules = is_of_rules
             said.is_condition = said.is_condition or known
+
+    def unexplained(self, most: int) -> list[str]:
+        """Hands over the uids of pods whose event is due, and whose rules are to be found out now: of no more than may be told now."""
+        some = [*itertools.islice(self.asked, min(most, int(self.tokens)))]
+        for key in some:
+            del self.asked[key]
+        return [uid for uid, _ in some]
+
+    def explained(self, uid: str, message: str | None) -> None:
+        """A message that names the rules, or None where nothing more is known."""
+        key = (uid, "FailedScheduling")
+        said = self.things.get(key)
+        if not said or not said.is_asked:
+            return
+        said.is_asked = False
+        if said.is_of_rules:
+            said.named = message or said.wanted
+            self.set_timer(key, said, max(said.due(), time.monotonic()))
 
     def warn(self, about: Json, reason: str, message: str) -> None:
         self.say(about, (about["uid"], reason), message)
 
     def done(self, uid: str, reason: str = "FailedScheduling") -> None:
         self.things.pop((uid, reason), None)
+        self.asked.pop((uid, reason), None)
 
     def scheduled(self, pod: Pod, node: str) -> None:
         self.once(about_pod(pod), "Normal", "Scheduled", f"Successfully assigned {pod} to {node}")
@@ -121,27 +151,35 @@ class Telling:
         self.tokens, self.counted = min(BURST, self.tokens + RATE * (now - self.counted)), now
         while not self.unwritten.empty():
             key, said = self.unwritten.get()
-            said.said, said.at = "", now
+            said.said, said.text, said.at = "", "", now
             self.set_timer(key, said, now + BETWEEN)
         while self.timers and self.timers[0][0] <= now:
             when, _, key, said = self.timers[0]
             is_due = self.things.get(key) is said and said.timer == when
+            is_unnamed = is_due and said.is_of_rules and said.named is None
             # (it is its turn once there is room)
-            if is_due and (self.tokens < 1 or not self.room.acquire(blocking=False)):
+            if is_due and not is_unnamed and (self.tokens < 1 or not self.room.acquire(blocking=False)):
                 return
             heapq.heappop(self.timers)
             if is_due:
-                self.tokens -= 1
                 said.timer = float("inf")
+            if is_unnamed and not said.is_asked:
+                said.is_asked, self.asked[key] = True, None
+            elif is_due and not is_unnamed:
+                self.tokens -= 1
                 self.write(key, said, now)
 
     def write(self, key: Key, said: Said, now: float) -> None:
-        is_same, said.said, said.at = said.wanted == said.said, said.wanted, now
+        message = said.named if said.is_of_rules and said.named else said.wanted
+        is_same, said.text, said.named = message == said.text, message, None
+        said.said, said.at = said.wanted, now
         # (what lasts is said again, though nothing has happened)
         said.times = max(said.times, 1)
         times, said.times = said.times, 0
         self.set_timer(key, said, now + AGAIN)
-        message, condition = said.wanted, said.condition
+        condition = said.condition
+        if condition and message != said.wanted:
+            condition = condition[0], message
 
         def go() -> None:
             # (who may not write the one may be allowed the other)

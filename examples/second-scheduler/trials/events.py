@@ -3,7 +3,7 @@ import sys
 import time
 from typing import Optional
 
-from trials.site import Site
+from trials.site import REGION, RULE, TOP, Site
 from trials.store import Thing
 
 # the client, with the time after which the same is said again cut from ten minutes to some seconds
@@ -118,4 +118,75 @@ def few_events(site: Site) -> str:
     return f"2,000 events and conditions after {taken:.0f} s"
 
 
-TRIALS = [left_alone, conditions, measure, counted_up, few_events]
+# What is asked for by pods that fit none of nine nodes, and what is said of them: wsched's own filters come first, then the rules in order.
+REJECTED: dict[str, tuple[Thing, Thing, str, str]] = {
+    "personal": ({"data-class": "personal"}, {}, "2", "3 Insufficient cpu, 6 node(s) were rejected by keep_region for good"),
+    "selects": ({}, {"zone": "b"}, "100m", "9 node(s) were rejected by node_affinity for good"),
+    "both": (
+        {"data-class": "personal"}, {"disk": "ssd"}, "2",
+        "3 Insufficient cpu, 4 node(s) were rejected by keep_region for good, 2 node(s) were rejected by node_affinity for good",
+    ),
+}
+
+
+def make_rejected(site: Site) -> None:
+    """Six nodes elsewhere, of which four have the disk, three small ones in the region, and a pod of each kind."""
+    for i in range(6):
+        site.node(f"us-{i}", labels={REGION: "us-east-1", "disk": "ssd" if i < 4 else "hdd"})
+    for i in range(3):
+        site.node(f"eu-{i}", cpu="1", labels={REGION: "eu-central-1", "zone": "a"})
+    for name, (labels, selects, cpu, _) in REJECTED.items():
+        site.pod(name, cpu=cpu, labels=labels, spec={"nodeSelector": selects})
+
+
+def said_of(site: Site, name: str) -> list[str]:
+    """The messages of a pod's events."""
+    return [it["message"] for it in site.events(about=name, reason="FailedScheduling")]
+
+
+def by_rules(site: Site) -> str:
+    """The event of a pod that rules reject names each of them with how many nodes it rejected, and so does its condition."""
+    make_rejected(site)
+    site.start("--node-affinity", "2", "--plugins", str(TOP / "examples/plugins"), rule=RULE)
+    for name, (*_, why) in REJECTED.items():
+        site.wait(lambda name=name: said_of(site, name) and condition(site, name), 30, f"an event of {name}")  # type: ignore[misc]
+        message = f"0/9 nodes are available: {why}."
+        assert said_of(site, name) == [message], said_of(site, name)
+        assert (condition(site, name) or {}).get("message") == message, condition(site, name)
+    # (nothing is said twice, though each was tried again by now)
+    time.sleep(5)
+    assert len(site.events(reason="FailedScheduling")) == len(REJECTED), site.events()
+    return f"{len(REJECTED)} pods, as: {said_of(site, 'both')[0]}"
+
+
+def unexplained(site: Site) -> str:
+    """Where wsched doesn't explain, events tell how many nodes the rules rejected, and name none."""
+    make_rejected(site)
+    wrapped = site.folder / "wsched"
+    wrapped.write_text(f'#!/bin/sh\n[ "$1" = explain ] && exit 1\nexec {site.programs.wsched} "$@"\n', encoding="utf-8")
+    wrapped.chmod(0o755)
+    site.start("--node-affinity", "2", "--plugins", str(TOP / "examples/plugins"), rule=RULE, wsched=str(wrapped))
+    site.wait(lambda: all(said_of(site, it) for it in REJECTED), 30, "an event of each pod")
+    assert said_of(site, "selects") == ["0/9 nodes are available: 9 node(s) were rejected by a plugin for good."], said_of(site, "selects")
+    return said_of(site, "both")[0]
+
+
+def many_rejected(site: Site) -> str:
+    """400 pods that a rule rejects on each of 300 nodes: each has an event that names it within 90 s, and new pods that fit are bound
+    meanwhile."""
+    for i in range(300):
+        site.node(f"node-{i:03}", labels={"zone": "a"})
+    for i in range(400):
+        site.pod(f"waits-{i}", spec={"nodeSelector": {"zone": "b"}})
+    site.start("--node-affinity", "2", "--plugins", str(TOP / "examples/plugins"))
+    began, waited = time.monotonic(), list[float]()
+    while len(site.events(reason="FailedScheduling")) < 400 or len(waited) < 3:
+        site.pod(f"fits-{len(waited)}")
+        waited.append(site.wait(lambda: site.place(f"fits-{len(waited)}"), 60, "a new pod is bound"))
+        assert time.monotonic() < began + 90, f"{len(site.events(reason='FailedScheduling'))} events in 90 s"
+    told = {it["message"] for it in site.events(reason="FailedScheduling")}
+    assert told == {"0/300 nodes are available: 300 node(s) were rejected by node_affinity for good."}, [*told][:3]
+    return f"400 events after {time.monotonic() - began:.0f} s; {len(waited)} new pods meanwhile waited {max(waited):.1f} s at most"
+
+
+TRIALS = [left_alone, conditions, measure, counted_up, few_events, by_rules, unexplained, many_rejected]

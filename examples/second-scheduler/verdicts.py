@@ -1,0 +1,81 @@
+"""What `wsched explain` says of pods and nodes: the script by which it is asked, what it answers, and the message of an event.
+
+Of each node it tells a total, or the first that rejects it: one of wsched's own filters or a rule. Where it tells amounts too these stand
+behind that, and nothing here needs them.
+"""
+from __future__ import annotations
+
+import collections
+from typing import Iterable, Iterator, NamedTuple
+
+from amounts import spelled_cpu, spelled_memory
+from core import quoted
+from rows import Size
+
+WHY = {
+    "marked": "node(s) were unschedulable",
+    "taint": "node(s) had taints that the pod didn't tolerate",
+    "cpu": "Insufficient cpu",
+    "memory": "Insufficient memory",
+    "pods": "Too many pods",
+    "plugin": "node(s) were rejected by a plugin",
+    "final": "node(s) were rejected by a plugin for good",
+}
+# How a rule's code is told behind its name.
+CODES = {"2": "", "3": " for good"}
+RULES = ("plugin", "final")
+
+
+class Decision(NamedTuple):
+    """What `explain` says of one cycle: the decision's words, and of each node those behind its name."""
+
+    uid: str
+    what: str
+    rest: list[str]
+    nodes: dict[str, list[str]]
+
+
+def script(nodes: Iterable[str], bound: Iterable[tuple[str, str, Size]], pods: Iterable[tuple[str, str]]) -> str:
+    """The nodes' rows, the pods that have a place (uid, node and size), and of each pod that is asked about (uid and row) a cycle, behind
+    which it is gone again."""
+    lines: list[str] = []
+
+    def tell(op: str, fields: str) -> None:
+        lines.append(f'{{"op":"{op}","v":{len(lines) + 1},{fields}}}')
+
+    for row in nodes:
+        tell("node", row)
+    for uid, node, (cpu, memory) in bound:
+        tell("bound", f'"uid":{quoted(uid)},"node":{quoted(node)},"cpu":"{spelled_cpu(cpu)}","mem":"{spelled_memory(memory)}"')
+    for uid, row in pods:
+        tell("pod", f'"uid":{quoted(uid)},{row}')
+        lines.append('{"op":"cycle"}')
+        tell("deleted", f'"uid":{quoted(uid)}')
+    return "\n".join(lines) + "\n"
+
+
+def decisions(output: str) -> Iterator[Decision]:
+    """What was answered to such a script, without what was told by `ok` or refused."""
+    nodes: dict[str, list[str]] = {}
+    for line in output.splitlines():
+        first, *words = line.split()
+        if line.startswith("  "):
+            nodes[first] = words
+        elif len(words) > 1 and first != "refused":
+            yield Decision(first, words[0], words[1:], nodes)
+            nodes = {}
+
+
+def is_of_rules(counts: list[str]) -> bool:
+    """Whether a rule rejected any node, by the words and numbers that wsched answers."""
+    return any(why in RULES and n != "0" for why, n in zip(counts[::2], counts[1::2]))
+
+
+def said_of_no_node(counts: list[str], nodes: dict[str, list[str]] | None = None) -> str:
+    """The message of kube-scheduler's kind, of the words and numbers that wsched answers; with what `explain` says of each node it names
+    the rules."""
+    some = [(int(n), WHY[why]) for why, n in zip(counts[::2], counts[1::2]) if n != "0" and (nodes is None or why not in RULES)]
+    named = collections.Counter((words[1], words[2]) for words in (nodes or {}).values() if words[0] == "plugin")
+    some += [(n, f"node(s) were rejected by {rule}{CODES[code]}") for (rule, code), n in named.items()]
+    why = ", ".join(f"{n} {why}" for n, why in sorted(some, key=lambda it: it[1]))
+    return f"0/{sum(n for n, _ in some)} nodes are available: {why}." if some else "0/0 nodes are available: there are none."
