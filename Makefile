@@ -1,6 +1,6 @@
 # The commands of the README.
 
-.PHONY: first-run try-run plugins test
+.PHONY: first-run try-run plugins deb dist image test
 
 # Proves and builds the program, and runs it on the first script.
 first-run:
@@ -13,6 +13,17 @@ try-run:
 # Runs each plugin of examples/plugins over its script, by the program that first-run built.
 plugins:
 	examples/plugins/try
+
+# A Debian package of the program, its rules and the second scheduler; the same as a tar with sums and the prover's verdicts; and the
+# second scheduler's image (as root, with buildah and debootstrap). Each stands in out/, made of the program that first-run built.
+deb:
+	tools/packages/deb
+
+dist:
+	tools/packages/dist
+
+image:
+	tools/packages/image
 
 # Proves every crate from nothing, tries every must-fail edit, and runs every test and program.
 test:
