@@ -1,7 +1,8 @@
-"""Binds: each is made by a thread of its own, and ends with an answer whatever the API server does."""
+"""Binds: each ends with an answer, whatever the API server does."""
 from __future__ import annotations
 
 import concurrent.futures
+import functools
 import json
 import logging
 import queue
@@ -9,16 +10,19 @@ import threading
 import time
 from typing import Any, NamedTuple
 
-import urllib3
 from kubernetes.client.rest import ApiException
 
 from pods import Pod
+from posting import FIRST_PAUSE, JSON, LONGEST_PAUSE, UNWANTED, Answer, Posts, Request
 from rows import SeenPod
 from watch import AWAY, message
+from way import Way
 
 LOG = logging.getLogger("second-scheduler")
 # How many places may wait for their bind: a decision waits for none.
 UNDER_WAY = 512
+# How long a bind may take at the API server, in seconds, before the pod is asked what became of it.
+PATIENCE = 30.0
 
 
 class Bind(NamedTuple):
@@ -73,42 +77,44 @@ class Newest:
 
 
 class Binders:
-    """The threads that bind. Each answer goes into the inbox, as `("bind", .., Bind)`."""
+    """Those that bind, so many at once. Each answer goes into the inbox, as `("bind", .., Bind)`."""
 
-    def __init__(self, api: Any, count: int, newest: Newest, inbox: queue.SimpleQueue[Any], stopping: threading.Event) -> None:
+    def __init__(self, api: Any, way: Way, count: int, newest: Newest, inbox: queue.SimpleQueue[Any], stopping: threading.Event) -> None:
         self.api, self.newest, self.inbox, self.stopping = api, newest, inbox, stopping
-        self.threads = concurrent.futures.ThreadPoolExecutor(count, "binder")
+        self.posts = Posts(way, count, "binds")
+        # those that look up what became of a bind, which are few
+        self.lookers = concurrent.futures.ThreadPoolExecutor(count, "look-up")
 
     def bind(self, asked: Bind) -> None:
-        self.threads.submit(self.go, asked)
+        pod = asked.pod
+        body = {"metadata": {"name": pod.name, "namespace": pod.namespace, "uid": pod.uid}, "target": {"apiVersion": "v1", "kind": "Node", "name": asked.node}}
+        path = f"/api/v1/namespaces/{pod.namespace}/pods/{pod.name}/binding"
+        then, is_wanted = functools.partial(self.answered, asked), functools.partial(self.newest.holds, asked)
+        self.posts.send(Request("POST", path, json.dumps(body).encode(), JSON, PATIENCE, then, is_wanted))
 
-    def go(self, asked: Bind) -> None:
-        began, is_bound = time.monotonic(), False
-        is_posted = self.newest.holds(asked)
-        if is_posted:
-            is_bound = self.post(asked.pod, asked.node)
-        else:
+    def answered(self, asked: Bind, answer: Answer) -> None:
+        """(in the thread of the posts)"""
+        if answer.is_good:
+            self.end(asked, answer, is_bound=True)
+        elif answer.status == UNWANTED:
             # an API server up to 1.20 would bind whatever has its name now
             LOG.info("pod %s isn't bound to %s: one of them is gone or another by now, or the pod is bound", asked.pod, asked.node)
-        self.inbox.put(("bind", "", asked._replace(is_bound=is_bound, is_posted=is_posted, seconds=time.monotonic() - began)))
+            self.end(asked, answer, is_posted=False)
+        else:
+            LOG.warning("pod %s can't be bound to %s: %s", asked.pod, asked.node, message(answer.fault))
+            self.lookers.submit(self.look_up, asked, answer)
 
-    def post(self, pod: Pod, node: str) -> bool:
-        """Binds a pod. Where no answer tells what became of it, the pod itself is asked, until there is one."""
-        body = {"metadata": {"name": pod.name, "namespace": pod.namespace, "uid": pod.uid}, "target": {"apiVersion": "v1", "kind": "Node", "name": node}}
-        try:
-            # (an answer that is read gives its connection back)
-            self.api.create_namespaced_pod_binding(pod.name, pod.namespace, body, _preload_content=False, _request_timeout=(5, 30)).read()
-            return True
-        except AWAY as why:
-            LOG.warning("pod %s can't be bound to %s: %s", pod, node, message(why))
-        pause = 0.2
-        while not (self.stopping.is_set() and pause > 2):
-            is_bound = self.ask(pod, node)
-            if is_bound is not None:
-                return is_bound
+    def end(self, asked: Bind, answer: Answer, is_bound: bool = False, is_posted: bool = True) -> None:
+        self.inbox.put(("bind", "", asked._replace(is_bound=is_bound, is_posted=is_posted, seconds=answer.seconds)))
+
+    def look_up(self, asked: Bind, answer: Answer) -> None:
+        """Where no answer tells what became of a bind, the pod itself is asked, until there is one."""
+        began, pause, is_bound = time.monotonic(), FIRST_PAUSE, self.ask(asked.pod, asked.node)
+        while is_bound is None and not (self.stopping.is_set() and pause > 2):
             time.sleep(pause)
-            pause = min(2 * pause, 5)
-        return False
+            pause = min(2 * pause, LONGEST_PAUSE)
+            is_bound = self.ask(asked.pod, asked.node)
+        self.end(asked, answer._replace(seconds=answer.seconds + time.monotonic() - began), is_bound=bool(is_bound))
 
     def ask(self, pod: Pod, node: str) -> bool | None:
         try:
@@ -116,5 +122,5 @@ class Binders:
             return bool(now["metadata"]["uid"] == pod.uid and now["spec"].get("nodeName") == node)
         except ApiException as other:
             return False if other.status == 404 else None
-        except (urllib3.exceptions.HTTPError, OSError, ValueError):
+        except (*AWAY, ValueError):
             return None

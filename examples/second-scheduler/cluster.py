@@ -134,9 +134,9 @@ class Cluster:
             assert time.monotonic() < end and self.own["api"].poll() is None, f"the API server doesn't start: see {self.folder}/api.log"
             time.sleep(0.2)
 
-    def start_kube_scheduler(self) -> None:
+    def start_kube_scheduler(self) -> "subprocess.Popen[bytes]":
         """Starts kube-scheduler, which tells no one but its log."""
-        self.run("kube-scheduler", HOME / "bin" / "kube-scheduler", "--config", self.folder / "scheduler.json", "--bind-address=127.0.0.1", "--secure-port=0")
+        return self.run("kube-scheduler", HOME / "bin" / "kube-scheduler", "--config", self.folder / "scheduler.json", "--bind-address=127.0.0.1", "--secure-port=0")
 
     def kubectl(self, *words: str, user: str = "admin") -> tuple[int, str]:
         """Runs kubectl; gives its status and all that it said."""
@@ -197,12 +197,16 @@ class Cluster:
         """Takes away all pods, events and nodes."""
         self.delete_pods(self.places())
         for what in ("namespaces/default/events", "nodes"):
-            while self.ask("GET", f"/api/v1/{what}?limit=1")["items"]:
-                try:
-                    self.ask("DELETE", f"/api/v1/{what}")
-                except Refused:
-                    # (on a busy machine it takes longer than a request may)
-                    pass
+            self.empty(what)
+
+    def empty(self, what: str) -> None:
+        """Takes away all objects of a kind."""
+        while self.ask("GET", f"/api/v1/{what}?limit=1")["items"]:
+            try:
+                self.ask("DELETE", f"/api/v1/{what}")
+            except Refused:
+                # (on a busy machine it takes longer than a request may)
+                pass
 
     def places(self) -> dict[str, Optional[str]]:
         """Each pod's node, or None."""

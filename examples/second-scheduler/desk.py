@@ -12,6 +12,7 @@ from metrics import Metrics
 from nodes import Nodes, nothing
 from pods import Pod, Told, Turn, Wait
 from rows import SeenPod
+from share import ALONE, Share
 from telling import Telling, about_pod
 
 LOG = logging.getLogger("second-scheduler")
@@ -20,8 +21,8 @@ LOG = logging.getLogger("second-scheduler")
 class Desk(Nodes):
     """What was told, and what was heard. A pod is known by its uid, so none counts twice."""
 
-    def __init__(self, core: Core, telling: Telling, metrics: Metrics, labels: NodeLabels) -> None:
-        super().__init__(core, telling, metrics, labels)
+    def __init__(self, core: Core, telling: Telling, metrics: Metrics, labels: NodeLabels, share: Share = ALONE) -> None:
+        super().__init__(core, telling, metrics, labels, share)
         self.pods: dict[str, Pod] = {}
         # the pods that ask for more labels of nodes than there is room for
         self.short: dict[Pod, SeenPod] = {}
@@ -93,7 +94,7 @@ class Desk(Nodes):
             self.untell(pod)
             self.waiting.drop(pod, time.monotonic())
             self.alone.add(pod)
-            if not seen.is_leaving:
+            if not seen.is_leaving and self.share.is_first(pod.uid):
                 why = f"left alone, since this scheduler doesn't know: {', '.join(seen.left_out)}"
                 self.telling.failed(pod, why, known=seen.unscheduled)
             return
@@ -104,7 +105,7 @@ class Desk(Nodes):
             return
         self.untell(pod, is_outside=True)
         self.waiting.drop(pod, time.monotonic())
-        self.waiting.add(pod, seen.row, seen.priority)
+        self.waiting.add(pod, seen.row, seen.priority, seen.created, time.monotonic())
 
     def lose_pod(self, uid: str) -> None:
         pod = self.pods.pop(uid, None)
@@ -136,7 +137,9 @@ class Desk(Nodes):
 
     def feed(self, now: float) -> None:
         """Tells of the pods whose turn it is. No cycle is under way now, so none that the desk loses here can have its place meanwhile."""
-        for pod in self.waiting.trim():
+        handed_on = self.waiting.take_turns(now)
+        self.metrics.handed_on.inc(len(handed_on))
+        for pod in handed_on + self.waiting.trim():
             self.untell(pod, is_outside=True)
         for pod in self.waiting.feed(now):
             assert pod.wait

@@ -29,8 +29,8 @@ class Explaining:
     """The runs of `explain`, one at a time, in a thread of its own. The other calls are the main loop's, and each answer goes into its
     inbox, as `("explained", .., messages by uid)`."""
 
-    def __init__(self, words: list[str], desk: Desk, telling: Telling, inbox: queue.SimpleQueue[Any]) -> None:
-        self.words, self.desk, self.telling, self.inbox = words, desk, telling, inbox
+    def __init__(self, words: list[str], desk: Desk, telling: Telling, inbox: queue.SimpleQueue[Any], whose: str = "") -> None:
+        self.words, self.desk, self.telling, self.inbox, self.whose = words, desk, telling, inbox, whose
         self.thread = concurrent.futures.ThreadPoolExecutor(1, "explain")
         self.is_running, self.next = False, 0.0
 
@@ -64,7 +64,7 @@ class Explaining:
         try:
             done = subprocess.run(self.words, input=told, capture_output=True, text=True, timeout=PATIENCE, start_new_session=True, check=True)
             # (one that would find a node now is told by what was decided: it is tried again)
-            said |= {it.uid: said_of_no_node(it.rest, it.nodes) for it in decisions(done.stdout) if it.what == "unschedulable"}
+            said |= {it.uid: said_of_no_node(it.rest, it.nodes, self.whose) for it in decisions(done.stdout) if it.what == "unschedulable"}
         except (OSError, ValueError, LookupError, subprocess.SubprocessError) as why:
             LOG.warning("which rules rejected %d pods isn't known: %s", len(uids), why)
         self.inbox.put(("explained", "", said))

@@ -9,6 +9,7 @@ from affinity import NodeLabels
 from claims import Claims
 from metrics import Metrics
 from rows import ENDED, Json, node_row, pod_row
+from share import Share
 
 # A kind, an event, and what it is of.
 Inbox = queue.SimpleQueue[tuple[str, str, Any]]
@@ -35,15 +36,17 @@ class NodeHearing(Hearing):
 
     kind = "node"
 
-    def __init__(self, inbox: Inbox, metrics: Metrics, newest: Newest, labels: NodeLabels) -> None:
+    def __init__(self, inbox: Inbox, metrics: Metrics, newest: Newest, labels: NodeLabels, share: Share) -> None:
         super().__init__(inbox, metrics)
-        self.newest, self.labels = newest, labels
+        self.newest, self.labels, self.share = newest, labels, share
 
     def key(self, thing: Json) -> str:
         return str(thing["metadata"]["name"])
 
     def hear(self, event: str, thing: Json) -> None:
         name = self.key(thing)
+        if not self.share.has_node(name):
+            return
         if event == "DELETED":
             self.newest.hear_node(name, None)
             self.inbox.put((self.kind, event, name))
@@ -58,13 +61,14 @@ class NodeHearing(Hearing):
 
 
 class PodHearing(Hearing):
-    """Pods, by their uids. One whose claims or volumes change is heard anew."""
+    """Pods, by their uids. One whose claims or volumes change is heard anew. One on another instance's node is gone, as far as this one
+    is concerned."""
 
     kind = "pod"
 
-    def __init__(self, inbox: Inbox, metrics: Metrics, scheduler: str, newest: Newest, claims: Claims) -> None:
+    def __init__(self, inbox: Inbox, metrics: Metrics, scheduler: str, newest: Newest, claims: Claims, share: Share) -> None:
         super().__init__(inbox, metrics)
-        self.scheduler, self.newest, self.claims = scheduler, newest, claims
+        self.scheduler, self.newest, self.claims, self.share = scheduler, newest, claims, share
         claims.again = self.hear
 
     def key(self, thing: Json) -> str:
@@ -76,7 +80,8 @@ class PodHearing(Hearing):
 
     def hear_one(self, event: str, thing: Json) -> None:
         meta = thing["metadata"]
-        is_gone = event == "DELETED" or (thing.get("status") or {}).get("phase") in ENDED
+        node = thing["spec"].get("nodeName")
+        is_gone = event == "DELETED" or (thing.get("status") or {}).get("phase") in ENDED or bool(node and not self.share.has_node(node))
         seen = None if is_gone else pod_row(thing, self.scheduler, self.claims.there)
         self.claims.keep(thing, seen is not None and not seen.node)
         self.newest.hear(f"{meta['namespace']}/{meta['name']}", meta["uid"], seen)

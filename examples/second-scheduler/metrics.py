@@ -31,6 +31,7 @@ class Metrics:
         self.unread = Gauge("wsched_pods_not_read", "Pods that have a node, and amounts that can't be read: they count with the rest.", registry=it)
         self.refused = Counter("wsched_refused_for_room_total", "What the desk had no room for.", ["kind"], registry=it)
         self.aside = Gauge("wsched_nodes_without_room", "Nodes that aren't used, since the desk has no room for them or their pods.", registry=it)
+        self.handed_on = Counter("wsched_handed_on_total", "Pods in the desk that became another instance's to place.", registry=it)
         self.audits = Counter("wsched_audits_total", "Audits of the desk against the watch.", registry=it)
         self.differences = Gauge("wsched_audit_differences", "Nodes of which the last audit found a difference.", registry=it)
         self.lists = Counter("wsched_lists_total", "Whole lists.", ["kind"], registry=it)

@@ -13,6 +13,7 @@ from core import Core, quoted
 from metrics import Metrics
 from pods import Pod, Told, Turn
 from rows import SeenNode, row_of
+from share import ALONE, Share
 from telling import Telling, about_node
 from waiting import Waiting
 
@@ -26,8 +27,8 @@ def nothing(_: str) -> None:
 class Nodes:
     """Each node that was heard of, the pods on it, and whether there is room for it and for them. Desk has the pods that come and go."""
 
-    def __init__(self, core: Core, telling: Telling, metrics: Metrics, labels: NodeLabels) -> None:
-        self.core, self.telling, self.metrics, self.waiting = core, telling, metrics, Waiting()
+    def __init__(self, core: Core, telling: Telling, metrics: Metrics, labels: NodeLabels, share: Share = ALONE) -> None:
+        self.core, self.telling, self.metrics, self.share, self.waiting = core, telling, metrics, share, Waiting(share)
         # which labels of nodes are asked for
         self.labels = labels
         self.nodes: dict[str, SeenNode] = {}

@@ -24,15 +24,18 @@ class Turn(enum.Enum):
     STILL = "has failed, and nothing has changed since"
     DUE = "has failed, and is to be tried again"
     BINDING = "has its place"
+    AWAY = "is another instance's to place now"
 
 
 class Wait:
     """Of a pod without a node: its line's fields, and whose turn it is. `told` is the row that the desk was told."""
 
-    __slots__ = ("row", "priority", "arrival", "attempts", "tried", "until", "moved", "turn", "stamp", "newest")
+    __slots__ = ("row", "priority", "arrival", "created", "is_ours", "attempts", "tried", "until", "moved", "turn", "stamp", "newest")
 
-    def __init__(self, row: str, priority: int, arrival: int) -> None:
+    def __init__(self, row: str, priority: int, arrival: int, created: float) -> None:
         self.row, self.priority, self.arrival = row, priority, arrival
+        # when the pod was made, by the API server's clock, and whether it is this instance's to place
+        self.created, self.is_ours = created, True
         # how often it was tried and when last; until when it rests, and what had moved before it was tried
         self.attempts = self.tried = self.moved = self.stamp = 0
         self.until = 0.0

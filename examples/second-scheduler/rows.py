@@ -5,6 +5,7 @@ mustn't be. A pod that has a node is always counted: with each amount that can b
 """
 from __future__ import annotations
 
+import datetime
 import functools
 import json
 import re
@@ -57,6 +58,8 @@ class SeenPod(NamedTuple):
     is_leaving: bool = False
     # the labels of nodes that it asks for
     keys: frozenset[str] = frozenset()
+    # when it was made, by the API server's clock, in seconds
+    created: float = 0.0
 
     @property
     def key(self) -> str:
@@ -244,6 +247,12 @@ def unscheduled(pod: Json) -> tuple[str, str] | None:
     return None
 
 
+def created_at(meta: Json) -> float:
+    """(an API server always says it)"""
+    text = meta.get("creationTimestamp")
+    return datetime.datetime.fromisoformat(text.replace("Z", "+00:00")).timestamp() if text else 0.0
+
+
 def pod_row(pod: Json, scheduler: str, there: Volumes | None = None) -> SeenPod | None:
     """What is kept of a pod; None of one that another scheduler has to place, and of one that has ended."""
     meta, spec = pod["metadata"], pod["spec"]
@@ -260,4 +269,5 @@ def pod_row(pod: Json, scheduler: str, there: Volumes | None = None) -> SeenPod 
     if (spec.get("schedulerName") or "default-scheduler") != scheduler:
         return None
     row, named, size, keys = waiting_row(pod, there)
-    return SeenPod(*who, None, size, True, row, spec.get("priority") or 0, named, unscheduled(pod), bool(meta.get("deletionTimestamp")), keys)
+    is_leaving, priority = bool(meta.get("deletionTimestamp")), spec.get("priority") or 0
+    return SeenPod(*who, None, size, True, row, priority, named, unscheduled(pod), is_leaving, keys, created_at(meta))

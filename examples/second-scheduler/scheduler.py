@@ -25,6 +25,7 @@ from record import Record
 from telling import Telling
 from verdicts import is_of_rules, said_of_no_node
 from watch import Watched
+from way import Way
 
 LOG = logging.getLogger("second-scheduler")
 # How many cycles are asked for at once at most, and for how long they are, in seconds, before the cluster is heard again.
@@ -38,7 +39,7 @@ AUDIT = 30.0
 class Scheduler:
     """One that schedules: it has begun to list and watch once it is there, and `run` goes on until `stopping` is set."""
 
-    def __init__(self, given: argparse.Namespace, api: Any, metrics: Metrics, health: Health) -> None:
+    def __init__(self, given: argparse.Namespace, api: Any, way: Way, metrics: Metrics, health: Health) -> None:
         self.given, self.metrics, self.health = given, metrics, health
         self.inbox: Inbox = queue.SimpleQueue()
         self.stopping, self.is_audit_asked = threading.Event(), False
@@ -52,21 +53,23 @@ class Scheduler:
             LOG.info("the record is %s", record.path)
         self.core = Core(command(given.wsched, given.workers, given.spec), record, health.beat)
         health.watch_over(self.core.kill)
-        newest = Newest()
-        self.telling = Telling(api, given.scheduler, given.dry_run, metrics)
-        self.binders = Binders(api, given.binders, newest, self.inbox, self.stopping)
+        newest, self.share = Newest(), given.share
+        self.whose = f" of share {self.share}" if self.share.count > 1 else ""
+        self.telling = Telling(way, given.scheduler, given.dry_run, metrics)
+        self.binders = Binders(api, way, given.binders, newest, self.inbox, self.stopping)
         labels = NodeLabels(given.settings)
-        self.desk = Desk(self.core, self.telling, metrics, labels)
+        self.desk = Desk(self.core, self.telling, metrics, labels, self.share)
         self.audit = Audit(self.desk, self.telling, metrics)
-        self.explaining = Explaining([given.wsched, "explain", "--", *given.spec], self.desk, self.telling, self.inbox)
+        self.explaining = Explaining([given.wsched, "explain", "--", *given.spec], self.desk, self.telling, self.inbox, self.whose)
         only = {"label_selector": given.nodes} if given.nodes else {}
-        Watched(api.list_node, NodeHearing(self.inbox, metrics, newest, labels), **only)
+        Watched(api.list_node, NodeHearing(self.inbox, metrics, newest, labels, self.share), **only)
         claims = Claims(is_told=bool(given.node_affinity))
         if given.node_affinity:
             Watched(api.list_persistent_volume, VolumeHearing(claims, metrics))
             Watched(api.list_persistent_volume_claim_for_all_namespaces, ClaimHearing(claims, metrics))
         phases = "status.phase!=Succeeded,status.phase!=Failed"
-        Watched(listed_after(claims, api.list_pod_for_all_namespaces), PodHearing(self.inbox, metrics, given.scheduler, newest, claims), field_selector=phases)
+        pods = PodHearing(self.inbox, metrics, given.scheduler, newest, claims, self.share)
+        Watched(listed_after(claims, api.list_pod_for_all_namespaces), pods, field_selector=phases)
 
     # Decisions.
 
@@ -121,8 +124,10 @@ class Scheduler:
             meant = self.desk.nodes.get(node)
             self.binders.bind(Bind(pod, node, meant.uid if meant else "", ticket, turn))
         elif what == "unschedulable":
+            created = pod.wait.created
             self.desk.failed(pod, moved)
-            self.telling.failed(pod, said_of_no_node(rest), is_of_rules=is_of_rules(rest))
+            is_all = self.share.has_gone_round(time.time() - created)
+            self.telling.failed(pod, said_of_no_node(rest, whose=self.whose), is_of_rules=is_of_rules(rest), is_all=is_all)
         elif what == "error":
             self.desk.failed(pod, -1)
             self.telling.failed(pod, f"plugin {rest[1]} says nothing of node {rest[3]}: {' '.join(rest[4:])}", "SchedulerError")

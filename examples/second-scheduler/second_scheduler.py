@@ -8,6 +8,7 @@ everywhere: a kubeconfig, or the account of the pod that it runs in. README.md b
 from __future__ import annotations
 
 import argparse
+import dataclasses
 import logging
 import os
 import pathlib
@@ -24,11 +25,13 @@ from kubernetes.leaderelection import electionconfig, leaderelection
 
 import lease
 import serving
+import share
 import site_settings
 from core import CoreFault, command, try_plugins
 from health import Health
 from metrics import Metrics
 from scheduler import Scheduler, end_process
+from way import NoWay, Way
 
 LOG = logging.getLogger("second-scheduler")
 # The rule that --node-affinity asks, and the fuel of its calls: enough for any pod and node.
@@ -43,6 +46,13 @@ def words() -> argparse.Namespace:
     said.add_argument("--workers", type=int, default=1, help="how many workers share a decision")
     said.add_argument("--binders", type=int, default=16, help="how many binds may be under way at once")
     said.add_argument("--nodes", help="a label selector: only these nodes are used")
+    said.add_argument(
+        "--share",
+        type=share.words,
+        default=share.ALONE,
+        metavar="I/N",
+        help="instance I of N that have one scheduler name: the nodes whose names fall to it, or those of --nodes, and each pod in its turn",
+    )
     said.add_argument("--kubeconfig", help="a file; else the account of the pod, else the usual one")
     said.add_argument("--dry-run", action="store_true", help="print what would be bound, and write nothing to the cluster")
     said.add_argument(
@@ -61,6 +71,7 @@ def words() -> argparse.Namespace:
     given = said.parse_args()
     if given.binders < 1:
         said.error("argument --binders: at least 1")
+    given.share = dataclasses.replace(given.share, is_by_name=not given.nodes)
     if given.node_affinity:
         # the rule and what is told for it come together, so that no pod is told without the rule being asked
         folder = pathlib.Path(given.plugins) if given.plugins else pathlib.Path(__file__).resolve().parent.parent / "plugins"
@@ -81,8 +92,9 @@ def log_to_standard_error(is_verbose: bool) -> None:
     urllib3.disable_warnings(urllib3.exceptions.InsecureRequestWarning)
 
 
-def connect(given: argparse.Namespace) -> Any:
-    """The API server, by the account of the pod that this runs in or by a kubeconfig."""
+def connect(given: argparse.Namespace) -> tuple[Any, Way]:
+    """The API server, by the account of the pod that this runs in or by a kubeconfig: the official client's calls, and the way for what
+    is written as often as pods are bound."""
     try:
         if not given.kubeconfig and os.environ.get("KUBERNETES_SERVICE_HOST"):
             config.load_incluster_config()
@@ -94,14 +106,18 @@ def connect(given: argparse.Namespace) -> Any:
     settings = client.Configuration.get_default_copy()
     settings.connection_pool_maxsize = given.binders + 16
     settings.retries = False
-    return client.CoreV1Api(client.ApiClient(settings))
+    try:
+        return client.CoreV1Api(client.ApiClient(settings)), Way(settings)
+    except (NoWay, OSError, ValueError) as why:
+        sys.exit(f"second_scheduler.py: no way to the API server {settings.host}: {why}")
 
 
 class Replica:
     """This process: it schedules at once, or once it has the Lease."""
 
     def __init__(self, given: argparse.Namespace) -> None:
-        self.given, self.api = given, connect(given)
+        self.given = given
+        self.api, self.way = connect(given)
         self.health, self.metrics, self.stop = Health(), Metrics(given.scheduler), threading.Event()
         self.running: Scheduler | None = None
         self.lock: lease.LeaseLock | None = None
@@ -131,7 +147,7 @@ class Replica:
                 threading.Thread(target=self.lock.guard, args=(self.lost,), daemon=True).start()
             self.metrics.leader.set(1)
             self.health.lead()
-            self.running = Scheduler(self.given, self.api, self.metrics, self.health)
+            self.running = Scheduler(self.given, self.api, self.way, self.metrics, self.health)
             if self.stop.is_set():
                 self.running.stopping.set()
             status = self.running.run()
@@ -156,6 +172,7 @@ class Replica:
 
     def follow(self) -> None:
         namespace, name = self.given.lease
+        name += self.given.share.suffix
         self.lock = lease.LeaseLock(namespace, name, f"{socket.gethostname()}_{os.getpid()}", self.api.api_client)
         # a follower ends at once
         threading.Thread(target=self.end_follower, daemon=True).start()

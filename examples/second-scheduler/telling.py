@@ -20,15 +20,18 @@ from kubernetes.client.rest import ApiException
 
 from metrics import Metrics
 from pods import Pod
+from posting import JSON, PATCH, Answer, Posts, Request
 from watch import AWAY, message as message_of
+from way import Way
 
 LOG = logging.getLogger("second-scheduler")
 # Seconds between two writes of one thing, and after which the same is said again.
 BETWEEN, AGAIN = 30.0, 600.0
 # How many things are told in a second, and at once where little was told before: an API server has more to do.
 RATE, BURST = 100.0, 300.0
-# How many writes may wait, and by how many threads they are made.
-ROOM, WRITERS = 2000, 4
+# How many writes may wait, by how many threads those are made that are several requests, on how many connections, and how long a
+# request may take, in seconds.
+ROOM, WRITERS, LINES, PATIENCE = 2000, 4, 8, 10.0
 Json = dict[str, Any]
 Key = tuple[str, str]
 
@@ -50,12 +53,14 @@ class Said:
         # the event that stands there, and its count
         self.event: str | None = None
         self.counted = 0
-        # the reason and message of the condition: as it is to be, and as it is
+        # the reason and message of the condition: as it is to be, as it was last asked for, and as it is
         self.condition: tuple[str, str] | None = None
+        self.asked_condition: tuple[str, str] | None = None
         self.is_condition: tuple[str, str] | None = None
 
     def due(self) -> float:
-        return self.at + (AGAIN if self.wanted == self.said else BETWEEN)
+        is_same = self.wanted == self.said and self.condition in (None, self.asked_condition)
+        return self.at + (AGAIN if is_same else BETWEEN)
 
 
 def about_pod(pod: Pod) -> Json:
@@ -74,8 +79,8 @@ def stamp() -> str:
 class Telling:
     """All that is told. Its calls are made by the main loop alone; writes are made by threads of its own."""
 
-    def __init__(self, api: Any, scheduler: str, is_silent: bool, metrics: Metrics) -> None:
-        self.api, self.scheduler, self.is_silent, self.metrics = api, scheduler, is_silent, metrics
+    def __init__(self, way: Way, scheduler: str, is_silent: bool, metrics: Metrics) -> None:
+        self.posts, self.scheduler, self.is_silent, self.metrics = Posts(way, LINES, "events"), scheduler, is_silent, metrics
         self.writers, self.room = concurrent.futures.ThreadPoolExecutor(WRITERS, "event"), threading.Semaphore(ROOM)
         self.things: dict[Key, Said] = {}
         self.timers: list[tuple[float, int, Key, Said]] = []
@@ -91,12 +96,20 @@ class Telling:
     # What is to be told.
 
     def failed(
-        self, pod: Pod, message: str, reason: str = "Unschedulable", known: tuple[str, str] | None = None, is_of_rules: bool = False
+        self,
+        pod: Pod,
+        message: str,
+        reason: str = "Unschedulable",
+        known: tuple[str, str] | None = None,
+        *,
+        is_of_rules: bool = False,
+        is_all: bool = True,
     ) -> None:
         """No node was found for the pod, or none is looked for. `known` is what its condition says already: that a pod is gated the API
-        server says itself, and it stays. `is_of_rules`: a rule rejected some node, and which did is found out before it is written."""
+        server says itself, and it stays. `is_of_rules`: a rule rejected some node, and which did is found out before it is written. Where
+        not all nodes were looked at, there is an event, and no condition yet."""
         condition = known if known and known[0] == "SchedulingGated" else (reason, message)
-        said = self.say(about_pod(pod), (pod.uid, "FailedScheduling"), message, condition)
+        said = self.say(about_pod(pod), (pod.uid, "FailedScheduling"), message, condition if is_all else None)
         if said:
             said.is_of_rules = is_of_rules
             said.is_condition = said.is_condition or known
@@ -178,6 +191,7 @@ class Telling:
         times, said.times = said.times, 0
         self.set_timer(key, said, now + AGAIN)
         condition = said.condition
+        said.asked_condition = condition or said.asked_condition
         if condition and message != said.wanted:
             condition = condition[0], message
 
@@ -198,14 +212,31 @@ class Telling:
         self.submit(go, lambda: self.unwritten.put((key, said)))
 
     def once(self, about: Json, kind: str, reason: str, message: str) -> None:
+        """What is told once, as often as pods are bound: no thread waits for its answer."""
         if self.is_silent:
             return
-        if self.room.acquire(blocking=False):
-            self.submit(lambda: self.create_event(about, kind, reason, message), lambda: None)
-        else:
+        if not self.room.acquire(blocking=False):
             self.metrics.untold.inc()
+            return
+        path, body = self.event(about, kind, reason, message)
+        self.posts.send(Request("POST", path, body, JSON, PATIENCE, self.answered))
 
     # Writes, in threads of their own.
+
+    def answered(self, answer: Answer) -> None:
+        self.room.release()
+        if not answer.is_good:
+            self.failed_to_write(answer.fault)
+
+    def failed_to_write(self, why: BaseException) -> bool:
+        """False where nobody is to be told any more: the pod is gone, or another has its name and so another uid, which 409 or 422 says."""
+        if getattr(why, "status", None) in (404, 409, 422):
+            return False
+        self.metrics.untold.inc()
+        if time.monotonic() > self.warned + BETWEEN:
+            self.warned = time.monotonic()
+            LOG.warning("an event or a condition can't be written: %s", message_of(why))
+        return True
 
     def submit(self, go: Callable[[], object], failed: Callable[[], None]) -> None:
         """Has it written, in the room that was acquired for it."""
@@ -214,33 +245,33 @@ class Telling:
             try:
                 go()
             except (*AWAY, ValueError, KeyError) as why:
-                # (the pod is gone, or another has its name and so another uid, which 409 or 422 says: nobody is to be told any more)
-                if getattr(why, "status", None) in (404, 409, 422):
-                    return
-                self.metrics.untold.inc()
-                failed()
-                if time.monotonic() > self.warned + BETWEEN:
-                    self.warned = time.monotonic()
-                    LOG.warning("an event or a condition can't be written: %s", message_of(why))
+                if self.failed_to_write(why):
+                    failed()
             finally:
                 self.room.release()
 
         self.writers.submit(one)
 
-    def create_event(self, about: Json, kind: str, reason: str, message: str) -> str:
-        """Gives its name."""
+    def event(self, about: Json, kind: str, reason: str, message: str) -> tuple[str, bytes]:
+        """Where it is created, and what."""
         now = stamp()
         body: Json = {"metadata": {"generateName": f"{about['name']}.", "namespace": about["namespace"]}, "involvedObject": about}
         body |= {"type": kind, "reason": reason, "message": message[:1024], "source": {"component": self.scheduler}}
         body |= {"firstTimestamp": now, "lastTimestamp": now, "count": 1}
-        answer = self.api.create_namespaced_event(about["namespace"], body, _preload_content=False, _request_timeout=(5, 10))
-        return str(json.loads(answer.data)["metadata"]["name"])
+        return f"/api/v1/namespaces/{about['namespace']}/events", json.dumps(body).encode()
+
+    def create_event(self, about: Json, kind: str, reason: str, message: str) -> str:
+        """Gives its name."""
+        return str(json.loads(self.posts.ask("POST", *self.event(about, kind, reason, message)))["metadata"]["name"])
+
+    def patch(self, path: str, body: Json) -> None:
+        self.posts.ask("PATCH", f"/api/v1/namespaces/{path}", json.dumps(body).encode(), PATCH, PATIENCE)
 
     def count_up(self, said: Said, times: int) -> bool:
         """Counts up the event that says the same. False where it is no longer there."""
         body = {"count": said.counted + times, "lastTimestamp": stamp()}
         try:
-            self.api.patch_namespaced_event(said.event, said.about["namespace"], body, _preload_content=False, _request_timeout=(5, 10)).read()
+            self.patch(f"{said.about['namespace']}/events/{said.event}", body)
         except ApiException as why:
             if why.status == 404:
                 return False
@@ -254,10 +285,12 @@ class Telling:
         condition |= {"lastTransitionTime": stamp()} if is_new else {}
         # (with the uid: another pod of that name is refused)
         body = {"metadata": {"uid": about["uid"]}, "status": {"conditions": [condition]}}
-        self.api.patch_namespaced_pod_status(about["name"], about["namespace"], body, _preload_content=False, _request_timeout=(5, 10)).read()
+        self.patch(f"{about['namespace']}/pods/{about['name']}/status", body)
 
     def end(self, patience: float) -> None:
         """Waits until what is to be written has been, for so many seconds."""
-        ending = threading.Thread(target=self.writers.shutdown, daemon=True)
-        ending.start()
-        ending.join(patience)
+        end = time.monotonic() + patience
+        for _ in range(ROOM):
+            # (whoever has all of the room knows that nobody writes any more)
+            if not self.room.acquire(timeout=max(0.0, end - time.monotonic())):
+                return

@@ -71,11 +71,11 @@ def is_of_rules(counts: list[str]) -> bool:
     return any(why in RULES and n != "0" for why, n in zip(counts[::2], counts[1::2]))
 
 
-def said_of_no_node(counts: list[str], nodes: dict[str, list[str]] | None = None) -> str:
+def said_of_no_node(counts: list[str], nodes: dict[str, list[str]] | None = None, whose: str = "") -> str:
     """The message of kube-scheduler's kind, of the words and numbers that wsched answers; with what `explain` says of each node it names
-    the rules."""
+    the rules. `whose` says which nodes were looked at, where these aren't all."""
     some = [(int(n), WHY[why]) for why, n in zip(counts[::2], counts[1::2]) if n != "0" and (nodes is None or why not in RULES)]
     named = collections.Counter((words[1], words[2]) for words in (nodes or {}).values() if words[0] == "plugin")
     some += [(n, f"node(s) were rejected by {rule}{CODES[code]}") for (rule, code), n in named.items()]
     why = ", ".join(f"{n} {why}" for n, why in sorted(some, key=lambda it: it[1]))
-    return f"0/{sum(n for n, _ in some)} nodes are available: {why}." if some else "0/0 nodes are available: there are none."
+    return f"0/{sum(n for n, _ in some)} nodes are available{whose}: {why or 'there are none'}."

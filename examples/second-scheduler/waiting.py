@@ -11,6 +11,7 @@ import itertools
 from typing import Any
 
 from pods import Pod, Turn, Wait
+from share import ALONE, Share, Turns
 
 # How many that have failed stay in the desk at most, how many it is told at once to be tried, and how many of higher priority besides.
 KEPT, AT_ONCE, MOST = 200, 1000, 5000
@@ -50,7 +51,8 @@ class Line:
 class Waiting:
     """All that wait. `moves` counts what may have made room."""
 
-    def __init__(self) -> None:
+    def __init__(self, share: Share = ALONE) -> None:
+        self.turns = Turns(share)
         self.moves = self.moved = 0
         self.of: dict[Turn, dict[Pod, None]] = {turn: {} for turn in Turn}
         self.new, self.due, self.resting = Line(Turn.NEW), Line(Turn.DUE), Line(Turn.RESTING)
@@ -79,10 +81,32 @@ class Waiting:
 
     # What becomes of a pod.
 
-    def add(self, pod: Pod, row: str, priority: int) -> None:
-        pod.wait = Wait(row, priority, next(self.count))
+    def add(self, pod: Pod, row: str, priority: int, created: float, now: float) -> None:
+        pod.wait = Wait(row, priority, next(self.count), created)
+        self.turns.begin(pod, pod.wait, now)
+        if pod.wait.is_ours:
+            self.make_new(pod)
+        else:
+            self.set(pod, Turn.AWAY)
+
+    def make_new(self, pod: Pod) -> None:
         self.set(pod, Turn.NEW)
-        self.new.push((-priority, pod.wait.arrival), pod)
+        self.new.push((-wait_of(pod).priority, wait_of(pod).arrival), pod)
+
+    def take_turns(self, now: float) -> list[Pod]:
+        """Of several instances that share all pods, which is to place one changes with the time. Gives those that the desk is to lose."""
+        lost: list[Pod] = []
+        for pod in self.turns.changed(now):
+            wait = wait_of(pod)
+            if not wait.is_ours:
+                self.leave(pod, now)
+                lost += [pod] if wait.turn in (Turn.TRYING, Turn.KEPT) else []
+                self.set(pod, Turn.AWAY)
+            elif wait.attempts:
+                self.make_due(pod)
+            else:
+                self.make_new(pod)
+        return lost
 
     def drop(self, pod: Pod, now: float) -> None:
         if pod.wait:
@@ -187,7 +211,7 @@ class Waiting:
         if self.due.first() and not self.again:
             return max(now, self.next_turn)
         first = self.resting.first()
-        return wait_of(first).until if first else now + 60.0
+        return min(wait_of(first).until if first else now + 60.0, self.turns.next())
 
     def decided(self, count: int, seconds: float) -> None:
         """So many decisions took so long."""
@@ -200,4 +224,5 @@ class Waiting:
             "active": sum(len(self.of[it]) for it in (Turn.NEW, Turn.TRYING, Turn.DUE)),
             "backoff": resting + len(self.of[Turn.RESTING]),
             "unschedulable": len(self.of[Turn.KEPT]) - resting + len(self.of[Turn.STILL]),
+            "away": len(self.of[Turn.AWAY]),
         }

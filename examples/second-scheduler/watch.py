@@ -14,10 +14,11 @@ from typing import Any, Callable, Iterator, Protocol
 
 import urllib3
 from kubernetes.client.rest import ApiException
+from kubernetes.config import ConfigException
 
 LOG = logging.getLogger("second-scheduler")
-# What a call to the API server may end with when it is away, or has another opinion.
-AWAY = (ApiException, urllib3.exceptions.HTTPError, OSError)
+# What a call to the API server may end with when it is away, or has another opinion, or when nobody says who this is.
+AWAY = (ApiException, urllib3.exceptions.HTTPError, OSError, ConfigException)
 # How many objects of a list are asked for at once.
 PAGE = 500
 # For how long a watch is asked for, in seconds, and how long one that says nothing is waited for: so one whose other end is gone is

@@ -31,6 +31,7 @@ class Asked:
     query: dict[str, str]
     body: Thing
     when: float
+    bearer: str = ""
     status: int = 0
     heard: bool = False
 
@@ -45,6 +46,9 @@ class Server:
         # API servers up to 1.20 bind whatever pod has the name
         self.tests_uid = True
         self.bind_takes = 0.0
+        # each answer ends its connection
+        self.closes = False
+        self.connections: set["Connection"] = set()
         # a watch ends after so many seconds; 0: at once
         self.watch_lasts = 120.0
         self.bookmark_every = 30.0
@@ -88,6 +92,12 @@ class Server:
             self.store.changed.notify_all()
         return len(watches)
 
+    def close_idle(self) -> None:
+        """Ends the connections on which nothing is asked for just now."""
+        for it in list(self.connections):
+            if not it.is_asked:
+                it.connection.shutdown(socket.SHUT_RDWR)
+
     def count(self, verb: str, what: str, since: float = 0.0) -> int:
         """How many such requests were asked; a list counts once, however many pages it has."""
         with self.lock:
@@ -114,19 +124,31 @@ class Connection(http.server.BaseHTTPRequestHandler):
     server_stub: Server
     close_connection = False
     disable_nagle_algorithm = True
+    is_asked = False
+
+    def setup(self) -> None:
+        """Begins."""
+        super().setup()
+        self.server_stub.connections.add(self)
+
+    def finish(self) -> None:
+        """Ends."""
+        self.server_stub.connections.discard(self)
+        super().finish()
 
     def log_message(self, format: str, *args: Any) -> None:  # pylint: disable=redefined-builtin
         """Nothing is logged: the requests are noted."""
 
     def answer(self) -> None:
         """Answers a request of any method."""
+        self.is_asked = True
         path, _, query = self.path.partition("?")
         body = self.rfile.read(int(self.headers.get("Content-Length") or 0))
         given = {key: values[-1] for key, values in urllib.parse.parse_qs(query, keep_blank_values=True).items()}
         what, key = resource(path)
         verb = {"GET": "get" if "/" in key or what == "nodes" and key else "list", "POST": "create", "PUT": "update"}.get(self.command, self.command.lower())
         verb = "watch" if verb == "list" and given.get("watch") in ("true", "True", "1") else verb
-        asked = Asked(verb, what, key, given, json.loads(body) if body else {}, time.monotonic())
+        asked = Asked(verb, what, key, given, json.loads(body) if body else {}, time.monotonic(), self.headers.get("Authorization") or "")
         with self.server_stub.lock:
             self.server_stub.asked.append(asked)
         try:
@@ -139,6 +161,7 @@ class Connection(http.server.BaseHTTPRequestHandler):
                 self.say(asked, 201 if verb == "create" else 200, self.done(asked))
         except Conflict as why:
             self.say(asked, why.status, json.dumps(refusal(why.status, why.message)).encode())
+        self.is_asked = False
 
     do_GET = do_POST = do_PUT = do_PATCH = do_DELETE = answer
 
@@ -148,6 +171,8 @@ class Connection(http.server.BaseHTTPRequestHandler):
         self.send_response(status)
         self.send_header("Content-Type", "application/json")
         self.send_header("Content-Length", str(len(body)))
+        if self.server_stub.closes:
+            self.send_header("Connection", "close")
         self.end_headers()
         self.wfile.write(body)
         self.wfile.flush()

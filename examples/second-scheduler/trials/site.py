@@ -106,6 +106,18 @@ class Site:
             "users": [{"name": "u", "user": {"token": "token"}}], "contexts": contexts, "current-context": "x",
         }), encoding="utf-8")
 
+    def exec_kubeconfig(self, seconds: int) -> str:
+        """A kubeconfig whose token is made by a program, and is good for so long."""
+        program, file = self.folder / "token", self.folder / "exec-kubeconfig"
+        status = f"""{{"token":"token-$(date +%s)","expirationTimestamp":"$(date -u -d '+{seconds} seconds' +%Y-%m-%dT%H:%M:%SZ)"}}"""
+        version = "client.authentication.k8s.io/v1beta1"
+        program.write_text(f'#!/bin/sh\ncat <<END\n{{"kind":"ExecCredential","apiVersion":"{version}","status":{status}}}\nEND\n', encoding="utf-8")
+        program.chmod(0o755)
+        config = json.loads(self.kubeconfig.read_text(encoding="utf-8"))
+        config["users"][0]["user"] = {"exec": {"apiVersion": version, "command": str(program)}}
+        file.write_text(json.dumps(config), encoding="utf-8")
+        return str(file)
+
     def close(self) -> None:
         """Ends all that runs."""
         for it in self.schedulers:
@@ -141,13 +153,14 @@ class Site:
         return self.store.make("nodes", {"kind": "Node", "apiVersion": "v1", "metadata": meta, "spec": spec, "status": status})
 
     def pod(self, name: str, **more: Any) -> Thing:
-        """Makes a pod of 100m and 64Mi in `default` that is to be placed; with `on` it has a node."""
+        """Makes a pod of 100m and 64Mi in `default` that is to be placed; with `on` it has a node, with `created` it was made at that time."""
         requests = {"cpu": more.get("cpu", "100m"), "memory": more.get("memory", "64Mi")}
         container = {"name": "c", "image": "x", "resources": {"requests": requests}}
         spec: Thing = {"schedulerName": more.get("scheduler", "wsched"), "containers": [container], "priority": more.get("priority", 0)}
         spec |= {"nodeName": more["on"]} if "on" in more else {}
         spec |= more.get("spec", {})
         meta = {"name": name, "namespace": "default", "labels": more.get("labels", {})}
+        meta |= {"creationTimestamp": time.strftime("%Y-%m-%dT%H:%M:%SZ", time.gmtime(more["created"]))} if "created" in more else {}
         status = {"phase": "Running" if "on" in more else "Pending"}
         return self.store.make("pods", {"kind": "Pod", "apiVersion": "v1", "metadata": meta, "spec": spec, "status": status})
 
@@ -252,6 +265,12 @@ def alive(pid: int) -> bool:
 def peak_of(pid: int) -> int:
     """The most memory that a process had, in MiB."""
     return int(dict(status_of(pid)).get("VmHWM", "0 kB").split()[0]) // 1024
+
+
+def spent(pid: int) -> float:
+    """The processor seconds that a process has taken so far, without those that it has started."""
+    fields = pathlib.Path(f"/proc/{pid}/stat").read_text(encoding="utf-8").rpartition(")")[2].split()
+    return (int(fields[11]) + int(fields[12])) / os.sysconf("SC_CLK_TCK")
 
 
 def seconds_of(programs: Programs, rule: Optional[str], lines: Sequence[Thing]) -> float:

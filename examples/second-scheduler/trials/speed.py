@@ -1,19 +1,37 @@
-"""How many pods are bound a second, by wsched and by kube-scheduler in turn."""
+"""How many pods are bound a second, by wsched and by kube-scheduler in turn, and the processor time that each takes."""
 import collections
 import functools
 import http.client
 import json
 import os
 import ssl
+import subprocess
 import time
-from typing import Callable
+from typing import Callable, NamedTuple
 
 import cluster
 from trials.fleet import Trial, some_nodes, some_pods
-from trials.site import GIB, RULE
+from trials.site import GIB, RULE, children, spent
+
+Start = Callable[[], "subprocess.Popen[bytes]"]
 
 
-def speed(site: cluster.Cluster, nodes: int = 1000, pods: int = 3000) -> int:
+class Run(NamedTuple):
+    """Pods a second from the first bind to the last, and milliseconds of processor time a pod, of the scheduler, of what it has started and of
+    the API server with etcd: between the same, and from its start until all events are told."""
+
+    rate: float
+    binding: list[float]
+    whole: list[float]
+    events: int
+
+    def __str__(self) -> str:
+        told = "; ".join(f"{when} {ms[0]:.2f} ms a pod, its child {ms[1]:.2f}, the API server {ms[2]:.2f}"
+                         for when, ms in (("while it binds", self.binding), ("in all", self.whole)))
+        return f"{self.rate:.0f} pods a second; {told}; {self.events} events; load {os.getloadavg()[0]:.1f}"
+
+
+def speed(site: cluster.Cluster, nodes: int = 1000, pods: int = 3000, turns: int = 2, workers: int = 1) -> int:
     """Pods bound a second, from the first to the last that a watch tells, with all pods made before a scheduler starts."""
     fleet = {name: it | {"taints": [], "marked": False, "pods": 110, "memory": 32 * GIB} for name, it in some_nodes(nodes, cpu=8000)}
     try:
@@ -21,20 +39,20 @@ def speed(site: cluster.Cluster, nodes: int = 1000, pods: int = 3000) -> int:
         trial = Trial(site, fleet, {})
         trial.ears.stop.set()
         found = collections.defaultdict(list)
-        for _ in range(2):
+        for _ in range(turns):
             for who in ("wsched", "kube-scheduler", "wsched with keep_region"):
                 ours = who != "kube-scheduler"
                 made = {it: pod | {"selects": {}, "cpu": 100 + pod["cpu"] % 400} for it, pod in some_pods(pods, "s", "wsched" if ours else "default-scheduler")}
                 site.make_pods(made)
-                rule = RULE if "keep" in who else None
-                start: Callable[[], object] = functools.partial(trial.schedule, rule=rule)
+                start: Start = functools.partial(trial.schedule, "--workers", str(workers), rule=RULE if "keep" in who else None)
                 if not ours:
                     start = site.start_kube_scheduler
-                rate = watched(site, pods, start)
+                run = watched(site, pods, start)
                 site.end("wsched" if ours else "kube-scheduler")
                 site.delete_pods(made)
-                found[who].append(rate)
-                print(f"{who}: {rate:.0f} pods a second, load {os.getloadavg()[0]:.1f}", flush=True)
+                site.empty("namespaces/default/events")
+                found[who].append(run.rate)
+                print(f"{who}: {run}", flush=True)
         best = {who: max(rates) for who, rates in found.items()}
         times = best["wsched"] / best["kube-scheduler"], best["wsched with keep_region"] / best["kube-scheduler"]
         print(f"{nodes} nodes, {pods} pods: {times[0]:.1f} times kube-scheduler, with the rule {times[1]:.1f} times")
@@ -43,17 +61,40 @@ def speed(site: cluster.Cluster, nodes: int = 1000, pods: int = 3000) -> int:
     return 0
 
 
-def watched(site: cluster.Cluster, count: int, start: Callable[[], object]) -> float:
-    """Starts a scheduler, and gives the pods that are bound a second from the first to the last."""
+def watched(site: cluster.Cluster, count: int, start: Start) -> Run:
+    """Starts a scheduler, and watches what it binds."""
     version = site.ask("GET", "/api/v1/namespaces/default/pods?limit=1")["metadata"]["resourceVersion"]
     line = http.client.HTTPSConnection("127.0.0.1", cluster.API, context=ssl._create_unverified_context(), timeout=300)  # pylint: disable=protected-access
     line.request("GET", f"/api/v1/namespaces/default/pods?watch=true&resourceVersion={version}", None, {"Authorization": "Bearer admintoken"})
     answer, bound, times = line.getresponse(), set[str](), list[float]()
-    start()
+    server = sum(spent(site.own[it].pid) for it in ("api", "etcd"))
+    child, takes = start(), [[0.0, 0.0, server]]
     while len(bound) < count:
         pod = json.loads(answer.readline())["object"]
         if pod["spec"].get("nodeName") and pod["metadata"]["name"] not in bound:
             bound.add(pod["metadata"]["name"])
             times.append(time.monotonic())
+            if len(bound) in (1, count):
+                takes.append(taken(site, child.pid))
     line.close()
-    return (count - 1) / (times[-1] - times[0])
+    takes.append(settled(site, child.pid))
+    binding, whole = ([1000 * (b - a) / count for a, b in zip(takes[since], takes[until])] for since, until in ((1, 2), (0, 3)))
+    events = sum(1 for it in site.events() if it["reason"] == "Scheduled")
+    return Run((count - 1) / (times[-1] - times[0]), binding, whole, events)
+
+
+def taken(site: cluster.Cluster, *pids: int) -> list[float]:
+    """The processor seconds of processes so far, of what they have started, and of the API server with etcd."""
+    return [sum(map(spent, pids)), sum(spent(child) for pid in pids for child in children(pid)), sum(spent(site.own[it].pid) for it in ("api", "etcd"))]
+
+
+def settled(site: cluster.Cluster, pid: int) -> list[float]:
+    """The same once it has nothing more to do: what it has to tell comes behind the last bind."""
+    end, before = time.monotonic() + 30, taken(site, pid)
+    while time.monotonic() < end:
+        time.sleep(1)
+        now = taken(site, pid)
+        if now[0] - before[0] < 0.05:
+            return now
+        before = now
+    return before

@@ -1,0 +1,165 @@
+"""Three instances that share 3,000 nodes: pods bound a second beside kube-scheduler, and 20,000 pods of which a third finds too little room."""
+import collections
+import http.client
+import itertools
+import json
+import os
+import random
+import ssl
+import threading
+import time
+from typing import Iterable, Optional
+
+import cluster
+from share import Share
+from trials.fleet import Trial, some_pods, used, wrong
+from trials.shares import COUNT, names_of
+from trials.site import GIB, MIB
+from trials.speed import taken
+from trials.store import Thing
+from trials.watcher import Watcher
+
+# How many pods kube-scheduler is given, for each that the instances are given for their speed.
+PART = 10
+
+
+class Seen:
+    """A watch of the pods: when each was bound, and by the nodes' owners how many."""
+
+    def __init__(self, site: cluster.Cluster, nodes: Iterable[Thing]) -> None:
+        self.watcher, self.when = Watcher(), dict[str, float]()
+        for it in nodes:
+            self.watcher.hear_node(it, False)
+        self.version = site.ask("GET", "/api/v1/namespaces/default/pods?limit=1")["metadata"]["resourceVersion"]
+        self.line = http.client.HTTPSConnection("127.0.0.1", cluster.API, context=ssl._create_unverified_context(), timeout=600)  # pylint: disable=protected-access
+        self.line.request("GET", f"/api/v1/namespaces/default/pods?watch=true&resourceVersion={self.version}", None, {"Authorization": "Bearer admintoken"})
+        self.answer, self.stop = self.line.getresponse(), threading.Event()
+        self.thread = threading.Thread(target=self.go, daemon=True)
+        self.thread.start()
+
+    def go(self) -> None:
+        """Until it is ended."""
+        while not self.stop.is_set():
+            text = self.answer.readline()
+            if not text:
+                return
+            event = json.loads(text)
+            self.watcher.hear_pod(event["object"], event["type"] == "DELETED")
+            name = event["object"]["metadata"]["name"]
+            if event["object"]["spec"].get("nodeName") and name not in self.when:
+                self.when[name] = time.monotonic()
+
+    def wait(self, count: int, patience: float) -> None:
+        """Waits for so many binds."""
+        end = time.monotonic() + patience
+        while len(self.when) < count:
+            assert time.monotonic() < end, f"{len(self.when)} of {count} are bound after {patience:.0f} s"
+            time.sleep(0.05)
+
+    def rate(self) -> float:
+        """Pods a second, from the first to the last."""
+        times = sorted(self.when.values())
+        return (len(times) - 1) / (times[-1] - times[0])
+
+    def end(self) -> None:
+        """Watches no more."""
+        self.stop.set()
+
+
+def sized(pods: Iterable[tuple[str, Thing]]) -> dict[str, Thing]:
+    """Pods of 100 to 500 thousandths of a core that may be anywhere."""
+    return {name: pod | {"selects": {}, "labels": {"app": "x"}, "tolerates": [], "cpu": 100 + pod["cpu"] % 400} for name, pod in pods}
+
+
+def start(trial: Trial, index: int) -> None:
+    """One instance."""
+    trial.schedule("--share", f"{index}/{COUNT}", rule=None, name=f"share-{index}")
+
+
+def quick(site: cluster.Cluster, trial: Trial, pods: int) -> None:
+    """Pods a second beside kube-scheduler, in two turns, where every share has room."""
+    nodes, names, best = site.ask("GET", "/api/v1/nodes")["items"], [f"share-{index}" for index in range(1, COUNT + 1)], dict[str, float]()
+    for _ in range(2):
+        for who in ("wsched", "kube-scheduler"):
+            ours = who == "wsched"
+            made = sized(some_pods(pods if ours else pods // PART, "q", "wsched" if ours else "default-scheduler"))
+            site.make_pods(made)
+            seen, began, before = Seen(site, nodes), time.monotonic(), taken(site)
+            for index in range(1, COUNT + 1) if ours else ():
+                start(trial, index)
+            if not ours:
+                site.start_kube_scheduler()
+            seen.wait(len(made), 600)
+            time.sleep(5)
+            programs = names if ours else ["kube-scheduler"]
+            took = taken(site, *(site.own[it].pid for it in programs))
+            told = " ".join(f"{1000 * (b - a) / len(made):.2f}" for a, b in zip(before, took))
+            for name in programs:
+                site.end(name)
+            seen.end()
+            assert not seen.watcher.wrong, seen.watcher.wrong[:3]
+            site.delete_pods(made)
+            site.empty("namespaces/default/events")
+            best[who] = max(best.get(who, 0), seen.rate())
+            print(f"{who}: {len(made)} pods, {seen.rate():.0f} a second, all {max(seen.when.values()) - began:.0f} s after the start; ms a pod of all that "
+                  f"schedule, of their children, of the API server: {told}; load {os.getloadavg()[0]:.1f}", flush=True)
+    print(f"{len(trial.nodes)} nodes, {COUNT} instances: {best['wsched'] / best['kube-scheduler']:.1f} times kube-scheduler", flush=True)
+
+
+def crowd(site: cluster.Cluster, trial: Trial, pods: int) -> None:
+    """Share 1 has room for few; instance 2 is killed when a third is bound, and started again 20 s later. One pod in a hundred fits nowhere."""
+    nodes = site.ask("GET", "/api/v1/nodes")["items"]
+    made = sized(some_pods(pods, "c"))
+    for i, name in enumerate(made):
+        made[name]["cpu"] = 100_000 if i % 100 == 50 else made[name]["cpu"]
+    fit = sum(1 for it in made.values() if it["cpu"] < 100_000)
+    seen, began = Seen(site, nodes), time.monotonic()
+    for index in range(1, COUNT + 1):
+        start(trial, index)
+    making = threading.Thread(target=site.make_pods, args=(made,))
+    making.start()
+    seen.wait(fit // 3, 600)
+    site.end("share-2", 9)
+    killed = len(seen.when)
+    time.sleep(20)
+    start(trial, 2)
+    print(f"share 2 was killed at {killed} binds, and started again 20 s later, at {len(seen.when)}", flush=True)
+    making.join()
+    seen.wait(fit, 900)
+    took = time.monotonic() - began
+    time.sleep(10)
+    seen.end()
+    places: dict[str, Optional[str]] = site.places()
+    homes = collections.Counter(next(index for index in range(1, COUNT + 1) if Share(index, COUNT).has_node(node)) for node in places.values() if node)
+    assert not seen.watcher.wrong, seen.watcher.wrong[:3]
+    assert not list(wrong(trial.nodes, made, places))
+    waiting = [name for name, node in places.items() if not node]
+    assert all(made[name]["cpu"] == 100_000 for name in waiting) and len(waiting) == pods - fit, len(waiting)
+    assert seen.watcher.bound == fit, seen.watcher.bound
+    sums, first = used(made, places), [name for name in trial.nodes if Share(1, COUNT).has_node(name)]
+    full = sum(1 for name in first if sums[name][2] == trial.nodes[name]["pods"])
+    for index in range(1, COUNT + 1):
+        trial.end(f"share-{index}")
+    print(f"{pods} pods, {fit} of which fit somewhere: all of these bound once, {took:.0f} s after the first was asked for; by share "
+          f"{dict(sorted(homes.items()))}; {full} of {len(first)} nodes of share 1 are full; no node was over its room, no pod moved; load {os.getloadavg()[0]:.1f}")
+
+
+def shared(site: cluster.Cluster, nodes: int = 3000, pods: int = 20000, quick_pods: int = 6000) -> int:
+    """The speed first, then the crowd."""
+    dice, each = random.Random(5), nodes // COUNT
+    names = [*itertools.chain(*(names_of(index, COUNT, each) for index in range(1, COUNT + 1)))]
+    roomy = {"cpu": 8000, "memory": 32 * GIB, "pods": 110, "labels": {}, "taints": [], "marked": False}
+    dice.shuffle(names)
+    try:
+        site.start()
+        trial = Trial(site, {name: roomy for name in names}, {})
+        trial.ears.stop.set()
+        quick(site, trial, quick_pods)
+        site.empty("nodes")
+        few = {"cpu": 1000, "memory": 2048 * MIB, "pods": 1}
+        trial.nodes = {name: roomy | (few if Share(1, COUNT).has_node(name) else {}) for name in names}
+        site.make_nodes(trial.nodes)
+        crowd(site, trial, pods)
+    finally:
+        site.end_all()
+    return 0
