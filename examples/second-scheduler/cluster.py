@@ -136,7 +136,8 @@ class Cluster:
 
     def start_kube_scheduler(self) -> "subprocess.Popen[bytes]":
         """Starts kube-scheduler, which tells no one but its log."""
-        return self.run("kube-scheduler", HOME / "bin" / "kube-scheduler", "--config", self.folder / "scheduler.json", "--bind-address=127.0.0.1", "--secure-port=0")
+        words = ["--config", self.folder / "scheduler.json", "--bind-address=127.0.0.1", "--secure-port=0"]
+        return self.run("kube-scheduler", HOME / "bin" / "kube-scheduler", *words)
 
     def kubectl(self, *words: str, user: str = "admin") -> tuple[int, str]:
         """Runs kubectl; gives its status and all that it said."""

@@ -46,8 +46,8 @@ class Answer(NamedTuple):
         """What the official client would raise."""
         if self.status == NONE:
             return ConnectionError(self.data.decode(errors="replace"))
-        why = ApiException(status=self.status, reason=http.client.responses.get(self.status, ""))
-        why.body = self.data
+        why: Exception = ApiException(status=self.status, reason=http.client.responses.get(self.status, ""))
+        vars(why)["body"] = self.data
         return why
 
 
@@ -84,8 +84,10 @@ class Posts:
         self.opening, self.pause, self.may_open = 0, 0.0, 0.0
         self.openers = concurrent.futures.ThreadPoolExecutor(min(most, OPENERS), f"{name}-opener")
         self.selector = selectors.DefaultSelector()
-        self.bell, self.is_awake = os.eventfd(0, os.EFD_NONBLOCK), False
-        self.selector.register(self.bell, selectors.EVENT_READ, None)
+        self.bell, self.heard = socket.socketpair()
+        self.bell.setblocking(False)
+        self.is_awake = False
+        self.selector.register(self.heard, selectors.EVENT_READ, None)
         threading.Thread(target=self.go, daemon=True, name=name).start()
 
     # For others.
@@ -106,7 +108,11 @@ class Posts:
     def ring(self) -> None:
         # (whoever sees that it is awake has put something where it looks before it sleeps)
         if not self.is_awake:
-            os.eventfd_write(self.bell, 1)
+            try:
+                self.bell.send(b"!")
+            except BlockingIOError:
+                # (it has been rung often enough)
+                pass
 
     # The thread.
 
@@ -128,7 +134,7 @@ class Posts:
             if key.data:
                 self.serve(key.data)
             else:
-                os.eventfd_read(self.bell)
+                self.heard.recv(4096)
         while not self.opened.empty():
             self.take(self.opened.get())
         while not self.asked.empty():

@@ -19,6 +19,8 @@ from kubernetes.config import ConfigException
 # For how long connecting may take, in seconds, and after how long a connection whose other end says nothing is given up: one that is
 # idle by the system's own probes, one with a request by its acknowledgements.
 CONNECT, IDLE, PROBE, PROBES, UNHEARD = 5.0, 15, 5, 3, 15_000
+# (Linux's number, which the types of some versions lack)
+TCP_USER_TIMEOUT = 18
 # How old a token may be that a request bears, in seconds, once there is a newer one.
 RENEWED = 1.0
 
@@ -56,7 +58,7 @@ class Way:
                 (socket.IPPROTO_TCP, socket.TCP_KEEPIDLE, IDLE),
                 (socket.IPPROTO_TCP, socket.TCP_KEEPINTVL, PROBE),
                 (socket.IPPROTO_TCP, socket.TCP_KEEPCNT, PROBES),
-                (socket.IPPROTO_TCP, socket.TCP_USER_TIMEOUT, UNHEARD),
+                (socket.IPPROTO_TCP, TCP_USER_TIMEOUT, UNHEARD),
             ):
                 sock.setsockopt(level, what, value)
             if self.tls:
@@ -120,7 +122,7 @@ def proxy_of(settings: Any, host: str) -> urllib.parse.SplitResult | None:
     without = getattr(settings, "no_proxy", None)
     if without and urllib.request.proxy_bypass_environment(host, {"no": without}):  # type: ignore[attr-defined]
         return None
-    proxy = urllib.parse.urlsplit(settings.proxy)
+    proxy = urllib.parse.urlsplit(str(settings.proxy))
     if proxy.scheme != "http":
         raise NoWay(f"binds and events can't go by the proxy {settings.proxy}: only by one of http://")
     return proxy

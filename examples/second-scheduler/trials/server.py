@@ -4,6 +4,7 @@ What it does wrong is what a trial has it do: refuse, end, break, or go silent. 
 """
 import dataclasses
 import http.server
+import itertools
 import json
 import socket
 import socketserver
@@ -54,6 +55,7 @@ class Server:
         self.bookmark_every = 30.0
         self.watches: dict[int, "Watch"] = {}
         self.lists: dict[str, tuple[Any, int]] = {}
+        self.marks = itertools.count()
         self.lock = threading.Lock()
         stub = self
 
@@ -205,7 +207,7 @@ class Connection(http.server.BaseHTTPRequestHandler):
             items, version = stub.lists[mark]
         else:
             items, version = stub.store.snapshot(asked.what, wanted(asked.query))
-            mark = str(len(stub.asked))
+            mark = str(next(stub.marks))
             stub.lists[mark] = items, version
         at, limit = int(start or 0), int(asked.query.get("limit") or 0) or len(items)
         meta = {"resourceVersion": str(version)} | ({"continue": f"{mark}.{at + limit}"} if at + limit < len(items) else {})

@@ -13,7 +13,7 @@ from typing import Iterable, Optional
 import cluster
 from share import Share
 from trials.fleet import Trial, some_pods, used, wrong
-from trials.shares import COUNT, names_of
+from trials.shares import COUNT, names_of, owner
 from trials.site import GIB, MIB
 from trials.speed import taken
 from trials.store import Thing
@@ -26,9 +26,9 @@ PART = 10
 class Seen:
     """A watch of the pods: when each was bound, and by the nodes' owners how many."""
 
-    def __init__(self, site: cluster.Cluster, nodes: Iterable[Thing]) -> None:
+    def __init__(self, site: cluster.Cluster) -> None:
         self.watcher, self.when = Watcher(), dict[str, float]()
-        for it in nodes:
+        for it in site.ask("GET", "/api/v1/nodes")["items"]:
             self.watcher.hear_node(it, False)
         self.version = site.ask("GET", "/api/v1/namespaces/default/pods?limit=1")["metadata"]["resourceVersion"]
         self.line = http.client.HTTPSConnection("127.0.0.1", cluster.API, context=ssl._create_unverified_context(), timeout=600)  # pylint: disable=protected-access
@@ -76,47 +76,49 @@ def start(trial: Trial, index: int) -> None:
     trial.schedule("--share", f"{index}/{COUNT}", rule=None, name=f"share-{index}")
 
 
+def turn(site: cluster.Cluster, trial: Trial, who: str, pods: int) -> float:
+    """One scheduler's turn: pods a second."""
+    ours = who == "wsched"
+    programs = [f"share-{index}" for index in range(1, COUNT + 1)] if ours else ["kube-scheduler"]
+    made = sized(some_pods(pods, "q", "wsched" if ours else "default-scheduler"))
+    site.make_pods(made)
+    seen, began, before = Seen(site), time.monotonic(), taken(site)
+    for index in range(1, COUNT + 1) if ours else ():
+        start(trial, index)
+    if not ours:
+        site.start_kube_scheduler()
+    seen.wait(len(made), 600)
+    time.sleep(5)
+    took = taken(site, *(site.own[it].pid for it in programs))
+    for name in programs:
+        site.end(name)
+    seen.end()
+    assert not seen.watcher.wrong, seen.watcher.wrong[:3]
+    site.delete_pods(made)
+    site.empty("namespaces/default/events")
+    told = " ".join(f"{1000 * (b - a) / len(made):.2f}" for a, b in zip(before, took))
+    print(f"{who}: {len(made)} pods, {seen.rate():.0f} a second, all {max(seen.when.values()) - began:.0f} s after the start; "
+          f"ms a pod of all that schedule, of their children, of the API server: {told}; load {os.getloadavg()[0]:.1f}", flush=True)
+    return seen.rate()
+
+
 def quick(site: cluster.Cluster, trial: Trial, pods: int) -> None:
     """Pods a second beside kube-scheduler, in two turns, where every share has room."""
-    nodes, names, best = site.ask("GET", "/api/v1/nodes")["items"], [f"share-{index}" for index in range(1, COUNT + 1)], dict[str, float]()
-    for _ in range(2):
-        for who in ("wsched", "kube-scheduler"):
-            ours = who == "wsched"
-            made = sized(some_pods(pods if ours else pods // PART, "q", "wsched" if ours else "default-scheduler"))
-            site.make_pods(made)
-            seen, began, before = Seen(site, nodes), time.monotonic(), taken(site)
-            for index in range(1, COUNT + 1) if ours else ():
-                start(trial, index)
-            if not ours:
-                site.start_kube_scheduler()
-            seen.wait(len(made), 600)
-            time.sleep(5)
-            programs = names if ours else ["kube-scheduler"]
-            took = taken(site, *(site.own[it].pid for it in programs))
-            told = " ".join(f"{1000 * (b - a) / len(made):.2f}" for a, b in zip(before, took))
-            for name in programs:
-                site.end(name)
-            seen.end()
-            assert not seen.watcher.wrong, seen.watcher.wrong[:3]
-            site.delete_pods(made)
-            site.empty("namespaces/default/events")
-            best[who] = max(best.get(who, 0), seen.rate())
-            print(f"{who}: {len(made)} pods, {seen.rate():.0f} a second, all {max(seen.when.values()) - began:.0f} s after the start; ms a pod of all that "
-                  f"schedule, of their children, of the API server: {told}; load {os.getloadavg()[0]:.1f}", flush=True)
-    print(f"{len(trial.nodes)} nodes, {COUNT} instances: {best['wsched'] / best['kube-scheduler']:.1f} times kube-scheduler", flush=True)
+    rates = [(turn(site, trial, "wsched", pods), turn(site, trial, "kube-scheduler", pods // PART)) for _ in range(2)]
+    times = max(it[0] for it in rates) / max(it[1] for it in rates)
+    print(f"{len(trial.nodes)} nodes, {COUNT} instances: {times:.1f} times kube-scheduler", flush=True)
 
 
 def crowd(site: cluster.Cluster, trial: Trial, pods: int) -> None:
     """Share 1 has room for few; instance 2 is killed when a third is bound, and started again 20 s later. One pod in a hundred fits nowhere."""
-    nodes = site.ask("GET", "/api/v1/nodes")["items"]
-    made = sized(some_pods(pods, "c"))
-    for i, name in enumerate(made):
-        made[name]["cpu"] = 100_000 if i % 100 == 50 else made[name]["cpu"]
-    fit = sum(1 for it in made.values() if it["cpu"] < 100_000)
-    seen, began = Seen(site, nodes), time.monotonic()
+    trial.pods = sized(some_pods(pods, "c"))
+    for name in [*trial.pods][50::100]:
+        trial.pods[name]["cpu"] = 100_000
+    fit = sum(1 for it in trial.pods.values() if it["cpu"] < 100_000)
+    seen, began = Seen(site), time.monotonic()
     for index in range(1, COUNT + 1):
         start(trial, index)
-    making = threading.Thread(target=site.make_pods, args=(made,))
+    making = threading.Thread(target=site.make_pods, args=(trial.pods,))
     making.start()
     seen.wait(fit // 3, 600)
     site.end("share-2", 9)
@@ -129,19 +131,24 @@ def crowd(site: cluster.Cluster, trial: Trial, pods: int) -> None:
     took = time.monotonic() - began
     time.sleep(10)
     seen.end()
-    places: dict[str, Optional[str]] = site.places()
-    homes = collections.Counter(next(index for index in range(1, COUNT + 1) if Share(index, COUNT).has_node(node)) for node in places.values() if node)
-    assert not seen.watcher.wrong, seen.watcher.wrong[:3]
-    assert not list(wrong(trial.nodes, made, places))
-    waiting = [name for name, node in places.items() if not node]
-    assert all(made[name]["cpu"] == 100_000 for name in waiting) and len(waiting) == pods - fit, len(waiting)
-    assert seen.watcher.bound == fit, seen.watcher.bound
-    sums, first = used(made, places), [name for name in trial.nodes if Share(1, COUNT).has_node(name)]
-    full = sum(1 for name in first if sums[name][2] == trial.nodes[name]["pods"])
+    print(f"{pods} pods, {fit} of which fit somewhere: {took:.0f} s after the first was asked for {looked_at(trial, seen, fit)}; load {os.getloadavg()[0]:.1f}")
     for index in range(1, COUNT + 1):
         trial.end(f"share-{index}")
-    print(f"{pods} pods, {fit} of which fit somewhere: all of these bound once, {took:.0f} s after the first was asked for; by share "
-          f"{dict(sorted(homes.items()))}; {full} of {len(first)} nodes of share 1 are full; no node was over its room, no pod moved; load {os.getloadavg()[0]:.1f}")
+
+
+def looked_at(trial: Trial, seen: Seen, fit: int) -> str:
+    """What became of all of them."""
+    places: dict[str, Optional[str]] = trial.site.places()
+    assert not seen.watcher.wrong, seen.watcher.wrong[:3]
+    assert not list(wrong(trial.nodes, trial.pods, places))
+    waiting = [name for name, node in places.items() if not node]
+    assert all(trial.pods[name]["cpu"] == 100_000 for name in waiting) and len(waiting) == len(trial.pods) - fit, len(waiting)
+    assert seen.watcher.bound == fit, seen.watcher.bound
+    homes, sums = collections.Counter(owner(node) for node in places.values() if node), used(trial.pods, places)
+    first = [name for name in trial.nodes if owner(name) == 1]
+    full = sum(1 for name in first if sums[name][2] == trial.nodes[name]["pods"])
+    return (f"all of these were bound once, by share {dict(sorted(homes.items()))}; {full} of {len(first)} nodes of share 1 are full; "
+            "no node was over its room, no pod moved")
 
 
 def shared(site: cluster.Cluster, nodes: int = 3000, pods: int = 20000, quick_pods: int = 6000) -> int:

@@ -4,8 +4,11 @@ import os
 import sys
 import time
 
+from typing import Iterator
+
 from share import PERIOD, Share
 from trials.site import Scheduler, Site, whom
+from trials.store import Change
 
 COUNT = 3
 SHIFTED = """
@@ -39,35 +42,57 @@ def shares(site: Site) -> str:
     for index in range(1, COUNT + 1):
         for name in names_of(index, COUNT, 6):
             site.node(name, cpu="4", pods=1 if index == 1 else 110)
-    made = time.time()
+    # (as an API server says it, in whole seconds)
+    made = float(int(time.time()))
     for i in range(60):
         site.pod(f"pod-{i}", created=made)
     site.pod("big", cpu="100", created=made)
     for index in range(1, COUNT + 1):
         instance(site, index)
     site.wait(lambda: site.placed() == 60, 2 * PERIOD + 40, "all pods are bound")
-    shift, homes = time.time() - time.monotonic(), [0] * COUNT
-    for it in site.store.since(0, kept=False):
-        if it.kind == "pods" and it.before and it.after and not it.before["spec"].get("nodeName") and it.after["spec"].get("nodeName"):
-            age, uid, node = it.when + shift - made, it.after["metadata"]["uid"], it.after["spec"]["nodeName"]
-            owner = next(index for index in range(1, COUNT + 1) if Share(index, COUNT).has_node(node))
-            # (what was made in a second is as old as the second; and a bind takes its time)
-            turns = {Share(index, COUNT).turn(uid, age - late)[0] * index for index in range(1, COUNT + 1) for late in (0, 1, 5)}
-            assert owner in turns, f"{it.key} was bound to {node}, one of {owner}'s, at the age of {age:.1f} s, when it was the turn of {turns - {0}}"
-            homes[owner - 1] += 1
+    homes = [0] * COUNT
+    for age, uid, node in binds(site, made):
+        # (a bind takes its time)
+        turns = {Share(index, COUNT).turn(uid, age - late)[0] * index for index in range(1, COUNT + 1) for late in (0, 1, 5)}
+        assert owner(node) in turns, f"{uid} was bound to {node}, one of {owner(node)}'s, at the age of {age:.1f} s, when it was the turn of {turns - {0}}"
+        homes[owner(node) - 1] += 1
     assert homes[0] == 6, homes
-
-    def told() -> bool:
-        return {it["message"].partition("share ")[2][:3] for it in site.events(about="big")} == {f"{index}/{COUNT}" for index in range(1, COUNT + 1)}
-
-    site.wait(told, COUNT * PERIOD + 20, "each instance has told that the big one fits nowhere")
-    conditions = [(it.when + shift - made, each["status"]) for it in site.store.since(0, kept=False) if it.key == "default/big" and it.after
-                  for each in it.after.get("status", {}).get("conditions", [])]
-    assert conditions and all(status == "False" and age >= (COUNT - 1) * PERIOD - 1 for age, status in conditions), conditions
+    every = {f"{index}/{COUNT}" for index in range(1, COUNT + 1)}
+    told = "each has told of the big one"
+    site.wait(lambda: {it["message"].partition("share ")[2][:3] for it in site.events(about="big")} == every, COUNT * PERIOD + 20, told)
+    age = conditions(site, made, "default/big")
     leases = sorted(it["metadata"]["name"] for it in site.store.all("leases"))
     assert leases == [f"wsched-{index}-of-{COUNT}" for index in range(1, COUNT + 1)], leases
-    last = max(it.when + shift - made for it in site.store.since(0, kept=False) if it.kind == "pods" and it.after and it.after["spec"].get("nodeName"))
-    return f"bound by share: {homes}, the last {last:.0f} s old; the big one's condition {conditions[0][0]:.0f} s; {site.check()}"
+    last = max(it[0] for it in binds(site, made))
+    return f"bound by share: {homes}, the last {last:.0f} s old; the big one's condition came after {age:.0f} s; {site.check()}"
+
+
+def owner(node: str) -> int:
+    """Whose it is."""
+    return next(index for index in range(1, COUNT + 1) if Share(index, COUNT).has_node(node))
+
+
+def changes(site: Site, made: float) -> Iterator[tuple[float, Change]]:
+    """What has changed of the pods, and how long after they were made."""
+    shift = time.time() - time.monotonic()
+    return ((it.when + shift - made, it) for it in site.store.since(0, kept=False) if it.kind == "pods" and it.before and it.after)
+
+
+def binds(site: Site, made: float) -> "list[tuple[float, str, str]]":
+    """The binds: how old the pod was, its uid, and the node."""
+    found = []
+    for age, it in changes(site, made):
+        assert it.before and it.after
+        if it.after["spec"].get("nodeName") and not it.before["spec"].get("nodeName"):
+            found.append((age, it.after["metadata"]["uid"], it.after["spec"]["nodeName"]))
+    return found
+
+
+def conditions(site: Site, made: float, key: str) -> float:
+    """How old a pod was that fits nowhere when that became its condition: no less than all turns but one take."""
+    ages = [age for age, it in changes(site, made) if it.key == key and it.after and it.after["status"].get("conditions")]
+    assert ages and min(ages) >= (COUNT - 1) * PERIOD - 1, ages
+    return min(ages)
 
 
 def share_killed(site: Site) -> str:

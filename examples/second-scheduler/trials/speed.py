@@ -13,7 +13,7 @@ import cluster
 from trials.fleet import Trial, some_nodes, some_pods
 from trials.site import GIB, RULE, children, spent
 
-Start = Callable[[], "subprocess.Popen[bytes]"]
+Start = Callable[[], subprocess.Popen[bytes]]
 
 
 class Run(NamedTuple):
