@@ -1,69 +1,88 @@
-//! What the places on a node use, summed anew.
-ghost use Rattle.std.specs.Prelude.{◌≡◌, ◌+◌, ◌≤◌, ◌<◌, ◌^◌, ◌↔◌};
-ghost use Rattle.std.specs.Bool.{IsTrue};
-ghost use Rattle.name_table.specs.Slots.{number_in};
-ghost use Rattle.audit.specs.Audit.{cpu_on, mem_on, pods_on, used_in, sum_of};
+//! What some places use on each node, summed anew.
+ghost use Rattle.std.specs.Prelude.{◌≡◌, ◌≤◌, ℕ, List, IfOk, OnOk, length, bytes_eq, false};
+ghost use Rattle.audit.specs.Audit.{nothing, sum_in, share_in, plus, used_in, HasRoom, AddsShare, IsSumOf};
 
 use book::Place;
 use name_table::Entry;
 use quant::{Bytes, Cpu, Name, Res};
+use std::alloc::{AllocError, Global};
+use std::collections::BTreeMap;
 
-/// Sums that no number of places brings above what they can hold.
-#[derive(Clone, Copy)]
-pub(crate) struct Sum {
-    pub(crate) cpu: u128,
-    pub(crate) mem: u128,
-    pub(crate) pods: u128,
+/// So many slots are summed together: few enough that their sums fit a `Res`, and enough that the tables are few.
+pub(crate) const PIECE: usize = 16_384;
+
+/// What some places add up to, by the name of their node. A tree of names, since nobody can choose names by which it is slow.
+#[derive(Drop)]
+pub(crate) struct Sums {
+    pub(crate) by_node: BTreeMap<Name, Res>,
 }
 
-// What a slot adds to a node: the request of the pod that is placed there and one pod, or nothing.
-fn share_of(slot: &Option<Entry<Place>>, node: &Name) -> Res
-    ensures cpu { result.cpu.0 ≡ number_in (cpu_on node.now) slot.now }
-    ensures mem { result.mem.0 ≡ number_in (mem_on node.now) slot.now }
-    ensures pods { result.pods ≡ number_in (pods_on node.now) slot.now }
-{
-    if let Some(entry) = slot {
-        let place = &entry.value;
-        if place.node == *node {
-            return Res {
-                cpu: place.request.cpu,
-                mem: place.request.mem,
-                pods: 1,
-            };
+impl Sums {
+    fn new(alloc: Global) -> Sums
+        ensures { (node : List ℕ) → sum_in result node ≡ nothing }
+    {
+        Sums {
+            by_node: BTreeMap::new(alloc),
         }
     }
-    Res {
-        cpu: Cpu(0),
-        mem: Bytes(0),
-        pods: 0,
+
+    /// What they add up to on this node.
+    pub(crate) fn on(&self, node: &Name) -> Res
+        ensures { result ≡ sum_in self.now node.now }
+    {
+        match self.by_node.get(node) {
+            Some(sum) => *sum,
+            None => Res {
+                cpu: Cpu(0),
+                mem: Bytes(0),
+                pods: 0,
+            },
+        }
+    }
+
+    // Gives a node another sum.
+    fn set(&mut self, node: Name, sum: Res) -> Result<(), AllocError>
+        ensures same { OnOk result (sum_in self.new node ≡ sum) }
+        ensures others { OnOk result ((other : List ℕ) → bytes_eq node other ≡ false → sum_in self.new other ≡ sum_in self.old other) }
+    {
+        self.by_node.insert(node, sum)?;
+        Ok(())
+    }
+
+    // One place more: the request of its pod and one pod more on its node.
+    fn add(&mut self, place: &Place) -> Result<(), AllocError>
+        requires { HasRoom (sum_in self.old place.now.node) }
+        ensures { OnOk result (AddsShare self.old place.now self.new) }
+    {
+        let before = self.on(&place.node);
+        let sum = Res {
+            cpu: Cpu(before.cpu.0 + place.request.cpu.0),
+            mem: Bytes(before.mem.0 + place.request.mem.0),
+            pods: before.pods + 1,
+        };
+        self.set(place.node.copied(), sum)
+    }
+
+    // What a slot has, if it isn't free.
+    fn add_slot(&mut self, slot: &Option<Entry<Place>>) -> Result<(), AllocError>
+        requires { (node : List ℕ) → HasRoom (sum_in self.old node) }
+        ensures { OnOk result ((node : List ℕ) → sum_in self.new node ≡ plus (sum_in self.old node) (share_in node slot.now)) }
+    {
+        match slot {
+            Some(entry) => self.add(&entry.value),
+            None => Ok(()),
+        }
     }
 }
 
-// What all slots add to a node.
-fn sum_on(slots: &[Option<Entry<Place>>], node: &Name) -> Sum
-    ensures { result ≡ sum_of node.now slots.now }
+/// What the places in some slots add up to.
+pub(crate) fn sums_of(alloc: Global, slots: &[Option<Entry<Place>>]) -> Result<Sums, AllocError>
+    requires { length slots.now ≤ PIECE }
+    ensures { IfOk result (λ sums. IsSumOf slots.now sums) }
 {
-    let mut sum = Sum {
-        cpu: 0,
-        mem: 0,
-        pods: 0,
-    };
+    let mut sums = Sums::new(alloc);
     for slot in slots {
-        let share = share_of(slot, node);
-        sum.cpu += u128::from(share.cpu.0);
-        sum.mem += u128::from(share.mem.0);
-        sum.pods += u128::from(share.pods);
+        sums.add_slot(slot)?;
     }
-    sum
-}
-
-/// Whether this is what the places on a node use together.
-pub(crate) fn is_used(used: &Res, slots: &[Option<Entry<Place>>], node: &Name) -> bool
-    ensures { IsTrue result ↔ (used.now ≡ used_in slots.now node.now) }
-{
-    let sum = sum_on(slots, node);
-    let cpu = u128::from(used.cpu.0) == sum.cpu;
-    let mem = u128::from(used.mem.0) == sum.mem;
-    let pods = u128::from(used.pods) == sum.pods;
-    cpu && mem && pods
+    Ok(sums)
 }

@@ -107,7 +107,7 @@ fn is_right<R: Threads + Sync>(
     places: &[Placed],
 ) -> Option<bool> {
     match book_of(alloc, keys, places) {
-        Some(book) => Some(audit(rt, shown, &book)),
+        Some(book) => audit(rt, alloc, shown, &book).ok(),
         None => None,
     }
 }

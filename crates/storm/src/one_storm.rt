@@ -213,7 +213,7 @@ fn storm_on<
         }
         Ok((mut clerk, counts, shown)) => {
             let book = desk.close(rt, &mut clerk);
-            let is_right = audit(rt, &shown, &book);
+            let is_right = audit(rt, alloc, &shown, &book)?;
             tell(alloc, &shown, counts, is_right, sink)?;
             Ok(is_right)
         }

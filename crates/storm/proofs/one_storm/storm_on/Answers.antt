@@ -19,5 +19,5 @@ returns-in_err-tell-in-Ok-clause-write_told g c =
 -- the desk was closed and audited, and all was written
 pub returns-in_ok-tell-in-Ok-clause-storm : goal.returns-in_ok-tell-in-Ok-clause-storm
 returns-in_ok-tell-in-Ok-clause-storm g c =
-    storms (λ d. rules_of g.D.Kit.Rules.answers (g.D.Decider.kits d)) c.args.deciders.items (length c.args.binders.items) _ c.args.steps.now _ _ _ _ _ c.audit-is_right.result
-    (use_of g.W.Sink.written g.W.Sink.failure_count c.args.sink.now c.tell.new.sink) c.in-Ok.ensures.ended c.close-book.ensures c.audit-is_right.ensures c.in_ok-tell-in-Ok.ensures.wrote
+    storms (λ d. rules_of g.D.Kit.Rules.answers (g.D.Decider.kits d)) c.args.deciders.items (length c.args.binders.items) _ c.args.steps.now _ _ _ _ _ c.in_ok-is_right-in-Ok.is_right
+    (use_of g.W.Sink.written g.W.Sink.failure_count c.args.sink.now c.tell.new.sink) c.in-Ok.ensures.ended c.close-book.ensures c.in_ok-is_right-in-Ok.ensures c.in_ok-tell-in-Ok.ensures.wrote
