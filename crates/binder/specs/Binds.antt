@@ -1,11 +1,20 @@
 -- One bind: how a binder counts it, and the step that reports it.
-use Rattle.std.specs.Prelude.{◌≡◌, ℕ, ◌+◌, ◌<◌, ◌≤◌, ◌⊎◌, Bool, true, false}
+use Rattle.std.specs.Prelude.{◌≡◌, ℕ, ◌+◌, ◌<◌, ◌≤◌, ◌⊎◌, Bool, true, false, List}
 use Rattle.desk.specs.declared.step.Step.{Step}
 use Rattle.desk.specs.declared.step.Step.TheVariants.{BindDone, Forget}
 use Rattle.binder.specs.declared.answer.BindAnswer.{BindAnswer}
 use Rattle.binder.specs.declared.answer.BindAnswer.TheVariants.{Done, Failed}
 use Rattle.binder.specs.declared.bind.TheConstants.{MAX_BINDS}
+use Rattle.binder.specs.declared.job.Bind.{Bind}
 use Rattle.binder.specs.declared.job.Job.{Job}
+
+-- the bind of a pod of this uid to a node of this name
+abbrev pub bind_on : (uid node : List ℕ) → Bind
+bind_on uid node = record { uid = uid; node = node }
+
+-- the bind that a job asks for
+abbrev pub bind_of : Job → Bind
+bind_of job = bind_on job.uid job.node
 
 -- 1 for a bind that was done, and 0 for one that wasn't
 abbrev pub dones_of : BindAnswer → ℕ

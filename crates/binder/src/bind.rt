@@ -1,8 +1,8 @@
 //! One bind, and the step that reports it.
-ghost use Rattle.std.specs.Prelude.{◌≡◌, nat_lt, IfOk, IfErr, OnErr};
+ghost use Rattle.std.specs.Prelude.{◌≡◌, ◌<◌, nat_lt, Some, IfOk, IfErr, OnErr};
 ghost use Rattle.desk.specs.Caller.{IsTimely};
 ghost use Rattle.desk.specs.Shared.{IsPassOf, IsApplied};
-ghost use Rattle.binder.specs.Binds.{IsAskedOnce, report_of};
+ghost use Rattle.binder.specs.Binds.{IsAskedOnce, bind_of, report_of};
 
 use crate::answer::BindAnswer;
 use crate::binder::Binder;
@@ -23,6 +23,7 @@ pub struct Unreported {
 // Asks a binder for a bind, if it may be asked for one more, and tells whether the bind was done.
 fn ask(binder: &mut Box<dyn Binder + Send>, job: &Job) -> bool
     ensures asked { IsAskedOnce (asks binder.old) (asks binder.new) }
+    ensures told { asks binder.old < MAX_BINDS → told binder.new ≡ Some (bind_of job.now) }
     ensures done { result ≡ nat_lt (dones binder.old) (dones binder.new) }
 {
     if binder.asked() >= MAX_BINDS {
@@ -59,6 +60,7 @@ pub fn bind_job<J: Naming, R: Wait>(
 ) -> Result<Reply, Unreported>
     requires { IsPassOf pass.old desk.now }
     ensures asked { IsAskedOnce (asks binder.old) (asks binder.new) }
+    ensures told { asks binder.old < MAX_BINDS → told binder.new ≡ Some (bind_of job.now) }
     ensures applied { IfOk result (λ answer. IsApplied desk.now pass.old (report_of job.now (nat_lt (dones binder.old) (dones binder.new))) answer pass.new) }
     ensures unapplied { OnErr result (pass.new ≡ pass.old) }
     ensures step { IfErr result (λ left. left.step ≡ report_of job.now (nat_lt (dones binder.old) (dones binder.new))) }

@@ -12,4 +12,4 @@ mod job;
 pub use answer::{BindAnswer, Tally};
 pub use bind::{MAX_BINDS, Unreported, bind_job};
 pub use binder::Binder;
-pub use job::Job;
+pub use job::{Bind, Job};

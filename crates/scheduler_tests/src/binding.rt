@@ -23,12 +23,14 @@ impl Binder for Always {
 
     ghost dones = { λ b. b.tally.done };
 
+    ghost told = { λ b. b.tally.last };
+
     fn asked(&self) -> u64 {
         self.tally.asked
     }
 
-    fn bind(&mut self, _uid: &Name, _node: &Name) -> BindAnswer {
-        self.tally.count(self.answer);
+    fn bind(&mut self, uid: &Name, node: &Name) -> BindAnswer {
+        self.tally.count(uid, node, self.answer);
         self.answer
     }
 }

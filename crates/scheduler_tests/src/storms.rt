@@ -111,17 +111,19 @@ impl Binder for Hand {
 
     ghost dones = { λ b. b.tally.done };
 
+    ghost told = { λ b. b.tally.last };
+
     fn asked(&self) -> u64 {
         self.tally.asked
     }
 
-    fn bind(&mut self, _uid: &Name, _node: &Name) -> BindAnswer {
+    fn bind(&mut self, uid: &Name, node: &Name) -> BindAnswer {
         let answer = if self.pair.begin() {
             BindAnswer::Done
         } else {
             BindAnswer::Failed
         };
-        self.tally.count(answer);
+        self.tally.count(uid, node, answer);
         answer
     }
 }

@@ -37,17 +37,19 @@ impl Binder for StandIn {
 
     ghost dones = { λ b. b.tally.done };
 
+    ghost told = { λ b. b.tally.last };
+
     fn asked(&self) -> u64 {
         self.tally.asked
     }
 
-    fn bind(&mut self, _uid: &Name, _node: &Name) -> BindAnswer {
+    fn bind(&mut self, uid: &Name, node: &Name) -> BindAnswer {
         let answer = if self.is_flaky && self.tally.asked % 3 == 2 {
             BindAnswer::Failed
         } else {
             BindAnswer::Done
         };
-        self.tally.count(answer);
+        self.tally.count(uid, node, answer);
         answer
     }
 }
