@@ -20,6 +20,7 @@ mod decider;
 mod decision;
 mod judging;
 mod laws;
+mod one_of;
 
 pub use best::{most_taints, total};
 pub use choice::{choose, decide};
@@ -28,3 +29,4 @@ pub use decision::{Counts, Decision, Reason, UNJUDGED, Verdict};
 pub use desk::NoMemory;
 pub use judging::{judge, verdict_of, verdicts_of};
 pub use laws::{one_decision, one_verdict, rejected_nodes_only_count, verdicts_decide};
+pub use one_of::OneOf;
