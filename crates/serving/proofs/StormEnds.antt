@@ -7,12 +7,12 @@ use Rattle.desk.specs.History.{Call, Legal}
 use Rattle.desk.specs.Shared.{Desk}
 use Rattle.plugin.specs.Kit.{Ready, rules_of}
 use Rattle.choose.specs.Kits as choosing
-use Rattle.engine.specs.Device.{DeviceUse}
+use Rattle.engine.specs.Device.{DeviceUse, AppendsFront}
 use Rattle.engine.specs.declared.fault.RunFault.{RunFault}
 use Rattle.engine.specs.declared.fault.RunFault.TheVariants as run_fault
 use Rattle.storm.specs.Cycles.{OneCycle, Cycles}
-use Rattle.storm.specs.Script.{first_storm_fault, script_steps}
-use Rattle.storm.specs.Storm.{IsAudit, IsStormRun, Storms, cycler, desk_for}
+use Rattle.std.specs.Io.KnownBytes.{Appends}
+use Rattle.storm.specs.Storm.{IsAudit, IsStormRun, Storms, StormsScript, cycler, desk_for}
 use Rattle.command.specs.Words.{SpecSyntax}
 use Rattle.faults.specs.declared.fault.Fault.{Fault}
 use Rattle.faults.specs.declared.fault.Fault.TheVariants.{Run}
@@ -38,9 +38,9 @@ module _ {D : Type 0} (kits_in : D → List (List Ready)) (deciders : List D) (k
       subst (λ (l : List (List Ready)). Cycles (choosing.rules_of rules_of l) desk counted (cycler place) made) (by_kit place d kit lt) cycles
 
   -- a storm by the deciders is one by their kits
-  pub storms_by : D → (binders : ℕ) (fed : List Step) (out : DeviceUse) (answer : Bool) → Storms (λ d. choosing.rules_of rules_of (kits_in d)) deciders binders fed out answer
-      → Storms rules_of kits binders fed out answer
-  storms_by d binders fed out answer storms =
+  pub storms_by : D → (binders : ℕ) (fed : List Step) (Wrote : List ℕ → Type 0) (answer : Bool) → Storms (λ d. choosing.rules_of rules_of (kits_in d)) deciders binders fed Wrote answer
+      → Storms rules_of kits binders fed Wrote answer
+  storms_by d binders fed Wrote answer storms =
       let storm = storms.storm in
       record {
         rows = storms.rows;
@@ -71,12 +71,10 @@ module _ {D : Type 0} (kits_in : D → List (List Ready)) (deciders : List D) (k
         wrote = storms.wrote;
       }
 
-  -- the same, where it is known what the source has
-  pub known_storms_by : D → (binders : ℕ) (known left : Option (List ℕ)) (out : DeviceUse) (answer : Bool)
-      → IfSome known (λ script. (first_storm_fault script ≡ None) × (left ≡ Some []) × Storms (λ d. choosing.rules_of rules_of (kits_in d)) deciders binders (script_steps script) out answer)
-      → IfSome known (λ script. (first_storm_fault script ≡ None) × (left ≡ Some []) × Storms rules_of kits binders (script_steps script) out answer)
-  known_storms_by d binders None left out answer storms = tt
-  known_storms_by d binders (Some script) left out answer (fine, read, storms) = (fine, read, storms_by d binders (script_steps script) out answer storms)
+  -- and so of the script's steps
+  pub scripts_by : D → (binders : ℕ) (source : DeviceUse) (Wrote : List ℕ → Type 0) (answer : Bool) → StormsScript (λ d. choosing.rules_of rules_of (kits_in d)) deciders binders source Wrote answer
+      → StormsScript rules_of kits binders source Wrote answer
+  scripts_by d binders source Wrote answer (fed, of, storms) = (fed, of, storms_by d binders fed Wrote answer storms)
 
 first_of_some : {D : Type 0} (deciders : List D) → 0 < length deciders → D
 first_of_some [] some = absurd (omega (arith, some))
@@ -119,16 +117,17 @@ module _ (AreGiven : List (List ℕ) → Type 0) (specs : List SpecSyntax) (cycl
 
   module _ {D : Type 0} (kits_in : D → List (List Ready)) (deciders : List D) (kits : List (List Ready)) (modules : List (List ℕ)) (some : 1 ≤ cycles)
       (are : AreSiteKits specs modules cycles kits) (same : map kits_in deciders ≡ map (λ kit. kit ∷ []) kits) (given : AreGiven modules) where
-    storms : (answer : Bool) → IsStormRun (λ d. choosing.rules_of rules_of (kits_in d)) deciders binders source out (Ok answer) → SiteStorms AreGiven specs cycles binders source out answer
-    storms answer run =
+    storms : (Wrote : List ℕ → Type 0) (answer : Bool) → StormsScript (λ d. choosing.rules_of rules_of (kits_in d)) deciders binders source Wrote answer
+        → SiteStorms AreGiven specs cycles binders source Wrote answer
+    storms Wrote answer told =
         let d = first_of_some deciders (omega (arith, some, are.count, as_many kits_in deciders kits same)) in
-        (modules, given, kits, are, known_storms_by kits_in deciders kits same d binders source.old source.new out answer run.done)
+        (modules, given, kits, are, scripts_by kits_in deciders kits same d binders source Wrote answer told)
 
     -- the audit says yes
     pub audit_ok : IsStormRun (λ d. choosing.rules_of rules_of (kits_in d)) deciders binders source out (Ok true) → ended ≡ 0 → IsSiteStorm AreGiven specs cycles binders source out err ended
     audit_ok run is = record {
       status = inl is;
-      done = λ _. storms true run;
+      done = λ _. storms (Appends out.old out.new) true run.done;
       input = λ e. absurd (omega (arith, is, e));
       quiet = λ e. absurd (omega (arith, is, e));
       unwritten = λ e. absurd (omega (arith, is, e));
@@ -140,7 +139,7 @@ module _ (AreGiven : List (List ℕ) → Type 0) (specs : List SpecSyntax) (cycl
     audit_failed run is untold = record {
       status = inr (inl is);
       done = λ e. absurd (omega (arith, is, e));
-      input = λ _. inl (storms false run, untold);
+      input = λ _. inl (storms (Appends out.old out.new) false run.done, untold);
       quiet = λ e. absurd (omega (arith, is, e));
       unwritten = λ e. absurd (omega (arith, is, e));
     }
@@ -151,27 +150,26 @@ module _ (AreGiven : List (List ℕ) → Type 0) (specs : List SpecSyntax) (cycl
     audited true run is untold = audit_ok run is
     audited false run is untold = audit_failed run is untold
 
-  -- there was no answer
-  pub storm_cut_short : {D : Type 0} (kits_in : D → List (List Ready)) (deciders : List D) (fault : RunFault)
-      → IsStormRun (λ d. choosing.rules_of rules_of (kits_in d)) deciders binders source out (Err fault) → ended ≡ status_of (Run fault) → TellsFault err (Run fault)
-      → IsSiteStorm AreGiven specs cycles binders source out err ended
-  storm_cut_short kits_in deciders run_fault.NoMemory run is tells = storm_not_begun (inl is) (run.quiet (λ e. cc))
-  storm_cut_short kits_in deciders run_fault.NoPlace run is tells = storm_not_begun (inl is) (run.quiet (λ e. cc))
-  storm_cut_short kits_in deciders run_fault.Read run is tells = storm_not_begun (inr is) (run.quiet (λ e. cc))
-  storm_cut_short kits_in deciders run_fault.Write run is tells = record {
-    status = inr (inr (inr is));
-    done = λ e. absurd (omega (arith, is, e));
-    input = λ e. absurd (omega (arith, is, e));
-    quiet = λ e. absurd (omega (arith, is, e));
-    unwritten = λ _. inr tells;
-  }
-  storm_cut_short kits_in deciders (run_fault.Line number why) run is tells = record {
-    status = inr (inl is);
-    done = λ e. absurd (omega (arith, is, e));
-    input = λ _. inr (Run (run_fault.Line number why), tells, run.quiet (λ e. cc), inr (number, why, refl, run.line number why refl));
-    quiet = λ e. absurd (omega (arith, is, e));
-    unwritten = λ e. absurd (omega (arith, is, e));
-  }
+    -- no answer was told whole
+    pub storm_cut_short : (fault : RunFault) → IsStormRun (λ d. choosing.rules_of rules_of (kits_in d)) deciders binders source out (Err fault) → ended ≡ status_of (Run fault)
+        → TellsFault err (Run fault) → IsSiteStorm AreGiven specs cycles binders source out err ended
+    storm_cut_short run_fault.NoMemory run is tells = storm_not_begun (inl is) (run.quiet (λ e. cc))
+    storm_cut_short run_fault.NoPlace run is tells = storm_not_begun (inl is) (run.quiet (λ e. cc))
+    storm_cut_short run_fault.Read run is tells = storm_not_begun (inr is) (run.quiet (λ e. cc))
+    storm_cut_short run_fault.Write run is tells = record {
+      status = inr (inr (inr is));
+      done = λ e. absurd (omega (arith, is, e));
+      input = λ e. absurd (omega (arith, is, e));
+      quiet = λ e. absurd (omega (arith, is, e));
+      unwritten = λ _. let front = run.front refl in inr (tells, front.0, storms (AppendsFront out.old out.new) front.0 front.1);
+    }
+    storm_cut_short (run_fault.Line number why) run is tells = record {
+      status = inr (inl is);
+      done = λ e. absurd (omega (arith, is, e));
+      input = λ _. inr (Run (run_fault.Line number why), tells, run.quiet (λ e. cc), inr (number, why, refl, run.line number why refl));
+      quiet = λ e. absurd (omega (arith, is, e));
+      unwritten = λ e. absurd (omega (arith, is, e));
+    }
 
 -- ---- what is told of failures
 
@@ -206,22 +204,27 @@ pub storm_given : (A B : List (List ℕ) → Type 0) (specs : List SpecSyntax) (
     → IsSiteStorm A specs cycles binders source out err ended → IsSiteStorm B specs cycles binders source out err ended
 storm_given A B specs cycles binders source out err ended weaker storm = record {
   status = storm.status;
-  done = λ e. storms true (storm.done e);
+  done = λ e. storms (Appends out.old out.new) true (storm.done e);
   input = λ e. by (storm.input e);
   quiet = storm.quiet;
-  unwritten = storm.unwritten;
+  unwritten = λ e. front (storm.unwritten e);
 }
   where
-    storms : (answer : Bool) → SiteStorms A specs cycles binders source out answer → SiteStorms B specs cycles binders source out answer
-    storms answer (modules, given, kits, are, rest) = (modules, weaker modules given, kits, are, rest)
+    storms : (Wrote : List ℕ → Type 0) (answer : Bool) → SiteStorms A specs cycles binders source Wrote answer → SiteStorms B specs cycles binders source Wrote answer
+    storms Wrote answer (modules, given, kits, are, rest) = (modules, weaker modules given, kits, are, rest)
+
+    front : out.IsUntouched ⊎ (TellsFault err (Run run_fault.Write) × (answer : Bool) × SiteStorms A specs cycles binders source (AppendsFront out.old out.new) answer)
+        → out.IsUntouched ⊎ (TellsFault err (Run run_fault.Write) × (answer : Bool) × SiteStorms B specs cycles binders source (AppendsFront out.old out.new) answer)
+    front (inl untouched) = inl untouched
+    front (inr (tells, answer, told)) = inr (tells, answer, storms (AppendsFront out.old out.new) answer told)
 
     faulty : (fault : Fault) → (SiteRefused A specs fault × source.IsUntouched) ⊎ StormFaulty fault source.old → (SiteRefused B specs fault × source.IsUntouched) ⊎ StormFaulty fault source.old
     faulty fault (inl ((modules, given, why, one), unread)) = inl ((modules, weaker modules given, why, one), unread)
     faulty fault (inr line) = inr line
 
-    by : (SiteStorms A specs cycles binders source out false × err.IsUntouched)
+    by : (SiteStorms A specs cycles binders source (Appends out.old out.new) false × err.IsUntouched)
         ⊎ ((fault : Fault) × TellsFault err fault × out.IsUntouched × ((SiteRefused A specs fault × source.IsUntouched) ⊎ StormFaulty fault source.old))
-        → (SiteStorms B specs cycles binders source out false × err.IsUntouched)
+        → (SiteStorms B specs cycles binders source (Appends out.old out.new) false × err.IsUntouched)
         ⊎ ((fault : Fault) × TellsFault err fault × out.IsUntouched × ((SiteRefused B specs fault × source.IsUntouched) ⊎ StormFaulty fault source.old))
-    by (inl (failed, untold)) = inl (storms false failed, untold)
+    by (inl (failed, untold)) = inl (storms (Appends out.old out.new) false failed, untold)
     by (inr (fault, tells, unwritten, why)) = inr (fault, tells, unwritten, faulty fault why)

@@ -1,24 +1,24 @@
 -- What a storm of a site's script promises, by its exit status.
-use Rattle.std.specs.Prelude.{◌≡◌, ◌⊎◌, ℕ, List, [], Option, Some, None, IfSome, Bool, true, false}
+use Rattle.std.specs.Prelude.{◌≡◌, ◌⊎◌, ℕ, List, Option, Some, IfSome, Bool, true, false}
+use Rattle.std.specs.Io.KnownBytes.{Appends}
 use Rattle.plugin.specs.Kit.{Ready, rules_of}
 use Rattle.manifest.specs.declared.fault.LineFault.{LineFault}
-use Rattle.engine.specs.Device.{DeviceUse}
+use Rattle.engine.specs.Device.{DeviceUse, AppendsFront}
 use Rattle.engine.specs.declared.fault.RunFault.TheVariants as run_fault
-use Rattle.storm.specs.Script.{first_storm_fault, script_steps}
-use Rattle.storm.specs.Storm.{Storms}
+use Rattle.storm.specs.Script.{first_storm_fault}
+use Rattle.storm.specs.Storm.{StormsScript}
 use Rattle.command.specs.Words.{SpecSyntax}
 use Rattle.faults.specs.declared.fault.Fault.{Fault}
 use Rattle.faults.specs.declared.fault.Fault.TheVariants.{Run}
 use Rattle.serving.specs.Run.{TellsFault}
 use Rattle.serving.specs.Site.{AreSiteKits, SiteRefused}
 
--- No line of the script is faulty and everything is read: by kits of a site's plugins, one a cycle thread, a storm of its steps came to
--- this answer and wrote it.
-abbrev pub SiteStorms : (AreGiven : List (List ℕ) → Type 0) → List SpecSyntax → (cycles binders : ℕ) → (source out : DeviceUse) → (answer : Bool) → Type 0
-SiteStorms AreGiven specs cycles binders source out answer = (modules : List (List ℕ)) × AreGiven modules
+-- By kits of a site's plugins, one a cycle thread, a storm of the script's steps came to this answer, and of what tells it so much was
+-- written. Where the source tells its bytes, no line of them is faulty and everything is read.
+abbrev pub SiteStorms : (AreGiven : List (List ℕ) → Type 0) → List SpecSyntax → (cycles binders : ℕ) → (source : DeviceUse) → (Wrote : List ℕ → Type 0) → (answer : Bool) → Type 0
+SiteStorms AreGiven specs cycles binders source Wrote answer = (modules : List (List ℕ)) × AreGiven modules
     × (kits : List (List Ready)) × AreSiteKits specs modules cycles kits
-    × IfSome source.old (λ script. (first_storm_fault script ≡ None) × (source.new ≡ Some [])
-    × Storms rules_of kits binders (script_steps script) out answer)
+    × StormsScript rules_of kits binders source Wrote answer
 
 -- a line of the script is the first faulty one
 abbrev pub StormFaulty : Fault → (script : Option (List ℕ)) → Type 0
@@ -34,13 +34,14 @@ audit_status false = 1
 pub record IsSiteStorm (AreGiven : List (List ℕ) → Type 0) (specs : List SpecSyntax) (cycles binders : ℕ) (source out err : DeviceUse) (ended : ℕ) : Type 0 where
   -- these are the statuses of a storm
   pub status : (ended ≡ 0) ⊎ ((ended ≡ 1) ⊎ ((ended ≡ 3) ⊎ (ended ≡ 4)))
-  -- the audit says yes
-  pub done : ended ≡ 0 → SiteStorms AreGiven specs cycles binders source out true
-  -- The audit says no, and no fault is told. Or nothing is written and a fault is told: a plugin's module is refused, and nothing is
+  -- the audit says yes, and all that tells it is written
+  pub done : ended ≡ 0 → SiteStorms AreGiven specs cycles binders source (Appends out.old out.new) true
+  -- The audit says no, which is written whole, and no fault is told. Or nothing is written and a fault is told: a plugin's module is refused, and nothing is
   -- read; or a line is the first faulty one.
-  pub input : ended ≡ 1 → (SiteStorms AreGiven specs cycles binders source out false × err.IsUntouched)
+  pub input : ended ≡ 1 → (SiteStorms AreGiven specs cycles binders source (Appends out.old out.new) false × err.IsUntouched)
       ⊎ ((fault : Fault) × TellsFault err fault × out.IsUntouched
       × ((SiteRefused AreGiven specs fault × source.IsUntouched) ⊎ StormFaulty fault source.old))
-  -- but for the answer nothing is written, unless a write fails
+  -- but for the answer nothing is written, unless a write fails: then there was an answer, and a beginning of what tells it is written
   pub quiet : ended ≡ 3 → out.IsUntouched
-  pub unwritten : ended ≡ 4 → out.IsUntouched ⊎ TellsFault err (Run run_fault.Write)
+  pub unwritten : ended ≡ 4 → out.IsUntouched
+      ⊎ (TellsFault err (Run run_fault.Write) × (answer : Bool) × SiteStorms AreGiven specs cycles binders source (AppendsFront out.old out.new) answer)

@@ -15,13 +15,13 @@ use Rattle.choose.specs.Kits.{rules_of}
 use Rattle.audit.specs.Audit.{ShowsSums}
 use Rattle.engine.specs.declared.fault.RunFault.{RunFault}
 use Rattle.engine.specs.declared.fault.RunFault.TheVariants.{Line, NoMemory, Read, Write, NoPlace}
-use Rattle.engine.specs.Device.{DeviceUse}
+use Rattle.engine.specs.Device.{DeviceUse, AppendsFront}
 use Rattle.storm.specs.declared.worker.Worker.{Worker}
 use Rattle.storm.specs.Made.{BeginsWith, newcomer}
 use Rattle.storm.specs.Crew.{Each, HasFed, IsDumped, enlisted}
 use Rattle.storm.specs.Stages.{HasReported, HasScheduled, IsIdle}
 use Rattle.storm.specs.Script.{script_steps, first_storm_fault}
-use Rattle.storm.specs.Storm.{IsStorm, IsAudit, Storms, IsStormRun, desk_for, storm_text}
+use Rattle.storm.specs.Storm.{IsStorm, IsAudit, Storms, AreOfScript, IsStormRun, desk_for, storm_text}
 use Rattle.storm.specs.Ending.{IsWorked, HasEnded}
 use Rattle.storm.proofs.Going.{begins_trans, goes_begins}
 use Rattle.storm.proofs.Closing.{closing, closing_looked, enlisted_length}
@@ -65,9 +65,9 @@ pub worked : {J D B Kit : Type 0} (answers : Kit → RuleSet) (kits : D → List
     (f f0 f1 : List (Worker J (Unit {0}))) (c c0 c1 : List (Worker J D)) (r r0 r1 : List (Worker J B)) → f0 ≡ f → c0 ≡ c → r0 ≡ r
     → Each (HasFed fed) f0 f1 → Each (HasScheduled answers kits desk) c0 c1
     → ((d : Worker J D) → (slice_index_or c1 0 d).failed ≡ false → IsIdle answers kits desk f1 (slice_index_or c0 0 d) (slice_index_or c1 0 d)) → Each HasReported r0 r1
-    → All (λ w. w.failed ≡ false) f1 → All (λ w. w.failed ≡ false) c1 → IsDumped desk clerk f1 c1 r1 counts rows clerk'
+    → All (λ w. w.failed ≡ false) f1 → All (λ w. w.failed ≡ false) c1 → All (λ w. w.failed ≡ false) r1 → IsDumped desk clerk f1 c1 r1 counts rows clerk'
     → IsWorked answers kits desk fed clerk f c r counts rows clerk'
-worked {J} answers kits desk fed clerk clerk' counts rows f f0 f1 c c0 c1 r r0 r1 f_is c_is r_is told turned idle reported all_told all_turned dumped =
+worked {J} answers kits desk fed clerk clerk' counts rows f f0 f1 c c0 c1 r r0 r1 f_is c_is r_is told turned idle reported all_told all_turned all_reported dumped =
     subst (λ x. IsWorked {J = J} answers kits desk fed clerk x c r counts rows clerk') f_is
     (subst (λ x. IsWorked {J = J} answers kits desk fed clerk f0 x r counts rows clerk') c_is
     (subst (λ x. IsWorked {J = J} answers kits desk fed clerk f0 c0 x counts rows clerk') r_is (record {
@@ -80,6 +80,7 @@ worked {J} answers kits desk fed clerk clerk' counts rows f f0 f1 c c0 c1 r r0 r
       reported = reported;
       all_told = all_told;
       all_turned = all_turned;
+      all_reported = all_reported;
       dumped = dumped;
     })))
 
@@ -95,10 +96,10 @@ audited desk clerk last book looked rows answer knows closed says = record {
   says = subst (λ (b : Cluster). IsTrue answer ↔ ShowsSums rows b.places) closed.book_is says;
 }
 
-pub storms : {D : Type 0} (rules : D → RuleSet) (deciders : List D) (binders : ℕ) (desk : Desk) (fed : List Step) (counts : Counts) (rows : List Shown) (clerk last : Pass) (book : Cluster) (answer : Bool) (sink : DeviceUse)
-    → HasEnded rules deciders binders desk fed counts rows clerk → Closed desk clerk last book → (IsTrue answer ↔ ShowsSums rows book.places) → Appends sink.old sink.new (storm_text rows counts answer)
-    → Storms rules deciders binders fed sink answer
-storms rules deciders binders desk fed counts rows clerk last book answer sink ended closed says wrote =
+pub storms : {D : Type 0} (rules : D → RuleSet) (deciders : List D) (binders : ℕ) (desk : Desk) (fed : List Step) (counts : Counts) (rows : List Shown) (clerk last : Pass) (book : Cluster) (answer : Bool) (Wrote : List ℕ → Type 0)
+    → HasEnded rules deciders binders desk fed counts rows clerk → Closed desk clerk last book → (IsTrue answer ↔ ShowsSums rows book.places) → Wrote (storm_text rows counts answer)
+    → Storms rules deciders binders fed Wrote answer
+storms rules deciders binders desk fed counts rows clerk last book answer Wrote ended closed says wrote =
     let both : (s : IsStorm rules deciders (desk_for (length deciders) binders) fed rows counts) × IsAudit (desk_for (length deciders) binders) s.looked rows answer =
     subst (λ (x : Desk). (s : IsStorm rules deciders x fed rows counts) × IsAudit x s.looked rows answer) ended.desk_is
     (ended.storm, audited desk clerk last book ended.storm.looked rows answer ended.knows closed says) in
@@ -123,20 +124,16 @@ not_read e (inr (inr is)) other = cc
 one_fault : (e e' : RunFault) (r : Result Bool RunFault) → r ≡ Err e → r ≡ Err e' → e ≡ e'
 one_fault e e' r is other = cc
 
-known : {D : Type 0} (rules : D → RuleSet) (deciders : List D) (binders : ℕ) (steps : List Step) (sink : DeviceUse) (answer : Bool) (old new : Option (List ℕ))
-    → IfSome old (λ script. (first_storm_fault script ≡ None) × (steps ≡ script_steps script) × (new ≡ Some [])) → Storms rules deciders binders steps sink answer
-    → IfSome old (λ script. (first_storm_fault script ≡ None) × (new ≡ Some []) × Storms rules deciders binders (script_steps script) sink answer)
-known rules deciders binders steps sink answer None new read storm = tt
-known rules deciders binders steps sink answer (Some script) new read storm =
-    (read.0, read.2, subst (λ s. Storms rules deciders binders s sink answer) read.1 storm)
-
 pub run_of : {D : Type 0} (rules : D → RuleSet) (deciders : List D) (binders : ℕ) (source sink : DeviceUse) (steps : List Step) (result : Result Bool RunFault)
-    → IfSome source.old (λ script. (first_storm_fault script ≡ None) × (steps ≡ script_steps script) × (source.new ≡ Some [])) → source.failures_new ≡ source.failures_old
-    → IfOk result (λ answer. Storms rules deciders binders steps sink answer) → OnErr result (result ≢ Err Write → sink.IsUntouched) → IfErr result IsLate
+    → AreOfScript steps source → source.failures_new ≡ source.failures_old
+    → IfOk result (Storms rules deciders binders steps (Appends sink.old sink.new))
+    → (result ≡ Err Write → (answer : Bool) × Storms rules deciders binders steps (AppendsFront sink.old sink.new) answer)
+    → OnErr result (result ≢ Err Write → sink.IsUntouched) → IfErr result IsLate
     → (result ≡ Err Write → sink.failures_old < sink.failures_new) → (result ≢ Err Write → sink.failures_new ≡ sink.failures_old)
     → IsStormRun rules deciders binders source sink result
-run_of rules deciders binders source sink steps (Ok answer) read reads storm quiet late write write_told = record {
-  done = known rules deciders binders steps sink answer source.old source.new read storm;
+run_of rules deciders binders source sink steps (Ok answer) read reads storm front quiet late write write_told = record {
+  done = (steps, read, storm);
+  front = λ is. cc;
   line = λ number fault is. cc;
   quiet = tt;
   read = λ is. cc;
@@ -144,8 +141,9 @@ run_of rules deciders binders source sink steps (Ok answer) read reads storm qui
   read_told = λ _. reads;
   write_told = write_told;
 }
-run_of rules deciders binders source sink steps (Err e) read reads storm quiet late write write_told = record {
+run_of rules deciders binders source sink steps (Err e) read reads storm front quiet late write write_told = record {
   done = tt;
+  front = λ is. let told = front is in (told.0, (steps, read, told.1));
   line = λ number fault is. absurd (not_line e number fault late (one_fault e (Line number fault) (Err e) refl is));
   quiet = quiet;
   read = λ is. absurd (not_read e late (one_fault e Read (Err e) refl is));
@@ -162,6 +160,10 @@ pub passed_on_err : {P : Type 0} (r : Result Bool RunFault) (t : Result (Unit {0
 passed_on_err (Ok answer) t e is other says = tt
 passed_on_err (Err f) t e is other says = passed_on (Err f) t e is other says
 
+-- and so is what was written before it
+pub written_before : {P : Type 0} (r : Result Bool RunFault) (t : Result (Unit {0}) RunFault) (e : RunFault) → r ≡ Err e → t ≡ Err e → (t ≡ Err Write → P) → r ≡ Err Write → P
+written_before r t e is other says failed = says (other ∙ ap Err (one_fault e Write r is failed))
+
 -- a script that was not read whole
 pub run_unread : {D : Type 0} (rules : D → RuleSet) (deciders : List D) (binders : ℕ) (source sink : DeviceUse) (result : Result Bool RunFault) (e : RunFault) → result ≡ Err e
     → ((number : ℕ) (fault : LineFault) → e ≡ Line number fault → IfSome source.old (λ script. first_storm_fault script ≡ Some (number, fault)))
@@ -169,6 +171,7 @@ pub run_unread : {D : Type 0} (rules : D → RuleSet) (deciders : List D) (binde
     → sink.IsUntouched → sink.failures_new ≡ sink.failures_old → IsStormRun rules deciders binders source sink result
 run_unread rules deciders binders source sink result e is line read read_told no_write untouched writes = subst (IsStormRun rules deciders binders source sink) (sym is) (record {
   done = tt;
+  front = λ eq. absurd (no_write (one_fault e Write (Err e) refl eq));
   line = λ number fault eq. line number fault (one_fault e (Line number fault) (Err e) refl eq);
   quiet = λ _. untouched;
   read = λ eq. read (one_fault e Read (Err e) refl eq);

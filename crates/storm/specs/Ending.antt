@@ -24,6 +24,7 @@ pub record IsWorked {J D B Kit : Type 0} (answers : Kit → RuleSet) (kits : D �
   pub reported : Each HasReported reporters reporters'
   pub all_told : All (λ w. w.failed ≡ false) feeders'
   pub all_turned : All (λ w. w.failed ≡ false) cyclers'
+  pub all_reported : All (λ w. w.failed ≡ false) reporters'
   pub dumped : IsDumped desk clerk feeders' cyclers' reporters' counts rows clerk'
 
 -- A storm of these steps was dumped; the pass that is left knows the history of which the rows are the snapshot.

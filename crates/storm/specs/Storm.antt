@@ -17,7 +17,7 @@ use Rattle.audit.specs.Audit.{ShowsSums}
 use Rattle.engine.specs.declared.fault.RunFault.{RunFault}
 use Rattle.engine.specs.declared.fault.RunFault.TheVariants.{Line, Read, Write}
 use Rattle.engine.specs.Answers.{limits, snapshot_lines, reply_lines}
-use Rattle.engine.specs.Device.{DeviceUse}
+use Rattle.engine.specs.Device.{DeviceUse, AppendsFront}
 use Rattle.engine.specs.Text.{line_of}
 use Rattle.storm.specs.Script.{script_steps, first_storm_fault}
 use Rattle.storm.specs.Made.{BeginsWith, steps_of, IsReportOrCount}
@@ -79,19 +79,29 @@ storm_text rows counts answer = (snapshot_lines rows ++ reply_lines (replies.Cou
 abbrev pub desk_for : (deciders binders : ℕ) → Desk
 desk_for deciders binders = record { limits = limits; handed = 2 + deciders + binders + 1 }
 
--- a storm of these steps came to this answer, and wrote it
-pub record Storms {D : Type 0} (rules : D → RuleSet) (deciders : List D) (binders : ℕ) (fed : List Step) (sink : DeviceUse) (answer : Bool) : Type 0 where
+-- a storm of these steps came to this answer, and of what tells it so much was written
+pub record Storms {D : Type 0} (rules : D → RuleSet) (deciders : List D) (binders : ℕ) (fed : List Step) (Wrote : List ℕ → Type 0) (answer : Bool) : Type 0 where
   pub rows : List Shown
   pub counts : Counts
   pub storm : IsStorm rules deciders (desk_for (length deciders) binders) fed rows counts
   pub audit : IsAudit (desk_for (length deciders) binders) storm.looked rows answer
-  pub wrote : Appends sink.old sink.new (storm_text rows counts answer)
+  pub wrote : Wrote (storm_text rows counts answer)
+
+-- these are the steps of the script, where the source tells its bytes: no line is faulty, and everything is read
+abbrev pub AreOfScript : List Step → (source : DeviceUse) → Type 0
+AreOfScript fed source = IfSome source.old (λ script. (first_storm_fault script ≡ None) × (fed ≡ script_steps script) × (source.new ≡ Some []))
+
+-- a storm of the script's steps came to this answer, and of what tells it so much was written
+abbrev pub StormsScript : {D : Type 0} → (D → RuleSet) → (deciders : List D) → (binders : ℕ) → (source : DeviceUse) → (Wrote : List ℕ → Type 0) → (answer : Bool) → Type 0
+StormsScript rules deciders binders source Wrote answer =
+    (fed : List Step) × AreOfScript fed source × Storms rules deciders binders fed Wrote answer
 
 -- A storm took its script from this source, wrote to this sink, and came to this.
 pub record IsStormRun {D : Type 0} (rules : D → RuleSet) (deciders : List D) (binders : ℕ) (source sink : DeviceUse) (result : Result Bool RunFault) : Type 0 where
-  -- an answer: no line is faulty, everything is read, and it is the answer of a storm of the script's steps
-  pub done : IfOk result (λ answer. IfSome source.old (λ script. (first_storm_fault script ≡ None) × (source.new ≡ Some [])
-      × Storms rules deciders binders (script_steps script) sink answer))
+  -- an answer: it is that of a storm of the script's steps, and all that tells it is written
+  pub done : IfOk result (StormsScript rules deciders binders source (Appends sink.old sink.new))
+  -- at a failed write there was an answer too, and a beginning of what tells it is written
+  pub front : result ≡ Err Write → (answer : Bool) × StormsScript rules deciders binders source (AppendsFront sink.old sink.new) answer
   -- the line is the first faulty one
   pub line : (number : ℕ) (fault : LineFault) → result ≡ Err (Line number fault) → IfSome source.old (λ script. first_storm_fault script ≡ Some (number, fault))
   -- at any fault but a failed write nothing is written

@@ -1,12 +1,12 @@
 //! A storm from its script to its audit.
-ghost use Rattle.std.specs.Prelude.{◌≡◌, ◌≢◌, ◌+◌, ◌<◌, ◌^◌, ◌⊎◌, ◌∷◌, [], Err, IfOk, IfErr, OnOk, OnErr, length, vec_len};
+ghost use Rattle.std.specs.Prelude.{◌≡◌, ◌≢◌, ◌+◌, ◌<◌, ◌^◌, ◌⊎◌, ◌∷◌, [], Bool, Err, IfOk, IfErr, OnOk, OnErr, length, vec_len};
 ghost use Rattle.std.specs.List.{All};
 ghost use Rattle.std.specs.Io.KnownBytes.{Appends};
 ghost use Rattle.desk.specs.Caller.{IsTimely};
 ghost use Rattle.desk.specs.Shared.{IsPassOf};
 ghost use Rattle.choose.specs.Kits.{rules_of};
 ghost use Rattle.engine.specs.Answers.{limits};
-ghost use Rattle.engine.specs.Device.{use_of};
+ghost use Rattle.engine.specs.Device.{use_of, AppendsFront};
 ghost use Rattle.storm.specs.Made.{newcomer};
 ghost use Rattle.storm.specs.Crew.{ArePassesOf, enlisted};
 ghost use Rattle.storm.specs.Ending.{IsWorked, HasEnded};
@@ -163,6 +163,7 @@ fn tell<W: Sink>(
 ) -> Result<(), RunFault>
     requires { W.failure_count sink.old < 10 ^ 18 }
     ensures wrote { OnOk result (Appends (W.written sink.old) (W.written sink.new) (storm_text shown.now counts is_right)) }
+    ensures front { result ≡ Err RunFault.Write → AppendsFront (W.written sink.old) (W.written sink.new) (storm_text shown.now counts is_right) }
     ensures quiet { OnErr result (result ≢ Err RunFault.Write → sink.new ≡ sink.old) }
     ensures faults { IfErr result (λ e. (e ≡ RunFault.NoMemory) ⊎ (e ≡ RunFault.Write)) }
     ensures write { result ≡ Err RunFault.Write → W.failure_count sink.old < W.failure_count sink.new }
@@ -199,7 +200,9 @@ fn storm_on<
     requires some { 0 < length deciders.items }
     requires writes { W.failure_count sink.old < 10 ^ 18 }
     ensures storm { IfOk result (λ answer. Storms (λ d. rules_of D.Kit.answers (D.kits d)) deciders.items (length binders.items) steps.now
-        (use_of W.written W.failure_count sink.old sink.new) answer) }
+        (Appends (W.written sink.old) (W.written sink.new)) answer) }
+    ensures front { result ≡ Err RunFault.Write → (answer : Bool) × Storms (λ d. rules_of D.Kit.answers (D.kits d)) deciders.items (length binders.items)
+        steps.now (AppendsFront (W.written sink.old) (W.written sink.new)) answer }
     ensures quiet { OnErr result (result ≢ Err RunFault.Write → sink.new ≡ sink.old) }
     ensures faults { IfErr result (λ e. (e ≡ RunFault.NoMemory) ⊎ ((e ≡ RunFault.NoPlace) ⊎ (e ≡ RunFault.Write))) }
     ensures write { result ≡ Err RunFault.Write → W.failure_count sink.old < W.failure_count sink.new }

@@ -43,9 +43,10 @@ returns-in-Ok-storm_by-clause-failures g c =
 
 pub returns-in-Err-storm_by-clause-storm : goal.returns-in-Err-storm_by-clause-storm
 returns-in-Err-storm_by-clause-storm g c =
+    let made = rw c.as_slice.ensures.value at c.in-Ok.ensures.made in
     storm_cut_short _ (map syntax_of c.args.plan.now.specs.items) _ _ (use_of g.R.Source.remaining g.R.Source.failure_count c.args.source.now c.storm_by.new.source)
-    (use_of g.W.Sink.written g.W.Sink.failure_count c.args.out.now c.storm_by.new.out) _ _ (λ d. d.kits) c.in-Ok-deciders_of.deciders.items
-    c.in-Err-storm_by.fault c.in-Err-storm_by.ensures c.report-in-Err-storm_by.ensures.status c.report-in-Err-storm_by.ensures.told
+    (use_of g.W.Sink.written g.W.Sink.failure_count c.args.out.now c.storm_by.new.out) _ _ (λ d. d.kits) c.in-Ok-deciders_of.deciders.items c.in-Ok.kits.items (map (λ m. m.items) c.args.modules.now)
+    c.requires.plan.least_cycles made c.in-Ok-deciders_of.ensures refl c.in-Err-storm_by.fault c.in-Err-storm_by.ensures c.report-in-Err-storm_by.ensures.status c.report-in-Err-storm_by.ensures.told
 
 pub returns-in-Err-storm_by-clause-failures : goal.returns-in-Err-storm_by-clause-failures
 returns-in-Err-storm_by-clause-failures g c =

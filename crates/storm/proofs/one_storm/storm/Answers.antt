@@ -17,4 +17,4 @@ returns g c =
     run_of (λ d. rules_of g.D.Kit.Rules.answers (g.D.Decider.kits d)) c.args.deciders.items (length c.args.binders.items)
     (use_of g.S.Source.remaining g.S.Source.failure_count c.args.source.now c.read_script.new.source) (use_of g.W.Sink.written g.W.Sink.failure_count c.args.sink.now c.storm_on.new.sink)
     c.in_ok-steps.steps.items c.storm_on.result c.in_ok-steps.ensures.read (c.in_ok-steps.ensures.told (λ eq. cc))
-    (rw c.deref.ensures.value at c.storm_on.ensures.storm) c.storm_on.ensures.quiet c.storm_on.ensures.faults c.storm_on.ensures.write c.storm_on.ensures.write_told
+    (rw c.deref.ensures.value at c.storm_on.ensures.storm) (rw c.deref.ensures.value at c.storm_on.ensures.front) c.storm_on.ensures.quiet c.storm_on.ensures.faults c.storm_on.ensures.write c.storm_on.ensures.write_told

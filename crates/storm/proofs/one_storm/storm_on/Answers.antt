@@ -1,8 +1,9 @@
 use Rattle.std.proofs.Common.{Err, length, ap, refl, ◌∙◌}
 use Rattle.std.proofs.lemmas.Result.{err_from_is_err_and}
 use Rattle.choose.specs.Kits.{rules_of}
-use Rattle.engine.specs.Device.{use_of}
-use Rattle.storm.proofs.Ending.{passed_on, passed_on_err, storms}
+use Rattle.engine.specs.Device.{AppendsFront}
+use Rattle.std.specs.Io.KnownBytes.{Appends}
+use Rattle.storm.proofs.Ending.{passed_on, passed_on_err, storms, written_before}
 use Rattle.storm.proofs.one_storm.storm_on.Goals as goal
 
 -- where the text could not be written, or not be made
@@ -19,5 +20,16 @@ returns-in_err-tell-in-Ok-clause-write_told g c =
 -- the desk was closed and audited, and all was written
 pub returns-in_ok-tell-in-Ok-clause-storm : goal.returns-in_ok-tell-in-Ok-clause-storm
 returns-in_ok-tell-in-Ok-clause-storm g c =
-    storms (λ d. rules_of g.D.Kit.Rules.answers (g.D.Decider.kits d)) c.args.deciders.items (length c.args.binders.items) _ c.args.steps.now _ _ _ _ _ c.in_ok-is_right-in-Ok.is_right
-    (use_of g.W.Sink.written g.W.Sink.failure_count c.args.sink.now c.tell.new.sink) c.in-Ok.ensures.ended c.close-book.ensures c.in_ok-is_right-in-Ok.ensures c.in_ok-tell-in-Ok.ensures.wrote
+    storms (λ d. rules_of g.D.Kit.Rules.answers (g.D.Decider.kits d)) c.args.deciders.items (length c.args.binders.items) _ c.args.steps.now _ _ _ _ _ _
+    (Appends (g.W.Sink.written c.args.sink.now) (g.W.Sink.written c.tell.new.sink)) c.in-Ok.ensures.ended c.close-book.ensures c.in_ok-is_right-in-Ok.ensures c.in_ok-tell-in-Ok.ensures.wrote
+
+-- where a write failed a beginning of it was written
+pub returns-in_err-tell-in-Ok-clause-front : goal.returns-in_err-tell-in-Ok-clause-front
+returns-in_err-tell-in-Ok-clause-front g c =
+    let p = err_from_is_err_and c.from_residual-in_err-tell-in-Ok.result c.from_residual-in_err-tell-in-Ok.ensures.1 in
+    written_before c.from_residual-in_err-tell-in-Ok.result (Err c.in_err-tell-in-Ok.field-0.0) c.in_err-tell-in-Ok.field-0.0 (p.1 ∙ ap Err p.2) refl
+    (λ failed. (
+      c.in_ok-is_right-in-Ok.is_right,
+      storms (λ d. rules_of g.D.Kit.Rules.answers (g.D.Decider.kits d)) c.args.deciders.items (length c.args.binders.items) _ c.args.steps.now _ _ _ _ _ _
+          (AppendsFront (g.W.Sink.written c.args.sink.now) (g.W.Sink.written c.tell.new.sink)) c.in-Ok.ensures.ended c.close-book.ensures c.in_ok-is_right-in-Ok.ensures (c.in_err-tell-in-Ok.ensures.front failed),
+    ))

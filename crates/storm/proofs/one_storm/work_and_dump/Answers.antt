@@ -18,4 +18,4 @@ returns-clause-worked g c =
     c.args.hands.now.reporters.items c.as_mut_slice-reporters.result.now c.work.new.reporters
     c.as_mut_slice-feeders.ensures.value c.as_mut_slice-cyclers.ensures.value c.as_mut_slice-reporters.ensures.value
     c.work.ensures.fed c.work.ensures.turned c.work.ensures.idle c.work.ensures.reported
-    (c.all_done.ensures.0 c.if-not-all_done.false) (c.all_done-else-not-all_done.ensures.0 c.if-not-all_done-2.false) c.in_ok-dump.ensures.dumped
+    (c.all_done.ensures.0 c.if-not-all_done.false) (c.all_done-else-not-all_done.ensures.0 c.if-not-all_done-2.false) (c.all_done-else-not-all_done-2.ensures.0 c.if-not-all_done-3.false) c.in_ok-dump.ensures.dumped
