@@ -1,2 +1,1 @@
-pub mod SameKits
 pub mod TallyKits

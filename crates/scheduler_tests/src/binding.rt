@@ -9,13 +9,20 @@ use quant::{Name, Ticket};
 use std::alloc::Global;
 use std::hash::RandomState;
 use std::marker::Brand;
-use std::sync::Wait;
+use std::sync::atomic::{AtomicU64, Ordering};
+use std::sync::{Arc, Wait};
 
-/// A binder that always answers so.
+/// A binder that always answers so, and keeps what it was told last, as the first letters of the uid and of the node's name.
 #[derive(Drop)]
 struct Always {
     answer: BindAnswer,
     tally: Tally,
+    told: Arc<AtomicU64, Global>,
+}
+
+// The first letters of two names as one number.
+fn letters(uid: &Name, node: &Name) -> u64 {
+    u64::from(uid.as_bytes()[0]) * 256 + u64::from(node.as_bytes()[0])
 }
 
 impl Binder for Always {
@@ -30,6 +37,7 @@ impl Binder for Always {
     }
 
     fn bind(&mut self, uid: &Name, node: &Name) -> BindAnswer {
+        self.told.store(letters(uid, node), Ordering::SeqCst);
         self.tally.count(uid, node, self.answer);
         self.answer
     }
@@ -42,6 +50,9 @@ const PLACED: &[Row] = &[
     (Call::Pop, Answer::Popped(b'p')),
     (Call::Assume(b'p', b'a'), Answer::Ticket(Ticket(1))),
 ];
+
+/// Pod p on node a, as a binder keeps it.
+const P_ON_A: u64 = 112 * 256 + 97;
 
 /// What the cluster tells between a pod's placing and its bind.
 const NOTHING: &[Row] = &[];
@@ -82,9 +93,17 @@ fn late() -> &'static [Late] {
     LATE
 }
 
-fn binder_of(alloc: Global, answer: BindAnswer) -> Option<Box<dyn Binder + Send>> {
-    let tally = Tally::new();
-    let binder: Box<dyn Binder + Send> = Box::new(alloc, Always { answer, tally }).ok()?;
+fn binder_of(
+    alloc: Global,
+    answer: BindAnswer,
+    told: &Arc<AtomicU64, Global>,
+) -> Option<Box<dyn Binder + Send>> {
+    let always = Always {
+        answer,
+        tally: Tally::new(),
+        told: Arc::try_clone(told).ok()?,
+    };
+    let binder: Box<dyn Binder + Send> = Box::new(alloc, always).ok()?;
     Some(binder)
 }
 
@@ -112,7 +131,7 @@ fn bind<J: Naming, R: Wait>(
     }
 }
 
-/// What is said to two reports of one job.
+/// What is said to two reports of one job, of which the binder was told just this.
 fn bind_twice<J: Naming, R: Wait>(
     rt: &R,
     alloc: Global,
@@ -123,11 +142,13 @@ fn bind_twice<J: Naming, R: Wait>(
     requires { IsPassOf pass.old desk.now }
     ensures { pass.new.caller.number ≡ pass.old.caller.number }
 {
-    let mut binder = binder_of(alloc, answer)?;
+    let told = Arc::new(alloc, AtomicU64::new(0)).ok()?;
+    let mut binder = binder_of(alloc, answer, &told)?;
     let job = job()?;
     let first = bind(rt, desk, pass, &mut binder, &job)?;
+    let was_told = told.swap(0, Ordering::SeqCst);
     let again = bind(rt, desk, pass, &mut binder, &job)?;
-    if binder.asked() != 2 {
+    if binder.asked() != 2 || was_told != P_ON_A || told.load(Ordering::SeqCst) != P_ON_A {
         return None;
     }
     Some((first, again))

@@ -1,5 +1,6 @@
-//! The tests of the scheduler's crates, from amounts to whole scripts, each through what its crate offers. They stand together
-//! since a crate with tests is proved twice. Nothing stands on this crate.
+//! The tests of the scheduler's crates, from amounts to decisions by several workers, each through what its crate offers. They stand
+//! together since a crate with tests is proved twice; those of lines, runs, storms and the program stand in `program_tests`. Nothing
+//! stands on this crate.
 //!
 //! A table is a constant of a few dozen rows that a function of its own gives out: what loops over it is then not proved in the midst
 //! of the table's parts. What owns a book, a desk, a kit or what a run wrote gives a number, a name or a small enum of it, and tests
@@ -23,28 +24,16 @@ mod decisions;
 #[cfg(test)]
 mod expiry;
 #[cfg(test)]
-mod lines;
-#[cfg(test)]
 mod looks;
 #[cfg(test)]
 mod names;
 #[cfg(test)]
 mod objects;
 #[cfg(test)]
-mod program;
-#[cfg(test)]
-mod script;
-#[cfg(test)]
 mod sharing;
 #[cfg(test)]
 mod steps;
 #[cfg(test)]
-mod storms;
-#[cfg(test)]
-mod texts;
-#[cfg(test)]
 mod waiting;
-#[cfg(test)]
-mod words;
 #[cfg(test)]
 mod workers;

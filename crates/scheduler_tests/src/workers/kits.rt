@@ -118,6 +118,12 @@ impl Both {
         }
     }
 
+    /// Neither has begun again: the next two wait for one another too.
+    pub fn set_back(&self) {
+        self.first.store(false, Ordering::SeqCst);
+        self.second.store(false, Ordering::SeqCst);
+    }
+
     /// Whether one gave up waiting for the other.
     pub fn gave_up(&self) -> bool {
         self.gave_up.load(Ordering::SeqCst)

@@ -1,4 +1,5 @@
-//! Pools at work: that each piece begins once a decision, from one decision to the next, and that pieces are judged at once.
+//! Pools at work: that each piece begins once a decision, from one decision to the next, that pieces are judged at once, each time,
+//! and that no worker outlives its pool.
 ghost use Rattle.std.specs.Prelude.{◌≡◌, ◌<◌, ◌≤◌};
 ghost use Rattle.fleet.specs.Speaking.{SpeaksFor};
 
@@ -99,7 +100,7 @@ fn first_other_turn<J: Site, R: Wait>(
     None
 }
 
-// The same by a new pool of so many kits.
+// The same by a new pool of so many kits, none of whose workers is left once it has ended.
 fn turns_of<J: Site + Send + Sync + 'static, R: Threads + Wait + Copy + Send + 'static>(
     rt: R,
     alloc: Global,
@@ -123,7 +124,12 @@ fn turns_of<J: Site + Send + Sync + 'static, R: Threads + Wait + Copy + Send + '
     };
     let other = first_other_turn(&rt, alloc, keys, &mut pool, &begun, kits);
     pool.end(&rt);
-    other
+    // Each worker has a part in the gate until it is gone.
+    if Arc::strong_count(&begun) == 1 {
+        other
+    } else {
+        Some(0)
+    }
 }
 
 // The first number of kits that don't decide as they are to.
@@ -163,6 +169,24 @@ fn decides_of_two<J: Site, R: Wait>(
     }
 }
 
+// How many of three decisions come to what they are to, until one doesn't. In each of them the pieces wait for each other anew, so
+// that the worker and its kit are there each time.
+fn decisions_of_two<J: Site, R: Wait>(
+    rt: &R,
+    alloc: Global,
+    keys: RandomState,
+    pool: &mut Pool<J, Tally, Both>,
+    gate: &Both,
+) -> u32 {
+    for turn in 0..3u32 {
+        gate.set_back();
+        if !decides_of_two(rt, alloc, keys, pool) || gate.gave_up() {
+            return turn;
+        }
+    }
+    3
+}
+
 // The same by a new pool, and neither gave up waiting.
 fn two_meet<J: Site + Send + Sync + 'static, R: Threads + Wait + Copy + Send + 'static>(
     rt: R,
@@ -179,9 +203,9 @@ fn two_meet<J: Site + Send + Sync + 'static, R: Threads + Wait + Copy + Send + '
     let Some(mut pool) = pool_of::<J, _, R>(rt, alloc, blank, 2, &gate) else {
         return false;
     };
-    let is_decided = decides_of_two(&rt, alloc, keys, &mut pool);
+    let decided = decisions_of_two(&rt, alloc, keys, &mut pool, &gate);
     pool.end(&rt);
-    is_decided && !gate.gave_up()
+    decided == 3
 }
 
 fn two_meet_in_a_pool<R: Threads + Wait + Copy + Send + 'static>(

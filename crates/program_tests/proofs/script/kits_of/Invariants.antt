@@ -1,5 +1,5 @@
 use Rattle.std.proofs.Common.{◌≡◌, ◌-◌, ◌≤◌, All, vec_len}
-use Rattle.scheduler_tests.proofs.script.kits_of.Given as goal
+use Rattle.program_tests.proofs.script.kits_of.Given as goal
 
 -- each kit so far has these rules
 abbrev pub invariant-loop-rules : goal.invariant-loop-rules

@@ -1,7 +1,7 @@
 //! Runs with plugins, whose modules are in files, and those that are refused.
 use super::modules::{
-    BROKEN, CALLS, COUNTS, DATA_OUTSIDE, ELEMENT_OUTSIDE, FIFTY, IMPORTING, LOOPS, MINUS_ONE,
-    NEVER, PASSES, REJECTS, START_LOOPS, START_TRAPS, TOO_MUCH, TRAPS,
+    BROKEN, CALLS, COUNTS, DATA_OUTSIDE, ELEMENT_OUTSIDE, FIFTY, GROWS, IMPORTING, LOOPS,
+    MINUS_ONE, NEVER, PASSES, REJECTS, START_LOOPS, START_TRAPS, TOO_MUCH, TRAPS,
 };
 use super::{
     Answered, Given, RUN, Stored, Want, ends, first_other, removes_files, runs, writes_files,
@@ -37,6 +37,15 @@ const PLACED_TWICE: &[u8] =
 {\"op\":\"cycle\"}
 ";
 
+// The first again, and a second cycle for its pod once it may be tried again.
+const TRIED_TWICE: &[u8] =
+    b"{\"op\":\"node\",\"v\":1,\"name\":\"a\",\"cpu\":\"4\",\"mem\":\"8Gi\",\"pods\":110}
+{\"op\":\"pod\",\"v\":2,\"uid\":\"p1\",\"containers\":[[\"100m\",\"64Mi\"]]}
+{\"op\":\"cycle\"}
+{\"op\":\"tick\",\"at\":10000}
+{\"op\":\"cycle\"}
+";
+
 // The files of the plugins that are asked.
 const ASKED: Stored = &[
     ("passes.wasm", PASSES),
@@ -47,6 +56,7 @@ const ASKED: Stored = &[
     ("loops.wasm", LOOPS),
     ("counts.wasm", COUNTS),
     ("calls.wasm", CALLS),
+    ("grows.wasm", GROWS),
     ("fifty.wasm", FIFTY),
     ("too_much.wasm", TOO_MUCH),
 ];
@@ -82,6 +92,12 @@ const BY_ONE: &[Answered] = &[
         &["r:1:100:calls.wasm"],
         PLACED_TWICE,
         "ok\nok\nok\nok\np1 on a total 198 ticket 1\np2 on b total 198 ticket 2\n",
+    ),
+    (
+        "a filter that grows its memory",
+        &["g:1:20:grows.wasm"],
+        TRIED_TWICE,
+        "ok\nok\np1 error plugin g node a code -1\nok\np1 error plugin g node a code -1\n",
     ),
     (
         "a score counts twice",

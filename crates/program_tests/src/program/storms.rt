@@ -233,9 +233,13 @@ fn a_storm_that_fails_writes_nothing(rt: HostRuntime) {
     assert!(rt; removes_files(&rt, files()));
 }
 
-// A line for each pod, in which its number goes in place of a `$`, and so do later moments.
-const POD: &[u8] = b"{\"op\":\"pod\",\"v\":$,\"uid\":\"p$\",\"containers\":[[\"100m\",\"64Mi\"]]}
+// Lines in which a pod's number goes in place of a `$`, and so do later moments.
+const POD_AND_TICK: &[u8] =
+    b"{\"op\":\"pod\",\"v\":$,\"uid\":\"p$\",\"containers\":[[\"100m\",\"64Mi\"]]}
 {\"op\":\"tick\",\"at\":$000}
+";
+
+const POD: &[u8] = b"{\"op\":\"pod\",\"v\":$,\"uid\":\"p$\",\"containers\":[[\"100m\",\"64Mi\"]]}
 ";
 
 const NODES: &[u8] =
@@ -243,8 +247,8 @@ const NODES: &[u8] =
 {\"op\":\"node\",\"v\":2,\"name\":\"b\",\"cpu\":\"2\",\"mem\":\"8Gi\",\"pods\":10}
 ";
 
-fn push_pod(script: &mut Vec<u8>, number: u32) -> Result<(), AllocError> {
-    for byte in POD {
+fn push_lines(script: &mut Vec<u8>, lines: &[u8], number: u32) -> Result<(), AllocError> {
+    for byte in lines {
         if *byte == b'$' {
             script.extend_from_slice(Buffer::new().format(number).as_bytes())?;
         } else {
@@ -258,7 +262,16 @@ fn push_pod(script: &mut Vec<u8>, number: u32) -> Result<(), AllocError> {
 fn pods_and_ticks(alloc: Global) -> Result<Vec<u8>, AllocError> {
     let mut script = Vec::from_slice(alloc, NODES)?;
     for number in 3..67u32 {
-        push_pod(&mut script, number)?;
+        push_lines(&mut script, POD_AND_TICK, number)?;
+    }
+    Ok(script)
+}
+
+// Two nodes, and 36 pods, for which there is room on the first.
+fn pods_alone(alloc: Global) -> Result<Vec<u8>, AllocError> {
+    let mut script = Vec::from_slice(alloc, NODES)?;
+    for number in 3..39u32 {
+        push_lines(&mut script, POD, number)?;
     }
     Ok(script)
 }
@@ -337,4 +350,141 @@ fn a_hundred_storms_with_plugins_ticks_and_failing_binds_are_audited(rt: HostRun
     assert!(rt; writes_files(&rt, plugins()));
     assert_eq!(rt; audited_of_many(&rt, rt.alloc(), keys), (100, true));
     assert!(rt; removes_files(&rt, plugins()));
+}
+
+// What three flaky binders come to that are asked for 36 binds together: of each one's a third fails, rounded down.
+const THIRDS_FAILED: &[&[u8]] = &[
+    b"places bound 0 assumed 24\nqueue active 0 backoff 12 unschedulable 0 inflight 0\nclock 0 version 38\naudit ok\n",
+    b"places bound 0 assumed 25\nqueue active 0 backoff 11 unschedulable 0 inflight 0\nclock 0 version 38\naudit ok\n",
+    b"places bound 0 assumed 26\nqueue active 0 backoff 10 unschedulable 0 inflight 0\nclock 0 version 38\naudit ok\n",
+];
+
+fn thirds_failed() -> &'static [&'static [u8]] {
+    THIRDS_FAILED
+}
+
+fn is_a_third(out: &[u8]) -> bool {
+    for end in thirds_failed() {
+        if out.ends_with(end) {
+            return true;
+        }
+    }
+    false
+}
+
+// How many of ten storms have a third of each binder's binds fail, until one hasn't.
+fn thirds<R: Files + Wait + Threads + Copy + Send + Sync + 'static>(
+    rt: &R,
+    alloc: Global,
+    keys: Option<RandomState>,
+    script: &[u8],
+) -> u32 {
+    let given = Given {
+        args: &["storm", "--binders", "3", "--flaky"],
+        script,
+        most: 65_536,
+        ..RUN
+    };
+    for storm in 0..10u32 {
+        match run_program(rt, alloc, keys, given) {
+            Ok(ended) if ended.status == 0 && is_a_third(&ended.out) => {}
+            _ => return storm,
+        }
+    }
+    10
+}
+
+fn thirds_of_many<R: Files + Wait + Threads + Copy + Send + Sync + 'static>(
+    rt: &R,
+    alloc: Global,
+    keys: Option<RandomState>,
+) -> u32 {
+    match pods_alone(alloc) {
+        Ok(script) => thirds(rt, alloc, keys, &script),
+        Err(_) => 0,
+    }
+}
+
+#[test]
+fn each_flaky_binder_fails_its_every_third_bind(rt: HostRuntime) {
+    let keys = RandomState::new(&rt).ok();
+    assert_eq!(rt; thirds_of_many(&rt, rt.alloc(), keys), 10);
+}
+
+const MOMENT: &[u8] = b"{\"op\":\"tick\",\"at\":$}
+";
+
+const SMALL: &[u8] =
+    b"{\"op\":\"node\",\"v\":1,\"name\":\"a\",\"cpu\":\"4\",\"mem\":\"8Gi\",\"pods\":110}
+";
+
+const TWO_PODS: &[u8] =
+    b"{\"op\":\"pod\",\"v\":2,\"uid\":\"p1\",\"containers\":[[\"100m\",\"64Mi\"]]}
+{\"op\":\"pod\",\"v\":3,\"uid\":\"p2\",\"containers\":[[\"100m\",\"64Mi\"]]}
+";
+
+const LARGE: &[u8] =
+    b"{\"op\":\"node\",\"v\":4,\"name\":\"b\",\"cpu\":\"64\",\"mem\":\"128Gi\",\"pods\":110}
+";
+
+// The small node is as nothing is placed there.
+const SMALL_UNUSED: &[u8] = b"node a cpu 0/4000 ";
+
+fn push_moments(script: &mut Vec<u8>, first: u32, end: u32) -> Result<(), AllocError> {
+    for moment in first..end {
+        push_lines(script, MOMENT, moment)?;
+    }
+    Ok(())
+}
+
+// A small node, and 20,000 moments before two pods, so that whoever makes cycles has found none before they come; then as many
+// moments again before a large node, on which they are placed once it is there.
+fn two_pods_amid_moments(alloc: Global) -> Result<Vec<u8>, AllocError> {
+    let mut script = Vec::from_slice(alloc, SMALL)?;
+    push_moments(&mut script, 1, 20_001)?;
+    script.extend_from_slice(TWO_PODS)?;
+    push_moments(&mut script, 20_001, 40_001)?;
+    script.extend_from_slice(LARGE)?;
+    Ok(script)
+}
+
+// The first of ten storms in which a pod is placed before all is told.
+fn first_beside<R: Files + Wait + Threads + Copy + Send + Sync + 'static>(
+    rt: &R,
+    alloc: Global,
+    keys: Option<RandomState>,
+    script: &[u8],
+) -> Option<u32> {
+    let given = Given {
+        args: &["storm"],
+        script,
+        most: 65_536,
+        ..RUN
+    };
+    for storm in 0..10u32 {
+        match run_program(rt, alloc, keys, given) {
+            Ok(ended) if ended.status == 0 && !ended.out.as_slice().starts_with(SMALL_UNUSED) => {
+                return Some(storm);
+            }
+            _ => {}
+        }
+    }
+    None
+}
+
+fn places_beside<R: Files + Wait + Threads + Copy + Send + Sync + 'static>(
+    rt: &R,
+    alloc: Global,
+    keys: Option<RandomState>,
+) -> bool {
+    match two_pods_amid_moments(alloc) {
+        Ok(script) => first_beside(rt, alloc, keys, &script).is_some(),
+        Err(_) => false,
+    }
+}
+
+#[test]
+fn pods_are_placed_while_the_watch_tells(rt: HostRuntime) {
+    let keys = RandomState::new(&rt).ok();
+    assert!(rt; places_beside(&rt, rt.alloc(), keys));
 }

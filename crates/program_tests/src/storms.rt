@@ -1,27 +1,25 @@
 //! Storms whose binds, and whose decisions, wait for one another: each is to be in a thread of its own.
 ghost use Rattle.std.specs.Prelude.{◌≡◌, vec_len, IfSome};
 
+use crate::two_pools::storm_of_pools;
 use binder::{BindAnswer, Binder, Tally};
-use choose::Verdict;
-use desk::Snapshot;
 use engine::{DeviceFailed, Sink, Source};
-use fleet::{Decider, Decision, NoMemory};
+use fleet::Gate;
+use itoa::Buffer;
 use plugin::{Kit, KitRules, Plugins};
-use quant::{Name, SharedPod};
-use serving::SiteFleet;
-use std::alloc::Global;
+use quant::Name;
+use std::alloc::{AllocError, Global};
 use std::hash::RandomState;
-use std::sync::atomic::{AtomicU64, Ordering};
+use std::sync::atomic::{AtomicBool, AtomicU64, Ordering};
 use std::sync::{Arc, Wait};
 use std::thread;
 use std::thread::Threads;
-use storm::storm;
 
 /// A script in memory.
 #[derive(Drop)]
-struct Script<'a> {
-    bytes: &'a [u8],
-    left: usize,
+pub struct Script<'a> {
+    pub bytes: &'a [u8],
+    pub left: usize,
 }
 
 impl Source for Script<'_> {
@@ -49,9 +47,9 @@ impl Source for Script<'_> {
 
 /// What is written, in memory.
 #[derive(Drop)]
-struct Paper {
-    bytes: Vec<u8>,
-    failures: u64,
+pub struct Paper {
+    pub bytes: Vec<u8>,
+    pub failures: u64,
 }
 
 impl Sink for Paper {
@@ -74,20 +72,22 @@ impl Sink for Paper {
     }
 }
 
-/// Two that begin: each turns until the other has begun too, and gives up after 10,000,000 turns.
+/// One of two that begin: each turns until the other has begun too, and gives up after 10,000,000 turns.
 #[derive(Drop)]
 struct Pair {
     begun: Arc<AtomicU64, Global>,
-    has_begun: bool,
+    has_begun: AtomicBool,
 }
+
+// What is added to how many have begun where one waits in vain.
+const IN_VAIN: u64 = 1_000;
 
 impl Pair {
     /// Begins, if it hasn't, and tells whether the other has begun.
-    fn begin(&mut self) -> bool {
-        if self.has_begun {
+    fn begin(&self) -> bool {
+        if self.has_begun.swap(true, Ordering::SeqCst) {
             return true;
         }
-        self.has_begun = true;
         self.begun.fetch_add(1, Ordering::SeqCst);
         for _ in 0..10_000_000u32 {
             if self.begun.load(Ordering::SeqCst) >= 2 {
@@ -95,7 +95,15 @@ impl Pair {
             }
             thread::yield_now();
         }
+        self.begun.fetch_add(IN_VAIN, Ordering::SeqCst);
         false
+    }
+}
+
+/// A pool's first decision waits where its piece begins.
+impl Gate for Pair {
+    fn enter(&self, _piece: usize) {
+        let _met = self.begin();
     }
 }
 
@@ -128,42 +136,11 @@ impl Binder for Hand {
     }
 }
 
-/// A decider that waits in its first decision for another one's first. It has no memory where it waits in vain.
-#[derive(Drop)]
-struct Turning<D: Drop> {
-    decider: D,
-    pair: Pair,
-}
-
-impl<D: Decider + Drop> Decider for Turning<D> {
-    type Kit = D::Kit;
-
-    ghost kits = { λ t. D.kits t.decider };
-
-    ghost last = { λ t. D.last t.decider };
-
-    fn decide<R: Threads + Wait + Sync>(
-        &mut self,
-        rt: &R,
-        snapshot: Snapshot,
-        pod: &SharedPod,
-    ) -> Result<Decision, NoMemory> {
-        if !self.pair.begin() {
-            return Err(NoMemory);
-        }
-        self.decider.decide(rt, snapshot, pod)
-    }
-
-    fn verdicts(&self) -> &[Verdict] {
-        self.decider.verdicts()
-    }
-}
-
 /// A pair's half, which has not begun.
 fn pair_by(begun: &Arc<AtomicU64, Global>) -> Option<Pair> {
     Some(Pair {
         begun: Arc::try_clone(begun).ok()?,
-        has_begun: false,
+        has_begun: AtomicBool::new(false),
     })
 }
 
@@ -187,25 +164,14 @@ fn two_hands(alloc: Global) -> Option<Vec<Box<dyn Binder + Send>>>
     Some(hands)
 }
 
-/// A decider without plugins.
-fn turning_decider(alloc: Global, begun: &Arc<AtomicU64, Global>) -> Option<Turning<SiteFleet>> {
+/// A kit without plugins.
+fn bare_kit(alloc: Global) -> Option<KitRules> {
     let plugins = Plugins::new(alloc);
-    let kit = KitRules::new(Kit::new(alloc, &plugins).ok()?);
-    Some(Turning {
-        decider: SiteFleet::of_one(alloc, kit).ok()?,
-        pair: pair_by(begun)?,
-    })
+    Some(KitRules::new(Kit::new(alloc, &plugins).ok()?))
 }
 
-/// Two deciders, each of which waits for the other.
-fn two_turning(alloc: Global) -> Option<Vec<Turning<SiteFleet>>>
-    ensures { IfSome result (λ deciders. vec_len deciders ≡ 2) }
-{
-    let begun = Arc::new(alloc, AtomicU64::new(0)).ok()?;
-    let mut deciders = Vec::new(alloc);
-    deciders.push(turning_decider(alloc, &begun)?).ok()?;
-    deciders.push(turning_decider(alloc, &begun)?).ok()?;
-    Some(deciders)
+fn gate_by(alloc: Global, begun: &Arc<AtomicU64, Global>) -> Option<Arc<Pair>> {
+    Arc::new(alloc, pair_by(begun)?).ok()
 }
 
 /// A node with room for both pods.
@@ -221,25 +187,65 @@ clock 0 version 3
 audit ok
 ";
 
-/// What a storm of both pods writes, if it is audited well.
+/// The node, a thousand moments, and then both pods: when they come, whoever makes cycles has found none before.
+const NODE: &[u8] =
+    b"{\"op\":\"node\",\"v\":1,\"name\":\"a\",\"cpu\":\"4\",\"mem\":\"8Gi\",\"pods\":110}\n";
+
+const PODS: &[u8] = b"{\"op\":\"pod\",\"v\":2,\"uid\":\"p1\",\"containers\":[[\"100m\",\"64Mi\"]]}
+{\"op\":\"pod\",\"v\":3,\"uid\":\"p2\",\"containers\":[[\"100m\",\"64Mi\"]]}";
+
+fn behind_a_thousand_lines(alloc: Global) -> Result<Vec<u8>, AllocError> {
+    let mut script = Vec::from_slice(alloc, NODE)?;
+    for moment in 1..1_001u32 {
+        script.extend_from_slice(b"{\"op\":\"tick\",\"at\":")?;
+        script.extend_from_slice(Buffer::new().format(moment).as_bytes())?;
+        script.extend_from_slice(b"}\n")?;
+    }
+    script.extend_from_slice(PODS)?;
+    Ok(script)
+}
+
+const LATE_PLACED: &[u8] = b"node a cpu 200/4000 mem 134217728/8589934592 pods 2/110
+places bound 0 assumed 2
+queue active 0 backoff 0 unschedulable 0 inflight 0
+clock 1000 version 3
+audit ok
+";
+
+/// What a storm of two pools writes, each of which waits in its first decision for the other's, with two binders that wait for each
+/// other in their first binds: if it is audited well and neither pool waited in vain.
 fn stormed<T: Wait + Threads + Copy + Send + Sync + 'static>(
     rt: &T,
     alloc: Global,
     keys: RandomState,
+    script: &[u8],
 ) -> Option<Vec<u8>> {
-    let deciders = two_turning(alloc)?;
+    let begun = Arc::new(alloc, AtomicU64::new(0)).ok()?;
+    let kits = (bare_kit(alloc)?, bare_kit(alloc)?);
+    let gates = (gate_by(alloc, &begun)?, gate_by(alloc, &begun)?);
     let binders = two_hands(alloc)?;
     let mut source = Script {
-        bytes: TWO,
-        left: TWO.len(),
+        bytes: script,
+        left: script.len(),
     };
     let mut sink = Paper {
         bytes: Vec::new(alloc),
         failures: 0,
     };
-    match storm(rt, alloc, keys, &mut source, &mut sink, deciders, binders) {
-        Ok(true) => Some(sink.bytes),
-        _ => None,
+    let answer = storm_of_pools(
+        rt,
+        alloc,
+        keys,
+        kits,
+        gates,
+        &mut source,
+        &mut sink,
+        binders,
+    );
+    if answer == Some(true) && begun.load(Ordering::SeqCst) == 2 {
+        Some(sink.bytes)
+    } else {
+        None
     }
 }
 
@@ -248,18 +254,33 @@ fn both_are_placed<T: Wait + Threads + Copy + Send + Sync + 'static>(
     rt: &T,
     alloc: Global,
     keys: Option<RandomState>,
+    script: &[u8],
+    output: &[u8],
 ) -> bool {
     let Some(keys) = keys else {
         return false;
     };
-    match stormed(rt, alloc, keys) {
-        Some(written) => written.as_slice() == BOTH_PLACED,
+    match stormed(rt, alloc, keys, script) {
+        Some(written) => written.as_slice() == output,
         None => false,
+    }
+}
+
+/// The same where both come late.
+fn both_are_placed_late<T: Wait + Threads + Copy + Send + Sync + 'static>(
+    rt: &T,
+    alloc: Global,
+    keys: Option<RandomState>,
+) -> bool {
+    match behind_a_thousand_lines(alloc) {
+        Ok(script) => both_are_placed(rt, alloc, keys, &script, LATE_PLACED),
+        Err(_) => false,
     }
 }
 
 #[test]
 fn cycles_and_binds_run_at_once(rt: HostRuntime) {
     let keys = RandomState::new(&rt).ok();
-    assert!(rt; both_are_placed(&rt, rt.alloc(), keys));
+    assert!(rt; both_are_placed(&rt, rt.alloc(), keys, TWO, BOTH_PLACED));
+    assert!(rt; both_are_placed_late(&rt, rt.alloc(), keys));
 }

@@ -1,7 +1,7 @@
 use Rattle.std.proofs.lemmas.Result.{IfOk-weaker}
 use Rattle.choose.specs.Choice.{AreVerdicts, Choice}
 use Rattle.fleet.proofs.Alike.{first_of_all}
-use Rattle.scheduler_tests.proofs.script.CrewDecider.decide.Goals as goal
+use Rattle.program_tests.proofs.script.CrewDecider.decide.Goals as goal
 
 -- what each kit would choose alone is the choice by the rules of the first
 pub returns-clause-chosen : goal.returns-clause-chosen
