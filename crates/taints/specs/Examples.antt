@@ -10,7 +10,7 @@ use Rattle.quant.specs.declared.taint.Effect.TheVariants.{NoSchedule, PreferNoSc
 use Rattle.quant.specs.declared.taint.Operator.{Operator}
 use Rattle.quant.specs.declared.taint.Operator.TheVariants.{Equal, Exists}
 use Rattle.taints.specs.declared.tolerance.Rejection.TheVariants.{Marked, Tainted}
-use Rattle.taints.specs.Tolerance.{tolerated_by, rejection, prefer_not}
+use Rattle.taints.specs.Tolerance.{tolerated_by, rejection, first_untolerated, prefer_not}
 use Rattle.taints.specs.TaintScore.{taint_score}
 
 abbrev pub taint : (key value : List ℕ) → Effect → Taint
@@ -84,12 +84,14 @@ pub record WorkedExamples : Type 0 where
   pub no_key : tolerated_by key1 (toleration [] Equal (codes "value1") None) ≡ false
   -- three taints and two tolerations: the third taint rejects
   pub third_taint : rejection (node_with three_taints false) (pod_with two_tolerations) ≡ Some Tainted
+  pub third_is_first : first_untolerated (node_with three_taints false) (pod_with two_tolerations) ≡ Some (taint (codes "key2") (codes "value2") NoSchedule)
   pub two_taints : rejection (node_with (key1 ∷ taint (codes "key1") (codes "value1") NoExecute ∷ []) false) (pod_with two_tolerations) ≡ None
   -- a node that is less preferred
   pub bare : rejection less_preferred (pod_with []) ≡ Some Tainted
   pub stays : rejection less_preferred (pod_with every_execution) ≡ None
   pub counted : prefer_not less_preferred (pod_with every_execution) ≡ 1
   pub tolerant : rejection less_preferred (pod_with everything) ≡ None
+  pub none_untolerated : first_untolerated less_preferred (pod_with every_execution) ≡ None
   pub not_counted : prefer_not less_preferred (pod_with everything) ≡ 0
   -- a marked node: the mark is told before a taint
   pub mark_first : rejection marked (pod_with []) ≡ Some Marked

@@ -1,6 +1,6 @@
 -- Which taints a pod tolerates, and which keep it off a node (Kubernetes, "Taints and Tolerations", "Concepts").
 use Rattle.std.specs.Prelude.{ℕ, Bool, true, false, ◌&&◌, ◌||◌, not, if◌then◌else◌, List, [], Option, Some, None, codes, bytes_eq, count_by}
-use Rattle.std.specs.List.{list_any}
+use Rattle.std.specs.List.{list_any, find}
 use Rattle.quant.specs.declared.objects.Node.{Node}
 use Rattle.quant.specs.declared.objects.Pod.{Pod}
 use Rattle.quant.specs.declared.taint.Taint.{Taint}
@@ -58,6 +58,10 @@ rejection node pod =
     else if list_any (λ taint. keeps_off taint.effect && not (tolerated pod.tolerations.items taint)) node.taints.items
     then Some Tainted
     else None
+
+-- the first of a node's taints that keeps off a pod which doesn't tolerate it
+unfoldable pub first_untolerated : Node → Pod → Option Taint
+first_untolerated node pod = find (λ taint. keeps_off taint.effect && not (tolerated pod.tolerations.items taint)) node.taints.items
 
 -- how many of a node's taints a pod doesn't tolerate, among those that only make the node less preferred
 unfoldable pub prefer_not : Node → Pod → ℕ

@@ -7,4 +7,6 @@ mod tolerance;
 
 pub use laws::worked_examples;
 pub use score::normalize;
-pub use tolerance::{Rejection, UNSCHEDULABLE, prefer_count, rejected_by, tolerates};
+pub use tolerance::{
+    Rejection, UNSCHEDULABLE, first_untolerated, prefer_count, rejected_by, tolerates,
+};

@@ -1,7 +1,8 @@
 //! Which taints a pod tolerates, and which keep it off a node.
 ghost use Rattle.std.specs.Prelude.{◌≡◌, ◌≤◌, ◌&&◌, not};
 ghost use Rattle.std.specs.List.{list_any};
-ghost use Rattle.taints.specs.Tolerance.{takes_effect, matches, tolerated_by, tolerated, keeps_off, unschedulable_mark, rejection, prefer_not};
+ghost use Rattle.std.specs.Option.{option_copied};
+ghost use Rattle.taints.specs.Tolerance.{takes_effect, matches, tolerated_by, tolerated, keeps_off, unschedulable_mark, rejection, first_untolerated, prefer_not};
 
 use quant::{Effect, Node, Operator, Pod, Taint, Toleration};
 
@@ -47,6 +48,19 @@ pub fn rejected_by(node: &Node, pod: &Pod) -> Option<Rejection>
         return Some(Rejection::Tainted);
     }
     None
+}
+
+/// The first of a node's taints `NoSchedule` or `NoExecute` that a pod does not tolerate, if there
+/// is one.
+#[tactic(auto, unfolding(crate::specs::Tolerance::first_untolerated))]
+pub fn first_untolerated<'a>(node: &'a Node, pod: &Pod) -> Option<&'a Taint>
+    ensures { option_copied result ≡ first_untolerated node.now pod.now }
+{
+    let tolerations = pod.tolerations.as_slice();
+    node.taints
+        .as_slice()
+        .iter()
+        .find(|taint| keeps_off(taint.effect) && !tolerate(tolerations, taint))
 }
 
 /// How many of a node's taints `PreferNoSchedule` a pod does not tolerate.
