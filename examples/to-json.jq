@@ -16,9 +16,15 @@ def cause:
     elif .[0] == "exhausted" then {cause: "exhausted"}
     else {cause: .[0], value: (.[1] | tonumber)} end;
 
-# What was decided of a node: its total, the plugin that rejects it or says nothing, or the filter that rejects it.
+# What was decided of a node: its total with what that is the sum of, the plugin that rejects it or says nothing, or the filter that
+# rejects it, with the taint, or with what is asked for and what is free.
 def verdict:
-  if test("^total [0-9]+$") then {total: (ltrimstr("total ") | tonumber)}
+  if test("^total ") then
+    split(" ")
+    | {total: (.[1] | tonumber), fit: (.[3] | tonumber), taints: (.[5] | tonumber),
+       plugins: [range(6; length; 3) as $k | {name: .[$k], weight: (.[$k + 1] | tonumber), score: (.[$k + 2] | tonumber)}]}
+  elif test("^taint ") then {rejected: "taint", taint: ltrimstr("taint ")}
+  elif test("^(cpu|memory|pods) [0-9]+ of [0-9]+$") then split(" ") | {rejected: .[0], asked: (.[1] | tonumber), free: (.[3] | tonumber)}
   elif test("^plugin [^ ]+ [23]$") then capture("^plugin (?<plugin>[^ ]+) (?<code>[23])$") | {rejected: "plugin", plugin, code: (.code | tonumber)}
   elif test("^error plugin ") then capture("^error plugin (?<plugin>[^ ]+) (?<why>.*)$") | {plugin, error: (.why | cause)}
   else {rejected: .} end;

@@ -1,5 +1,5 @@
 -- What is known of the rules that were asked, one after the other.
-use Rattle.std.proofs.Common.{◌≡◌, ℕ, ◌+◌, ◌*◌, ◌≤◌, List, [], ◌∷◌, ◌++◌, length, Option, Some, None, Ok, MatchOption, slice_get, get_or, refl, ap, sym, ◌∙◌, subst, arith, length-append}
+use Rattle.std.proofs.Common.{◌≡◌, ℕ, zero, suc, ◌+◌, ◌*◌, ◌<◌, ◌≤◌, List, [], ◌∷◌, ◌++◌, length, drop, set, Option, Some, None, Ok, MatchOption, slice_get, get_or, refl, ap, sym, ◌∙◌, subst, arith, length-append}
 use Rattle.std.specs.List.{AllZip}
 use Rattle.std.proofs.lemmas.List.{get_or_append_left, get_or_push}
 use Rattle.std.proofs.lemmas.Nat.{mul-le}
@@ -11,29 +11,43 @@ use Rattle.desk.specs.Shown.{Shown}
 use Rattle.choose.specs.declared.decision.Reason.{Reason}
 use Rattle.choose.specs.declared.decision.Verdict.{Verdict}
 use Rattle.choose.specs.declared.decision.Verdict.TheVariants.{Rejected}
-use Rattle.choose.specs.Verdict.{AreScores, weighted, built_in, passing, ByRules, HasVerdict}
+use Rattle.choose.specs.Verdict.{AreScores, weighted, no_scores, in_places, built_in, passing, nothing_added, ByRules, HasVerdict}
 use Rattle.choose.specs.Choice.{AreVerdicts}
 use Rattle.choose.specs.Finding.{IsBuiltIn}
 
--- the scores of the rules before a place are good, and this is their weighted sum
-pub record GoodBefore (rules : RuleSet) (told : Told) (place sum : ℕ) : Type 0 where
+-- the scores of the rules before a place are good, this is their weighted sum, and these are they in their places
+pub record GoodBefore (rules : RuleSet) (told : Told) (place sum : ℕ) (shown : List ℕ) : Type 0 where
   pub scores : List ℕ
   pub many : length scores ≡ place
   pub are : AreScores rules told scores
   pub adds : sum ≡ weighted rules.weights scores
+  pub shows : shown ≡ in_places scores
 
 -- where no score is known, nothing is added
 pub nothing : (weights : List ℕ) → 0 ≡ weighted weights []
 nothing [] = refl
 nothing (w ∷ ws) = refl
 
-pub good_before_none : (rules : RuleSet) (told : Told) → GoodBefore rules told 0 0
+pub good_before_none : (rules : RuleSet) (told : Told) → GoodBefore rules told 0 0 no_scores
 good_before_none rules told = record {
   scores = [];
   many = refl;
   are = λ k below. absurd (omega (arith, below));
   adds = nothing rules.weights;
+  shows = refl;
 }
+
+-- a score more stands in the place behind those that are there
+set_behind : (scores places : List ℕ) (s : ℕ) → length scores < length places
+    → set (scores ++ drop (length scores) places) (length scores) s ≡ (scores ++ s ∷ []) ++ drop (suc (length scores)) places
+set_behind scores [] s below = absurd (omega (arith, below))
+set_behind [] (x ∷ places) s below = refl
+set_behind (y ∷ scores) (x ∷ places) s below = ap (λ t. y ∷ t) (set_behind scores places s (omega (arith, below)))
+
+in_places_push : (scores : List ℕ) (s : ℕ) → length scores < 16 → set (in_places scores) (length scores) s ≡ in_places (scores ++ s ∷ [])
+in_places_push scores s below =
+    let longer : suc (length scores) ≡ length (scores ++ s ∷ []) = omega (arith, length-append scores (s ∷ [])) in
+    set_behind scores no_scores s below ∙ ap (λ n. (scores ++ s ∷ []) ++ drop n no_scores) longer
 
 -- one score more adds it as often as its rule's weight says
 weighted_push : (weights scores : List ℕ) (w s : ℕ) → slice_get weights (length scores) ≡ Some w → weighted weights (scores ++ s ∷ []) ≡ weighted weights scores + w * s
@@ -55,12 +69,14 @@ are_push rules told scores s are says = λ k below.
     (subst (λ v. rules.Scores (length scores) told (score.Good v)) (sym (get_or_push scores s 0 (length scores) refl)) says)
     k (omega (arith, below, length-append scores (s ∷ [])))
 
-pub good_before_more : (rules : RuleSet) (told : Told) (place sum w s : ℕ) → GoodBefore rules told place sum → slice_get rules.weights place ≡ Some w → rules.Scores place told (score.Good s) → GoodBefore rules told (place + 1) (sum + w * s)
-good_before_more rules told place sum w s before at says = record {
+pub good_before_more : (rules : RuleSet) (told : Told) (place sum w s : ℕ) (shown : List ℕ) → place < 16 → GoodBefore rules told place sum shown → slice_get rules.weights place ≡ Some w
+    → rules.Scores place told (score.Good s) → GoodBefore rules told (place + 1) (sum + w * s) (set shown place s)
+good_before_more rules told place sum w s shown below before at says = record {
   scores = before.scores ++ s ∷ [];
   many = simp length-append (omega (arith, before.many));
   are = are_push rules told before.scores s before.are (subst (λ n. rules.Scores n told (score.Good s)) (sym before.many) says);
   adds = omega (arith, before.adds, weighted_push rules.weights before.scores w s (rw before.many at));
+  shows = ap (λ t. set t place s) before.shows ∙ (ap (λ n. set (in_places before.scores) n s) (sym before.many) ∙ in_places_push before.scores s (omega (arith, below, before.many)));
 }
 
 -- a weight and a good score make at most 1,000
@@ -71,18 +87,19 @@ product_within w s few good = mul-le w s 10 100 few good
 without_rules : (rules : RuleSet) (pod : Pod) (shown : Shown) (verdict : Verdict) → length rules.weights ≡ 0 → IsBuiltIn pod shown verdict → HasVerdict rules pod shown verdict
 without_rules rules pod shown verdict none = cases (built_in shown pod)
   where
-    cases : (found : Option Reason) → MatchOption found (verdict ≡ passing shown pod 0) (λ reason. verdict ≡ Rejected reason)
+    cases : (found : Option Reason) → MatchOption found (verdict ≡ passing shown pod nothing_added) (λ reason. verdict ≡ Rejected reason)
         → MatchOption found (ByRules rules pod shown verdict) (λ reason. verdict ≡ Rejected reason)
     cases None is = record {
       filtered = None;
       are = λ k below. absurd (omega (arith, below, none));
       is = record {
-        scored = Ok 0;
+        scored = Ok nothing_added;
         are = record {
           scores = [];
           all = sym none;
           are = λ k below. absurd (omega (arith, below));
           adds = nothing rules.weights;
+          shows = refl;
         };
         is = is;
       };

@@ -82,4 +82,4 @@ pub is_erring : (verdict : Verdict) → errs verdict ≡ true → (place : ℕ) 
 is_erring (Rejected reason) e = cc
 is_erring (RejectedBy place how) e = cc
 is_erring (Errs place why) e = (place, why, refl)
-is_erring (Passes count score) e = cc
+is_erring (Passes count score scores) e = cc

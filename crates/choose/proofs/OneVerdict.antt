@@ -8,10 +8,11 @@ use Rattle.desk.specs.Shown.{Shown}
 use Rattle.rules.specs.RuleSet.{RuleSet, Told, SayOneThing}
 use Rattle.rules.specs.declared.verdict.FilterVerdict.TheVariants as filter
 use Rattle.rules.specs.declared.verdict.ScoreVerdict.TheVariants as score
+use Rattle.choose.specs.declared.asking.Added.{Added}
 use Rattle.choose.specs.declared.decision.Reason.{Reason}
 use Rattle.choose.specs.declared.decision.Verdict.{Verdict}
 use Rattle.choose.specs.declared.decision.Verdict.TheVariants.{Rejected, Errs}
-use Rattle.choose.specs.Verdict.{built_in, stopped_by, StopsAt, Filtered, AreScores, weighted, ScoreErrs, Scored, made_by, ByScores, ByRules, HasVerdict}
+use Rattle.choose.specs.Verdict.{built_in, stopped_by, StopsAt, Filtered, AreScores, weighted, in_places, ScoreErrs, Scored, made_by, ByScores, ByRules, HasVerdict}
 
 by_less : (m n : ℕ) (a : Bool) → nat_lt m n ≡ a → (b : Bool) → nat_lt n m ≡ b → (m < n) ⊎ ((m ≡ n) ⊎ (n < m))
 by_less m n true e b f = inl (ltb-true m n e)
@@ -73,10 +74,14 @@ one_error rules told v w once one other = elim (three_ways (length one.before) (
   ]
 ]
 
-one_scored : (rules : RuleSet) (told : Told) (one other : Result ℕ Verdict) → SayOneThing rules → Scored rules told one → Scored rules told other → one ≡ other
+-- what is added is told by its sum and its scores
+same_added : (one other : Added) → one.sum ≡ other.sum → one.scores ≡ other.scores → one ≡ other
+same_added one other sums scores = λ k. record { sum = sums k; scores = scores k }
+
+one_scored : (rules : RuleSet) (told : Told) (one other : Result Added Verdict) → SayOneThing rules → Scored rules told one → Scored rules told other → one ≡ other
 one_scored rules told (Ok m) (Ok n) once a b =
     let same : a.scores ≡ b.scores = same_scores rules told a.scores b.scores once (a.all ∙ sym b.all) a.are b.are in
-    ap (λ x. Ok x) (a.adds ∙ (ap (weighted rules.weights) same ∙ sym b.adds))
+    ap (λ x. Ok x) (same_added m n (a.adds ∙ (ap (weighted rules.weights) same ∙ sym b.adds)) (a.shows ∙ (ap in_places same ∙ sym b.shows)))
 one_scored rules told (Ok m) (Err w) once a b = absurd (not_erring rules told w a.scores once b a.are (omega (arith, b.there, a.all)))
 one_scored rules told (Err v) (Ok n) once a b = absurd (not_erring rules told v b.scores once a b.are (omega (arith, a.there, b.all)))
 one_scored rules told (Err v) (Err w) once a b = ap (λ x. Err x) (one_error rules told v w once a b)

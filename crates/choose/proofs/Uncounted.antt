@@ -64,19 +64,19 @@ rejected_for : (own reason : Reason) (verdict : Verdict) → rejects_for verdict
 rejected_for own reason (Rejected other) is = let same : other ≡ own = cc in ap (same_reason reason) same
 rejected_for own reason (RejectedBy place how) is = let same : reason_of how ≡ own = cc in ap (same_reason reason) same
 rejected_for own reason (Errs place why) is = absurd (cc)
-rejected_for own reason (Passes count score) is = absurd (cc)
+rejected_for own reason (Passes count score scores) is = absurd (cc)
 
 rejected_counts_none : (own : Reason) (verdict : Verdict) → rejects_for verdict ≡ Some own → count_of verdict ≡ 0
 rejected_counts_none own (Rejected other) is = refl
 rejected_counts_none own (RejectedBy place how) is = refl
 rejected_counts_none own (Errs place why) is = refl
-rejected_counts_none own (Passes count score) is = absurd (cc)
+rejected_counts_none own (Passes count score scores) is = absurd (cc)
 
 rejected_has_none : (own : Reason) (most : ℕ) (verdict : Verdict) → rejects_for verdict ≡ Some own → total_of most verdict ≡ None
 rejected_has_none own most (Rejected other) is = refl
 rejected_has_none own most (RejectedBy place how) is = refl
 rejected_has_none own most (Errs place why) is = refl
-rejected_has_none own most (Passes count score) is = absurd (cc)
+rejected_has_none own most (Passes count score scores) is = absurd (cc)
 
 -- ---- without a node that is rejected
 

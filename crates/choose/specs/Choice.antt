@@ -32,14 +32,14 @@ abbrev pub errs : Verdict → Bool
 errs (Rejected reason) = false
 errs (RejectedBy place how) = false
 errs (Errs place why) = true
-errs (Passes count score) = false
+errs (Passes count score scores) = false
 
 -- the untolerated taints `PreferNoSchedule` of a node that passes
 abbrev pub count_of : Verdict → ℕ
 count_of (Rejected reason) = 0
 count_of (RejectedBy place how) = 0
 count_of (Errs place why) = 0
-count_of (Passes count score) = count
+count_of (Passes count score scores) = count
 
 -- the greatest number of such taints over the nodes that pass, and 0 where none does
 abbrev pub most_of : List Judged → ℕ
@@ -53,7 +53,7 @@ abbrev pub total_of : (most : ℕ) → Verdict → Option ℕ
 total_of most (Rejected reason) = None
 total_of most (RejectedBy place how) = None
 total_of most (Errs place why) = None
-total_of most (Passes count score) = Some (total most count score)
+total_of most (Passes count score scores) = Some (total most count score)
 
 -- two reasons are the same
 abbrev pub same_reason : Reason → Reason → Bool
@@ -71,7 +71,7 @@ abbrev pub is_for : Reason → Verdict → Bool
 is_for reason (Rejected own) = same_reason reason own
 is_for reason (RejectedBy place how) = same_reason reason (reason_of how)
 is_for reason (Errs place why) = false
-is_for reason (Passes count score) = false
+is_for reason (Passes count score scores) = false
 
 -- how many nodes are rejected for this first reason
 abbrev pub count_for : Reason → List Judged → ℕ

@@ -10,13 +10,13 @@ use Rattle.choose.specs.declared.decision.Reason.TheVariants.{Marked, Taint, Cpu
 use Rattle.choose.specs.declared.decision.Counts.{Counts}
 use Rattle.choose.specs.declared.decision.Verdict.{Verdict}
 use Rattle.choose.specs.declared.decision.Verdict.TheVariants.{Rejected}
-use Rattle.choose.specs.Verdict.{built_in, passing}
+use Rattle.choose.specs.Verdict.{built_in, passing, nothing_added}
 use Rattle.choose.specs.Choice.{Judged, errs, count_of, total_of, is_for, IsFirst}
 use Rattle.quant.specs.Name.{is_before}
 
 -- the verdict on a node where there is no rule: the first built-in filter that rejects it, else it passes with nothing added
 abbrev pub IsBuiltIn : Pod → Shown → Verdict → Type 0
-IsBuiltIn pod shown verdict = MatchOption (built_in shown pod) (verdict ≡ passing shown pod 0) (λ reason. verdict ≡ Rejected reason)
+IsBuiltIn pod shown verdict = MatchOption (built_in shown pod) (verdict ≡ passing shown pod nothing_added) (λ reason. verdict ≡ Rejected reason)
 
 -- what a verdict is worth
 abbrev pub worth_of : Worth → Verdict → Option ℕ

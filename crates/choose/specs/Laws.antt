@@ -66,7 +66,7 @@ abbrev pub rejects_for : Verdict → Option Reason
 rejects_for (Rejected reason) = Some reason
 rejects_for (RejectedBy place how) = Some (reason_of how)
 rejects_for (Errs place why) = None
-rejects_for (Passes count score) = None
+rejects_for (Passes count score scores) = None
 
 -- Without a node that is rejected the decision among the others is the same, but for the counts.
 abbrev pub RejectedOnlyCount : Type 0

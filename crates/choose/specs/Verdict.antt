@@ -1,5 +1,5 @@
 -- What is decided of one node. It depends on that node, the pod and the rules alone.
-use Rattle.std.specs.Prelude.{◌≡◌, ℕ, ◌+◌, ◌*◌, ◌<◌, List, [], ◌∷◌, length, Option, Some, None, Result, Ok, Err, MatchOption, slice_index}
+use Rattle.std.specs.Prelude.{◌≡◌, ℕ, ◌+◌, ◌*◌, ◌<◌, List, [], ◌∷◌, ◌++◌, length, drop, replicate, Option, Some, None, Result, Ok, Err, MatchOption, slice_index}
 use Rattle.quant.specs.declared.objects.Pod.{Pod}
 use Rattle.fit.specs.declared.room.Shortage.{Shortage}
 use Rattle.fit.specs.declared.room.Shortage.TheVariants as shortage
@@ -16,6 +16,7 @@ use Rattle.rules.specs.declared.verdict.Cause.{Cause}
 use Rattle.rules.specs.declared.verdict.FilterVerdict.{FilterVerdict}
 use Rattle.rules.specs.declared.verdict.FilterVerdict.TheVariants as filter
 use Rattle.rules.specs.declared.verdict.ScoreVerdict.TheVariants as score
+use Rattle.choose.specs.declared.asking.Added.{Added}
 use Rattle.choose.specs.declared.decision.Reason.{Reason}
 use Rattle.choose.specs.declared.decision.Reason.TheVariants.{Marked, Taint, Cpu, Memory, Pods, Plugin, Final}
 use Rattle.choose.specs.declared.decision.Verdict.{Verdict}
@@ -80,12 +81,21 @@ weighted [] scores = 0
 weighted (w ∷ ws) [] = 0
 weighted (w ∷ ws) (s ∷ ss) = w * s + weighted ws ss
 
--- all rules give good scores, and this is their weighted sum
-pub record ScoresSum (rules : RuleSet) (told : Told) (sum : ℕ) : Type 0 where
+-- the places that a verdict has for the scores of rules, where none is given
+abbrev pub no_scores : List ℕ
+no_scores = replicate 16 0
+
+-- scores in the first of these places
+abbrev pub in_places : List ℕ → List ℕ
+in_places scores = scores ++ drop (length scores) no_scores
+
+-- all rules give good scores, and this is what they add: their weighted sum, and the scores in their places
+pub record ScoresAdd (rules : RuleSet) (told : Told) (added : Added) : Type 0 where
   pub scores : List ℕ
   pub all : length scores ≡ length rules.weights
   pub are : AreScores rules told scores
-  pub adds : sum ≡ weighted rules.weights scores
+  pub adds : added.sum ≡ weighted rules.weights scores
+  pub shows : added.scores ≡ in_places scores
 
 -- the first rule whose score isn't good
 pub record ScoreErrs (rules : RuleSet) (told : Told) (verdict : Verdict) : Type 0 where
@@ -97,23 +107,27 @@ pub record ScoreErrs (rules : RuleSet) (told : Told) (verdict : Verdict) : Type 
   pub makes : verdict ≡ Errs (length before) why
 
 -- what the scores of the rules make of a node that all filters pass
-abbrev pub Scored : RuleSet → (told : Told) → Result ℕ Verdict → Type 0
-Scored rules told (Ok sum) = ScoresSum rules told sum
+abbrev pub Scored : RuleSet → (told : Told) → Result Added Verdict → Type 0
+Scored rules told (Ok added) = ScoresAdd rules told added
 Scored rules told (Err verdict) = ScoreErrs rules told verdict
 
--- a node that passes: its untolerated taints `PreferNoSchedule`, and its score for free room with what the rules add
-abbrev pub passing : Shown → Pod → ℕ → Verdict
-passing shown pod sum =
-    Passes (prefer_not shown.node pod) (least_allocated_score shown.node.allocatable shown.used pod.request + sum)
+-- a node that passes: its untolerated taints `PreferNoSchedule`, its score for free room with what the rules add, and their scores
+abbrev pub passing : Shown → Pod → Added → Verdict
+passing shown pod added =
+    Passes (prefer_not shown.node pod) (least_allocated_score shown.node.allocatable shown.used pod.request + added.sum) added.scores
+
+-- what is added where there is no rule
+abbrev pub nothing_added : Added
+nothing_added = record { sum = 0; scores = no_scores }
 
 -- the verdict that the scores make
-abbrev pub made_by : Shown → Pod → Result ℕ Verdict → Verdict
-made_by shown pod (Ok sum) = passing shown pod sum
+abbrev pub made_by : Shown → Pod → Result Added Verdict → Verdict
+made_by shown pod (Ok added) = passing shown pod added
 made_by shown pod (Err verdict) = verdict
 
 -- the verdict on a node that all filters pass: the first score that isn't good, else it passes
 pub record ByScores (rules : RuleSet) (pod : Pod) (shown : Shown) (verdict : Verdict) : Type 0 where
-  pub scored : Result ℕ Verdict
+  pub scored : Result Added Verdict
   pub are : Scored rules (told_of pod shown) scored
   pub is : verdict ≡ made_by shown pod scored
 

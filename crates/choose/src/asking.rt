@@ -7,6 +7,15 @@ ghost use Rattle.choose.specs.Verdict.{Filtered, Scored};
 use crate::decision::Verdict;
 use rules::{FilterVerdict, Rules, ScoreVerdict};
 
+/// What the scores of the rules add to a node.
+#[derive(Clone, Copy)]
+pub struct Added {
+    /// Each score as often as its rule's weight says, added up.
+    pub sum: u16,
+    /// The scores, by the rules' places. A place without a rule has 0.
+    pub scores: [u8; 16],
+}
+
 /// What the filters of the rules make of the node that is shown, in their order: the first that doesn't pass ends it.
 pub fn filtered<R: Rules>(notes: &mut R::Notes, rules: &mut R) -> Option<Verdict>
     ensures is { (told : Told) → R.OfPod notes.old told.pod → R.OfNode notes.old told.node told.used
@@ -24,23 +33,24 @@ pub fn filtered<R: Rules>(notes: &mut R::Notes, rules: &mut R) -> Option<Verdict
     None
 }
 
-/// What the scores of the rules add to the node that is shown, each as often as its weight says, or the verdict where one isn't
-/// good.
-pub fn scored<R: Rules>(notes: &mut R::Notes, rules: &mut R) -> Result<u16, Verdict>
+/// What the scores of the rules add to the node that is shown, or the verdict where one isn't good.
+pub fn scored<R: Rules>(notes: &mut R::Notes, rules: &mut R) -> Result<Added, Verdict>
     ensures is { (told : Told) → R.OfPod notes.old told.pod → R.OfNode notes.old told.node told.used
         → Scored (R.answers rules.old) told result }
     ensures notes { notes.new ≡ notes.old }
     ensures stays { rules.new ≡ rules.old }
-    ensures few { IfOk result (λ sum. sum ≤ 16000) }
+    ensures few { IfOk result (λ added. added.sum ≤ 16000) }
 {
     let mut sum = 0;
+    let mut scores = [0; 16];
     for place in 0..rules.count() {
         match rules.score(place, notes) {
             ScoreVerdict::Good(score) => {
                 sum += u16::from(rules.weight(place)) * u16::from(score);
+                scores[place] = score;
             }
             ScoreVerdict::Errs(why) => return Err(Verdict::Errs(place, why)),
         }
     }
-    Ok(sum)
+    Ok(Added { sum, scores })
 }

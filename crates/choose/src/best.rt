@@ -35,7 +35,9 @@ impl Worth {
     {
         match (self, verdict) {
             (Worth::Error, Verdict::Errs(_, _)) => Some(0),
-            (Worth::Total(most), Verdict::Passes(count, score)) => Some(total(most, count, score)),
+            (Worth::Total(most), Verdict::Passes(count, score, _)) => Some(total(
+                most, count, score,
+            )),
             _ => None,
         }
     }
@@ -112,7 +114,7 @@ fn count_of(verdict: Verdict) -> u8
     ensures { result ≡ count_of verdict }
 {
     match verdict {
-        Verdict::Passes(count, _) => count,
+        Verdict::Passes(count, _, _) => count,
         _ => 0,
     }
 }

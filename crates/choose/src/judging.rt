@@ -7,7 +7,7 @@ ghost use Rattle.choose.specs.Verdict.{HasVerdict, built_in, passing};
 ghost use Rattle.choose.specs.Choice.{AreVerdicts};
 ghost use Rattle.choose.specs.Finding.{IsBuiltIn};
 
-use crate::asking::{filtered, scored};
+use crate::asking::{Added, filtered, scored};
 use crate::decision::{Reason, UNJUDGED, Verdict};
 use desk::Row;
 use fit::{Shortage, fits};
@@ -48,13 +48,17 @@ fn untolerated(row: &Row, pod: &Pod) -> u8
     prefer_count(&row.node, pod)
 }
 
-// The verdict on a node that all filters pass, and whose scores of the rules come to this sum.
-fn passing(row: &Row, pod: &Pod, sum: u16) -> Verdict
-    requires { sum ≤ 16000 }
-    ensures { result ≡ passing (shown row.now) pod.now sum }
+// The verdict on a node that all filters pass, and to which the scores of the rules add this.
+fn passing(row: &Row, pod: &Pod, added: Added) -> Verdict
+    requires { added.sum ≤ 16000 }
+    ensures { result ≡ passing (shown row.now) pod.now added }
 {
     let free = row.allocatable().least_allocated(row.used, pod.request);
-    Verdict::Passes(untolerated(row, pod), u16::from(free) + sum)
+    Verdict::Passes(
+        untolerated(row, pod),
+        u16::from(free) + added.sum,
+        added.scores,
+    )
 }
 
 // The verdict on a node where there is no rule. It need be shown to none.
@@ -63,7 +67,13 @@ fn built_in_verdict(row: &Row, pod: &Pod) -> Verdict
 {
     match built_in(row, pod) {
         Some(reason) => Verdict::Rejected(reason),
-        None => passing(row, pod, 0),
+        None => {
+            let nothing = Added {
+                sum: 0,
+                scores: [0; 16],
+            };
+            passing(row, pod, nothing)
+        }
     }
 }
 
@@ -82,7 +92,7 @@ pub fn verdict_of<R: Rules>(row: &Row, pod: &Pod, notes: &mut R::Notes, rules: &
         return stopped;
     }
     match scored(notes, rules) {
-        Ok(sum) => passing(row, pod, sum),
+        Ok(added) => passing(row, pod, added),
         Err(erring) => erring,
     }
 }

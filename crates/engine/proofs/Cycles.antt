@@ -14,7 +14,7 @@ use Rattle.desk.specs.declared.step.Reply.{Reply}
 use Rattle.desk.specs.declared.step.Reply.TheVariants as replies
 use Rattle.book.specs.Step as book_step
 use Rattle.book.specs.declared.step.ClusterStep.TheVariants as cluster
-use Rattle.desk.specs.Machine.{State, opening, reply, after, entry_at, popped, unless}
+use Rattle.desk.specs.Machine.{State, opening, reply, after, snapshot, entry_at, popped, unless}
 use Rattle.desk.specs.History.{Call, AreAnswered, call, state_after}
 use Rattle.desk.specs.Shared.{Pass, Desk, IsPassOf, IsApplied, IsLooked}
 use Rattle.desk.specs.Alone.{state_seen, AnswersAlone, LooksAlone}
@@ -26,8 +26,8 @@ use Rattle.choose.specs.declared.decision.Decision.TheVariants as decisions
 use Rattle.choose.specs.declared.decision.Verdict.{Verdict}
 use Rattle.choose.specs.Choice.{AreVerdicts, Choice}
 use Rattle.engine.specs.declared.one_cycle.Cycled.{Cycled}
-use Rattle.engine.specs.Cycle.{IsFailed, MayLook, IsGivenUp, IsLeft, IsCutShort, AfterAssume, EndsWith, IsDecided, AfterPop, IsCycle, DecideAfter, DecideCycle}
-use Rattle.engine.specs.CycleAlone.{AfterAssumeAlone, EndsAlone, IsDecidedAlone, AfterPopAlone, IsCycleAlone, DecideAlone}
+use Rattle.engine.specs.Cycle.{IsFailed, IsGivenUp, IsInVain, IsLeft, IsCutShort, AfterAssume, EndsWith, IsDecided, AreSeen}
+use Rattle.engine.specs.CycleAlone.{AfterAssumeAlone, EndsAlone, IsDecidedAlone}
 
 -- ---- whose pass it is
 
@@ -91,9 +91,8 @@ assume_answers desk p p' uid node answer applied =
 
 -- ---- a pod that was popped in vain
 
-pub popped_in_vain : (desk : Desk) (p popped looked p' : Pass) (answer : Reply) (pod : Pod) (held : Option Name) → answer ≡ replies.Popped pod → IsApplied desk p Pop answer popped → MayLook desk popped looked → IsLeft desk looked pod.uid held p' → IsCutShort desk p held p'
-popped_in_vain desk p popped looked p' answer pod held is pops looks left =
-    inr (record { pod = pod; popped = popped; pops = subst (λ a. IsApplied desk p Pop a popped) is pops; looked = looked; looks = looks; left = left })
+pub popped_in_vain : (desk : Desk) (p popped p' : Pass) (pod : Pod) (held : Option Name) → IsApplied desk p Pop (replies.Popped pod) popped → IsInVain desk popped pod.uid held p' → IsCutShort desk p held p'
+popped_in_vain desk p popped p' pod held pops in_vain = inr (record { pod = pod; popped = popped; pops = pops; in_vain = in_vain })
 
 -- a pod for which no place was asked
 pub left_alone : (desk : Desk) (p p' : Pass) (uid : Name) (held : Option Name) → IsGivenUp desk p uid held p' → IsLeft desk p uid held p'
@@ -123,7 +122,8 @@ module _ (desk : Desk) (one : desk.handed ≡ 1) (answers : AnswersAlone) (looks
   ends_alone p p' uid (decisions.Unschedulable counts) came member ends = (ends.0, fails_alone p p' uid Unschedulable member ends.1)
   ends_alone p p' uid (decisions.PluginError place node cause) came member ends = (ends.0, fails_alone p p' uid Again member ends.1)
 
-  decided_alone : (rules : RuleSet) (p p' : Pass) (pod : Pod) (came : Cycled) → IsPassOf p desk → IsDecided rules desk p pod came p' → IsDecidedAlone rules (state_seen desk p) pod came (state_seen desk p')
+  -- what is decided of a pod by the only pass is told by the state that it has seen
+  pub decided_alone : (rules : RuleSet) (p p' : Pass) (pod : Pod) (came : Cycled) → IsPassOf p desk → IsDecided rules desk p pod came p' → IsDecidedAlone rules (state_seen desk p) pod came (state_seen desk p')
   decided_alone rules p p' pod came member decided =
       let chosen = decided.chosen in
       let seen = looks desk p decided.looked chosen.rows one member chosen.looked in
@@ -134,40 +134,8 @@ module _ (desk : Desk) (one : desk.handed ≡ 1) (answers : AnswersAlone) (looks
         ends = subst (λ s. EndsAlone s pod.uid decided.decision came (state_seen desk p')) seen.1 (ends_alone decided.looked p' pod.uid decided.decision came there decided.ends);
       }
 
-  after_pop_alone : (rules : RuleSet) (p p' : Pass) (answer : Reply) (came : Cycled) → IsPassOf p desk → AfterPop rules desk p answer came p' → AfterPopAlone rules (state_seen desk p) answer came (state_seen desk p')
-  after_pop_alone rules p p' (replies.Popped pod) came member then = decided_alone rules p p' pod came member then
-  after_pop_alone rules p p' replies.Idle came member then = (then.0, ap (state_seen desk) then.1)
-  after_pop_alone rules p p' replies.Done came member then = then
-  after_pop_alone rules p p' (replies.Ticket ticket) came member then = then
-  after_pop_alone rules p p' (replies.Counts n) came member then = then
-  after_pop_alone rules p p' (replies.Refused why) came member then = then
-
-  -- a cycle of the only pass is told by the state that it has seen
-  pub cycle_alone : (rules : RuleSet) (p p' : Pass) (came : Cycled) → IsPassOf p desk → IsCycle rules desk p came p' → IsCycleAlone rules (state_seen desk p) came (state_seen desk p')
-  cycle_alone rules p p' came member cycle =
-      let said = answers desk p cycle.popped Pop cycle.answer one member cycle.pops in
-      let there = member_applied desk p cycle.popped Pop cycle.answer cycle.pops member in
-      record {
-        is = subst (λ s. AfterPopAlone rules s (reply (state_seen desk p) 0 Pop) came (state_seen desk p')) said.1
-            (subst (λ answer. AfterPopAlone rules (state_seen desk cycle.popped) answer came (state_seen desk p')) said.0
-            (after_pop_alone rules cycle.popped p' cycle.answer came there cycle.then));
-      }
-
-  -- and so are the verdicts by which it was decided
-  decide_alone : (rules : RuleSet) (p : Pass) (answer : Reply) (verdicts : List Verdict) → IsPassOf p desk → DecideAfter rules desk p answer verdicts → DecideAlone rules (state_seen desk p) answer verdicts
-  decide_alone rules p (replies.Popped pod) verdicts member seen =
+  -- and so are the verdicts by which it is decided
+  pub verdicts_alone : (rules : RuleSet) (p : Pass) (pod : Pod) (verdicts : List Verdict) → IsPassOf p desk → AreSeen rules desk p pod verdicts
+      → AreVerdicts rules pod (snapshot (state_seen desk p).cluster) verdicts
+  verdicts_alone rules p pod verdicts member seen =
       subst (λ rows. AreVerdicts rules pod rows verdicts) (looks desk p seen.looked seen.rows one member seen.looks).0 seen.are
-  decide_alone rules p replies.Idle verdicts member seen = tt
-  decide_alone rules p replies.Done verdicts member seen = tt
-  decide_alone rules p (replies.Ticket ticket) verdicts member seen = tt
-  decide_alone rules p (replies.Counts n) verdicts member seen = tt
-  decide_alone rules p (replies.Refused why) verdicts member seen = tt
-
-  pub verdicts_alone : (rules : RuleSet) (p : Pass) (verdicts : List Verdict) → IsPassOf p desk → DecideCycle rules desk p verdicts
-      → DecideAlone rules (after (state_seen desk p) 0 Pop) (reply (state_seen desk p) 0 Pop) verdicts
-  verdicts_alone rules p verdicts member cycle =
-      let said = answers desk p cycle.popped Pop cycle.answer one member cycle.pops in
-      let there = member_applied desk p cycle.popped Pop cycle.answer cycle.pops member in
-      subst (λ s. DecideAlone rules s (reply (state_seen desk p) 0 Pop) verdicts) said.1
-      (subst (λ answer. DecideAlone rules (state_seen desk cycle.popped) answer verdicts) said.0
-      (decide_alone rules cycle.popped cycle.answer verdicts there cycle.then))

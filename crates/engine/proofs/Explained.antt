@@ -1,9 +1,9 @@
 -- What explains a script's cycles is its output, with lines put in.
 use Rattle.std.proofs.Common.{◌≡◌, ℕ, true, false, List, [], ◌∷◌, ◌++◌, refl, sym, ap, subst, ◌∙◌, append_assoc}
 use Rattle.std.proofs.lemmas.List.Elements.{All-nil, All-cons}
-use Rattle.quant.specs.declared.name.Name.{Name}
 use Rattle.rules.specs.RuleSet.{RuleSet}
 use Rattle.desk.specs.Machine.{State}
+use Rattle.engine.specs.declared.named_rule.NamedRule.{NamedRule}
 use Rattle.engine.specs.declared.asked.Asked.{Asked}
 use Rattle.engine.specs.declared.asked.Asked.TheVariants as asked
 use Rattle.engine.specs.Answers.{opening, Answered, AllAnswered}
@@ -18,20 +18,20 @@ use Rattle.engine.proofs.Indented.{left_in, left_out, no_lines, without-none}
 -- ---- what is asked
 
 -- the answer to what is asked, and what is put in before it
-pub record Part (rules : RuleSet) (names : List Name) (s : State) (a : Asked) (s' : State) (text : List ℕ) : Type 0 where
+pub record Part (rules : RuleSet) (named : List NamedRule) (s : State) (a : Asked) (s' : State) (text : List ℕ) : Type 0 where
   pub told : List ℕ
   pub plain : List ℕ
   pub is : text ≡ told ++ plain
-  pub answered : Answered rules (telling names false) s a s' plain
+  pub answered : Answered rules (telling named false) s a s' plain
   pub indented : AreLines true told
   pub others : AreLines false plain
 
-part_of : (rules : RuleSet) (names : List Name) (s : State) (a : Asked) (s' : State) (text : List ℕ) → Answered rules (telling names true) s a s' text → Part rules names s a s' text
-part_of rules names s (asked.Step step) s' text answered =
+part_of : (rules : RuleSet) (named : List NamedRule) (s : State) (a : Asked) (s' : State) (text : List ℕ) → Answered rules (telling named true) s a s' text → Part rules named s a s' text
+part_of rules named s (asked.Step step) s' text answered =
     record { told = []; plain = text; is = refl; answered = answered; indented = no_lines true; others = answered.2 }
-part_of rules names s asked.Cycle s' text (came, cycle, (told, are, indented, others, is)) = record {
+part_of rules named s asked.Cycle s' text (came, cycle, (told, are, indented, others, is)) = record {
   told = told;
-  plain = cycle_line names came;
+  plain = cycle_line named came;
   is = is;
   answered = (came, cycle, ([], refl, no_lines true, others, refl));
   indented = indented;
@@ -39,22 +39,22 @@ part_of rules names s asked.Cycle s' text (came, cycle, (told, are, indented, ot
 }
 
 -- the same of all that is asked
-pub record Parts (rules : RuleSet) (names : List Name) (s : State) (l : List Asked) (s' : State) (text : List ℕ) : Type 0 where
+pub record Parts (rules : RuleSet) (named : List NamedRule) (s : State) (l : List Asked) (s' : State) (text : List ℕ) : Type 0 where
   pub plain : List ℕ
-  pub answered : AllAnswered rules (telling names false) s l s' plain
+  pub answered : AllAnswered rules (telling named false) s l s' plain
   pub with_lines : IsWithLines plain text
   pub without : without_indented text ≡ plain
 
-parts_of : (rules : RuleSet) (names : List Name) (s : State) (l : List Asked) (s' : State) (text : List ℕ) → AllAnswered rules (telling names true) s l s' text → Parts rules names s l s' text
-parts_of rules names s [] s' text answered = record {
+parts_of : (rules : RuleSet) (named : List NamedRule) (s : State) (l : List Asked) (s' : State) (text : List ℕ) → AllAnswered rules (telling named true) s l s' text → Parts rules named s l s' text
+parts_of rules named s [] s' text answered = record {
   plain = [];
   answered = (answered.0, refl);
   with_lines = record { parts = []; text_is = answered.1; plain_is = refl; indented = All-nil (λ part. AreLines true part.0) };
   without = ap without_indented answered.1 ∙ without-none;
 }
-parts_of rules names s (first ∷ later) s' text (between, answer, rest, now, then, is) =
-    let one = part_of rules names s first between answer now in
-    let others = parts_of rules names between later s' rest then in
+parts_of rules named s (first ∷ later) s' text (between, answer, rest, now, then, is) =
+    let one = part_of rules named s first between answer now in
+    let others = parts_of rules named between later s' rest then in
     let lines = others.with_lines in
     record {
       plain = one.plain ++ others.plain;
@@ -74,12 +74,12 @@ parts_of rules names s (first ∷ later) s' text (between, answer, rest, now, th
 
 -- the output that explains is the output, with lines put in
 pub explained_output : (rules : RuleSet) → ExplainedOutput rules
-explained_output rules names script text output =
-    let parts = parts_of rules names opening (asked_in (lines_of script)) output.end text output.answered in
+explained_output rules named script text output =
+    let parts = parts_of rules named opening (asked_in (lines_of script)) output.end text output.answered in
     (parts.plain, record { end = output.end; answered = parts.answered }, parts.with_lines)
 
 -- and without these lines it is the output
 pub plain_output : (rules : RuleSet) → PlainOutput rules
-plain_output rules names script text output =
-    let parts = parts_of rules names opening (asked_in (lines_of script)) output.end text output.answered in
-    subst (λ t. IsOutput rules (telling names false) script t) (sym parts.without) (record { end = output.end; answered = parts.answered })
+plain_output rules named script text output =
+    let parts = parts_of rules named opening (asked_in (lines_of script)) output.end text output.answered in
+    subst (λ t. IsOutput rules (telling named false) script t) (sym parts.without) (record { end = output.end; answered = parts.answered })

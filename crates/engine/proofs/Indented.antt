@@ -81,6 +81,11 @@ name_parts name e =
 pub IsLine-name : (name : List ℕ) → is_name name ≡ true → IsLine name
 IsLine-name name e = name_bytes name (name_parts name e).1
 
+-- nor has a text that may be empty
+pub IsLine-text : (text : List ℕ) → is_text text ≡ true → IsLine text
+unfolding is_text
+IsLine-text text e = name_bytes text (and_parts (nat_le (length text) 63) (list_all is_name_byte text) e).1
+
 -- the first byte of a name is no space
 abbrev pub is_flush : List ℕ → Bool
 is_flush [] = false

@@ -14,11 +14,11 @@ use Rattle.rules.specs.RuleSet.{RuleSet, SayOneThing}
 use Rattle.choose.specs.declared.decision.Decision.{Decision}
 use Rattle.choose.specs.declared.decision.Decision.TheVariants as decisions
 use Rattle.choose.specs.Laws.{HaveOwnNames}
-use Rattle.choose.specs.Choice.{judged}
 use Rattle.choose.proofs.OneDecision.{one_decision}
 use Rattle.choose.proofs.OneVerdict.{one_list}
 use Rattle.engine.specs.declared.asked.Asked.{Asked}
 use Rattle.engine.specs.declared.asked.Asked.TheVariants as asked
+use Rattle.engine.specs.declared.named_rule.NamedRule.{NamedRule}
 use Rattle.engine.specs.declared.one_cycle.Cycled.{Cycled}
 use Rattle.engine.specs.CycleAlone.{AfterAssumeAlone, EndsAlone, IsDecidedAlone, AfterPopAlone}
 use Rattle.engine.specs.Answers.{after, opening, limits, Answered, AllAnswered}
@@ -100,19 +100,19 @@ after_pop_own rules s (replies.Refused why) came s' own a = absurd a
 
 -- ---- what is told of the nodes
 
-one_told_after : (rules : RuleSet) (names : List Name) (s : State) (r : Reply) (text text' : List ℕ) → SayOneThing rules → Explains rules names s r text → Explains rules names s r text' → text ≡ text'
-one_told_after rules names s (replies.Popped pod) text text' once a b =
+one_told_after : (rules : RuleSet) (named : List NamedRule) (s : State) (r : Reply) (text text' : List ℕ) → SayOneThing rules → Explains rules named s r text → Explains rules named s r text' → text ≡ text'
+one_told_after rules named s (replies.Popped pod) text text' once a b =
     let same : a.0 ≡ b.0 = one_list rules pod (snapshot s.cluster) a.0 b.0 once a.1 b.1 in
-    a.2 ∙ (ap (λ verdicts. verdict_lines names (judged (snapshot s.cluster) verdicts)) same ∙ sym b.2)
-one_told_after rules names s replies.Done text text' once a b = a ∙ sym b
-one_told_after rules names s replies.Idle text text' once a b = a ∙ sym b
-one_told_after rules names s (replies.Ticket ticket) text text' once a b = a ∙ sym b
-one_told_after rules names s (replies.Counts n) text text' once a b = a ∙ sym b
-one_told_after rules names s (replies.Refused why) text text' once a b = a ∙ sym b
+    a.2 ∙ (ap (λ verdicts. verdict_lines named pod (snapshot s.cluster) verdicts) same ∙ sym b.2)
+one_told_after rules named s replies.Done text text' once a b = a ∙ sym b
+one_told_after rules named s replies.Idle text text' once a b = a ∙ sym b
+one_told_after rules named s (replies.Ticket ticket) text text' once a b = a ∙ sym b
+one_told_after rules named s (replies.Counts n) text text' once a b = a ∙ sym b
+one_told_after rules named s (replies.Refused why) text text' once a b = a ∙ sym b
 
-one_told : (rules : RuleSet) (names : List Name) (explains : Bool) (s : State) (text text' : List ℕ) → SayOneThing rules → TellsNodes rules names explains s text → TellsNodes rules names explains s text' → text ≡ text'
-one_told rules names true s text text' once a b = one_told_after rules names (machine.after s 0 Pop) (reply s 0 Pop) text text' once a b
-one_told rules names false s text text' once a b = a ∙ sym b
+one_told : (rules : RuleSet) (named : List NamedRule) (explains : Bool) (s : State) (text text' : List ℕ) → SayOneThing rules → TellsNodes rules named explains s text → TellsNodes rules named explains s text' → text ≡ text'
+one_told rules named true s text text' once a b = one_told_after rules named (machine.after s 0 Pop) (reply s 0 Pop) text text' once a b
+one_told rules named false s text text' once a b = a ∙ sym b
 
 -- ---- what is asked
 
@@ -129,8 +129,8 @@ one_answer rules telling s (asked.Step step) one other text text' once own a b =
 one_answer rules telling s asked.Cycle one other text text' once own a b =
     let popped : State = machine.after s 0 Pop in
     let same : Agree one other a.0 b.0 = after_pop rules popped (reply s 0 Pop) a.0 b.0 one other once (shown_apart popped.cluster (kept s 0 Pop own)) a.1.is b.1.is in
-    let told : a.2.0 ≡ b.2.0 = one_told rules telling.names telling.explains s a.2.0 b.2.0 once a.2.1 b.2.1 in
-    (same.0, a.2.4 ∙ ((λ i. told i ++ cycle_line telling.names (same.1 i)) ∙ sym b.2.4))
+    let told : a.2.0 ≡ b.2.0 = one_told rules telling.named telling.explains s a.2.0 b.2.0 once a.2.1 b.2.1 in
+    (same.0, a.2.4 ∙ ((λ i. told i ++ cycle_line telling.named (same.1 i)) ∙ sym b.2.4))
 
 -- and all that is asked has one
 pub all_one : (rules : RuleSet) (telling : Telling) (s : State) (l : List Asked) (one other : State) (text text' : List ℕ) → SayOneThing rules → Own s

@@ -1,13 +1,21 @@
 -- The lines of the output are whole lines: those of nodes are indented, and the others aren't.
-use Rattle.std.proofs.Common.{◌≡◌, ℕ, ◌==◌, ◌&&◌, Bool, true, false, List, [], ◌∷◌, ◌++◌, Result, Ok, Err, OnOk, IsTrue, refl, sym, subst, ap, codes, decimal, slice_index_or}
+use Rattle.std.proofs.Common.{◌≡◌, ℕ, ◌-◌, ◌==◌, ◌&&◌, Bool, true, false, List, [], ◌∷◌, ◌++◌, Option, Some, None, Result, Ok, Err, OnOk, IsTrue, refl, sym, subst, ap, codes, decimal}
 use Rattle.std.specs.List.{list_all}
-use Rattle.quant.specs.Name.{is_name}
+use Rattle.quant.specs.Name.{is_name, is_text}
 use Rattle.quant.specs.declared.name.Name.{Name}
 use Rattle.quant.specs.declared.amount.Res.{Res}
 use Rattle.quant.specs.declared.objects.Node.{Node}
+use Rattle.quant.specs.declared.objects.Pod.{Pod}
+use Rattle.quant.specs.declared.taint.Effect.{Effect}
+use Rattle.quant.specs.declared.taint.Effect.TheVariants as effect
+use Rattle.quant.specs.declared.taint.Taint.{Taint}
+use Rattle.fit.specs.Score.{least_allocated_score}
+use Rattle.taints.specs.TaintScore.{taint_score}
+use Rattle.taints.specs.Tolerance.{first_untolerated}
 use Rattle.book.specs.declared.refusal.Refusal.{Refusal}
 use Rattle.book.specs.declared.refusal.Refusal.TheVariants as refusal
 use Rattle.book.specs.Refusal as book
+use Rattle.rules.specs.declared.verdict.Rejection.{Rejection}
 use Rattle.rules.specs.declared.trap.Trap.{Trap}
 use Rattle.rules.specs.declared.trap.Trap.TheVariants as traps
 use Rattle.rules.specs.Trap as trap
@@ -18,18 +26,20 @@ use Rattle.choose.specs.declared.decision.Reason.{Reason}
 use Rattle.choose.specs.declared.decision.Reason.TheVariants as reason
 use Rattle.choose.specs.declared.decision.Verdict.{Verdict}
 use Rattle.choose.specs.declared.decision.Verdict.TheVariants as verdict
-use Rattle.choose.specs.Choice.{Judged, total}
+use Rattle.choose.specs.Choice.{total}
+use Rattle.desk.specs.Shown.{Shown}
 use Rattle.desk.specs.declared.step.Reply.{Reply}
 use Rattle.desk.specs.declared.step.Reply.TheVariants as replies
 use Rattle.engine.specs.Lines.{IsLine}
 use Rattle.engine.specs.Indented.{is_indented, AreLines}
-use Rattle.engine.specs.Text.{line_of, share_text, node_line, counts, ok_line, idle_line, refused_line, places_line, queue_line, clock_line, assumed_line, reasons_text, unschedulable_line, cause_text, error_line, lost_line}
-use Rattle.engine.specs.Telling.{reason_text, code_of, verdict_text, verdict_line}
+use Rattle.engine.specs.Text.{line_of, share_text, node_line, counts, ok_line, idle_line, refused_line, places_line, queue_line, clock_line, assumed_line, reasons_text, unschedulable_line, cause_text, error_line, lost_line, name_at}
+use Rattle.engine.specs.declared.named_rule.NamedRule.{NamedRule}
+use Rattle.engine.specs.Telling.{want_text, effect_name, taint_text, reason_text, code_of, part_text, parts_text, total_text, verdict_text, verdict_line}
 use Rattle.desk.specs.Machine as machine
 use Rattle.desk.specs.declared.step.Step.{Step}
 use Rattle.desk.specs.declared.step.Step.TheVariants as steps
 use Rattle.engine.specs.Answers.{State, look_lines, reply_lines, snapshot_lines, text_of}
-use Rattle.engine.proofs.Indented.{IsLine-by, IsLine-both, IsLine-decimal, IsLine-signed, IsLine-name, is_flush, name_is_flush, not_true, one_line, more_lines, no_lines, stands_in_line}
+use Rattle.engine.proofs.Indented.{IsLine-by, IsLine-both, IsLine-decimal, IsLine-signed, IsLine-name, IsLine-text, is_flush, name_is_flush, not_true, one_line, more_lines, no_lines, stands_in_line}
 
 -- what holds anyway holds where a result is good
 pub always : {T E P : Type 0} (r : Result T E) → P → OnOk r P
@@ -237,38 +247,74 @@ lost_lines uid why one = line (named uid one & words (codes " lost ") refl & num
 
 -- ---- the line of a node that a cycle saw
 
-reason_of : (why : Reason) → Part false (reason_text why)
+pub want_is_line : (label : List ℕ) (asked allocatable used : ℕ) → list_all stands_in_line label ≡ true → IsLine (label ++ want_text asked allocatable used)
+unfolding want_text
+want_is_line label asked allocatable used stands = (words label stands & (number asked & (words (codes " of ") refl & number (allocatable - used)))).is
+
+effect_of : (e : Effect) → Part false (effect_name e)
+effect_of effect.NoSchedule = words (codes "NoSchedule") refl
+effect_of effect.PreferNoSchedule = words (codes "PreferNoSchedule") refl
+effect_of effect.NoExecute = words (codes "NoExecute") refl
+
+pub no_taint_is_line : IsLine (taint_text None)
+unfolding taint_text
+no_taint_is_line = IsLine-by [] refl
+
+pub taint_is_line : (taint : Taint) → IsTrue (is_name taint.key) → IsTrue (is_text taint.value) → IsLine (taint_text (Some taint))
+unfolding taint_text
+taint_is_line taint key value =
+    (words (codes " ") refl & name_behind taint.key key & (words (codes "=") refl & behind {text = taint.value} (IsLine-text taint.value value)) & (words (codes ":") refl & effect_of taint.effect)).is
+
+-- the taint that a reason tells has no newline
+abbrev pub TaintStands : Pod → Shown → Reason → Type 0
+TaintStands pod shown reason.Marked = Unit {0}
+TaintStands pod shown reason.Taint = IsLine (taint_text (first_untolerated shown.node pod))
+TaintStands pod shown reason.Cpu = Unit {0}
+TaintStands pod shown reason.Memory = Unit {0}
+TaintStands pod shown reason.Pods = Unit {0}
+TaintStands pod shown reason.Plugin = Unit {0}
+TaintStands pod shown reason.Final = Unit {0}
+
+pub reason_is_line : (pod : Pod) (shown : Shown) (why : Reason) → TaintStands pod shown why → IsLine (reason_text pod shown why)
 unfolding reason_text
-reason_of reason.Marked = words (codes "marked") refl
-reason_of reason.Taint = words (codes "taint") refl
-reason_of reason.Cpu = words (codes "cpu") refl
-reason_of reason.Memory = words (codes "memory") refl
-reason_of reason.Pods = words (codes "pods") refl
-reason_of reason.Plugin = words (codes "plugin") refl
-reason_of reason.Final = words (codes "final") refl
+reason_is_line pod shown reason.Marked stands = IsLine-by (codes "marked") refl
+reason_is_line pod shown reason.Taint stands = IsLine-both (codes "taint") _ (IsLine-by (codes "taint") refl) stands
+reason_is_line pod shown reason.Cpu stands = want_is_line (codes "cpu ") _ _ _ refl
+reason_is_line pod shown reason.Memory stands = want_is_line (codes "memory ") _ _ _ refl
+reason_is_line pod shown reason.Pods stands = want_is_line (codes "pods ") _ _ _ refl
+reason_is_line pod shown reason.Plugin stands = IsLine-by (codes "plugin") refl
+reason_is_line pod shown reason.Final stands = IsLine-by (codes "final") refl
 
--- the name of a rule that a verdict tells has no newline
-abbrev pub NameStands : List Name → Verdict → Type 0
-NameStands names (verdict.Rejected why) = Unit {0}
-NameStands names (verdict.RejectedBy place how) = IsLine (slice_index_or names place [])
-NameStands names (verdict.Errs place why) = IsLine (slice_index_or names place [])
-NameStands names (verdict.Passes count score) = Unit {0}
+pub part_is_line : (rule : NamedRule) (score : ℕ) → IsTrue (is_name rule.name) → IsLine (part_text (rule, score))
+unfolding part_text
+part_is_line rule score name =
+    (words (codes " ") refl & name_behind rule.name name & (words (codes " ") refl & number rule.weight) & (words (codes " ") refl & number score)).is
 
-told : (names : List Name) (most : ℕ) (v : Verdict) → NameStands names v → Part false (verdict_text names most v)
+pub total_is_line : (named : List NamedRule) (most : ℕ) (pod : Pod) (shown : Shown) (count score : ℕ) (scores : List ℕ) → IsLine (parts_text named scores)
+    → IsLine (total_text named most pod shown count score scores)
+unfolding total_text
+total_is_line named most pod shown count score scores parts =
+    (words (codes "total ") refl & number (total most count score)
+    & (words (codes " fit ") refl & number (least_allocated_score shown.node.allocatable shown.used pod.request))
+    & (words (codes " taints ") refl & number (taint_score count most))
+    & behind {text = parts_text named scores} parts).is
+
+pub rejected_is_line : (named : List NamedRule) (most place : ℕ) (pod : Pod) (shown : Shown) (how : Rejection) → IsLine (name_at named place)
+    → IsLine (verdict_text named most pod shown (verdict.RejectedBy place how))
 unfolding verdict_text
-told names most (verdict.Rejected why) stands = reason_of why
-told names most (verdict.RejectedBy place how) stands =
-    words (codes "plugin ") refl & behind {text = slice_index_or names place []} stands & (words (codes " ") refl & number (code_of how))
-told names most (verdict.Errs place why) stands =
-    words (codes "error plugin ") refl & behind {text = slice_index_or names place []} stands & (words (codes " ") refl & cause_of why)
-told names most (verdict.Passes count score) stands = words (codes "total ") refl & number (total most count score)
+rejected_is_line named most place pod shown how stands =
+    (words (codes "plugin ") refl & behind {text = name_at named place} stands & (words (codes " ") refl & number (code_of how))).is
 
-pub verdict_is_line : (names : List Name) (most : ℕ) (v : Verdict) → NameStands names v → IsLine (verdict_text names most v)
-verdict_is_line names most v stands = (told names most v stands).is
+pub errs_is_line : (named : List NamedRule) (most place : ℕ) (pod : Pod) (shown : Shown) (why : Cause) → IsLine (name_at named place)
+    → IsLine (verdict_text named most pod shown (verdict.Errs place why))
+unfolding verdict_text
+errs_is_line named most place pod shown why stands =
+    (words (codes "error plugin ") refl & behind {text = name_at named place} stands & (words (codes " ") refl & cause_of why)).is
 
-pub verdict_lines_of : (names : List Name) (most : ℕ) (node : Judged) → IsTrue (is_name node.name) → IsLine (verdict_text names most node.verdict) → AreLines true (verdict_line names most node)
+pub verdict_lines_of : (named : List NamedRule) (most : ℕ) (pod : Pod) (node : Shown) (v : Verdict) → IsTrue (is_name node.node.name) → IsLine (verdict_text named most pod node v)
+    → AreLines true (verdict_line named most pod (node, v))
 unfolding verdict_line
-verdict_lines_of names most node name stands =
-    one_line true (codes "  " ++ node.name ++ (codes " " ++ verdict_text names most node.verdict))
-    (words (codes "  ") refl & name_behind node.name name & (words (codes " ") refl & behind {text = verdict_text names most node.verdict} stands)).is
+verdict_lines_of named most pod node v name stands =
+    one_line true (codes "  " ++ node.node.name ++ (codes " " ++ verdict_text named most pod node v))
+    (words (codes "  ") refl & name_behind node.node.name name & (words (codes " ") refl & behind {text = verdict_text named most pod node v} stands)).is
     refl

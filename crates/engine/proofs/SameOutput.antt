@@ -1,6 +1,5 @@
 -- Kits that judge alike have the same output.
 use Rattle.std.proofs.Common.{ℕ, Bool, true, false, List, [], ◌∷◌, refl, arith}
-use Rattle.quant.specs.declared.name.Name.{Name}
 use Rattle.engine.specs.Telling.{Telling, Explains, TellsNodes}
 use Rattle.quant.specs.declared.objects.Pod.{Pod}
 use Rattle.desk.specs.declared.step.Step.TheVariants.{Pop}
@@ -16,6 +15,7 @@ use Rattle.choose.specs.Verdict.{HasVerdict}
 use Rattle.choose.specs.Choice.{AreVerdicts, Choice}
 use Rattle.engine.specs.declared.asked.Asked.{Asked}
 use Rattle.engine.specs.declared.asked.Asked.TheVariants as asked
+use Rattle.engine.specs.declared.named_rule.NamedRule.{NamedRule}
 use Rattle.engine.specs.declared.one_cycle.Cycled.{Cycled}
 use Rattle.engine.specs.CycleAlone.{AfterPopAlone}
 use Rattle.engine.specs.Answers.{opening, Answered, AllAnswered}
@@ -46,23 +46,23 @@ module _ (rules other : RuleSet) (alike : (pod : Pod) (shown : Shown) (verdict :
   after_pop s (replies.Refused why) came s' a = absurd a
 
   -- what is told of the nodes
-  explains : (names : List Name) (s : State) (r : Reply) (text : List ℕ) → Explains rules names s r text → Explains other names s r text
-  explains names s (replies.Popped pod) text told = (told.0, verdicts pod (machine.snapshot s.cluster) told.0 told.1, told.2)
-  explains names s replies.Done text told = told
-  explains names s replies.Idle text told = told
-  explains names s (replies.Ticket ticket) text told = told
-  explains names s (replies.Counts n) text told = told
-  explains names s (replies.Refused why) text told = told
+  explains : (named : List NamedRule) (s : State) (r : Reply) (text : List ℕ) → Explains rules named s r text → Explains other named s r text
+  explains named s (replies.Popped pod) text told = (told.0, verdicts pod (machine.snapshot s.cluster) told.0 told.1, told.2)
+  explains named s replies.Done text told = told
+  explains named s replies.Idle text told = told
+  explains named s (replies.Ticket ticket) text told = told
+  explains named s (replies.Counts n) text told = told
+  explains named s (replies.Refused why) text told = told
 
-  tells : (names : List Name) (is_told : Bool) (s : State) (text : List ℕ) → TellsNodes rules names is_told s text → TellsNodes other names is_told s text
-  tells names true s text told = explains names (machine.after s 0 Pop) (reply s 0 Pop) text told
-  tells names false s text told = told
+  tells : (named : List NamedRule) (is_told : Bool) (s : State) (text : List ℕ) → TellsNodes rules named is_told s text → TellsNodes other named is_told s text
+  tells named true s text told = explains named (machine.after s 0 Pop) (reply s 0 Pop) text told
+  tells named false s text told = told
 
   -- the answer to what is asked
   answered : (telling : Telling) (s : State) (a : Asked) (s' : State) (text : List ℕ) → Answered rules telling s a s' text → Answered other telling s a s' text
   answered telling s (asked.Step step) s' text told = told
   answered telling s asked.Cycle s' text (came, cycle, (told, are, indented, others, is)) =
-      (came, record { is = after_pop (machine.after s 0 Pop) (reply s 0 Pop) came s' cycle.is }, (told, tells telling.names telling.explains s told are, indented, others, is))
+      (came, record { is = after_pop (machine.after s 0 Pop) (reply s 0 Pop) came s' cycle.is }, (told, tells telling.named telling.explains s told are, indented, others, is))
 
   -- and to all that is asked
   pub all_answered : (telling : Telling) (s : State) (l : List Asked) (s' : State) (text : List ℕ) → AllAnswered rules telling s l s' text → AllAnswered other telling s l s' text

@@ -80,8 +80,8 @@ abbrev pub Answered : RuleSet → (telling : Telling) → State → Asked → St
 Answered rules telling s (asked.Step step) s' text = (s' ≡ after s step) × (text ≡ text_of s step) × AreLines false text
 Answered rules telling s asked.Cycle s' text =
     (came : Cycled) × IsCycleAlone rules s came s'
-    × ((told : List ℕ) × TellsNodes rules telling.names telling.explains s told × AreLines true told × AreLines false (cycle_line telling.names came)
-    × (text ≡ told ++ cycle_line telling.names came))
+    × ((told : List ℕ) × TellsNodes rules telling.named telling.explains s told × AreLines true told × AreLines false (cycle_line telling.named came)
+    × (text ≡ told ++ cycle_line telling.named came))
 
 -- this is done and answered, and then what is asked later
 abbrev pub AllAnswered : RuleSet → (telling : Telling) → State → List Asked → State → List ℕ → Type 0

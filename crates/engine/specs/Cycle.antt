@@ -58,6 +58,11 @@ pub record IsDecided (rules : RuleSet) (desk : Desk) (p : Pass) (pod : Pod) (cam
   pub chosen : IsChosen rules desk p pod decision looked
   pub ends : EndsWith desk looked pod.uid decision came p'
 
+-- the answer to `Pop`, by the pod that it gives
+abbrev pub popped_reply : Option Pod → Reply
+popped_reply None = replies.Idle
+popped_reply (Some pod) = replies.Popped pod
+
 -- what follows the answer to `Pop`
 abbrev pub AfterPop : RuleSet → Desk → Pass → Reply → Cycled → Pass → Type 0
 AfterPop rules desk p (replies.Popped pod) came p' = IsDecided rules desk p pod came p'
@@ -120,14 +125,18 @@ pub record IsLeft (desk : Desk) (p : Pass) (uid : Name) (held : Option Name) (p'
   pub refused : MayBeRefused desk p uid left
   pub given_up : IsGivenUp desk left uid held p'
 
+-- nothing comes of a pod that the pass popped, for which it may have looked
+pub record IsInVain (desk : Desk) (p : Pass) (uid : Name) (held : Option Name) (p' : Pass) : Type 0 where
+  pub looked : Pass
+  pub looks : MayLook desk p looked
+  pub left : IsLeft desk looked uid held p'
+
 -- a pod was popped, and nothing comes of it
 pub record IsPoppedInVain (desk : Desk) (p : Pass) (held : Option Name) (p' : Pass) : Type 0 where
   pub pod : Pod
   pub popped : Pass
   pub pops : IsApplied desk p Pop (replies.Popped pod) popped
-  pub looked : Pass
-  pub looks : MayLook desk popped looked
-  pub left : IsLeft desk looked pod.uid held p'
+  pub in_vain : IsInVain desk popped pod.uid held p'
 
 -- A cycle was cut short: `Pop` was not answered; or a pod was popped, and at most refused one place and failed. It is told
 -- exactly where it was popped and not failed.

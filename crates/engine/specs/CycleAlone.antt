@@ -1,5 +1,5 @@
 -- One cycle of the only pass of a desk, told by the desk's state.
-use Rattle.std.specs.Prelude.{◌≡◌, ℕ, Bool, true, false, List}
+use Rattle.std.specs.Prelude.{◌≡◌, ℕ}
 use Rattle.quant.specs.declared.name.Name.{Name}
 use Rattle.quant.specs.declared.objects.Pod.{Pod}
 use Rattle.queue.specs.declared.state.Failure.TheVariants.{Unschedulable, Again}
@@ -10,8 +10,7 @@ use Rattle.desk.specs.Machine.{State, reply, after, snapshot}
 use Rattle.rules.specs.RuleSet.{RuleSet}
 use Rattle.choose.specs.declared.decision.Decision.{Decision}
 use Rattle.choose.specs.declared.decision.Decision.TheVariants as decisions
-use Rattle.choose.specs.declared.decision.Verdict.{Verdict}
-use Rattle.choose.specs.Choice.{AreVerdicts, Choice}
+use Rattle.choose.specs.Choice.{Choice}
 use Rattle.engine.specs.declared.one_cycle.Cycled.{Cycled}
 use Rattle.engine.specs.declared.one_cycle.Cycled.TheVariants as cycled
 
@@ -45,23 +44,6 @@ AfterPopAlone rules s replies.Done came s' = ⊥
 AfterPopAlone rules s (replies.Ticket ticket) came s' = ⊥
 AfterPopAlone rules s (replies.Counts n) came s' = ⊥
 AfterPopAlone rules s (replies.Refused why) came s' = ⊥
-
--- a cycle popped no pod
-abbrev pub is_idle : Cycled → Bool
-is_idle cycled.Idle = true
-is_idle (cycled.Assumed uid node total ticket) = false
-is_idle (cycled.Unschedulable uid counts) = false
-is_idle (cycled.Errs uid place node cause) = false
-is_idle (cycled.Lost uid why) = false
-
--- the verdicts by which it was decided of the pod that was popped, if one was
-abbrev pub DecideAlone : RuleSet → State → Reply → List Verdict → Type 0
-DecideAlone rules s (replies.Popped pod) verdicts = AreVerdicts rules pod (snapshot s.cluster) verdicts
-DecideAlone rules s replies.Done verdicts = Unit {0}
-DecideAlone rules s replies.Idle verdicts = Unit {0}
-DecideAlone rules s (replies.Ticket ticket) verdicts = Unit {0}
-DecideAlone rules s (replies.Counts n) verdicts = Unit {0}
-DecideAlone rules s (replies.Refused why) verdicts = Unit {0}
 
 -- a cycle came to this
 pub record IsCycleAlone (rules : RuleSet) (s : State) (came : Cycled) (s' : State) : Type 0 where

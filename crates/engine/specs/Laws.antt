@@ -1,14 +1,14 @@
 -- What holds of every script.
 use Rattle.std.specs.Prelude.{◌≡◌, ℕ, ◌⊎◌, true, false, List, [], ◌∷◌, ◌++◌}
 use Rattle.std.specs.List.{All, flat_map}
-use Rattle.quant.specs.declared.name.Name.{Name}
+use Rattle.engine.specs.declared.named_rule.NamedRule.{NamedRule}
 use Rattle.engine.specs.Telling.{Telling, telling}
 use Rattle.engine.specs.Indented.{AreLines, without_indented}
 use Rattle.rules.specs.RuleSet.{RuleSet}
 use Rattle.choose.specs.Kits.{JudgeAlike}
 use Rattle.engine.specs.Output.{IsOutput, BeginsOutput}
 
--- There is one output of a script: it depends on the script, the rules, their names and whether verdicts are told alone.
+-- There is one output of a script: it depends on the script, the rules, their names and weights as they are told, and whether verdicts are told alone.
 abbrev pub OneOutput : RuleSet → Type 0
 OneOutput rules = (telling : Telling) (script one other : List ℕ) → IsOutput rules telling script one → IsOutput rules telling script other → one ≡ other
 
@@ -42,10 +42,10 @@ pub record IsWithLines (plain text : List ℕ) : Type 0 where
 -- What explains a script's cycles is its output without explanations, with lines put in that begin with two spaces.
 abbrev pub ExplainedOutput : RuleSet → Type 0
 ExplainedOutput rules =
-    (names : List Name) (script text : List ℕ) → IsOutput rules (telling names true) script text →
-    (plain : List ℕ) × IsOutput rules (telling names false) script plain × IsWithLines plain text
+    (named : List NamedRule) (script text : List ℕ) → IsOutput rules (telling named true) script text →
+    (plain : List ℕ) × IsOutput rules (telling named false) script plain × IsWithLines plain text
 
 -- Without its lines that begin with two spaces it is the output: no line of that begins so.
 abbrev pub PlainOutput : RuleSet → Type 0
 PlainOutput rules =
-    (names : List Name) (script text : List ℕ) → IsOutput rules (telling names true) script text → IsOutput rules (telling names false) script (without_indented text)
+    (named : List NamedRule) (script text : List ℕ) → IsOutput rules (telling named true) script text → IsOutput rules (telling named false) script (without_indented text)

@@ -1,74 +1,123 @@
 -- What is told of the nodes that a cycle saw: each line begins with two spaces.
-use Rattle.std.specs.Prelude.{◌≡◌, ℕ, Bool, true, false, List, [], ◌++◌, codes, decimal, slice_index_or}
+use Rattle.std.specs.Prelude.{◌≡◌, ℕ, ◌-◌, Bool, true, false, List, [], ◌++◌, Option, Some, None, codes, decimal, zip}
 use Rattle.std.specs.List.{flat_map}
-use Rattle.quant.specs.declared.name.Name.{Name}
+use Rattle.quant.specs.declared.objects.Pod.{Pod}
+use Rattle.quant.specs.declared.taint.Effect.{Effect}
+use Rattle.quant.specs.declared.taint.Effect.TheVariants.{NoSchedule, PreferNoSchedule, NoExecute}
+use Rattle.quant.specs.declared.taint.Taint.{Taint}
+use Rattle.fit.specs.Score.{least_allocated_score}
+use Rattle.taints.specs.TaintScore.{taint_score}
+use Rattle.taints.specs.Tolerance.{first_untolerated}
 use Rattle.desk.specs.declared.step.Reply.{Reply}
 use Rattle.desk.specs.declared.step.Reply.TheVariants as replies
 use Rattle.desk.specs.declared.step.Step.TheVariants.{Pop}
 use Rattle.desk.specs.Machine.{State, reply, after, snapshot}
+use Rattle.desk.specs.Shown.{Shown}
 use Rattle.rules.specs.RuleSet.{RuleSet}
 use Rattle.rules.specs.declared.verdict.Rejection.{Rejection}
 use Rattle.rules.specs.declared.verdict.Rejection.TheVariants.{Unschedulable, UnschedulableAndUnresolvable}
 use Rattle.choose.specs.declared.decision.Reason.{Reason}
-use Rattle.choose.specs.declared.decision.Reason.TheVariants.{Marked, Taint, Cpu, Memory, Pods, Plugin, Final}
+use Rattle.choose.specs.declared.decision.Reason.TheVariants as reason
 use Rattle.choose.specs.declared.decision.Verdict.{Verdict}
 use Rattle.choose.specs.declared.decision.Verdict.TheVariants.{Rejected, RejectedBy, Errs, Passes}
-use Rattle.choose.specs.Choice.{Judged, judged, most_of, total, AreVerdicts}
-use Rattle.engine.specs.Text.{line_of, cause_text}
+use Rattle.choose.specs.Choice.{judged, most_of, total, AreVerdicts}
+use Rattle.engine.specs.declared.named_rule.NamedRule.{NamedRule}
+use Rattle.engine.specs.Text.{line_of, cause_text, name_at}
 
--- what the answers to cycles tell: rules by these names, in their order, and the verdict on each node or not
+-- what the answers to cycles tell: rules by these names and weights, in their order, and the verdict on each node or not
 pub record Telling : Type 0 where
-  pub names : List Name
+  pub named : List NamedRule
   pub explains : Bool
 
-abbrev pub telling : (names : List Name) → (explains : Bool) → Telling
-telling names explains = record { names = names; explains = explains }
+abbrev pub telling : (named : List NamedRule) → (explains : Bool) → Telling
+telling named explains = record { named = named; explains = explains }
 
--- ---- a verdict
+-- ---- a node that is rejected
 
--- why a built-in filter rejects
-unfoldable pub reason_text : Reason → List ℕ
-reason_text Marked = codes "marked"
-reason_text Taint = codes "taint"
-reason_text Cpu = codes "cpu"
-reason_text Memory = codes "memory"
-reason_text Pods = codes "pods"
-reason_text Plugin = codes "plugin"
-reason_text Final = codes "final"
+-- how much is asked for, of how much is free: nothing, where more is used than there is
+unfoldable pub want_text : (asked allocatable used : ℕ) → List ℕ
+want_text asked allocatable used = decimal asked ++ (codes " of " ++ decimal (allocatable - used))
+
+-- an effect's name
+abbrev pub effect_name : Effect → List ℕ
+effect_name NoSchedule = codes "NoSchedule"
+effect_name PreferNoSchedule = codes "PreferNoSchedule"
+effect_name NoExecute = codes "NoExecute"
+
+-- a taint, if there is one, behind a space
+unfoldable pub taint_text : Option Taint → List ℕ
+taint_text None = []
+taint_text (Some taint) = codes " " ++ taint.key ++ (codes "=" ++ taint.value) ++ (codes ":" ++ effect_name taint.effect)
+
+-- Why a built-in filter rejects a node that is shown, for a pod: of taints the first that keeps the pod off, and of an amount of which
+-- there is too little how much the pod asks for, of how much is free. CPU is in thousandths of a core, memory in bytes; a pod asks for
+-- one place among a node's pods. Where there is too little of several amounts, the one is told for which the node counts: the first of
+-- CPU, memory and pods.
+unfoldable pub reason_text : Pod → Shown → Reason → List ℕ
+reason_text pod shown reason.Marked = codes "marked"
+reason_text pod shown reason.Taint = codes "taint" ++ taint_text (first_untolerated shown.node pod)
+reason_text pod shown reason.Cpu = codes "cpu " ++ want_text pod.request.cpu.0 shown.node.allocatable.cpu.0 shown.used.cpu.0
+reason_text pod shown reason.Memory = codes "memory " ++ want_text pod.request.mem.0 shown.node.allocatable.mem.0 shown.used.mem.0
+reason_text pod shown reason.Pods = codes "pods " ++ want_text 1 shown.node.allocatable.pods shown.used.pods
+reason_text pod shown reason.Plugin = codes "plugin"
+reason_text pod shown reason.Final = codes "final"
 
 -- the code by which a filter rejects
 abbrev pub code_of : Rejection → ℕ
 code_of Unschedulable = 2
 code_of UnschedulableAndUnresolvable = 3
 
--- a verdict, where the most untolerated taints of a node that passes are these
-unfoldable pub verdict_text : List Name → (most : ℕ) → Verdict → List ℕ
-verdict_text names most (Rejected reason) = reason_text reason
-verdict_text names most (RejectedBy place how) = codes "plugin " ++ slice_index_or names place [] ++ (codes " " ++ decimal (code_of how))
-verdict_text names most (Errs place why) = codes "error plugin " ++ slice_index_or names place [] ++ (codes " " ++ cause_text why)
-verdict_text names most (Passes count score) = codes "total " ++ decimal (total most count score)
+-- ---- a node that passes
+
+-- a rule's part of a total: its name, its weight and its score
+unfoldable pub part_text : NamedRule × ℕ → List ℕ
+part_text part = codes " " ++ part.0.name ++ (codes " " ++ decimal part.0.weight) ++ (codes " " ++ decimal part.1)
+
+-- each rule's part, by the rules' places
+abbrev pub parts_text : List NamedRule → (scores : List ℕ) → List ℕ
+parts_text named scores = flat_map part_text (zip named scores)
+
+-- The total of a node that is shown and passes, and what it is the sum of: the score for what the pod would leave free, the one for
+-- taints that only make the node less preferred, and each rule's score as often as its weight says.
+unfoldable pub total_text : List NamedRule → (most : ℕ) → Pod → Shown → (count score : ℕ) → (scores : List ℕ) → List ℕ
+total_text named most pod shown count score scores =
+    codes "total " ++ decimal (total most count score)
+    ++ (codes " fit " ++ decimal (least_allocated_score shown.node.allocatable shown.used pod.request))
+    ++ (codes " taints " ++ decimal (taint_score count most))
+    ++ parts_text named scores
+
+-- ---- a verdict
+
+-- the verdict on a node that is shown, where the most untolerated taints of a node that passes are these
+unfoldable pub verdict_text : List NamedRule → (most : ℕ) → Pod → Shown → Verdict → List ℕ
+verdict_text named most pod shown (Rejected reason) = reason_text pod shown reason
+verdict_text named most pod shown (RejectedBy place how) = codes "plugin " ++ name_at named place ++ (codes " " ++ decimal (code_of how))
+verdict_text named most pod shown (Errs place why) = codes "error plugin " ++ name_at named place ++ (codes " " ++ cause_text why)
+verdict_text named most pod shown (Passes count score scores) = total_text named most pod shown count score scores
 
 -- the line of a node
-unfoldable pub verdict_line : List Name → (most : ℕ) → Judged → List ℕ
-verdict_line names most node = line_of (codes "  " ++ node.name ++ (codes " " ++ verdict_text names most node.verdict))
+unfoldable pub verdict_line : List NamedRule → (most : ℕ) → Pod → Shown × Verdict → List ℕ
+verdict_line named most pod node =
+    line_of (codes "  " ++ node.0.node.name ++ (codes " " ++ verdict_text named most pod node.0 node.1))
 
 -- the lines of all nodes, in their order
-abbrev pub verdict_lines : List Name → List Judged → List ℕ
-verdict_lines names nodes = flat_map (verdict_line names (most_of nodes)) nodes
+abbrev pub verdict_lines : List NamedRule → Pod → List Shown → List Verdict → List ℕ
+verdict_lines named pod nodes verdicts = flat_map (verdict_line named (most_of (judged nodes verdicts)) pod) (zip nodes verdicts)
 
 -- ---- a cycle
 
--- what is told of the nodes, by the answer to `Pop`: where a pod was popped, the verdict on each node for it
-abbrev pub Explains : RuleSet → (names : List Name) → State → Reply → List ℕ → Type 0
-Explains rules names s (replies.Popped pod) text =
-    (verdicts : List Verdict) × AreVerdicts rules pod (snapshot s.cluster) verdicts × (text ≡ verdict_lines names (judged (snapshot s.cluster) verdicts))
-Explains rules names s replies.Done text = text ≡ []
-Explains rules names s replies.Idle text = text ≡ []
-Explains rules names s (replies.Ticket ticket) text = text ≡ []
-Explains rules names s (replies.Counts n) text = text ≡ []
-Explains rules names s (replies.Refused why) text = text ≡ []
+-- What is told of the nodes, by the answer to `Pop`: where a pod was popped, the verdict on each node for it, by which it is decided, with
+-- what the node has and what is used of it as the decision sees them.
+abbrev pub Explains : RuleSet → (named : List NamedRule) → State → Reply → List ℕ → Type 0
+Explains rules named s (replies.Popped pod) text =
+    (verdicts : List Verdict) × AreVerdicts rules pod (snapshot s.cluster) verdicts × (text ≡ verdict_lines named pod (snapshot s.cluster) verdicts)
+Explains rules named s replies.Done text = text ≡ []
+Explains rules named s replies.Idle text = text ≡ []
+Explains rules named s (replies.Ticket ticket) text = text ≡ []
+Explains rules named s (replies.Counts n) text = text ≡ []
+Explains rules named s (replies.Refused why) text = text ≡ []
 
 -- what is told of the nodes before the line of a cycle that begins in this state
-abbrev pub TellsNodes : RuleSet → (names : List Name) → (explains : Bool) → State → List ℕ → Type 0
-TellsNodes rules names true s text = Explains rules names (after s 0 Pop) (reply s 0 Pop) text
-TellsNodes rules names false s text = text ≡ []
+abbrev pub TellsNodes : RuleSet → (named : List NamedRule) → (explains : Bool) → State → List ℕ → Type 0
+TellsNodes rules named true s text = Explains rules named (after s 0 Pop) (reply s 0 Pop) text
+TellsNodes rules named false s text = text ≡ []

@@ -1,5 +1,5 @@
 -- The lines of the output. Each ends with a newline, and numbers are decimal.
-use Rattle.std.specs.Prelude.{ℕ, List, [], ◌∷◌, ◌++◌, codes, decimal, slice_index_or}
+use Rattle.std.specs.Prelude.{ℕ, List, [], ◌∷◌, ◌++◌, map, codes, decimal, slice_index_or}
 use Rattle.std.specs.Fmt.{signed_decimal}
 use Rattle.quant.specs.declared.amount.Res.{Res}
 use Rattle.quant.specs.declared.objects.Node.{Node}
@@ -10,6 +10,7 @@ use Rattle.quant.specs.declared.name.Name.{Name}
 use Rattle.rules.specs.declared.verdict.Cause.{Cause}
 use Rattle.rules.specs.declared.verdict.Cause.TheVariants as cause
 use Rattle.choose.specs.declared.decision.Counts.{Counts}
+use Rattle.engine.specs.declared.named_rule.NamedRule.{NamedRule}
 use Rattle.engine.specs.declared.one_cycle.Cycled.{Cycled}
 use Rattle.engine.specs.declared.one_cycle.Cycled.TheVariants as cycled
 
@@ -98,10 +99,14 @@ error_line uid rule node why =
 unfoldable pub lost_line : Name → Refusal → List ℕ
 lost_line uid why = line_of (uid ++ codes " lost " ++ decimal (number_of why) ++ codes " " ++ name_of why)
 
+-- the name of the rule at a place
+abbrev pub name_at : List NamedRule → (place : ℕ) → List ℕ
+name_at named place = slice_index_or (map (λ rule. rule.name) named) place []
+
 -- the line that tells what a cycle came to, where the rules have these names in their order
-unfoldable pub cycle_line : List Name → Cycled → List ℕ
-cycle_line names cycled.Idle = idle_line
-cycle_line names (cycled.Assumed uid node total ticket) = assumed_line uid node total ticket.0
-cycle_line names (cycled.Unschedulable uid counts) = unschedulable_line uid counts
-cycle_line names (cycled.Errs uid place node why) = error_line uid (slice_index_or names place []) node why
-cycle_line names (cycled.Lost uid why) = lost_line uid why
+unfoldable pub cycle_line : List NamedRule → Cycled → List ℕ
+cycle_line named cycled.Idle = idle_line
+cycle_line named (cycled.Assumed uid node total ticket) = assumed_line uid node total ticket.0
+cycle_line named (cycled.Unschedulable uid counts) = unschedulable_line uid counts
+cycle_line named (cycled.Errs uid place node why) = error_line uid (name_at named place) node why
+cycle_line named (cycled.Lost uid why) = lost_line uid why

@@ -3,8 +3,8 @@ ghost use Rattle.engine.specs.Laws.{OneOutput, FrontsBeginOutput, FrontsAgree, S
 
 use rules::Rules;
 
-/// A script has one output: it depends on the script, the rules and their names alone, and on no order in which threads took
-/// their turns. What a run writes that is cut short begins it.
+/// A script has one output: it depends on the script, the rules, and their names and weights as they are told, and on no order in
+/// which threads took their turns. What a run writes that is cut short begins it.
 pub fn one_output<K: Rules>(_kit: &K)
     ensures whole { OneOutput (K.answers _kit.now) }
     ensures front { FrontsBeginOutput (K.answers _kit.now) }

@@ -3,12 +3,15 @@ ghost use Rattle.std.specs.Prelude.{◌≡◌, ◌⊎◌, IfOk, IfErr, OnOk, OnE
 ghost use Rattle.desk.specs.Caller.{IsTimely};
 ghost use Rattle.desk.specs.Machine as machine;
 ghost use Rattle.choose.specs.Kits.{rules_of};
-ghost use Rattle.engine.specs.CycleAlone.{DecideAlone, IsCycleAlone};
+ghost use Rattle.choose.specs.Choice.{AreVerdicts};
+ghost use Rattle.engine.specs.Cycle.{popped_reply};
+ghost use Rattle.engine.specs.CycleAlone.{IsDecidedAlone};
 
 use crate::fault::RunFault;
-use crate::one_cycle::{CutShort, Cycled, cycle};
+use crate::one_cycle::{CutShort, Cycled, place, pop};
 use choose::Decider;
 use desk::{Blank, Desk, Limits, Naming, NoMemory, Pass, Reply, Snapshot, Step, one_pass_is_alone};
+use quant::SharedPod;
 use std::alloc::Global;
 use std::hash::RandomState;
 use std::marker::Model;
@@ -84,19 +87,28 @@ impl<J: Naming> LoneDesk<J> {
         self.desk.look(&mut self.pass)
     }
 
-    // One cycle by a decider. It may wait.
-    pub(crate) fn cycle<R: Wait + Threads + Sync, D: Decider>(
+    // Pops a pod, where one waits. It waits for the desk's lock.
+    pub(crate) fn pop<R: Wait>(&mut self, rt: &R) -> Result<Option<SharedPod>, NoMemory>
+        ensures popped { IfOk result (λ pod. popped_reply pod ≡ machine.reply self.old 0 Step.Pop) }
+        ensures after { OnOk result (self.new ≡ machine.after self.old 0 Step.Pop) }
+    {
+        one_pass_is_alone();
+        pop(&self.desk, rt, &mut self.pass)
+    }
+
+    // Looks for a place for a pod that was popped, by a decider, and does what is decided of it. It may wait.
+    pub(crate) fn place<R: Wait + Threads + Sync, D: Decider>(
         &mut self,
         rt: &R,
+        pod: &SharedPod,
         decider: &mut D,
     ) -> Result<Cycled, CutShort>
-        ensures cycled { IfOk result (λ came. IsCycleAlone (rules_of D.Kit.answers (D.kits decider.old)) self.old came self.new) }
-        ensures verdicts { OnOk result (DecideAlone (rules_of D.Kit.answers (D.kits decider.old))
-            (machine.after self.old 0 Step.Pop) (machine.reply self.old 0 Step.Pop) (D.last decider.new)) }
+        ensures decided { IfOk result (λ came. IsDecidedAlone (rules_of D.Kit.answers (D.kits decider.old)) self.old pod.now came self.new) }
+        ensures verdicts { OnOk result (AreVerdicts (rules_of D.Kit.answers (D.kits decider.old)) pod.now (machine.snapshot self.old.cluster) (D.last decider.new)) }
         ensures kits { D.kits decider.new ≡ D.kits decider.old }
     {
         one_pass_is_alone();
-        cycle(&self.desk, rt, &mut self.pass, decider)
+        place(&self.desk, rt, &mut self.pass, pod, decider)
     }
 
     // Ends the desk.

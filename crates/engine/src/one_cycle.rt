@@ -1,9 +1,8 @@
 //! One cycle of the scheduler: a pod is popped, a node is chosen for it, and its place is assumed.
 ghost use Rattle.std.specs.Prelude.{◌≡◌, IfOk, IfErr, OnOk, OnErr};
-ghost use Rattle.desk.specs.Shared.{IsPassOf};
+ghost use Rattle.desk.specs.Shared.{IsApplied, IsPassOf};
 ghost use Rattle.choose.specs.Kits.{rules_of};
-ghost use Rattle.engine.specs.CycleAlone.{is_idle};
-ghost use Rattle.engine.specs.Cycle.{IsFailed, EndsWith, IsAssumed, IsChosen, IsDecided, MayLook, IsGivenUp, IsLeft, IsCycle, IsCutShort, AreSeen, DecideCycle};
+ghost use Rattle.engine.specs.Cycle.{IsFailed, EndsWith, IsAssumed, IsChosen, IsDecided, popped_reply, MayLook, IsGivenUp, IsLeft, IsInVain, IsCycle, IsCutShort, AreSeen, DecideCycle};
 
 use choose::{Counts, Decider, Decision};
 use desk::{Desk, Naming, NoMemory, Pass, Refusal, Reply, Step};
@@ -42,18 +41,6 @@ pub enum Cycled {
         uid: Name,
         why: Refusal,
     },
-}
-
-impl Cycled {
-    /// Whether no pod waited to be popped.
-    pub fn is_idle(&self) -> bool
-        ensures { result ≡ is_idle self.now }
-    {
-        match self {
-            Cycled::Idle => true,
-            _ => false,
-        }
-    }
 }
 
 /// A cycle was cut short for want of memory. Where a pod was popped and could not be failed either, it is told: it stays in
@@ -192,6 +179,48 @@ fn decide<J: Naming, T: Wait + Threads + Sync, D: Decider>(
     decider.decide(rt, snapshot, pod)
 }
 
+/// Pops a pod for the pass, where one waits.
+pub(crate) fn pop<J: Naming, T: Wait>(
+    desk: &Desk<J>,
+    rt: &T,
+    pass: &mut Pass<J>,
+) -> Result<Option<SharedPod>, NoMemory>
+    requires { IsPassOf pass.old desk.now }
+    ensures popped { IfOk result (λ pod. IsApplied desk.now pass.old Step.Pop (popped_reply pod) pass.new) }
+    ensures err { OnErr result (pass.new ≡ pass.old) }
+{
+    match desk.apply(rt, pass, Step::Pop)? {
+        Reply::Popped(pod) => Ok(Some(pod)),
+        Reply::Idle => Ok(None),
+        Reply::Done => unreachable!(),
+        Reply::Ticket(_) => unreachable!(),
+        Reply::Counts(_) => unreachable!(),
+        Reply::Refused(_) => unreachable!(),
+    }
+}
+
+/// Looks for a place for a pod that the pass popped, and does what is decided of it.
+///
+/// Errors: as `cycle`.
+pub(crate) fn place<J: Naming, T: Wait + Threads + Sync, D: Decider>(
+    desk: &Desk<J>,
+    rt: &T,
+    pass: &mut Pass<J>,
+    pod: &SharedPod,
+    decider: &mut D,
+) -> Result<Cycled, CutShort>
+    requires { IsPassOf pass.old desk.now }
+    ensures decided { IfOk result (λ came. IsDecided (rules_of D.Kit.answers (D.kits decider.old)) desk.now pass.old pod.now came pass.new) }
+    ensures verdicts { OnOk result (AreSeen (rules_of D.Kit.answers (D.kits decider.old)) desk.now pass.old pod.now (D.last decider.new)) }
+    ensures in_vain { IfErr result (λ short. IsInVain desk.now pass.old pod.now.uid short.held pass.new) }
+    ensures kits { D.kits decider.new ≡ D.kits decider.old }
+{
+    match decide(desk, rt, pass, pod, decider) {
+        Ok(decision) => end_with(desk, rt, pass, &pod.uid, decision),
+        Err(NoMemory) => Err(give_up(desk, rt, pass, &pod.uid)),
+    }
+}
+
 /// One cycle of a pass: it pops a pod, looks at the nodes, chooses one by the built-in rules and the decider's, and assumes the
 /// pod there. A pod for which no node is left fails as unschedulable; one for which a rule errs, or whose place is refused
 /// since it was chosen, fails to be tried again.
@@ -209,17 +238,9 @@ pub fn cycle<J: Naming, T: Wait + Threads + Sync, D: Decider>(
     ensures cut_short { IfErr result (λ short. IsCutShort desk.now pass.old short.held pass.new) }
     ensures kits { D.kits decider.new ≡ D.kits decider.old }
 {
-    let pod = match desk.apply(rt, pass, Step::Pop) {
-        Ok(Reply::Popped(pod)) => pod,
-        Ok(Reply::Idle) => return Ok(Cycled::Idle),
-        Ok(Reply::Done) => unreachable!(),
-        Ok(Reply::Ticket(_)) => unreachable!(),
-        Ok(Reply::Counts(_)) => unreachable!(),
-        Ok(Reply::Refused(_)) => unreachable!(),
-        Err(NoMemory) => return Err(CutShort { held: None }),
-    };
-    match decide(desk, rt, pass, &pod, decider) {
-        Ok(decision) => end_with(desk, rt, pass, &pod.uid, decision),
-        Err(NoMemory) => Err(give_up(desk, rt, pass, &pod.uid)),
+    match pop(desk, rt, pass) {
+        Ok(Some(pod)) => place(desk, rt, pass, &pod, decider),
+        Ok(None) => Ok(Cycled::Idle),
+        Err(NoMemory) => Err(CutShort { held: None }),
     }
 }

@@ -13,11 +13,11 @@ use crate::asked::{Asked, asked_for};
 use crate::device::{Sink, Source, write_all};
 use crate::fault::RunFault;
 use crate::lines::LineReader;
+use crate::named_rule::NamedRule;
 use crate::session::Session;
 use choose::Decider;
 use desk::{Blank, Limits, Naming};
 use manifest::{LineFault, read_line};
-use quant::Name;
 use std::alloc::Global;
 use std::hash::RandomState;
 use std::marker::Brand;
@@ -76,7 +76,7 @@ fn asked_in(alloc: Global, line: &[u8]) -> Result<Option<Asked>, LineFault>
 fn answer_line<J: Naming, T: Wait + Threads + Sync, D: Decider>(
     rt: &T,
     alloc: Global,
-    names: &[Name],
+    named: &[NamedRule],
     explains: bool,
     decider: &mut D,
     session: &mut Session<J>,
@@ -85,7 +85,7 @@ fn answer_line<J: Naming, T: Wait + Threads + Sync, D: Decider>(
     pending: &mut Vec<u8>,
 ) -> Result<(), RunFault>
     requires { vec_len pending.old < MAX_PENDING }
-    ensures answered { OnOk result (IsAnswered (rules_of D.Kit.answers (D.kits decider.old)) (telling names.now explains) (asked_by line.now) session.old.desk session.new.desk
+    ensures answered { OnOk result (IsAnswered (rules_of D.Kit.answers (D.kits decider.old)) (telling named.now explains) (asked_by line.now) session.old.desk session.new.desk
         pending.old.items pending.new.items) }
     ensures kept { OnErr result (pending.new.items ≡ pending.old.items) }
     ensures kits { D.kits decider.new ≡ D.kits decider.old }
@@ -93,7 +93,7 @@ fn answer_line<J: Naming, T: Wait + Threads + Sync, D: Decider>(
 {
     match asked_in(alloc, line) {
         Ok(None) => Ok(()),
-        Ok(Some(asked)) => session.answer(rt, names, explains, decider, asked, pending),
+        Ok(Some(asked)) => session.answer(rt, named, explains, decider, asked, pending),
         Err(LineFault::NoMemory) => Err(RunFault::NoMemory),
         Err(fault) => Err(RunFault::Line(number, fault)),
     }
@@ -103,7 +103,7 @@ fn answer_line<J: Naming, T: Wait + Threads + Sync, D: Decider>(
 fn run_lines<J: Naming, T: Wait + Threads + Sync, D: Decider, R: Source, W: Sink>(
     rt: &T,
     alloc: Global,
-    names: &[Name],
+    named: &[NamedRule],
     explains: bool,
     decider: &mut D,
     session: &mut Session<J>,
@@ -114,7 +114,7 @@ fn run_lines<J: Naming, T: Wait + Threads + Sync, D: Decider, R: Source, W: Sink
     requires reads { R.failure_count source.old < 10 ^ 18 }
     requires writes { W.failure_count sink.old < 10 ^ 18 }
     requires finite { R.bytes_left source.old < 2 ^ 64 }
-    ensures run { IsRun (rules_of D.Kit.answers (D.kits decider.old)) (telling names.now explains)
+    ensures run { IsRun (rules_of D.Kit.answers (D.kits decider.old)) (telling named.now explains)
         (use_of R.remaining R.failure_count source.old source.new) (use_of W.written W.failure_count sink.old sink.new) result }
     ensures placed { result ≢ Err RunFault.NoPlace }
     ensures kits { D.kits decider.new ≡ D.kits decider.old }
@@ -132,7 +132,7 @@ fn run_lines<J: Naming, T: Wait + Threads + Sync, D: Decider, R: Source, W: Sink
         let answered = answer_line(
             rt,
             alloc,
-            names,
+            named,
             explains,
             decider,
             session,
@@ -154,7 +154,7 @@ fn run_desk<J: Naming, T: Wait + Threads + Sync, D: Decider, R: Source, W: Sink>
     alloc: Global,
     keys: RandomState,
     greatest: Limits,
-    names: &[Name],
+    named: &[NamedRule],
     explains: bool,
     decider: &mut D,
     source: &mut R,
@@ -166,7 +166,7 @@ fn run_desk<J: Naming, T: Wait + Threads + Sync, D: Decider, R: Source, W: Sink>
     requires reads { R.failure_count source.old < 10 ^ 18 }
     requires writes { W.failure_count sink.old < 10 ^ 18 }
     requires finite { R.bytes_left source.old < 2 ^ 64 }
-    ensures run { IsRun (rules_of D.Kit.answers (D.kits decider.old)) (telling names.now explains)
+    ensures run { IsRun (rules_of D.Kit.answers (D.kits decider.old)) (telling named.now explains)
         (use_of R.remaining R.failure_count source.old source.new) (use_of W.written W.failure_count sink.old sink.new) result }
     ensures no_place { result ≡ Err RunFault.NoPlace → (source.new ≡ source.old) × (sink.new ≡ sink.old) }
     ensures kits { D.kits decider.new ≡ D.kits decider.old }
@@ -175,7 +175,7 @@ fn run_desk<J: Naming, T: Wait + Threads + Sync, D: Decider, R: Source, W: Sink>
     let done = run_lines(
         rt,
         alloc,
-        names,
+        named,
         explains,
         decider,
         &mut session,
@@ -187,9 +187,10 @@ fn run_desk<J: Naming, T: Wait + Threads + Sync, D: Decider, R: Source, W: Sink>
 }
 
 /// Reads a script to its end or its first faulty line, does what its lines ask of a new desk with
-/// one pass, and writes the answers. A cycle goes by the decider; the names of its rules are handed in
-/// beside it, in their order. Where cycles are to be explained, the line of each that popped a pod has those
-/// of the nodes that it saw in front. Names are looked up under the keys.
+/// one pass, and writes the answers. A cycle goes by the decider; the names and weights of its rules are
+/// handed in beside it, in their order, as they are to be told. Where cycles are to be explained, the
+/// line of each that popped a pod has those of the nodes that it saw in front. Names are looked up under
+/// the keys.
 /// A line ends at a newline, which the last one may lack; an empty line is passed over and counted.
 ///
 /// Before more is read, all answers so far are written, so that a peer that waits for them goes on.
@@ -202,7 +203,7 @@ pub fn run<T: Wait + Threads + Sync, D: Decider, R: Source, W: Sink>(
     rt: &T,
     alloc: Global,
     keys: RandomState,
-    names: &[Name],
+    named: &[NamedRule],
     explains: bool,
     decider: &mut D,
     source: &mut R,
@@ -211,7 +212,7 @@ pub fn run<T: Wait + Threads + Sync, D: Decider, R: Source, W: Sink>(
     requires reads { R.failure_count source.old < 10 ^ 18 }
     requires writes { W.failure_count sink.old < 10 ^ 18 }
     requires finite { R.bytes_left source.old < 2 ^ 64 }
-    ensures run { IsRun (rules_of D.Kit.answers (D.kits decider.old)) (telling names.now explains)
+    ensures run { IsRun (rules_of D.Kit.answers (D.kits decider.old)) (telling named.now explains)
         (use_of R.remaining R.failure_count source.old source.new) (use_of W.written W.failure_count sink.old sink.new) result }
     ensures no_place { result ≡ Err RunFault.NoPlace → (source.new ≡ source.old) × (sink.new ≡ sink.old) }
     ensures kits { D.kits decider.new ≡ D.kits decider.old }
@@ -222,7 +223,7 @@ pub fn run<T: Wait + Threads + Sync, D: Decider, R: Source, W: Sink>(
         alloc,
         keys,
         Limits::greatest(),
-        names,
+        named,
         explains,
         decider,
         source,

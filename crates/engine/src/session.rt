@@ -12,12 +12,12 @@ ghost use Rattle.engine.specs.declared.asked.Asked.TheVariants as asked;
 use crate::asked::Asked;
 use crate::fault::RunFault;
 use crate::lone_desk::LoneDesk;
+use crate::named_rule::NamedRule;
 use crate::one_cycle::Cycled;
 use crate::text::{push_clock, push_cycled, push_node, push_places, push_queue, push_refused};
 use crate::verdicts::push_verdicts;
 use choose::Decider;
 use desk::{Blank, Counts, Limits, Naming, Reply, Snapshot, Step};
-use quant::Name;
 use std::alloc::{AllocError, Global};
 use std::hash::RandomState;
 use std::sync::Wait;
@@ -51,19 +51,19 @@ impl<J: Naming> Session<J> {
         })
     }
 
-    // Does what is asked for, and adds the answer to the output. The decider's rules have these names, in their order, and
+    // Does what is asked for, and adds the answer to the output. The decider's rules have these names and weights, in their order, and
     // what was decided of each node is told too where a cycle is to be explained.
     pub(crate) fn answer<R: Wait + Threads + Sync, D: Decider>(
         &mut self,
         rt: &R,
-        names: &[Name],
+        named: &[NamedRule],
         explains: bool,
         decider: &mut D,
         asked: Asked,
         out: &mut Vec<u8>,
     ) -> Result<(), RunFault>
         requires { IsTimely asked }
-        ensures answered { OnOk result ((text : List ℕ) × Answered (rules_of D.Kit.answers (D.kits decider.old)) (telling names.now explains)
+        ensures answered { OnOk result ((text : List ℕ) × Answered (rules_of D.Kit.answers (D.kits decider.old)) (telling named.now explains)
             self.old.desk asked self.new.desk text × (out.new.items ≡ out.old.items ++ text)) }
         ensures kept { OnErr result (out.new.items ≡ out.old.items) }
         ensures kits { D.kits decider.new ≡ D.kits decider.old }
@@ -72,7 +72,7 @@ impl<J: Naming> Session<J> {
         self.text.clear();
         match asked {
             Asked::Step(step) => self.step(rt, step)?,
-            Asked::Cycle => self.cycle(rt, names, explains, decider)?,
+            Asked::Cycle => self.cycle(rt, named, explains, decider)?,
         }
         add(out, &self.text)
     }
@@ -98,44 +98,52 @@ impl<J: Naming> Session<J> {
     fn cycle<R: Wait + Threads + Sync, D: Decider>(
         &mut self,
         rt: &R,
-        names: &[Name],
+        named: &[NamedRule],
         explains: bool,
         decider: &mut D,
     ) -> Result<(), RunFault>
-        ensures cycled { OnOk result ((text : List ℕ) × Answered (rules_of D.Kit.answers (D.kits decider.old)) (telling names.now explains)
+        ensures cycled { OnOk result ((text : List ℕ) × Answered (rules_of D.Kit.answers (D.kits decider.old)) (telling named.now explains)
             self.old.desk asked.Cycle self.new.desk text × (self.new.text.items ≡ self.old.text.items ++ text)) }
         ensures kits { D.kits decider.new ≡ D.kits decider.old }
         ensures faults { IfErr result (λ e. e ≡ RunFault.NoMemory) }
     {
-        let came = self.told_cycle(rt, names, explains, decider)?;
-        push_cycled(&mut self.text, names, &came)?;
+        let came = self.told_cycle(rt, named, explains, decider)?;
+        push_cycled(&mut self.text, named, &came)?;
         Ok(())
     }
 
-    // Does a cycle, and adds the lines of the nodes that it saw where it is to be explained. No node changes before the
-    // decision, so a look before the cycle shows them.
+    // Does a cycle, and adds the lines of the nodes that it saw where it is to be explained. Nobody else makes a call, so a look
+    // before the decision shows what it sees.
     fn told_cycle<R: Wait + Threads + Sync, D: Decider>(
         &mut self,
         rt: &R,
-        names: &[Name],
+        named: &[NamedRule],
         explains: bool,
         decider: &mut D,
     ) -> Result<Cycled, RunFault>
         ensures cycled { IfOk result (λ came. IsCycleAlone (rules_of D.Kit.answers (D.kits decider.old)) self.old.desk came self.new.desk) }
-        ensures told { OnOk result ((told : List ℕ) × TellsNodes (rules_of D.Kit.answers (D.kits decider.old)) names.now explains self.old.desk told
+        ensures told { OnOk result ((told : List ℕ) × TellsNodes (rules_of D.Kit.answers (D.kits decider.old)) named.now explains self.old.desk told
             × AreLines true told × (self.new.text.items ≡ self.old.text.items ++ told)) }
         ensures kits { D.kits decider.new ≡ D.kits decider.old }
         ensures faults { IfErr result (λ e. e ≡ RunFault.NoMemory) }
     {
+        let popped = self.desk.pop(rt)?;
+        let pod = match popped {
+            Some(pod) => pod,
+            None => return Ok(Cycled::Idle),
+        };
         if !explains {
-            return Ok(self.desk.cycle(rt, decider)?);
+            return Ok(self.desk.place(rt, &pod, decider)?);
         }
         let snapshot = self.desk.look()?;
-        let came = self.desk.cycle(rt, decider)?;
-        if came.is_idle() {
-            return Ok(came);
-        }
-        push_verdicts(&mut self.text, names, snapshot.rows(), decider.verdicts())?;
+        let came = self.desk.place(rt, &pod, decider)?;
+        push_verdicts(
+            &mut self.text,
+            named,
+            &pod,
+            snapshot.rows(),
+            decider.verdicts(),
+        )?;
         Ok(came)
     }
 

@@ -1,10 +1,11 @@
 //! The lines of the output.
-ghost use Rattle.std.specs.Prelude.{◌≡◌, ◌++◌, [], OnOk, decimal, slice_index_or, false};
+ghost use Rattle.std.specs.Prelude.{◌≡◌, ◌++◌, OnOk, decimal, false};
 ghost use Rattle.std.specs.Fmt.{signed_decimal};
 ghost use Rattle.engine.specs.Lines.{IsLine};
 ghost use Rattle.engine.specs.Indented.{AreLines};
-ghost use Rattle.engine.specs.Text.{refused_line, share_text, node_line, counts, places_line, queue_line, clock_line, assumed_line, reasons_text, unschedulable_line, cause_text, error_line, lost_line, cycle_line};
+ghost use Rattle.engine.specs.Text.{refused_line, share_text, node_line, counts, places_line, queue_line, clock_line, assumed_line, reasons_text, unschedulable_line, cause_text, error_line, lost_line, name_at, cycle_line};
 
+use crate::named_rule::NamedRule;
 use crate::one_cycle::Cycled;
 use choose::Counts;
 use desk::Refusal;
@@ -230,12 +231,12 @@ fn push_lost(out: &mut Vec<u8>, uid: &Name, why: Refusal) -> Result<(), AllocErr
 }
 
 // The name of the rule at a place.
-pub(crate) fn name_at(names: &[Name], place: usize) -> &[u8]
-    ensures name { result.now ≡ slice_index_or names.now place [] }
+pub(crate) fn name_at(named: &[NamedRule], place: usize) -> &[u8]
+    ensures name { result.now ≡ name_at named.now place }
     ensures line { IsLine result.now }
 {
-    match names.get(place) {
-        Some(name) => name.as_bytes(),
+    match named.get(place) {
+        Some(rule) => rule.name.as_bytes(),
         None => &[],
     }
 }
@@ -244,11 +245,11 @@ pub(crate) fn name_at(names: &[Name], place: usize) -> &[u8]
 #[tactic(auto, unfolding(crate::specs::Text::cycle_line))]
 pub(crate) fn push_cycled(
     out: &mut Vec<u8>,
-    names: &[Name],
+    named: &[NamedRule],
     came: &Cycled,
 ) -> Result<(), AllocError>
-    ensures text { OnOk result (out.new.items ≡ out.old.items ++ cycle_line names.now came.now) }
-    ensures lines { OnOk result (AreLines false (cycle_line names.now came.now)) }
+    ensures text { OnOk result (out.new.items ≡ out.old.items ++ cycle_line named.now came.now) }
+    ensures lines { OnOk result (AreLines false (cycle_line named.now came.now)) }
 {
     match came {
         Cycled::Idle => out.extend_from_slice(b"idle\n"),
@@ -264,7 +265,7 @@ pub(crate) fn push_cycled(
             place,
             node,
             cause,
-        } => push_error(out, uid, name_at(names, *place), node, *cause),
+        } => push_error(out, uid, name_at(named, *place), node, *cause),
         Cycled::Lost { uid, why } => push_lost(out, uid, *why),
     }
 }

@@ -7,7 +7,7 @@ ghost use Rattle.choose.specs.Kits.{JudgeAlike};
 use crate::texts::repeated;
 use choose::Verdict;
 use desk::Snapshot;
-use engine::{DeviceFailed, RunFault, Sink, Source, run};
+use engine::{DeviceFailed, NamedRule, RunFault, Sink, Source, run};
 use fleet::{Decider, Decision, Fleet, NoGate, NoMemory};
 use quant::{Name, Pod, Res, SharedNode, SharedPod};
 use rules::{Cause, FilterVerdict, Rejection, Rules, ScoreVerdict, Trap};
@@ -219,7 +219,7 @@ fn run_by<T: Wait + Threads + Sync>(
         rt,
         alloc,
         keys,
-        &[name],
+        &[NamedRule { name, weight: 2 }],
         false,
         crew,
         &mut source,
@@ -515,7 +515,7 @@ fn pool_writes<T: Wait + Threads + Copy + Send + Sync + 'static>(
         rt,
         alloc,
         keys,
-        &[name],
+        &[NamedRule { name, weight: 2 }],
         false,
         kits,
         &mut source,

@@ -7,6 +7,7 @@ use Rattle.rules.specs.declared.verdict.FilterVerdict.TheVariants as filter
 use Rattle.rules.specs.declared.verdict.ScoreVerdict.{ScoreVerdict}
 use Rattle.rules.specs.declared.verdict.ScoreVerdict.TheVariants as score
 use Rattle.rules.specs.RuleSet.{RuleSet, Told}
+use Rattle.choose.specs.declared.asking.Added.{Added}
 use Rattle.choose.specs.declared.decision.Reason.{Reason}
 use Rattle.choose.specs.declared.decision.Verdict.{Verdict}
 use Rattle.choose.specs.declared.decision.Verdict.TheVariants.{Rejected}
@@ -35,12 +36,13 @@ module _ (one other : RuleSet) (agree : Agree one other) where
     makes = stops.makes;
   }
 
-  scored : (told : Told) (r : Result ℕ Verdict) → Scored one told r → Scored other told r
-  scored told (Ok sum) sums = record {
+  scored : (told : Told) (r : Result Added Verdict) → Scored one told r → Scored other told r
+  scored told (Ok added) sums = record {
     scores = sums.scores;
     all = sums.all ∙ sym as_many;
     are = λ k below. agree.scores k told (score.Good (slice_index sums.scores k)) (sums.are k below);
-    adds = subst (λ ws. sum ≡ weighted ws sums.scores) agree.weights sums.adds;
+    adds = subst (λ ws. added.sum ≡ weighted ws sums.scores) agree.weights sums.adds;
+    shows = sums.shows;
   }
   scored told (Err verdict) errs = record {
     before = errs.before;

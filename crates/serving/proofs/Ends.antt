@@ -4,6 +4,7 @@ use Rattle.quant.specs.declared.name.Name.{Name}
 use Rattle.plugin.specs.Kit.{Ready, rules_of}
 use Rattle.rules.specs.RuleSet.{RuleSet}
 use Rattle.choose.specs.Kits as choosing
+use Rattle.engine.specs.declared.named_rule.NamedRule.{NamedRule}
 use Rattle.engine.specs.Device.{DeviceUse}
 use Rattle.engine.specs.Run.{IsRun}
 use Rattle.engine.specs.Telling.{Telling, telling}
@@ -15,7 +16,7 @@ use Rattle.faults.specs.declared.fault.Fault.{Fault}
 use Rattle.faults.specs.declared.fault.Fault.TheVariants.{Words, Misused, Plugin, Unread, Run}
 use Rattle.faults.specs.Fault.{status_of}
 use Rattle.serving.specs.Run.{IsSiteRun, TellsFailures, TellsFault}
-use Rattle.serving.specs.Site.{AreSiteKits, IsToldAs, SiteFaulty, SiteFront, SiteRefused, UnreadPlugin, WhyNoModules, WhyNoPlugin, WhyNoSite, names_of}
+use Rattle.serving.specs.Site.{AreSiteKits, IsToldAs, SiteFaulty, SiteFront, SiteRefused, UnreadPlugin, WhyNoModules, WhyNoPlugin, WhyNoSite, named_of}
 use Rattle.serving.proofs.Quiet.{at_a_line, no_memory_told}
 use Rattle.serving.proofs.SiteOutput.{site_done, site_front, site_line, done_front}
 
@@ -210,12 +211,12 @@ module _ (explains : Bool) (AreGiven : List (List ℕ) → Type 0) (specs : List
       }
       by (inr memory) = not_begun (inl (is ∙ ap status_of memory)) unwritten
 
-  module _ (modules : List (List ℕ)) (workers : ℕ) (kits : List (List Ready)) (names : List Name) (some : 1 ≤ workers) (are : AreSiteKits specs modules workers kits)
-      (named : names ≡ names_of specs) (given : AreGiven modules) where
+  module _ (modules : List (List ℕ)) (workers : ℕ) (kits : List (List Ready)) (named : List NamedRule) (some : 1 ≤ workers) (are : AreSiteKits specs modules workers kits)
+      (are_named : named ≡ named_of specs) (given : AreGiven modules) where
     -- the whole script was served
-    pub served : {T : Type 0} (x : T) → IsRun (choosing.rules_of rules_of kits) (telling names explains) source out (Ok x) → ended ≡ 0 → IsSiteRun explains AreGiven specs source out err ended
+    pub served : {T : Type 0} (x : T) → IsRun (choosing.rules_of rules_of kits) (telling named explains) source out (Ok x) → ended ≡ 0 → IsSiteRun explains AreGiven specs source out err ended
     served x run is =
-        let done = site_done explains specs modules workers kits names some are named source.old source.new out.old out.new run.done in
+        let done = site_done explains specs modules workers kits named some are are_named source.old source.new out.old out.new run.done in
         record {
           status = inl is;
           done = λ _. (modules, given, done);
@@ -224,7 +225,7 @@ module _ (explains : Bool) (AreGiven : List (List ℕ) → Type 0) (specs : List
         }
 
     -- it was not
-    pub cut_short : {T : Type 0} (fault : RunFault) → IsRun {T = T} (choosing.rules_of rules_of kits) (telling names explains) source out (Err fault) → ended ≡ status_of (Run fault) → TellsFault err (Run fault)
+    pub cut_short : {T : Type 0} (fault : RunFault) → IsRun {T = T} (choosing.rules_of rules_of kits) (telling named explains) source out (Err fault) → ended ≡ status_of (Run fault) → TellsFault err (Run fault)
         → IsSiteRun explains AreGiven specs source out err ended
     cut_short fault run is tells = record {
       status = inr (status_by fault is);
@@ -239,10 +240,10 @@ module _ (explains : Bool) (AreGiven : List (List ℕ) → Type 0) (specs : List
               line.0,
               line.1,
               ap Run line.2,
-              site_line explains specs modules workers kits names some are named source.old out.old out.new line.0 line.1 (run.line line.0 line.1 (ap Err line.2)),
+              site_line explains specs modules workers kits named some are are_named source.old out.old out.new line.0 line.1 (run.line line.0 line.1 (ap Err line.2)),
             ),
           );
-      front = inr (modules, given, site_front explains specs modules workers kits names some are named source.old out.old out.new run.front);
+      front = inr (modules, given, site_front explains specs modules workers kits named some are are_named source.old out.old out.new run.front);
     }
       where
         status_by : (fault : RunFault) → ended ≡ status_of (Run fault) → (ended ≡ 1) ⊎ ((ended ≡ 3) ⊎ (ended ≡ 4))

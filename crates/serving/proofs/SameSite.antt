@@ -27,7 +27,7 @@ use Rattle.engine.proofs.SameOutput.{all_answered}
 use Rattle.command.specs.Words.{SpecSyntax}
 use Rattle.engine.proofs.Explained.{explained_output, plain_output}
 use Rattle.serving.specs.Laws.{FilesGiveModules, OneSiteOutput, SiteExplainedOutput, SiteFrontsAgree, SiteFrontsBeginOutput, SitePlainOutput}
-use Rattle.serving.specs.Site.{ArePlugins, IsPlugin, IsSiteKit, names_of, told_by}
+use Rattle.serving.specs.Site.{ArePlugins, IsPlugin, IsSiteKit, named_of, told_by}
 use Rattle.serving.specs.Verdict.{front_of}
 use Rattle.serving.proofs.Agreeing.{Agree, verdict_by}
 
@@ -169,12 +169,12 @@ module _ (one_module : OneModule) (one_image : OneImage) where
 
 pub site_explained : SiteExplainedOutput
 site_explained specs modules script text (kit, is, output) =
-    let explained = explained_output (rules_of kit) (names_of specs) script text output in
+    let explained = explained_output (rules_of kit) (named_of specs) script text output in
     (explained.0, (kit, is, explained.1), explained.2)
 
 -- and without the lines that are put in
 pub site_plain : SitePlainOutput
-site_plain specs modules script text (kit, is, output) = (kit, is, plain_output (rules_of kit) (names_of specs) script text output)
+site_plain specs modules script text (kit, is, output) = (kit, is, plain_output (rules_of kit) (named_of specs) script text output)
 
 -- ---- files
 

@@ -1,14 +1,14 @@
 -- What is written for a site is written by one of its kits.
 use Rattle.std.proofs.Common.{◌≡◌, ℕ, Bool, ◌≤◌, List, [], ◌∷◌, Option, Some, None, IfSome, refl, sym, ap, ◌∙◌, arith}
 use Rattle.std.proofs.lemmas.List.Elements.{All-head}
-use Rattle.quant.specs.declared.name.Name.{Name}
 use Rattle.manifest.specs.declared.fault.LineFault.{LineFault}
 use Rattle.plugin.specs.Kit.{Ready, IsKitOf, rules_of}
 use Rattle.choose.specs.Kits as choosing
+use Rattle.engine.specs.declared.named_rule.NamedRule.{NamedRule}
 use Rattle.engine.specs.Telling.{telling}
 use Rattle.engine.specs.Output.{first_fault, WritesOutput, WritesFront}
 use Rattle.command.specs.Words.{SpecSyntax, Asked, run, explain, storm, check}
-use Rattle.serving.specs.Site.{AreSiteKits, IsSiteKit, WritesSiteOutput, WritesSiteFront, names_of, told_by}
+use Rattle.serving.specs.Site.{AreSiteKits, IsSiteKit, WritesSiteOutput, WritesSiteFront, named_of, told_by}
 use Rattle.serving.proofs.Quiet.{output_front}
 
 -- the first of a site's kits is one, and its rules are the run's
@@ -19,29 +19,29 @@ first_kit : (specs : List SpecSyntax) (modules : List (List ℕ)) (workers : ℕ
 first_kit specs modules workers [] some are = absurd (omega (arith, some, are.count))
 first_kit specs modules workers (kit ∷ kits) some are = (kit, record { plugins = are.plugins; are = are.are; is = All-head (IsKitOf are.plugins) kit kits are.all }, refl)
 
-pub site_output : (explains : Bool) (specs : List SpecSyntax) (modules : List (List ℕ)) (workers : ℕ) (kits : List (List Ready)) (names : List Name) → 1 ≤ workers → AreSiteKits specs modules workers kits
-    → names ≡ names_of specs → (script : List ℕ) (old new : Option (List ℕ)) → WritesOutput (choosing.rules_of rules_of kits) (telling names explains) script old new
+pub site_output : (explains : Bool) (specs : List SpecSyntax) (modules : List (List ℕ)) (workers : ℕ) (kits : List (List Ready)) (named : List NamedRule) → 1 ≤ workers → AreSiteKits specs modules workers kits
+    → named ≡ named_of specs → (script : List ℕ) (old new : Option (List ℕ)) → WritesOutput (choosing.rules_of rules_of kits) (telling named explains) script old new
     → WritesSiteOutput explains specs modules script old new
-site_output explains specs modules workers kits names some are named script old new writes =
+site_output explains specs modules workers kits named some are are_named script old new writes =
     let first = first_kit specs modules workers kits some are in
-    (first.0, first.1, rw (first.2, named) at writes)
+    (first.0, first.1, rw (first.2, are_named) at writes)
 
-pub site_front : (explains : Bool) (specs : List SpecSyntax) (modules : List (List ℕ)) (workers : ℕ) (kits : List (List Ready)) (names : List Name) → 1 ≤ workers → AreSiteKits specs modules workers kits
-    → names ≡ names_of specs → (known old new : Option (List ℕ)) → IfSome known (λ script. WritesFront (choosing.rules_of rules_of kits) (telling names explains) script old new)
+pub site_front : (explains : Bool) (specs : List SpecSyntax) (modules : List (List ℕ)) (workers : ℕ) (kits : List (List Ready)) (named : List NamedRule) → 1 ≤ workers → AreSiteKits specs modules workers kits
+    → named ≡ named_of specs → (known old new : Option (List ℕ)) → IfSome known (λ script. WritesFront (choosing.rules_of rules_of kits) (telling named explains) script old new)
     → IfSome known (λ script. WritesSiteFront explains specs modules script old new)
-site_front explains specs modules workers kits names some are named None old new writes = tt
-site_front explains specs modules workers kits names some are named (Some script) old new writes =
+site_front explains specs modules workers kits named some are are_named None old new writes = tt
+site_front explains specs modules workers kits named some are are_named (Some script) old new writes =
     let first = first_kit specs modules workers kits some are in
-    (first.0, first.1, rw (first.2, named) at writes)
+    (first.0, first.1, rw (first.2, are_named) at writes)
 
 -- no line is faulty
-pub site_done : (explains : Bool) (specs : List SpecSyntax) (modules : List (List ℕ)) (workers : ℕ) (kits : List (List Ready)) (names : List Name) → 1 ≤ workers → AreSiteKits specs modules workers kits
-    → names ≡ names_of specs → (known left old new : Option (List ℕ))
-    → IfSome known (λ script. (first_fault script ≡ None) × WritesOutput (choosing.rules_of rules_of kits) (telling names explains) script old new × (left ≡ Some []))
+pub site_done : (explains : Bool) (specs : List SpecSyntax) (modules : List (List ℕ)) (workers : ℕ) (kits : List (List Ready)) (named : List NamedRule) → 1 ≤ workers → AreSiteKits specs modules workers kits
+    → named ≡ named_of specs → (known left old new : Option (List ℕ))
+    → IfSome known (λ script. (first_fault script ≡ None) × WritesOutput (choosing.rules_of rules_of kits) (telling named explains) script old new × (left ≡ Some []))
     → IfSome known (λ script. (first_fault script ≡ None) × WritesSiteOutput explains specs modules script old new × (left ≡ Some []))
-site_done explains specs modules workers kits names some are named None left old new done = tt
-site_done explains specs modules workers kits names some are named (Some script) left old new (fine, writes, read) =
-    (fine, site_output explains specs modules workers kits names some are named script old new writes, read)
+site_done explains specs modules workers kits named some are are_named None left old new done = tt
+site_done explains specs modules workers kits named some are are_named (Some script) left old new (fine, writes, read) =
+    (fine, site_output explains specs modules workers kits named some are are_named script old new writes, read)
 
 -- the whole output is a beginning of it
 pub done_front : (explains : Bool) (specs : List SpecSyntax) (modules : List (List ℕ)) (known left old new : Option (List ℕ))
@@ -52,13 +52,13 @@ done_front explains specs modules (Some script) left old new (fine, (kit, is, wr
     (kit, is, output_front (rules_of kit) (told_by explains specs) script old new writes)
 
 -- a line is faulty
-pub site_line : (explains : Bool) (specs : List SpecSyntax) (modules : List (List ℕ)) (workers : ℕ) (kits : List (List Ready)) (names : List Name) → 1 ≤ workers → AreSiteKits specs modules workers kits
-    → names ≡ names_of specs → (known old new : Option (List ℕ)) (number : ℕ) (fault : LineFault)
-    → IfSome known (λ script. (first_fault script ≡ Some (number, fault)) × WritesOutput (choosing.rules_of rules_of kits) (telling names explains) script old new)
+pub site_line : (explains : Bool) (specs : List SpecSyntax) (modules : List (List ℕ)) (workers : ℕ) (kits : List (List Ready)) (named : List NamedRule) → 1 ≤ workers → AreSiteKits specs modules workers kits
+    → named ≡ named_of specs → (known old new : Option (List ℕ)) (number : ℕ) (fault : LineFault)
+    → IfSome known (λ script. (first_fault script ≡ Some (number, fault)) × WritesOutput (choosing.rules_of rules_of kits) (telling named explains) script old new)
     → IfSome known (λ script. (first_fault script ≡ Some (number, fault)) × WritesSiteOutput explains specs modules script old new)
-site_line explains specs modules workers kits names some are named None old new number fault line = tt
-site_line explains specs modules workers kits names some are named (Some script) old new number fault (first, writes) =
-    (first, site_output explains specs modules workers kits names some are named script old new writes)
+site_line explains specs modules workers kits named some are are_named None old new number fault line = tt
+site_line explains specs modules workers kits named some are are_named (Some script) old new number fault (first, writes) =
+    (first, site_output explains specs modules workers kits named some are are_named script old new writes)
 
 -- ---- what words ask for
 

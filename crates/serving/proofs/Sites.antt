@@ -13,9 +13,10 @@ use Rattle.command.specs.Within.{HaveDistinctNames}
 use Rattle.command.specs.declared.asked.Spec.{Spec}
 use Rattle.serving.specs.Verdict.{front_of}
 use Rattle.engine.specs.declared.fault.RunFault.TheVariants as run_fault
+use Rattle.engine.specs.declared.named_rule.NamedRule.{NamedRule}
 use Rattle.faults.specs.declared.fault.Fault.{Fault}
 use Rattle.faults.specs.declared.fault.Fault.TheVariants.{Words, Misused, Plugin, Unread, Run}
-use Rattle.serving.specs.Site.{ArePlugins, IsPlugin, ModuleRefused, WhyNoModule, WhyNoModules, WhyNoPlugin, AreFromFiles, names_of}
+use Rattle.serving.specs.Site.{ArePlugins, IsPlugin, ModuleRefused, WhyNoModule, WhyNoModules, WhyNoPlugin, AreFromFiles, named_of}
 
 -- ---- lists
 
@@ -124,19 +125,19 @@ all_had specs modules plugins i long same are =
     subst (λ ms. ArePlugins specs ms plugins) (take_all i modules (omega (arith, long, same)))
     (subst (λ ss. ArePlugins ss (take i modules) plugins) (take_all i specs long) are)
 
--- one more name
-named_more : (specs : List SpecSyntax) (i : ℕ) (s : SpecSyntax) → slice_get specs i ≡ Some s → names_of (take (suc i) specs) ≡ names_of (take i specs) ++ s.name ∷ []
-named_more [] i s at = cc
-named_more (t ∷ specs) zero s at =
+-- one more rule as it is told
+one_named : (specs : List SpecSyntax) (i : ℕ) (s : SpecSyntax) → slice_get specs i ≡ Some s → named_of (take (suc i) specs) ≡ named_of (take i specs) ++ record { name = s.name; weight = s.weight } ∷ []
+one_named [] i s at = cc
+one_named (t ∷ specs) zero s at =
     let same : s ≡ t = cc in
-    ap (λ x. x.name ∷ []) (sym same)
-named_more (t ∷ specs) (suc i) s at = ap (λ ns. t.name ∷ ns) (named_more specs i s at)
+    ap (λ x. record { name = x.name; weight = x.weight } ∷ []) (sym same)
+one_named (t ∷ specs) (suc i) s at = ap (λ rules. record { name = t.name; weight = t.weight } ∷ rules) (one_named specs i s at)
 
 -- the same, from the code's own list
-pub names_more : (specs : List Spec) (old new : List (List ℕ)) (i : ℕ) (spec : Spec) (name : List ℕ) → slice_get specs i ≡ Some spec → name ≡ spec.name
-    → old ≡ names_of (take i (map syntax_of specs)) → new ≡ old ++ name ∷ [] → new ≡ names_of (take (i + 1) (map syntax_of specs))
-names_more specs old new i spec name at same so_far joined =
-    rw (add-one, joined, so_far, same) (sym (named_more (map syntax_of specs) i (syntax_of spec) (at_image syntax_of specs i spec at)))
+pub named_more : (specs : List Spec) (old new : List NamedRule) (i : ℕ) (spec : Spec) (name : List ℕ) → slice_get specs i ≡ Some spec → name ≡ spec.name
+    → old ≡ named_of (take i (map syntax_of specs)) → new ≡ old ++ record { name = name; weight = spec.weight } ∷ [] → new ≡ named_of (take (i + 1) (map syntax_of specs))
+named_more specs old new i spec name at same so_far joined =
+    rw (add-one, joined, so_far, same) (sym (one_named (map syntax_of specs) i (syntax_of spec) (at_image syntax_of specs i spec at)))
 
 -- ---- modules
 

@@ -10,6 +10,7 @@ use Rattle.plugin.specs.Plugins.{Configured}
 use Rattle.plugin.specs.Kit.{Ready, IsKitOf, rules_of}
 use Rattle.plugin.specs.Refused.{WhyNoKit}
 use Rattle.manifest.specs.declared.fault.LineFault.{LineFault}
+use Rattle.engine.specs.declared.named_rule.NamedRule.{NamedRule}
 use Rattle.engine.specs.Telling.{Telling, telling}
 use Rattle.engine.specs.Output.{first_fault, IsOutput, BeginsOutput, WritesOutput, WritesFront}
 use Rattle.engine.specs.declared.fault.RunFault.TheVariants as run_fault
@@ -20,13 +21,13 @@ use Rattle.faults.specs.declared.refusal.Refusal.TheVariants.{NotReady}
 use Rattle.faults.specs.Fault.{status_of}
 use Rattle.serving.specs.Verdict.{IsRefusedFor, front_of}
 
--- the names that plugins are given
-abbrev pub names_of : List SpecSyntax → List (List ℕ)
-names_of specs = map (λ s. s.name) specs
+-- the names and weights that plugins are given
+abbrev pub named_of : List SpecSyntax → List NamedRule
+named_of specs = map (λ s. record { name = s.name; weight = s.weight }) specs
 
 -- what a run by them tells, which explains its cycles or not
 abbrev pub told_by : (explains : Bool) → List SpecSyntax → Telling
-told_by explains specs = telling (names_of specs) explains
+told_by explains specs = telling (named_of specs) explains
 
 -- A plugin is the one that the words configure, and its module the one that these bytes spell, which is accepted.
 pub record IsPlugin (spec : SpecSyntax) (bytes : List ℕ) (plugin : Configured) : Type 0 where

@@ -4,15 +4,14 @@ ghost use Rattle.engine.specs.Device.{use_of};
 ghost use Rattle.command.specs.Within.{IsPlan};
 ghost use Rattle.command.specs.Words.{syntax_of};
 ghost use Rattle.serving.specs.Run.{IsSiteRun, TellsFailures};
-ghost use Rattle.serving.specs.Site.{AreFromFiles, UnreadPlugin, names_of};
+ghost use Rattle.serving.specs.Site.{AreFromFiles, UnreadPlugin, named_of};
 
 use crate::folder::Files;
 use crate::site::{modules_in, site_kits};
 use crate::with_kits::run_with_kits;
 use command::{Plan, Spec};
-use engine::{RunFault, Sink, Source};
+use engine::{NamedRule, RunFault, Sink, Source};
 use faults::{Fault, report};
-use quant::Name;
 use std::alloc::{AllocError, Global};
 use std::hash::RandomState;
 use std::sync::Wait;
@@ -49,14 +48,14 @@ pub fn serve<T: Wait + Threads + Copy + Send + Sync + 'static, R: Source, W: Sin
         Ok(kits) => kits,
         Err(refused) => return report(refused, err),
     };
-    let Ok(names) = names_in(alloc, plan.specs.as_slice()) else {
+    let Ok(named) = named_in(alloc, plan.specs.as_slice()) else {
         return report(Fault::Run(RunFault::NoMemory), err);
     };
     match run_with_kits(
         rt,
         alloc,
         keys,
-        names.as_slice(),
+        named.as_slice(),
         explains,
         kits,
         source,
@@ -67,17 +66,22 @@ pub fn serve<T: Wait + Threads + Copy + Send + Sync + 'static, R: Source, W: Sin
     }
 }
 
-// The plugins' names, in order.
-fn names_in(alloc: Global, specs: &[Spec<'_>]) -> Result<Vec<Name>, AllocError>
-    ensures { IfOk result (λ names. names.items ≡ names_of (map syntax_of specs.now)) }
+// The plugins' names and weights, in order.
+fn named_in(alloc: Global, specs: &[Spec<'_>]) -> Result<Vec<NamedRule>, AllocError>
+    ensures { IfOk result (λ named. named.items ≡ named_of (map syntax_of specs.now)) }
 {
-    let mut names = Vec::new(alloc);
+    let mut named = Vec::new(alloc);
     for place in 0..specs.len() {
-        if names.push(specs[place].name.copied()).is_err() {
+        let spec = &specs[place];
+        let rule = NamedRule {
+            name: spec.name.copied(),
+            weight: spec.weight,
+        };
+        if named.push(rule).is_err() {
             return Err(AllocError);
         }
     }
-    Ok(names)
+    Ok(named)
 }
 
 /// Reads the plugins' files and serves a script by them, as `serve` does. That a file can't be read is told with the name of its

@@ -7,9 +7,8 @@ ghost use Rattle.engine.specs.Device.{use_of};
 ghost use Rattle.engine.specs.Run.{IsRun};
 ghost use Rattle.engine.specs.Telling.{telling};
 
-use engine::{RunFault, Sink, Source, run};
+use engine::{NamedRule, RunFault, Sink, Source, run};
 use fleet::{Blank, MAX_KITS, NoGate, Pool, Site};
-use quant::Name;
 use rules::Rules;
 use std::alloc::Global;
 use std::hash::RandomState;
@@ -28,7 +27,7 @@ fn run_in<
     rt: &T,
     alloc: Global,
     keys: RandomState,
-    names: &[Name],
+    named: &[NamedRule],
     explains: bool,
     blank: Blank,
     first: K,
@@ -45,7 +44,7 @@ where
     requires reads { R.failure_count source.old < 10 ^ 18 }
     requires writes { W.failure_count sink.old < 10 ^ 18 }
     requires finite { R.bytes_left source.old < 2 ^ 64 }
-    ensures run { IsRun (K.answers first) (telling names.now explains)
+    ensures run { IsRun (K.answers first) (telling named.now explains)
         (use_of R.remaining R.failure_count source.old source.new) (use_of W.written W.failure_count sink.old sink.new) result }
     ensures no_place { result ≡ Err RunFault.NoPlace → (source.new ≡ source.old) × (sink.new ≡ sink.old) }
 {
@@ -53,7 +52,7 @@ where
         return Err(RunFault::NoMemory);
     };
     let mut pool = Pool::<J, K, NoGate>::start(*rt, alloc, blank, first, others, gate)?;
-    let done = run(rt, alloc, keys, names, explains, &mut pool, source, sink);
+    let done = run(rt, alloc, keys, named, explains, &mut pool, source, sink);
     pool.end(rt);
     done
 }
@@ -71,7 +70,7 @@ pub fn run_with_kits<
     rt: &T,
     alloc: Global,
     keys: RandomState,
-    names: &[Name],
+    named: &[NamedRule],
     explains: bool,
     kits: Vec<K>,
     source: &mut R,
@@ -85,7 +84,7 @@ where
     requires reads { R.failure_count source.old < 10 ^ 18 }
     requires writes { W.failure_count sink.old < 10 ^ 18 }
     requires finite { R.bytes_left source.old < 2 ^ 64 }
-    ensures run { IsRun (rules_of K.answers kits.items) (telling names.now explains)
+    ensures run { IsRun (rules_of K.answers kits.items) (telling named.now explains)
         (use_of R.remaining R.failure_count source.old source.new) (use_of W.written W.failure_count sink.old sink.new) result }
     ensures no_place { result ≡ Err RunFault.NoPlace → (source.new ≡ source.old) × (sink.new ≡ sink.old) }
 {
@@ -95,7 +94,7 @@ where
         rt,
         alloc,
         keys,
-        names,
+        named,
         explains,
         Blank::new(),
         first,

@@ -57,10 +57,8 @@ pub fn first_untolerated<'a>(node: &'a Node, pod: &Pod) -> Option<&'a Taint>
     ensures { option_copied result ≡ first_untolerated node.now pod.now }
 {
     let tolerations = pod.tolerations.as_slice();
-    node.taints
-        .as_slice()
-        .iter()
-        .find(|taint| keeps_off(taint.effect) && !tolerate(tolerations, taint))
+    node.taints.as_slice().iter().find(|taint| keeps_off(taint.effect)
+        && !tolerate(tolerations, taint))
 }
 
 /// How many of a node's taints `PreferNoSchedule` a pod does not tolerate.

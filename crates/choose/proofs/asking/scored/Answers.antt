@@ -12,6 +12,7 @@ loop-place-init g c = record {
   within = omega arith;
   few = search rules;
   small = omega arith;
+  places = refl;
   before = λ told of_pod of_node. good_before_none _ _;
 }
 
@@ -34,6 +35,7 @@ loop-place-preserved g c =
       within = omega arith;
       few = search rules;
       small = rw (c.from.ensures, c.from-in-Good.ensures) (omega (arith, within));
+      places = search rules;
       before = λ told of_pod of_node.
-          rw (c.from.ensures, c.from-in-Good.ensures) (good_before_more _ _ _ _ _ _ (c.loop-place.invariant.before told of_pod of_node) weighs (said told of_pod of_node));
+          rw (c.from.ensures, c.from-in-Good.ensures) (good_before_more _ _ _ _ _ _ _ (omega (arith, c.loop-place.invariant.few)) (c.loop-place.invariant.before told of_pod of_node) weighs (said told of_pod of_node));
     }

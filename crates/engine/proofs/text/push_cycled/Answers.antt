@@ -6,4 +6,4 @@ use Rattle.engine.proofs.text.push_cycled.Goals as goal
 
 pub returns-in-Idle-clause-lines : goal.returns-in-Idle-clause-lines
 unfolding cycle_line
-returns-in-Idle-clause-lines c = always _ (subst (λ came. AreLines false (cycle_line c.args.names.now came)) (sym c.in-Idle.is) idle_lines)
+returns-in-Idle-clause-lines c = always _ (subst (λ came. AreLines false (cycle_line c.args.named.now came)) (sym c.in-Idle.is) idle_lines)

@@ -1,35 +1,28 @@
 use Rattle.std.proofs.Common.{◌≡◌, ◌∙◌, ◌++◌, ap, codes, subst, sym}
+use Rattle.desk.specs.Shown.{shown}
 use Rattle.engine.specs.Lines.{IsLine}
 use Rattle.engine.specs.Telling.{verdict_text}
 use Rattle.engine.specs.Text.{cause_text}
 use Rattle.engine.proofs.Known.{four-pieces}
-use Rattle.engine.proofs.OutputLines.{always, on_ok, verdict_is_line}
+use Rattle.engine.proofs.OutputLines.{always, on_ok, errs_is_line, rejected_is_line}
 use Rattle.engine.proofs.verdicts.push_verdict.Goals as goal
-
-pub returns-in-Rejected-clause-line : goal.returns-in-Rejected-clause-line
-returns-in-Rejected-clause-line c =
-    always _ (subst (λ v. IsLine (verdict_text c.args.names.now c.args.most v)) (sym c.in-Rejected.is) (verdict_is_line c.args.names.now c.args.most _ tt))
 
 pub returns-in_ok-push_text-in-RejectedBy-clause-line : goal.returns-in_ok-push_text-in-RejectedBy-clause-line
 returns-in_ok-push_text-in-RejectedBy-clause-line c =
-    always _ (subst (λ v. IsLine (verdict_text c.args.names.now c.args.most v)) (sym c.in-RejectedBy.is)
-    (verdict_is_line c.args.names.now c.args.most _ (subst IsLine c.name_at.ensures.name c.name_at.ensures.line)))
+    always _ (subst (λ v. IsLine (verdict_text c.args.named.now c.args.most c.args.pod.now (shown c.args.row.now) v)) (sym c.in-RejectedBy.is)
+    (rejected_is_line c.args.named.now c.args.most _ c.args.pod.now (shown c.args.row.now) _ (subst IsLine c.name_at.ensures.name c.name_at.ensures.line)))
 
 pub returns-in_ok-extend_from_slice-in-Errs-clause-text : goal.returns-in_ok-extend_from_slice-in-Errs-clause-text
 unfolding verdict_text
 returns-in_ok-extend_from_slice-in-Errs-clause-text c =
     let was = c.args.out.now.items in
     on_ok c.push_cause.result
-    (λ all. subst (λ v. c.push_cause.new.out.items ≡ was ++ verdict_text c.args.names.now c.args.most v) (sym c.in-Errs.is)
+    (λ all. subst (λ v. c.push_cause.new.out.items ≡ was ++ verdict_text c.args.named.now c.args.most c.args.pod.now (shown c.args.row.now) v) (sym c.in-Errs.is)
     (four-pieces was _ _ _ (codes "error plugin ") _ (codes " ") (cause_text c.in-Errs.why)
     (c.in_ok-push_text-in-Errs.ensures ∙ ap (λ t. was ++ (codes "error plugin " ++ t)) c.name_at-in-Errs.ensures.name) c.in_ok-extend_from_slice-in-Errs.ensures.items all))
     c.push_cause.ensures
 
 pub returns-in_ok-extend_from_slice-in-Errs-clause-line : goal.returns-in_ok-extend_from_slice-in-Errs-clause-line
 returns-in_ok-extend_from_slice-in-Errs-clause-line c =
-    always _ (subst (λ v. IsLine (verdict_text c.args.names.now c.args.most v)) (sym c.in-Errs.is)
-    (verdict_is_line c.args.names.now c.args.most _ (subst IsLine c.name_at-in-Errs.ensures.name c.name_at-in-Errs.ensures.line)))
-
-pub returns-in-Passes-clause-line : goal.returns-in-Passes-clause-line
-returns-in-Passes-clause-line c =
-    always _ (subst (λ v. IsLine (verdict_text c.args.names.now c.args.most v)) (sym c.in-Passes.is) (verdict_is_line c.args.names.now c.args.most _ tt))
+    always _ (subst (λ v. IsLine (verdict_text c.args.named.now c.args.most c.args.pod.now (shown c.args.row.now) v)) (sym c.in-Errs.is)
+    (errs_is_line c.args.named.now c.args.most _ c.args.pod.now (shown c.args.row.now) _ (subst IsLine c.name_at-in-Errs.ensures.name c.name_at-in-Errs.ensures.line)))

@@ -1,12 +1,11 @@
-use Rattle.std.proofs.Common.{◌≡◌, ◌++◌, true, map, take}
+use Rattle.std.proofs.Common.{◌≡◌, ◌++◌, true, map, take, zip}
 use Rattle.std.specs.List.{flat_map}
 use Rattle.desk.specs.Shown.{shown}
-use Rattle.choose.specs.Choice.{judged}
 use Rattle.engine.specs.Indented.{AreLines}
 use Rattle.engine.specs.Telling.{verdict_line}
 use Rattle.engine.proofs.verdicts.push_verdicts.Given as goal
 
 abbrev pub invariant-loop-at : goal.invariant-loop-at
 invariant-loop-at l =
-    (l.out.items ≡ l.initial.out.items ++ flat_map (verdict_line l.names l.most) (take l.at (judged (map shown l.rows) l.verdicts)))
-    × AreLines true (flat_map (verdict_line l.names l.most) (take l.at (judged (map shown l.rows) l.verdicts)))
+    (l.out.items ≡ l.initial.out.items ++ flat_map (verdict_line l.named l.most l.pod) (take l.at (zip (map shown l.rows) l.verdicts)))
+    × AreLines true (flat_map (verdict_line l.named l.most l.pod) (take l.at (zip (map shown l.rows) l.verdicts)))

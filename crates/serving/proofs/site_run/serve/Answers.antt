@@ -17,7 +17,7 @@ pub returns-in-Err-clause-failures : goal.returns-in-Err-clause-failures
 returns-in-Err-clause-failures g c =
     no_site_told _ _ (λ _. ⊥) _ _ _ _ _ _ c.in-Err.refused c.in-Err.ensures.refused c.report.ensures.status c.report.ensures.told refl refl
 
--- ---- there is no room for their names
+-- ---- there is no room for their names and weights
 
 pub returns-in_default-clause-run : goal.returns-in_default-clause-run
 returns-in_default-clause-run g c = not_begun _ _ _ _ _ _ _ (inl c.report-in_default.ensures.status) refl
@@ -30,10 +30,10 @@ returns-in_default-clause-failures g c = told _ _ (λ _. ⊥) _ _ _ _ (Run NoMem
 pub returns-in-Ok-run_with_kits-clause-run : goal.returns-in-Ok-run_with_kits-clause-run
 returns-in-Ok-run_with_kits-clause-run g c =
     let made = rw c.as_slice.ensures.value at c.in-Ok.ensures.made in
-    let named = rw c.as_slice-2.ensures.value at (c.as_slice-3.ensures.value ∙ c.in-Ok-names_in.ensures) in
+    let are_named = rw c.as_slice-2.ensures.value at (c.as_slice-3.ensures.value ∙ c.in-Ok-named_in.ensures) in
     served _ _ (map syntax_of c.args.plan.now.specs.items) (use_of g.R.Source.remaining g.R.Source.failure_count c.args.source.now c.run_with_kits.new.source)
     (use_of g.W.Sink.written g.W.Sink.failure_count c.args.out.now c.run_with_kits.new.sink) _ _ (map (λ m. m.items) c.args.modules.now) c.args.plan.now.workers c.in-Ok.kits.items c.as_slice-3.result.now
-    c.requires.plan.least_workers made named refl _ c.in-Ok-run_with_kits.ensures.run refl
+    c.requires.plan.least_workers made are_named refl _ c.in-Ok-run_with_kits.ensures.run refl
 
 pub returns-in-Ok-run_with_kits-clause-failures : goal.returns-in-Ok-run_with_kits-clause-failures
 returns-in-Ok-run_with_kits-clause-failures g c =
@@ -44,10 +44,10 @@ returns-in-Ok-run_with_kits-clause-failures g c =
 pub returns-clause-run : goal.returns-clause-run
 returns-clause-run g c =
     let made = rw c.as_slice.ensures.value at c.in-Ok.ensures.made in
-    let named = rw c.as_slice-2.ensures.value at (c.as_slice-3.ensures.value ∙ c.in-Ok-names_in.ensures) in
+    let are_named = rw c.as_slice-2.ensures.value at (c.as_slice-3.ensures.value ∙ c.in-Ok-named_in.ensures) in
     cut_short _ _ (map syntax_of c.args.plan.now.specs.items) (use_of g.R.Source.remaining g.R.Source.failure_count c.args.source.now c.run_with_kits.new.source)
     (use_of g.W.Sink.written g.W.Sink.failure_count c.args.out.now c.run_with_kits.new.sink) _ _ (map (λ m. m.items) c.args.modules.now) c.args.plan.now.workers c.in-Ok.kits.items c.as_slice-3.result.now
-    c.requires.plan.least_workers made named refl c.in-Err-run_with_kits.fault c.in-Err-run_with_kits.ensures.run c.report-in-Err-run_with_kits.ensures.status c.report-in-Err-run_with_kits.ensures.told
+    c.requires.plan.least_workers made are_named refl c.in-Err-run_with_kits.fault c.in-Err-run_with_kits.ensures.run c.report-in-Err-run_with_kits.ensures.status c.report-in-Err-run_with_kits.ensures.told
 
 pub returns-clause-failures : goal.returns-clause-failures
 returns-clause-failures g c =

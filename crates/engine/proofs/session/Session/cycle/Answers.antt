@@ -6,7 +6,7 @@ use Rattle.engine.proofs.session.Session.cycle.Goals as goal
 pub returns-clause-cycled : goal.returns-clause-cycled
 returns-clause-cycled g c =
     let told = c.in_ok-came.ensures.told in
-    let line = cycle_line c.args.names.now c.in_ok-came.came in (
+    let line = cycle_line c.args.named.now c.in_ok-came.came in (
       told.0 ++ line,
       (c.in_ok-came.came, c.in_ok-came.ensures.cycled, (told.0, told.1, told.2, c.in_ok-push_cycled.ensures.lines, refl)),
       c.in_ok-push_cycled.ensures.text ∙ ap (λ t. t ++ line) told.3 ∙ append_assoc _ told.0 line,

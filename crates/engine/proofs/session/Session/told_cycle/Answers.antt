@@ -1,41 +1,62 @@
 use Rattle.std.proofs.Common.{◌≡◌, ◌∙◌, true, false, [], map, length, sym, ap, subst, refl, rules, append-nil}
+use Rattle.std.proofs.lemmas.List.{length-map}
+use Rattle.desk.specs.Machine.{State, snapshot}
 use Rattle.desk.specs.Shown.{shown}
-use Rattle.choose.specs.Choice.{judged}
 use Rattle.choose.specs.Kits.{rules_of}
-use Rattle.engine.specs.CycleAlone.{is_idle}
+use Rattle.choose.proofs.Verdicts.{all_zip_length}
 use Rattle.engine.specs.Telling.{TellsNodes, verdict_lines}
 use Rattle.engine.proofs.Indented.{no_lines}
-use Rattle.engine.proofs.Nodes.{many_before, told_before, untold_before}
+use Rattle.engine.proofs.Nodes.{idle_cycle, placed_cycle, told, unexplained, untold}
 use Rattle.engine.proofs.session.Session.told_cycle.Goals as goal
 
--- nothing is to be told
+-- ---- no pod was popped
+
+pub returns-in-None-clause-cycled : goal.returns-in-None-clause-cycled
+returns-in-None-clause-cycled g c =
+    let pops = rw c.in-None.is at c.in_ok-popped.ensures.popped in
+    idle_cycle _ _ _ pops c.in_ok-popped.ensures.after
+
+pub returns-in-None-clause-told : goal.returns-in-None-clause-told
+returns-in-None-clause-told g c =
+    let pops = rw c.in-None.is at c.in_ok-popped.ensures.popped in
+    ([], untold _ _ _ _ pops, no_lines true, sym (append-nil _))
+
+-- ---- one was, and nothing is to be told
+
+pub returns-then-not-explains-clause-cycled : goal.returns-then-not-explains-clause-cycled
+returns-then-not-explains-clause-cycled g c =
+    let pops = rw c.in-Some.is at c.in_ok-popped.ensures.popped in
+    placed_cycle _ _ _ _ _ _ pops c.in_ok-popped.ensures.after c.in_ok-place.ensures.decided
+
 pub returns-then-not-explains-clause-told : goal.returns-then-not-explains-clause-told
 returns-then-not-explains-clause-told g c =
     let no : c.args.explains ≡ false = search rules in
-    ([], subst (λ b. TellsNodes (rules_of g.D.Kit.Rules.answers (g.D.Decider.kits c.args.decider.now)) c.args.names.now b c.args.self.now.desk []) (sym no) refl, no_lines true, sym (append-nil _))
+    ([], unexplained _ _ _ _ no, no_lines true, sym (append-nil _))
 
--- no pod was popped
-pub returns-then-is_idle-clause-told : goal.returns-then-is_idle-clause-told
-returns-then-is_idle-clause-told g c =
-    let yes : c.args.explains ≡ true = search rules in
-    let idle : is_idle c.in_ok-came.came ≡ true = search rules in
-    ([], untold_before _ _ _ _ _ _ _ yes c.look.ensures.same c.in_ok-came.ensures.cycled idle, no_lines true, sym (append-nil _))
+-- ---- one was, and it is explained
 
--- one was
 pub push_verdicts-requires : goal.push_verdicts-requires
 push_verdicts-requires g c =
-    let busy : is_idle c.in_ok-came.came ≡ false = search rules in
-    ap length c.verdicts.ensures
-    ∙ many_before _ c.args.self.now.desk c.look.new.self c.in_ok-came.came _ c.rows.result.now (g.D.Decider.last c.cycle-2.new.decider) c.look.ensures.same (c.rows.ensures ∙ c.in_ok-snapshot.ensures.shown) c.in_ok-came.ensures.cycled c.in_ok-came.ensures.verdicts busy
+    let seen : map shown c.rows.result.now ≡ snapshot c.look.new.self.cluster =
+    c.rows.ensures ∙ (c.in_ok-snapshot.ensures.shown ∙ ap (λ (s : State). snapshot s.cluster) (sym c.look.ensures.same)) in
+    ap length c.verdicts.ensures ∙ (all_zip_length _ _ _ c.in_ok-came.ensures.verdicts ∙ (sym (ap length seen) ∙ length-map c.rows.result.now shown))
+
+pub returns-clause-cycled : goal.returns-clause-cycled
+returns-clause-cycled g c =
+    let pops = rw c.in-Some.is at c.in_ok-popped.ensures.popped in
+    placed_cycle _ _ _ _ _ _ pops (c.look.ensures.same ∙ c.in_ok-popped.ensures.after) c.in_ok-came.ensures.decided
 
 pub returns-clause-told : goal.returns-clause-told
 returns-clause-told g c =
     let yes : c.args.explains ≡ true = search rules in
-    let busy : is_idle c.in_ok-came.came ≡ false = search rules in (
-      verdict_lines c.args.names.now (judged (map shown c.rows.result.now) c.verdicts.result.now),
-      subst (λ vs. TellsNodes (rules_of g.D.Kit.Rules.answers (g.D.Decider.kits c.args.decider.now)) c.args.names.now c.args.explains c.args.self.now.desk
-          (verdict_lines c.args.names.now (judged (map shown c.rows.result.now) vs))) (sym c.verdicts.ensures)
-          (told_before _ _ _ _ _ _ _ (map shown c.rows.result.now) (g.D.Decider.last c.cycle-2.new.decider) yes c.look.ensures.same (c.rows.ensures ∙ c.in_ok-snapshot.ensures.shown) c.in_ok-came.ensures.cycled c.in_ok-came.ensures.verdicts busy),
+    let pops = rw c.in-Some.is at c.in_ok-popped.ensures.popped in
+    let seen : map shown c.rows.result.now ≡ snapshot c.look.new.self.cluster =
+    c.rows.ensures ∙ (c.in_ok-snapshot.ensures.shown ∙ ap (λ (s : State). snapshot s.cluster) (sym c.look.ensures.same)) in
+    let tells = told (rules_of g.D.Kit.Rules.answers (g.D.Decider.kits c.args.decider.now)) c.args.named.now c.args.explains c.args.self.now.desk _ _ _ yes pops
+    (c.look.ensures.same ∙ c.in_ok-popped.ensures.after) c.in_ok-came.ensures.verdicts in (
+      verdict_lines c.args.named.now c.deref.result.now (map shown c.rows.result.now) c.verdicts.result.now,
+      subst (TellsNodes (rules_of g.D.Kit.Rules.answers (g.D.Decider.kits c.args.decider.now)) c.args.named.now c.args.explains c.args.self.now.desk)
+          (λ i. verdict_lines c.args.named.now (sym c.deref.ensures i) (sym seen i) (sym c.verdicts.ensures i)) tells,
       c.in_ok-push_verdicts.ensures.lines,
       c.in_ok-push_verdicts.ensures.text,
     )
