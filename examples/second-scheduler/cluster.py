@@ -175,15 +175,18 @@ class Cluster:
         """Makes nodes that are ready."""
 
         def make(name: str, node: Thing) -> None:
-            has = {"cpu": f"{node['cpu']}m", "memory": str(node["memory"]), "pods": str(node["pods"])}
             taints = [{"key": "dedicated", "value": it, "effect": "NoSchedule"} for it in node["taints"]]
             spec, meta = {"taints": taints, "unschedulable": node["marked"]}, {"name": name, "labels": node["labels"]}
-            made = self.ask("POST", "/api/v1/nodes", {"apiVersion": "v1", "kind": "Node", "metadata": meta, "spec": spec})
-            made["status"] = {"capacity": has, "allocatable": has, "conditions": [{"type": "Ready", "status": "True"}]}
-            self.ask("PUT", f"/api/v1/nodes/{name}/status", made)
+            self.size_node(self.ask("POST", "/api/v1/nodes", {"apiVersion": "v1", "kind": "Node", "metadata": meta, "spec": spec}), node)
 
         with concurrent.futures.ThreadPoolExecutor(12) as some:
             list(some.map(lambda it: make(*it), nodes.items()))
+
+    def size_node(self, made: Thing, node: Thing) -> None:
+        """Says what a node has, and that it is ready."""
+        has = {"cpu": f"{node['cpu']}m", "memory": str(node["memory"]), "pods": str(node["pods"])}
+        made["status"] = {"capacity": has, "allocatable": has, "conditions": [{"type": "Ready", "status": "True"}]}
+        self.ask("PUT", f"/api/v1/nodes/{made['metadata']['name']}/status", made)
 
     def make_pods(self, pods: Mapping[str, Thing]) -> None:
         """Makes pods in `default`."""

@@ -11,11 +11,10 @@ import time
 from typing import Iterable, Optional
 
 import cluster
-from share import Share
 from trials.fleet import Trial, some_pods, used, wrong
 from trials.shares import COUNT, names_of, owner
 from trials.site import GIB, MIB
-from trials.speed import taken
+from trials.speed import taken, told
 from trials.store import Thing
 from trials.watcher import Watcher
 
@@ -88,7 +87,7 @@ def turn(site: cluster.Cluster, trial: Trial, who: str, pods: int) -> float:
     if not ours:
         site.start_kube_scheduler()
     seen.wait(len(made), 600)
-    time.sleep(5)
+    events = told(site, len(made))
     took = taken(site, *(site.own[it].pid for it in programs))
     for name in programs:
         site.end(name)
@@ -96,15 +95,15 @@ def turn(site: cluster.Cluster, trial: Trial, who: str, pods: int) -> float:
     assert not seen.watcher.wrong, seen.watcher.wrong[:3]
     site.delete_pods(made)
     site.empty("namespaces/default/events")
-    told = " ".join(f"{1000 * (b - a) / len(made):.2f}" for a, b in zip(before, took))
+    spent = " ".join(f"{1000 * (b - a) / len(made):.2f}" for a, b in zip(before, took))
     print(f"{who}: {len(made)} pods, {seen.rate():.0f} a second, all {max(seen.when.values()) - began:.0f} s after the start; "
-          f"ms a pod of all that schedule, of their children, of the API server: {told}; load {os.getloadavg()[0]:.1f}", flush=True)
+          f"ms a pod of all that schedule, of their children, of the API server: {spent}; {events} events; load {os.getloadavg()[0]:.1f}", flush=True)
     return seen.rate()
 
 
-def quick(site: cluster.Cluster, trial: Trial, pods: int) -> None:
-    """Pods a second beside kube-scheduler, in two turns, where every share has room."""
-    rates = [(turn(site, trial, "wsched", pods), turn(site, trial, "kube-scheduler", pods // PART)) for _ in range(2)]
+def quick(site: cluster.Cluster, trial: Trial, pods: int, turns: int) -> None:
+    """Pods a second beside kube-scheduler, in turns, where every share has room."""
+    rates = [(turn(site, trial, "wsched", pods), turn(site, trial, "kube-scheduler", pods // PART)) for _ in range(turns)]
     times = max(it[0] for it in rates) / max(it[1] for it in rates)
     print(f"{len(trial.nodes)} nodes, {COUNT} instances: {times:.1f} times kube-scheduler", flush=True)
 
@@ -151,7 +150,7 @@ def looked_at(trial: Trial, seen: Seen, fit: int) -> str:
             "no node was over its room, no pod moved")
 
 
-def shared(site: cluster.Cluster, nodes: int = 3000, pods: int = 20000, quick_pods: int = 6000) -> int:
+def shared(site: cluster.Cluster, nodes: int = 3000, pods: int = 20000, quick_pods: int = 6000, turns: int = 2) -> int:
     """The speed first, then the crowd."""
     dice, each = random.Random(5), nodes // COUNT
     names = [*itertools.chain(*(names_of(index, COUNT, each) for index in range(1, COUNT + 1)))]
@@ -161,11 +160,13 @@ def shared(site: cluster.Cluster, nodes: int = 3000, pods: int = 20000, quick_po
         site.start()
         trial = Trial(site, {name: roomy for name in names}, {})
         trial.ears.stop.set()
-        quick(site, trial, quick_pods)
-        site.empty("nodes")
+        quick(site, trial, quick_pods, turns)
         few = {"cpu": 1000, "memory": 2048 * MIB, "pods": 1}
-        trial.nodes = {name: roomy | (few if Share(1, COUNT).has_node(name) else {}) for name in names}
-        site.make_nodes(trial.nodes)
+        for it in site.ask("GET", "/api/v1/nodes")["items"]:
+            name = it["metadata"]["name"]
+            if owner(name) == 1:
+                trial.nodes[name] = roomy | few
+                site.size_node(it, trial.nodes[name])
         crowd(site, trial, pods)
     finally:
         site.end_all()

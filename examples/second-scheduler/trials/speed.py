@@ -77,9 +77,9 @@ def watched(site: cluster.Cluster, count: int, start: Start) -> Run:
             if len(bound) in (1, count):
                 takes.append(taken(site, child.pid))
     line.close()
-    takes.append(settled(site, child.pid))
+    events = told(site, count)
+    takes.append(taken(site, child.pid))
     binding, whole = ([1000 * (b - a) / count for a, b in zip(takes[since], takes[until])] for since, until in ((1, 2), (0, 3)))
-    events = sum(1 for it in site.events() if it["reason"] == "Scheduled")
     return Run((count - 1) / (times[-1] - times[0]), binding, whole, events)
 
 
@@ -88,13 +88,13 @@ def taken(site: cluster.Cluster, *pids: int) -> list[float]:
     return [sum(map(spent, pids)), sum(spent(child) for pid in pids for child in children(pid)), sum(spent(site.own[it].pid) for it in ("api", "etcd"))]
 
 
-def settled(site: cluster.Cluster, pid: int) -> list[float]:
-    """The same once it has nothing more to do: what it has to tell comes behind the last bind."""
-    end, before = time.monotonic() + 30, taken(site, pid)
-    while time.monotonic() < end:
-        time.sleep(1)
-        now = taken(site, pid)
-        if now[0] - before[0] < 0.05:
-            return now
-        before = now
-    return before
+def told(site: cluster.Cluster, count: int, patience: float = 15) -> int:
+    """Waits for so many events, and for no longer than that after the last of them: what there is to tell comes behind the binds."""
+    events, changed = 0, time.monotonic()
+    while events < count and time.monotonic() < changed + patience:
+        listed = site.ask("GET", "/api/v1/namespaces/default/events?limit=1")
+        now = len(listed["items"]) + (listed["metadata"].get("remainingItemCount") or 0)
+        if now != events:
+            events, changed = now, time.monotonic()
+        time.sleep(0.5)
+    return events
