@@ -1,5 +1,5 @@
 -- A storm of a site's script keeps its promise at each of its ends.
-use Rattle.std.proofs.Common.{◌≡◌, ◌⊎◌, ◌∙◌, ◌<◌, ◌≤◌, ℕ, Bool, true, false, List, [], ◌∷◌, map, length, Option, Some, None, IfSome, Ok, Err, inl, inr, refl, sym, subst, ap, arith, get_or}
+use Rattle.std.proofs.Common.{◌≡◌, ◌⊎◌, ◌∙◌, ◌<◌, ◌≤◌, ℕ, Bool, true, false, List, [], ◌∷◌, map, length, Ok, Err, inl, inr, refl, sym, subst, ap, arith, get_or}
 use Rattle.std.proofs.lemmas.List.{get_or-map, length-map}
 use Rattle.quant.specs.declared.name.Name.{Name}
 use Rattle.desk.specs.declared.step.Step.{Step}

@@ -1,5 +1,5 @@
 -- From what the workers of a storm did to what a storm promises.
-use Rattle.std.proofs.Common.{◌≡◌, ◌≢◌, ℕ, ◌+◌, ◌<◌, ◌↔◌, Bool, false, List, [], ◌∷◌, length, slice_index_or, Option, Some, None, Result, Ok, Err, IfOk, IfErr, IfSome, OnErr, ◌⊎◌, inl, inr, refl, sym, ap, subst, ◌∙◌, arith}
+use Rattle.std.proofs.Common.{◌≡◌, ◌≢◌, ℕ, ◌+◌, ◌<◌, ◌↔◌, Bool, false, List, [], ◌∷◌, length, slice_index_or, Some, Result, Ok, Err, IfOk, IfErr, IfSome, OnErr, ◌⊎◌, inl, inr, refl, sym, ap, subst, ◌∙◌, arith}
 use Rattle.std.specs.Bool.{IsTrue}
 use Rattle.std.specs.List.{All}
 use Rattle.std.specs.Io.KnownBytes.{Appends}
@@ -20,7 +20,7 @@ use Rattle.storm.specs.declared.worker.Worker.{Worker}
 use Rattle.storm.specs.Made.{BeginsWith, newcomer}
 use Rattle.storm.specs.Crew.{Each, HasFed, IsDumped, enlisted}
 use Rattle.storm.specs.Stages.{HasReported, HasScheduled, IsIdle}
-use Rattle.storm.specs.Script.{script_steps, first_storm_fault}
+use Rattle.storm.specs.Script.{first_storm_fault}
 use Rattle.storm.specs.Storm.{IsStorm, IsAudit, Storms, AreOfScript, IsStormRun, desk_for, storm_text}
 use Rattle.storm.specs.Ending.{IsWorked, HasEnded}
 use Rattle.storm.proofs.Going.{begins_trans, goes_begins}
