@@ -31,9 +31,9 @@ def names_of(index: int, count: int, many: int) -> "list[str]":
     return [*itertools.islice(filter(mine.has_node, (f"node-{i:05}" for i in itertools.count())), many)]
 
 
-def instance(site: Site, index: int, *more: str) -> Scheduler:
+def instance(site: Site, index: int, again: str = "") -> Scheduler:
     """One of three."""
-    return site.start("--share", f"{index}/{COUNT}", "--lease", "kube-system/wsched", *more, name=f"share-{index}")
+    return site.start("--share", f"{index}/{COUNT}", "--lease", "kube-system/wsched", name=f"share-{index}{again}")
 
 
 def shares(site: Site) -> str:
@@ -110,8 +110,9 @@ def share_killed(site: Site) -> str:
     theirs = sum(1 for it in site.store.all("pods") if Share(2, COUNT).is_first(it["metadata"]["uid"]))
     took = site.wait(lambda: site.placed() == 30, PERIOD + 20, "all are bound, though one is away")
     assert took > PERIOD / 2, f"those of the one that is away were bound after {took:.0f} s"
-    instance(site, 2)
-    site.wait(lambda: site.server.count("watch", "pods") >= COUNT + 1, 30, "it watches again")
+    back = instance(site, 2, "-again")
+    # (it has the Lease once that of the one that was killed has run out)
+    site.wait(lambda: " nodes, " in back.log(), 45, "it has listed all again")
     later = [site.pod(f"later-{i}", created=time.time()) for i in range(12)]
     again = site.wait(lambda: site.placed() == 42, PERIOD - 5, "the next are bound, each in its first turn")
     astray = [it["metadata"]["name"] for it in later if Share(2, COUNT).is_first(it["metadata"]["uid"])
