@@ -3,7 +3,7 @@ import collections
 from typing import Callable, Iterator
 
 from trials import store
-from trials.store import Thing
+from trials.store import Conflict, Thing
 
 
 def resource(path: str) -> tuple[str, str]:
@@ -45,6 +45,23 @@ def merge(thing: Thing, patch: Thing) -> None:
             merge(thing.setdefault(key, {}), value)
         else:
             thing[key] = value
+
+
+def replaced(thing: Thing, body: Thing, key: str) -> None:
+    """Puts another in its place, but none that was made of an older version."""
+    version = thing["metadata"]["resourceVersion"]
+    if body["metadata"].get("resourceVersion", version) != version:
+        raise Conflict(409, f"the object {key} has been modified")
+    thing.clear()
+    thing.update(body)
+
+
+def patched(thing: Thing, body: Thing, key: str) -> None:
+    """Patches an object, but none of another uid."""
+    uid = body.get("metadata", {}).get("uid", thing["metadata"]["uid"])
+    if uid != thing["metadata"]["uid"]:
+        raise Conflict(409, f"{key}: the UID in the precondition ({uid}) does not match the UID in record ({thing['metadata']['uid']})")
+    merge(thing, body)
 
 
 def refusal(status: int, message: str) -> Thing:

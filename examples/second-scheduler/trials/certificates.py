@@ -60,7 +60,8 @@ def relay(one: socket.socket, other: socket.socket) -> None:
 def certificate(site: Site, name: str) -> tuple[str, str]:
     """A certificate of its own authority, for 127.0.0.1, and its key."""
     files = [str(site.folder / f"{name}.{it}") for it in ("crt", "key")]
-    words = ["openssl", "req", "-x509", "-newkey", "ec", "-pkeyopt", "ec_paramgen_curve:prime256v1", "-nodes", "-days", "2", "-subj", f"/CN={name}", "-addext", "subjectAltName=IP:127.0.0.1"]
+    how = ["-newkey", "ec", "-pkeyopt", "ec_paramgen_curve:prime256v1", "-nodes", "-days", "2", "-subj", f"/CN={name}"]
+    words = ["openssl", "req", "-x509", *how, "-addext", "subjectAltName=IP:127.0.0.1"]
     subprocess.run([*words, "-out", files[0], "-keyout", files[1]], check=True, stderr=subprocess.DEVNULL)
     return files[0], files[1]
 

@@ -15,7 +15,7 @@ import urllib.parse
 from typing import Any, Callable, Optional
 
 from trials import store
-from trials.answers import merge, refusal, resource, told, wanted
+from trials.answers import merge, patched, refusal, replaced, resource, told, wanted
 from trials.store import Conflict, Thing
 
 TCP_REPAIR = 19
@@ -196,7 +196,7 @@ class Connection(http.server.BaseHTTPRequestHandler):
             return json.dumps(kept.make(kind, asked.body)).encode()
         if asked.verb in ("update", "patch"):
             how = patched if asked.verb == "patch" else replaced
-            return json.dumps(kept.change(kind, asked.key, lambda thing: how(thing, asked))).encode()
+            return json.dumps(kept.change(kind, asked.key, lambda thing: how(thing, asked.body, asked.key))).encode()
         kept.delete(kind, asked.key)
         return json.dumps({"kind": "Status", "status": "Success"}).encode()
 
@@ -278,23 +278,6 @@ class Connection(http.server.BaseHTTPRequestHandler):
             code = {"type": "ERROR", "object": refusal(410, "too old resource version")}
             self.chunk(f"{json.dumps(code)}\n".encode())
             self.chunk(b"")
-
-
-def replaced(thing: Thing, asked: Asked) -> None:
-    """Puts another in its place, but none that was made of an older version."""
-    version = thing["metadata"]["resourceVersion"]
-    if asked.body["metadata"].get("resourceVersion", version) != version:
-        raise Conflict(409, f"the object {asked.key} has been modified")
-    thing.clear()
-    thing.update(asked.body)
-
-
-def patched(thing: Thing, asked: Asked) -> None:
-    """Patches an object, but none of another uid."""
-    uid = asked.body.get("metadata", {}).get("uid", thing["metadata"]["uid"])
-    if uid != thing["metadata"]["uid"]:
-        raise Conflict(409, f"{asked.key}: the UID in the precondition ({uid}) does not match the UID in record ({thing['metadata']['uid']})")
-    merge(thing, asked.body)
 
 
 def bind(stub: Server, asked: Asked) -> None:

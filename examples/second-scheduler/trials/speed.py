@@ -26,9 +26,9 @@ class Run(NamedTuple):
     events: int
 
     def __str__(self) -> str:
-        told = "; ".join(f"{when} {ms[0]:.2f} ms a pod, its child {ms[1]:.2f}, the API server {ms[2]:.2f}"
+        takes = "; ".join(f"{when} {ms[0]:.2f} ms a pod, its child {ms[1]:.2f}, the API server {ms[2]:.2f}"
                          for when, ms in (("while it binds", self.binding), ("in all", self.whole)))
-        return f"{self.rate:.0f} pods a second; {told}; {self.events} events; load {os.getloadavg()[0]:.1f}"
+        return f"{self.rate:.0f} pods a second; {takes}; {self.events} events; load {os.getloadavg()[0]:.1f}"
 
 
 def speed(site: cluster.Cluster, nodes: int = 1000, pods: int = 3000, turns: int = 2, workers: int = 1) -> int:
