@@ -2,6 +2,7 @@
 ghost use Rattle.std.specs.Prelude.{◌≡◌, IfSome, vec_len};
 
 use crate::storms::{Paper, Script};
+use engine::NamedRule;
 use quant::{Name, Pod, Res, SharedNode};
 use rules::{Cause, FilterVerdict, Rules, ScoreVerdict};
 use serving::run_with_kits;
@@ -143,7 +144,7 @@ fn written_by<T: Wait + Threads + Copy + Send + Sync + 'static>(
         rt,
         alloc,
         keys,
-        &[name],
+        &[NamedRule { name, weight: 1 }],
         false,
         kits,
         &mut source,
