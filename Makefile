@@ -25,6 +25,6 @@ dist:
 image:
 	tools/packages/image
 
-# Proves every crate from nothing, tries every must-fail edit, and runs every test and program.
+# The gate: that definitions stand where they should, every proof from nothing, every must-fail edit, every test and program.
 test:
-	rt ci
+	.ci/run

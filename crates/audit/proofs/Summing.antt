@@ -12,7 +12,8 @@ use Rattle.std.proofs.lemmas.List.Elements.{All-map, All-cons}
 use Rattle.std.proofs.lemmas.List.Sums.{sum_by-cons, sum_by-append, sum_by_more}
 use Rattle.std.proofs.lemmas.List.{length-take}
 use Rattle.quant.specs.declared.amount.Res.{Res}
-use Rattle.name_table.specs.Slots.{Slots, map_of, NamesOnce, number_in}
+use Rattle.name_table.specs.Slots.{Slots, map_of, NamesOnce}
+use Rattle.name_table.specs.inside.Slots.{number_in}
 use Rattle.name_table.specs.declared.entry.Entry.{Entry}
 use Rattle.name_table.proofs.SlotLemmas.{sum_map}
 use Rattle.book.specs.declared.place.Place.{Place}
@@ -24,7 +25,8 @@ use Rattle.desk.specs.declared.snapshot.Row.{Row}
 use Rattle.rayon.specs.Lists.{chunks_of}
 use Rattle.rayon.proofs.ToStd.{chunks_of-All, chunks_of-concat}
 use Rattle.audit.specs.declared.sums.Sums.{Sums}
-use Rattle.audit.specs.Audit.{cpu_on, mem_on, pods_on, amounts, nothing, plus, AddsShare, share_in, used_in, sum_in, total_in, IsSumOf, HasRoom, ShowsSums}
+use Rattle.audit.specs.Audit.{ShowsSums}
+use Rattle.audit.specs.inside.Audit.{cpu_on, mem_on, pods_on, amounts, nothing, plus, AddsShare, share_in, used_in, sum_in, total_in, IsSumOf, HasRoom}
 
 module _ {X Y : Type 0} (P : X → Type 0) (f : Y → X) where
   back : (ys : List Y) → All P (map f ys) → All (λ y. P (f y)) ys

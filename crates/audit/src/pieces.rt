@@ -1,7 +1,7 @@
 //! The slots in pieces, each summed by one of several threads.
 ghost use Rattle.std.specs.Prelude.{◌≡◌, ◌≤◌, ◌↔◌, ℕ, List, IfOk, length};
 ghost use Rattle.std.specs.Bool.{IsTrue};
-ghost use Rattle.audit.specs.Audit.{used_in, total_in, IsSumOf};
+ghost use Rattle.audit.specs.inside.Audit.{used_in, total_in, IsSumOf};
 ghost use Rattle.audit.specs.declared.sums.TheConstants.{PIECE};
 
 use crate::sums::{PIECE, Sums, sums_of};

@@ -1,7 +1,8 @@
 //! A look compared with a book, row by row.
 ghost use Rattle.std.specs.Prelude.{◌≡◌, ◌↔◌, IfOk, All};
 ghost use Rattle.std.specs.Bool.{IsTrue};
-ghost use Rattle.audit.specs.Audit.{total_in, ShowsSums};
+ghost use Rattle.audit.specs.Audit.{ShowsSums};
+ghost use Rattle.audit.specs.inside.Audit.{total_in};
 
 use crate::pieces::{is_used, sum_pieces};
 use crate::sums::Sums;

@@ -1,6 +1,6 @@
 //! What some places use on each node, summed anew.
 ghost use Rattle.std.specs.Prelude.{◌≡◌, ◌≤◌, ℕ, List, IfOk, OnOk, length, bytes_eq, false};
-ghost use Rattle.audit.specs.Audit.{nothing, sum_in, share_in, plus, used_in, HasRoom, AddsShare, IsSumOf};
+ghost use Rattle.audit.specs.inside.Audit.{nothing, sum_in, share_in, plus, used_in, HasRoom, AddsShare, IsSumOf};
 
 use book::Place;
 use name_table::Entry;

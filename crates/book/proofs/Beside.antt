@@ -12,8 +12,9 @@ use Rattle.std.proofs.lemmas.List.{get_or-map, set-get_or, map-set}
 use Rattle.quant.specs.declared.amount.Res.{Res}
 use Rattle.quant.specs.declared.objects.Node.{Node}
 use Rattle.book.specs.Cluster.{name_cmp, Nodes}
-use Rattle.book.specs.Rows.{Rows, named_row, named, IsInOrder, IsRowOf, IsGapFor}
-use Rattle.book.specs.Tables.{NodeTable, IsShown, IsAlikeBut}
+use Rattle.book.specs.Rows.{Rows, named_row, named, IsRowOf, IsGapFor}
+use Rattle.book.specs.inside.Rows.{IsInOrder}
+use Rattle.book.specs.inside.Tables.{NodeTable, IsShown, IsAlikeBut}
 use Rattle.book.proofs.Put.{both_true, earlier_less}
 use Rattle.book.proofs.RowLemmas.{same_name, entries_rows}
 

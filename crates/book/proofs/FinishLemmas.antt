@@ -20,7 +20,7 @@ use Rattle.book.specs.declared.place.Status.{Status}
 use Rattle.book.specs.declared.place.Status.TheVariants.{Assumed, Bound}
 use Rattle.book.specs.Cluster.{name_cmp, Places}
 use Rattle.book.specs.Expiry.{is_overdue, has_expired, IsFirstExpired, NoneExpired}
-use Rattle.book.specs.Finishes.{millisecond, finish_of, finish_in, is_finished_by, is_limit, IsFrom, IsGathered}
+use Rattle.book.specs.inside.Finishes.{millisecond, finish_of, finish_in, is_finished_by, is_limit, IsFrom, IsGathered}
 use Rattle.book.specs.Step.{stands}
 
 -- ---- what expires

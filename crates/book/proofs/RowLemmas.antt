@@ -12,7 +12,8 @@ use Rattle.std.proofs.lemmas.List.{length-map}
 use Rattle.std.proofs.lemmas.Bool.{cases_lt}
 use Rattle.quant.specs.declared.objects.Node.{Node}
 use Rattle.book.specs.Cluster.{name_cmp}
-use Rattle.book.specs.Rows.{Rows, named_row, named, rows_in, IsInOrder, compared, IsRowOf, IsGapFor}
+use Rattle.book.specs.Rows.{Rows, named_row, named, rows_in, compared, IsRowOf, IsGapFor}
+use Rattle.book.specs.inside.Rows.{IsInOrder}
 use Rattle.book.proofs.Put.{index_rises, earlier_less, put_gap, put_here, find_absent, find_here, find_at, sorted_fewer, find_fewer}
 
 -- names in the order of their bytes are in one order, and only equal ones tie

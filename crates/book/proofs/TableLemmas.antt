@@ -9,7 +9,7 @@ use Rattle.std.specs.Map.{lookup}
 use Rattle.std.specs.FinMap as fin
 use Rattle.std.specs.FinMap.{FinMap, find}
 use Rattle.book.specs.Cluster.{name_cmp}
-use Rattle.book.specs.Tables.{Held}
+use Rattle.book.specs.inside.Tables.{Held}
 use Rattle.book.proofs.Put.{equal_of}
 use Rattle.book.proofs.RowLemmas.{same_name}
 

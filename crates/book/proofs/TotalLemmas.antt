@@ -15,9 +15,10 @@ use Rattle.book.specs.declared.place.Status.{Status}
 use Rattle.book.specs.declared.place.Status.TheVariants.{Assumed, Bound}
 use Rattle.book.specs.Cluster.{name_cmp, Places}
 use Rattle.book.specs.Step.{finished_status}
-use Rattle.book.specs.Tables.{IsAlikeBut}
+use Rattle.book.specs.inside.Tables.{IsAlikeBut}
 use Rattle.book.specs.Used.{nothing, share, used_by, used, assumed_in, assumed, bound_in, bound}
-use Rattle.book.specs.Totals.{Totals, total_at, plus, one_pod, adds, IsWithin, most_of, idle_if, idle, idle_in, pods_in, IsCounted}
+use Rattle.book.specs.Totals.{IsWithin}
+use Rattle.book.specs.inside.Totals.{Totals, total_at, plus, one_pod, adds, most_of, idle_if, idle, idle_in, pods_in, IsCounted}
 use Rattle.book.proofs.TableLemmas.{same_test, test_turned}
 use Rattle.book.proofs.SumLemmas.{of_option, sum_insert, sum_remove, entries_empty}
 

@@ -4,7 +4,6 @@ pub mod Used
 pub mod Tables
 pub mod Totals
 pub mod Rows
-pub mod Codes
 pub mod Step
 pub mod Expiry
-pub mod Finishes
+pub mod inside

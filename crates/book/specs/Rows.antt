@@ -1,12 +1,10 @@
 -- The rows of the node table, as the code keeps them.
-use Rattle.std.specs.Prelude.{◌≡◌, ℕ, ◌<◌, ◌≤◌, List, map, length, IsTrue, vec_len, vec_capacity}
+use Rattle.std.specs.Prelude.{◌≡◌, ℕ, ◌<◌, List, map, length}
 use Rattle.std.specs.declared.cmp.Ordering.{Ordering}
 use Rattle.std.specs.declared.cmp.Ordering.TheVariants.{Less, Equal, Greater}
 use Rattle.std.specs.List.{HoldsAt}
 use Rattle.std.specs.List.Sorted.{IsPartitionPoint}
-use Rattle.std.specs.FinMap.{is_sorted, entries}
-use Rattle.std.specs.Global.{Vec}
-use Rattle.quant.specs.declared.amount.Res.{Res}
+use Rattle.std.specs.FinMap.{entries}
 use Rattle.quant.specs.declared.objects.Node.{Node}
 use Rattle.book.specs.Cluster.{name_cmp, Nodes}
 
@@ -26,10 +24,6 @@ named rows = map named_row rows
 abbrev pub rows_in : Nodes → Rows
 rows_in nodes = map (λ e. e.1) (entries nodes)
 
--- the names strictly rise
-abbrev pub IsInOrder : Rows → Type 0
-IsInOrder rows = IsTrue (is_sorted name_cmp (named rows))
-
 -- how a row's name compares with a name
 abbrev pub compared : List ℕ → Node → Ordering
 compared name row = name_cmp row.name name
@@ -42,11 +36,3 @@ pub record IsRowOf (rows : Rows) (name : List ℕ) (at : ℕ) : Type 0 where
 -- no row has the name, and it would go to this place
 abbrev pub IsGapFor : Rows → List ℕ → ℕ → Type 0
 IsGapFor rows name at = IsPartitionPoint (λ row. compared name row ≡ Less) (λ row. compared name row ≡ Greater) rows at
-
--- the rows are in order, with as many amounts beside them, and there is room for as many as there may be
-pub record IsListed (rows : Vec Node) (used : Vec Res) (room : ℕ) : Type 0 where
-  pub in_order : IsInOrder rows.items
-  pub in_room : vec_len rows ≤ room
-  pub reserved : room ≤ vec_capacity rows
-  pub beside : vec_len used ≡ vec_len rows
-  pub reserved_beside : room ≤ vec_capacity used

@@ -1,5 +1,5 @@
 -- What each step does to a book, and what is answered.
-use Rattle.std.specs.Prelude.{◌≡◌, ◌+◌, List, [], ◌∷◌, Bool, true, false, not, ◌&&◌, ◌||◌, ◌==◌, nat_le, Option, None, Some, is_some, is_ok, if◌then◌else◌, Result, MatchResult}
+use Rattle.std.specs.Prelude.{◌+◌, List, [], ◌∷◌, Bool, true, false, not, ◌&&◌, ◌||◌, ◌==◌, nat_le, Option, None, Some, is_some, is_ok, if◌then◌else◌}
 use Rattle.std.specs.FinMap.{insert, remove, get, contains_key}
 use Rattle.quant.specs.declared.event.Event.TheVariants.{NodeSet, NodeGone, PodPending, PodBound, PodGone}
 use Rattle.quant.specs.declared.amount.Moment.{Moment}
@@ -192,10 +192,3 @@ after c step = elim (refusal c step) [ None ↦ effect c step | Some why ↦ c ]
 -- the answer to a step
 abbrev pub reply : Cluster → ClusterStep → Reply
 reply c step = elim (refusal c step) [ None ↦ answer c step | Some why ↦ Refused why ]
-
--- a step was taken, with this answer, or refused for this cause
-abbrev pub IsTaken : Cluster → ClusterStep → Result Reply Refusal → Cluster → Type 0
-IsTaken old step result new =
-    MatchResult result
-    (λ said. (refusal old step ≡ None) × (new ≡ effect old step) × (said ≡ answer old step))
-    (λ why. (refusal old step ≡ Some why) × (new ≡ old))

@@ -39,12 +39,12 @@ impl Model for Book {
 
     ghost Value = { Cluster };
 
-    ghost use Rattle.book.specs.Codes.{cluster_code};
+    ghost use Rattle.book.specs.inside.Codes.{cluster_code};
 
     ghost coded = { cluster_code };
 
     ghost use Rattle.std.specs.Prelude.{◌≡◌};
-    ghost use Rattle.book.specs.Tables.{IsShown};
+    ghost use Rattle.book.specs.inside.Tables.{IsShown};
     ghost use Rattle.book.specs.Used.{used};
 
     ghost view = { λ b. record { limits = b.limits; version = b.version.0; nodes = b.nodes.map; places = b.places.map; ticket = b.ticket.0 } };
@@ -57,7 +57,8 @@ impl Book {
     ghost use Rattle.book.specs.Cluster.{opening};
     ghost use Rattle.book.specs.Rows.{named, rows_in, IsRowOf, IsGapFor};
     ghost use Rattle.book.specs.Used.{used, assumed, bound};
-    ghost use Rattle.book.specs.Step.{after, reply, IsTaken, first_of, is_placed, is_there, fits_row, refusal_by_ticket, without_place};
+    ghost use Rattle.book.specs.Step.{after, reply, first_of, is_placed, is_there, fits_row, refusal_by_ticket, without_place};
+    ghost use Rattle.book.specs.inside.Step.{IsTaken};
     ghost use Rattle.book.specs.Expiry.{is_expired, IsFirstExpired, NoneExpired};
     ghost use Rattle.book.specs.declared.step.ClusterStep.TheVariants as steps;
 

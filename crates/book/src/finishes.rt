@@ -1,7 +1,7 @@
 //! When binds were reported done, slot by slot, and where the earliest of them are.
 ghost use Rattle.std.specs.Prelude.{◌≡◌, ℕ, ◌+◌, ◌*◌, ◌/◌, ◌<◌, ◌≤◌, IfOk, IfSome, IfNone, length, replicate, slice_index, slice_set};
 ghost use Rattle.quant.specs.declared.limits.TheConstants.{MAX_PLACED};
-ghost use Rattle.book.specs.Finishes.{IsEarliest};
+ghost use Rattle.book.specs.inside.Finishes.{IsEarliest};
 
 use quant::MAX_PLACED;
 use std::alloc::{AllocError, Global};
@@ -27,7 +27,7 @@ impl Model for Finishes {
 
     ghost Value = { List ℕ };
 
-    ghost use Rattle.book.specs.Finishes.{IsEarliest};
+    ghost use Rattle.book.specs.inside.Finishes.{IsEarliest};
 
     ghost view = { λ f. f.each.items };
 

@@ -3,8 +3,10 @@ ghost use Rattle.std.specs.Prelude.{◌≡◌, ◌≤◌, [], List, ℕ, length,
 ghost use Rattle.std.specs.Option.{option_copied};
 ghost use Rattle.std.specs.FinMap as fin;
 ghost use Rattle.quant.specs.declared.amount.Res.{Res};
-ghost use Rattle.book.specs.Rows.{named, rows_in, IsInOrder, IsRowOf, IsGapFor};
-ghost use Rattle.book.specs.Tables.{is_full_for, IsShown, IsAlikeBut};
+ghost use Rattle.book.specs.Rows.{named, rows_in, IsRowOf, IsGapFor};
+ghost use Rattle.book.specs.inside.Rows.{IsInOrder};
+ghost use Rattle.book.specs.Tables.{is_full_for};
+ghost use Rattle.book.specs.inside.Tables.{IsShown, IsAlikeBut};
 
 use crate::NoMemory;
 use crate::refusal::Refusal;
@@ -24,17 +26,18 @@ pub(crate) struct Nodes {
 }
 
 impl Model for Nodes {
-    ghost use Rattle.book.specs.Tables.{NodeTable};
+    ghost use Rattle.book.specs.inside.Tables.{NodeTable};
 
     ghost Value = { NodeTable };
 
-    ghost use Rattle.book.specs.Codes.{nodes_code};
+    ghost use Rattle.book.specs.inside.Codes.{nodes_code};
 
     ghost coded = { nodes_code };
 
     ghost use Rattle.std.specs.Prelude.{◌≤◌, vec_len, vec_capacity};
     ghost use Rattle.std.specs.FinMap.{from_sorted};
-    ghost use Rattle.book.specs.Rows.{named, IsListed};
+    ghost use Rattle.book.specs.Rows.{named};
+    ghost use Rattle.book.specs.inside.Rows.{IsListed};
 
     ghost view = { λ t. record { map = from_sorted (named t.rows.items); room = t.room; used = t.used.items } };
 

@@ -6,7 +6,7 @@ ghost use Rattle.std.specs.FinMap as fin;
 ghost use Rattle.name_table.specs.Slots.{name_in, map_of};
 ghost use Rattle.quant.specs.declared.limits.TheConstants.{MAX_PLACED};
 ghost use Rattle.book.specs.Cluster.{name_cmp};
-ghost use Rattle.book.specs.Finishes.{finish_in, is_finished_by, is_limit, IsGathered};
+ghost use Rattle.book.specs.inside.Finishes.{finish_in, is_finished_by, is_limit, IsGathered};
 ghost use Rattle.book.specs.declared.finishes.TheConstants.{NEVER};
 
 use crate::finishes::Finishes;

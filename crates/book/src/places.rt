@@ -4,9 +4,11 @@ ghost use Rattle.std.specs.Bool.{IsTrue};
 ghost use Rattle.std.specs.Option.{option_copied};
 ghost use Rattle.std.specs.FinMap as fin;
 ghost use Rattle.name_table.specs.Slots.{map_of};
-ghost use Rattle.book.specs.Tables.{is_full_for, IsShown};
+ghost use Rattle.book.specs.Tables.{is_full_for};
+ghost use Rattle.book.specs.inside.Tables.{IsShown};
 ghost use Rattle.book.specs.Used.{used, assumed, bound, assumed_in};
-ghost use Rattle.book.specs.Totals.{total_at, plus, adds, one_pod, most_of, IsWithin, idle_in, pods_in};
+ghost use Rattle.book.specs.Totals.{IsWithin};
+ghost use Rattle.book.specs.inside.Totals.{total_at, plus, adds, one_pod, most_of, idle_in, pods_in};
 ghost use Rattle.quant.specs.declared.limits.TheConstants.{MAX_PLACED};
 
 mod slots;
@@ -46,19 +48,19 @@ pub(crate) struct Places {
 }
 
 impl Model for Places {
-    ghost use Rattle.book.specs.Tables.{Held};
+    ghost use Rattle.book.specs.inside.Tables.{Held};
     ghost use Rattle.book.specs.declared.place.Place.{Place};
 
     ghost Value = { Held Place };
 
-    ghost use Rattle.book.specs.Codes.{held_code};
+    ghost use Rattle.book.specs.inside.Codes.{held_code};
     ghost use Rattle.book.specs.contracts.place.Place as place;
 
     ghost coded = { held_code place.the_row.coded };
 
     ghost use Rattle.std.specs.Prelude.{length};
     ghost use Rattle.name_table.specs.Slots.{map_of};
-    ghost use Rattle.book.specs.Finishes.{IsKept};
+    ghost use Rattle.book.specs.inside.Finishes.{IsKept};
 
     ghost view = { λ t. record { map = map_of t.by_uid; room = length t.by_uid } };
 

@@ -11,9 +11,10 @@ use Rattle.desk.specs.Shown.{Shown}
 use Rattle.choose.specs.declared.decision.Reason.{Reason}
 use Rattle.choose.specs.declared.decision.Verdict.{Verdict}
 use Rattle.choose.specs.declared.decision.Verdict.TheVariants.{Rejected}
-use Rattle.choose.specs.Verdict.{AreScores, weighted, no_scores, in_places, built_in, passing, nothing_added, ByRules, HasVerdict}
+use Rattle.choose.specs.Verdict.{AreScores, weighted, no_scores, in_places, built_in, passing, ByRules, HasVerdict}
+use Rattle.choose.specs.inside.Verdict.{nothing_added}
 use Rattle.choose.specs.Choice.{AreVerdicts}
-use Rattle.choose.specs.Finding.{IsBuiltIn}
+use Rattle.choose.specs.inside.Finding.{IsBuiltIn}
 
 -- the scores of the rules before a place are good, this is their weighted sum, and these are they in their places
 pub record GoodBefore (rules : RuleSet) (told : Told) (place sum : ℕ) (shown : List ℕ) : Type 0 where

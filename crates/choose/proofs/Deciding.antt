@@ -11,7 +11,7 @@ use Rattle.choose.specs.declared.decision.Reason.{Reason}
 use Rattle.choose.specs.declared.best.Worth.TheVariants.{Error, Total}
 use Rattle.choose.specs.Choice.{Judged, judged, errs, count_of, most_of, total_of, is_for, counts_of, NoneErrs, NonePasses, LeastErring, IsFirst, IsBest}
 use Rattle.quant.specs.Name.{is_before}
-use Rattle.choose.specs.Finding.{worth_of, IsBounded, counts_in}
+use Rattle.choose.specs.inside.Finding.{worth_of, IsBounded, counts_in}
 
 -- of some numbers none is above the greatest
 within_greatest : {X : Type 0} (f : X → ℕ) (xs : List X) (most : ℕ) → greatest_by f xs ≤ most → All (λ x. f x ≤ most) xs

@@ -3,3 +3,4 @@ pub mod Choice
 pub mod Finding
 pub mod Laws
 pub mod Kits
+pub mod inside

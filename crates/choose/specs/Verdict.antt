@@ -116,10 +116,6 @@ abbrev pub passing : Shown → Pod → Added → Verdict
 passing shown pod added =
     Passes (prefer_not shown.node pod) (least_allocated_score shown.node.allocatable shown.used pod.request + added.sum) added.scores
 
--- what is added where there is no rule
-abbrev pub nothing_added : Added
-nothing_added = record { sum = 0; scores = no_scores }
-
 -- the verdict that the scores make
 abbrev pub made_by : Shown → Pod → Result Added Verdict → Verdict
 made_by shown pod (Ok added) = passing shown pod added

@@ -2,7 +2,8 @@
 ghost use Rattle.std.specs.Prelude.{◌≡◌, ◌<◌, length, map, IfOk};
 ghost use Rattle.desk.specs.Shown.{shown};
 ghost use Rattle.choose.specs.Choice.{judged, IsChoice, Choice};
-ghost use Rattle.choose.specs.Finding.{name_at, StandsFirst};
+ghost use Rattle.choose.specs.Finding.{name_at};
+ghost use Rattle.choose.specs.inside.Finding.{StandsFirst};
 
 use crate::best::{Found, Worth, first_of, most_taints};
 use crate::counts::counts;

@@ -2,7 +2,7 @@
 ghost use Rattle.std.specs.Prelude.{◌≡◌, count_by};
 ghost use Rattle.choose.specs.Choice.{is_for};
 ghost use Rattle.choose.specs.Verdict.{reason_of};
-ghost use Rattle.choose.specs.Finding.{counts_in};
+ghost use Rattle.choose.specs.inside.Finding.{counts_in};
 
 use crate::decision::{Counts, Reason, Verdict};
 use rules::Rejection;

@@ -5,7 +5,7 @@ ghost use Rattle.taints.specs.Tolerance.{prefer_not};
 ghost use Rattle.desk.specs.Shown.{shown};
 ghost use Rattle.choose.specs.Verdict.{HasVerdict, built_in, passing};
 ghost use Rattle.choose.specs.Choice.{AreVerdicts};
-ghost use Rattle.choose.specs.Finding.{IsBuiltIn};
+ghost use Rattle.choose.specs.inside.Finding.{IsBuiltIn};
 
 use crate::asking::{Added, filtered, scored};
 use crate::decision::{Reason, UNJUDGED, Verdict};

@@ -4,3 +4,4 @@ pub mod Words
 pub mod Within
 pub mod Examples
 pub mod Misuse
+pub mod inside

@@ -1,15 +1,12 @@
 -- What the program's words ask for: `run [--workers N] [SPEC]...`, `explain` with the same words behind it, `storm [--cycles C] [--binders B] [--flaky] [SPEC]...`, where
 -- a SPEC is `NAME:WEIGHT:FUEL:FILE`, or `check MODULE`.
-use Rattle.std.specs.Prelude.{◌≡◌, ℕ, ◌+◌, ◌==◌, ◌&&◌, nat_le, not, Bool, true, false, List, [], ◌∷◌, take, drop, length, map, codes, bytes_eq, Option, Some, None, option_map, option_and_then, unwrap_or, Result, Ok, Err, if◌then◌else◌}
+use Rattle.std.specs.Prelude.{ℕ, ◌+◌, ◌==◌, ◌&&◌, nat_le, not, Bool, true, false, List, [], ◌∷◌, take, drop, length, map, codes, bytes_eq, Option, Some, None, option_map, option_and_then, unwrap_or, Result, Ok, Err, if◌then◌else◌}
 use Rattle.std.specs.List.{list_any, position}
 use Rattle.clap.specs.declared.builder.action.ArgAction.TheVariants.{Set, SetTrue, Append}
-use Rattle.clap.specs.declared.builder.command.Command.{Command}
-use Rattle.clap.specs.declared.builder.command.Command.TheViews.{out-Command}
 use Rattle.clap.specs.Simple.{App, on_top}
 use Rattle.clap.specs.Words.{Row, Rule, Text, all_of, fault_of, first_of, new_app, new_rule, subcommand_of, with_rule, with_subcommand}
 use Rattle.quant.specs.Name.{is_name}
 use Rattle.quant.specs.declared.limits.TheConstants.{MAX_PLUGINS, MAX_WEIGHT, MAX_FUEL}
-use Rattle.command.specs.declared.asked.Plan.{Plan}
 use Rattle.command.specs.declared.asked.StormPlan.{StormPlan}
 use Rattle.command.specs.declared.asked.Spec.{Spec}
 use Rattle.command.specs.declared.asked.Words.{Words}
@@ -37,9 +34,6 @@ pub data Asked : Type 0 where
 -- the same, as the code has it
 abbrev pub syntax_of : Spec → SpecSyntax
 syntax_of spec = record { name = spec.name; weight = spec.weight; fuel = spec.fuel; file = spec.file.now }
-
-abbrev pub planned : Plan → ℕ × List SpecSyntax
-planned plan = (plan.workers, map syntax_of plan.specs.items)
 
 abbrev pub storm_planned : StormPlan → Asked
 storm_planned plan = storm plan.cycles plan.binders plan.is_flaky (map syntax_of plan.specs.items)
@@ -133,10 +127,6 @@ option_rule name = record (new_rule name) { long = Some name; action = Some Set 
 -- an option without a value, told once at most
 abbrev pub flaky_rule : Rule
 flaky_rule = record (new_rule (codes "flaky")) { long = Some (codes "flaky"); action = Some SetTrue }
-
--- none of a command's arguments is one of the commands below it too
-abbrev pub IsLocal : Command → Type 0
-IsLocal command = (out-Command command).has_globals ≡ false
 
 -- any number of plugins
 abbrev pub specs_rule : Rule

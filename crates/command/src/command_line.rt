@@ -2,7 +2,8 @@
 ghost use Rattle.std.specs.Prelude.{◌≡◌, ◌≤◌, Some, None, Err, true, false, map, option_map, IfErr, IfOk};
 ghost use Rattle.clap.specs.Words.{app_of, found_of, rows_of, rule_of, subcommand_of, subcommand_rows_of, with_rule, with_subcommand};
 ghost use Rattle.command.specs.Count.{most_of};
-ghost use Rattle.command.specs.Words.{IsLocal, are_taken, asked_of, check_command, command_line, file_rule, flaky_rule, found, is_told, meaning, number_found, option_rule, plan_found, planned, program, run_command, specs_found, specs_rule, storm_command, storm_found, storm_planned, syntax_of};
+ghost use Rattle.command.specs.Words.{are_taken, asked_of, check_command, command_line, file_rule, flaky_rule, found, is_told, meaning, number_found, option_rule, plan_found, program, run_command, specs_found, specs_rule, storm_command, storm_found, storm_planned, syntax_of};
+ghost use Rattle.command.specs.inside.Words.{IsLocal, planned};
 ghost use Rattle.command.specs.Within.{AreWithinLimits, IsPlan, IsStormPlan, IsWithin};
 
 use crate::asked::{Plan, Spec, StormPlan, Words};

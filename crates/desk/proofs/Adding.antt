@@ -6,7 +6,7 @@ use mathlib.Core.List.{IsPrefix}
 use prog.Atomic.{either}
 use Rattle.logbook.specs.Pages.{Cell, cell, keeps, no_nib, step, Moves, Goes}
 use Rattle.desk.specs.History.{Call}
-use Rattle.desk.specs.Shared.{IsKept, IsAdded}
+use Rattle.desk.specs.inside.Shared.{IsKept, IsAdded}
 use Rattle.desk.proofs.Beginnings.{prefix_whole}
 
 abbrev pub shown : List Call → List Call

@@ -1,8 +1,9 @@
 -- The only pass of a desk has made all calls of its history.
 use Rattle.std.proofs.Common.{◌≡◌, ℕ, true, false, eqb, List, [], ◌∷◌, ◌++◌, refl, sym, ap, subst, ◌∙◌, arith}
 use Rattle.desk.specs.Machine.{State, opening, reply, after, snapshot}
-use Rattle.desk.specs.Caller.{Core}
-use Rattle.desk.specs.History.{Call, AreAnswered, AreHanded, AreOthers, Legal, Leaves, state_after, call}
+use Rattle.desk.specs.inside.Caller.{Core}
+use Rattle.desk.specs.History.{Call, AreAnswered, AreHanded, AreOthers, Legal, state_after, call}
+use Rattle.desk.specs.inside.History.{Leaves}
 use Rattle.desk.specs.Shared.{Pass, Desk, IsPassOf, IsAhead}
 use Rattle.desk.specs.Alone.{state_seen, AnswersAlone, LooksAlone}
 use Rattle.desk.proofs.Histories.{append_nil, limits_of, limits_after, state_more}

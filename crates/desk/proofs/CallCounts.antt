@@ -14,8 +14,9 @@ use Rattle.desk.specs.declared.step.Step.{Step}
 use Rattle.desk.specs.declared.step.Step.TheVariants.{Event, Pop, Assume, BindDone, Forget, Fail, Tick, Count}
 use Rattle.desk.specs.declared.step.Reply.TheVariants as replies
 use Rattle.desk.specs.Machine.{State, Outcome, opening, both, unless, step, after, told, of_node, of_pod, moved, moved_if_placed, entry_at, pass_number, refusal_to_fail, refusal_to_tick, ticked_to}
-use Rattle.desk.specs.Caller.{Core}
-use Rattle.desk.specs.History.{Call, AreHanded, AreOthers, Leaves, calls_of, state_after}
+use Rattle.desk.specs.inside.Caller.{Core}
+use Rattle.desk.specs.History.{Call, AreHanded, AreOthers, calls_of, state_after}
+use Rattle.desk.specs.inside.History.{Leaves}
 
 -- ---- no step changes the counts before its call is counted
 

@@ -43,8 +43,9 @@ use Rattle.book.proofs.SumLemmas.{of_option, entries_empty, remove_absent, sum_i
 use Rattle.desk.specs.declared.step.Step.{Step}
 use Rattle.desk.specs.declared.step.Step.TheVariants.{Event, Pop, Assume, BindDone, Forget, Fail, Tick, Count}
 use Rattle.desk.specs.Machine.{State, Outcome, opening, unless, step, reply, snapshot, of_node, of_pod, moved, moved_if_placed, entry_at, pass_number, refusal_to_fail, refusal_to_tick, ticked_to}
-use Rattle.desk.specs.History.{Call, AreAnswered, state_after, Leaves, is_accepted, last_said, accepted, row_in, row_of, place_of}
-use Rattle.desk.specs.Caller.{Core}
+use Rattle.desk.specs.History.{Call, AreAnswered, state_after, is_accepted, last_said, accepted, row_in, row_of, place_of}
+use Rattle.desk.specs.inside.History.{Leaves}
+use Rattle.desk.specs.inside.Caller.{Core}
 use Rattle.desk.specs.Calm.{IsCalm, IsCalmStep, HasRoom}
 use Rattle.desk.proofs.Histories.{state_more, append_nil}
 use Rattle.desk.proofs.Deciding.{first_five, not_false}

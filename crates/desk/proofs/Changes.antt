@@ -17,9 +17,10 @@ use Rattle.std.proofs.lemmas.List.{length-map, length-set, get_or-map, get_or-se
 use Rattle.quant.specs.declared.amount.Res.{Res}
 use Rattle.quant.specs.declared.objects.Node.{Node}
 use Rattle.book.specs.Cluster.{name_cmp, Nodes, Places, Cluster}
-use Rattle.book.specs.Rows.{named, named_row, rows_in, IsInOrder, IsRowOf, IsGapFor}
+use Rattle.book.specs.Rows.{named, named_row, rows_in, IsRowOf, IsGapFor}
+use Rattle.book.specs.inside.Rows.{IsInOrder}
 use Rattle.book.specs.Used.{used, nothing}
-use Rattle.book.specs.Totals.{plus}
+use Rattle.book.specs.inside.Totals.{plus}
 use Rattle.book.specs.declared.place.Place.{Place}
 use Rattle.book.proofs.Beside.{beside as amounts, beside_again, beside_come, beside_gone, apart, apart_back}
 use Rattle.book.proofs.Put.{earlier_less}
@@ -28,7 +29,7 @@ use Rattle.book.proofs.SumLemmas.{remove_absent}
 use Rattle.book.proofs.TableLemmas.{same_test, test_turned}
 use Rattle.book.proofs.TotalLemmas.{used_apart, plus_nothing}
 use Rattle.desk.specs.declared.change.Change.TheVariants.{Nothing, Used, AllUsed, Set, Come, Gone}
-use Rattle.desk.specs.Board.{used_in, with_total, total_in, can_come, nodes_after, used_after, IsChange, HasNoRow, IsRowFor, IsRowUnder}
+use Rattle.desk.specs.inside.Board.{used_in, with_total, total_in, can_come, nodes_after, used_after, IsChange, HasNoRow, IsRowFor, IsRowUnder}
 use Rattle.desk.proofs.Rows.{beside_rows, as_many_rows}
 
 -- rows that are there have one

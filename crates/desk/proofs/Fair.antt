@@ -32,10 +32,11 @@ use Rattle.desk.specs.declared.step.Step.{Step}
 use Rattle.desk.specs.declared.step.Step.TheVariants.{Event, Pop, Assume, BindDone, Forget, Fail, Tick, Count}
 use Rattle.desk.specs.declared.step.Reply.{Reply}
 use Rattle.desk.specs.declared.step.Reply.TheVariants.{Ticket as Given}
-use Rattle.desk.specs.Caller.{Core}
+use Rattle.desk.specs.inside.Caller.{Core}
 use Rattle.desk.specs.Shown.{Shown}
 use Rattle.desk.specs.Machine.{State, Outcome, opening, unless, entry_for, entry_at, pass_number, reply, after}
-use Rattle.desk.specs.History.{Call, AreAnswered, state_after, Leaves, is_accepted, last_said, accepted, if_named, row_in, row_of, pending_in, pending_of, popped_in, popped_of, FitsThere, IsFairTicket}
+use Rattle.desk.specs.History.{Call, AreAnswered, state_after, is_accepted, last_said, accepted, if_named, row_in, row_of, pending_in, pending_of, popped_in, popped_of, FitsThere, IsFairTicket}
+use Rattle.desk.specs.inside.History.{Leaves}
 use Rattle.desk.proofs.Histories.{state_more, append_nil}
 use Rattle.desk.proofs.Deciding.{first_five, not_false}
 use Rattle.desk.proofs.Steps.{Agrees, done_by}

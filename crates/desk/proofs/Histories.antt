@@ -19,10 +19,12 @@ use Rattle.queue.specs.Queue.{QueueState, has_entry, after_add, after_remove, af
 use Rattle.desk.specs.declared.step.Step.{Step}
 use Rattle.desk.specs.declared.step.Step.TheVariants.{Event, Pop, Assume, BindDone, Forget, Fail, Tick, Count}
 use Rattle.desk.specs.declared.step.Reply.{Reply}
-use Rattle.desk.specs.Caller.{Caller, Core, with_state}
+use Rattle.desk.specs.Caller.{Caller}
+use Rattle.desk.specs.inside.Caller.{Core, with_state}
 use Rattle.desk.specs.declared.step.Reply.TheVariants as replies
 use Rattle.desk.specs.Machine.{State, Outcome, opening, both, unless, reply, after, told, of_node, of_pod, moved, moved_if_placed, entry_at, pass_number, refusal_to_fail, refusal_to_tick, ticked_to}
-use Rattle.desk.specs.History.{Call, AreAnswered, state_after, numbers_of, one_to, calls_of, Legal, Leaves, HasCallsOf, call}
+use Rattle.desk.specs.History.{Call, AreAnswered, state_after, numbers_of, one_to, calls_of, Legal, HasCallsOf, call}
+use Rattle.desk.specs.inside.History.{Leaves}
 
 -- an empty list at the end changes nothing
 pub append_nil : {A : Type 0} (xs : List A) → xs ++ [] ≡ xs

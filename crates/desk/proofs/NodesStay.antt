@@ -27,9 +27,9 @@ use Rattle.desk.specs.declared.step.Step.TheVariants.{Event, Pop, Assume, BindDo
 use Rattle.desk.specs.declared.step.Reply.TheVariants as replies
 use Rattle.desk.specs.Machine.{State, Outcome, opening, both, unless, after, told, of_pod, moved, moved_if_placed, entry_at, pass_number, refusal_to_fail, refusal_to_tick, ticked_to}
 use Rattle.desk.specs.History.{Call, state_after}
-use Rattle.desk.specs.Board.{Board, IsBoard, beside}
+use Rattle.desk.specs.inside.Board.{Board, IsBoard, beside}
 use Rattle.desk.specs.Shown.{Shown, shown}
-use Rattle.desk.specs.NodeCalls.{tells_of_node, calls_on_nodes, nodes_in, nodes_of}
+use Rattle.desk.specs.inside.NodeCalls.{tells_of_node, calls_on_nodes, nodes_in, nodes_of}
 
 -- what is refused or done keeps the nodes, where what is done does
 unless_nodes : (o : Option Refusal) (s : State) (done : Outcome) → done.state.cluster.nodes ≡ s.cluster.nodes → (unless o s done).state.cluster.nodes ≡ s.cluster.nodes

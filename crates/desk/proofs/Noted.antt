@@ -30,12 +30,12 @@ use Rattle.desk.specs.declared.step.Reply.TheVariants as replies
 use Rattle.desk.specs.declared.subject.Subject.{Subject}
 use Rattle.desk.specs.declared.subject.Subject.TheVariants as subject
 use Rattle.desk.specs.Machine.{State, Outcome, both, unless, after, reply, told, of_node, of_pod, moved, moved_if_placed, entry_at, pass_number, refusal_to_fail, refusal_to_tick, ticked_to}
-use Rattle.desk.specs.BareReply.{bare_reply, is_refused}
-use Rattle.desk.specs.NodeCalls.{tells_of_node}
+use Rattle.desk.specs.inside.BareReply.{bare_reply, is_refused}
+use Rattle.desk.specs.inside.NodeCalls.{tells_of_node}
 use Rattle.book.proofs.SumLemmas.{remove_absent}
 use Rattle.desk.proofs.Steps.{absent, read_insert, read_remove}
 use Rattle.desk.proofs.Expiring.{get_unexpired}
-use Rattle.desk.specs.Board.{IsSubject, IsChange}
+use Rattle.desk.specs.inside.Board.{IsSubject, IsChange}
 use Rattle.desk.specs.declared.change.Change.TheVariants as change
 use Rattle.desk.proofs.NodesStay.{stays}
 use Rattle.desk.proofs.Changes.{no_change, same_used, set_change, come_change, gone_change, gap_absent}

@@ -24,8 +24,9 @@ use Rattle.desk.specs.declared.step.Step.TheVariants.{Event, Pop, Assume, BindDo
 use Rattle.desk.specs.declared.step.Reply.{Reply}
 use Rattle.desk.specs.declared.step.Reply.TheVariants.{Done, Ticket as Given}
 use Rattle.desk.specs.Machine.{State, opening, step, reply, after, snapshot}
-use Rattle.desk.specs.Caller.{Core}
-use Rattle.desk.specs.History.{Call, AreAnswered, state_after, Legal, Leaves, is_accepted, last_said, last_said_at, accepted, clock_in, clock_after, clock_of, if_named, row_in, row_of, pending_in, pending_of, put_in, put_of, Put, finish_in, finished_of, place_by, unless_expired, place_of, node_in, pod_in, found_at, rows_of, places_of, snap}
+use Rattle.desk.specs.inside.Caller.{Core}
+use Rattle.desk.specs.History.{Call, AreAnswered, state_after, Legal, is_accepted, last_said, last_said_at, accepted, clock_in, clock_after, clock_of, if_named, row_in, row_of, pending_in, pending_of, put_in, put_of, Put, finish_in, finished_of, place_by, unless_expired, place_of, node_in, pod_in, found_at, rows_of, places_of, snap}
+use Rattle.desk.specs.inside.History.{Leaves}
 use Rattle.desk.specs.History.Put.{Chosen, Told, Nowhere}
 use Rattle.desk.proofs.Pods.{pod_of, pod_at}
 use Rattle.desk.proofs.Steps.{OneOf, Known, Agrees, Asked, AskedBy, put_by, mark_by, is_nowhere, IsPut, one_of}

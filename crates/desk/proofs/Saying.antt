@@ -12,7 +12,7 @@ use Rattle.desk.specs.declared.step.Step.{Step}
 use Rattle.desk.specs.declared.step.Step.TheVariants.{Event, Pop, Assume, BindDone, Forget, Fail, Tick, Count}
 use Rattle.desk.specs.declared.step.Reply.TheVariants as replies
 use Rattle.desk.specs.Machine.{State, both, unless, told, reply, of_node, of_pod, moved, moved_if_placed, entry_at, pass_number, refusal_to_fail, refusal_to_tick, ticked_to}
-use Rattle.desk.specs.BareReply.{bare_reply, reply_with, handed_by}
+use Rattle.desk.specs.inside.BareReply.{bare_reply, reply_with, handed_by}
 
 -- what the book answers hands nothing out
 told_whole : (answer : BookReply) → reply_with (bare_reply (told answer)) None ≡ told answer

@@ -12,14 +12,16 @@ use Rattle.desk.specs.declared.limits.TheConstants.{MAX_PASSES}
 use Rattle.desk.specs.declared.board.Order.{Order}
 use Rattle.desk.specs.declared.change.Change.{Change}
 use Rattle.desk.specs.declared.change.Change.TheVariants.{Nothing}
-use Rattle.desk.specs.Board.{Board, IsBoard, IsChange, board_of, board_after, beside, rows_shown, nodes_after, used_after}
+use Rattle.desk.specs.inside.Board.{Board, IsBoard, IsChange, board_of, board_after, beside, rows_shown, nodes_after, used_after}
 use Rattle.logbook.specs.Pages.{Book}
 use Rattle.book.specs.declared.limits.Limits.{Limits}
 use Rattle.desk.specs.declared.step.Step.{Step}
 use Rattle.desk.specs.Machine.{reply, after, snapshot}
-use Rattle.desk.specs.Caller.{Caller, HasNoCalls}
+use Rattle.desk.specs.Caller.{Caller}
+use Rattle.desk.specs.inside.Caller.{HasNoCalls}
 use Rattle.desk.specs.History.{Call, HasCallsOf, GoesOn, calls_of, call}
-use Rattle.desk.specs.Shared.{Prefix, Held, with_call, Stands, Pass, IsAhead, IsApplied, IsLooked, held_after, prefix_after, next_call, first_held}
+use Rattle.desk.specs.Shared.{Pass, IsAhead, IsApplied, IsLooked}
+use Rattle.desk.specs.inside.Shared.{Prefix, Held, with_call, Stands, held_after, prefix_after, next_call, first_held}
 use Rattle.desk.proofs.Histories.{handed_more, legal_more, leaves_more, calls_made, limits_after}
 use Rattle.desk.proofs.CallCounts.{calls_kept, leaves_counts, none_own, handed_fewer, calls_parts}
 use Rattle.desk.proofs.Fair.{fair}

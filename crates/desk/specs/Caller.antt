@@ -1,41 +1,15 @@
 -- What contracts see of a pass as its calls tell it, and of a desk with one owner.
-use Rattle.std.specs.Prelude.{◌≡◌, ℕ, ◌≤◌, List, slice_index, Bool, false, is_some, ⊤}
+use Rattle.std.specs.Prelude.{ℕ, ◌≤◌, ⊤}
 use Rattle.quant.specs.declared.limits.TheConstants.{LATEST_MOMENT}
-use Rattle.queue.specs.Queue.{next_of}
-use Rattle.book.specs.declared.limits.Limits.{Limits}
-use Rattle.desk.specs.declared.limits.TheConstants.{MAX_PASSES}
 use Rattle.desk.specs.declared.step.Step.{Step}
-use Rattle.desk.specs.declared.step.Step.TheVariants.{Tick, Pop}
-use Rattle.desk.specs.Machine.{State, opening}
+use Rattle.desk.specs.declared.step.Step.TheVariants.{Tick}
 
 -- a pass's number among those of its desk, from 0, and how many of its calls were answered
 pub record Caller : Type 0 where
   pub number : ℕ
   pub calls : ℕ
 
--- a desk with one owner: its state, and how many passes it takes calls of
-pub record Core : Type 0 where
-  pub state : State
-  pub handed : ℕ
-
--- one that takes calls of all passes, and has answered none
-abbrev pub new_core : Limits → Core
-new_core limits = record { state = opening limits; handed = MAX_PASSES }
-
--- one with another state
-abbrev pub with_state : Core → State → Core
-with_state desk s = record desk { state = s }
-
--- no call was answered of passes that weren't handed out
-abbrev pub HasNoCalls : ℕ → List ℕ → Type 0
-HasNoCalls handed calls = (pass : ℕ) → handed ≤ pass → slice_index calls pass ≡ 0
-
 -- a moment that a step tells is one that clocks have
 abbrev pub IsTimely : Step → Type 0
 IsTimely (Tick now) = now.0 ≤ LATEST_MOMENT
 IsTimely e = ⊤
-
--- a step that hands a pod out, of which the desk then is one owner more
-abbrev pub hands_out : State → Step → Bool
-hands_out s Pop = is_some (next_of s.queue)
-hands_out s e = false

@@ -24,7 +24,7 @@ use Rattle.desk.specs.declared.step.Step.TheVariants.{Event, Pop, Assume, BindDo
 use Rattle.desk.specs.declared.step.Reply.{Reply}
 use Rattle.desk.specs.declared.step.Reply.TheVariants.{Done, Idle, Popped, Ticket as Given, Counts, Refused}
 use Rattle.desk.specs.Machine.{State, opening, reply, after}
-use Rattle.desk.specs.Caller.{Caller, Core}
+use Rattle.desk.specs.Caller.{Caller}
 use Rattle.desk.specs.Shown.{Shown}
 
 -- an answered call
@@ -71,11 +71,6 @@ pub record IsHistory (limits : Limits) (l : List Call) : Type 0 where
 pub record Legal (limits : Limits) (passes : ℕ) (l : List Call) : Type 0 where
   pub history : IsHistory limits l
   pub handed : AreHanded passes l
-
--- a legal history leaves a desk with one owner so
-pub record Leaves (l : List Call) (desk : Core) : Type 0 where
-  pub legal : Legal desk.state.cluster.limits desk.handed l
-  pub state : desk.state ≡ state_after (opening desk.state.cluster.limits) l
 
 -- a history has just the calls that a pass made
 abbrev pub HasCallsOf : Caller → List Call → Type 0

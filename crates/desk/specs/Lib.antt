@@ -6,11 +6,5 @@ pub mod History
 pub mod Calm
 pub mod Laws
 pub mod Shared
-pub mod Board
-pub mod Codes
-pub mod SharedCodes
-pub mod BoardCodes
-pub mod NodeCalls
-pub mod BareReply
-pub mod Done
 pub mod Alone
+pub mod inside

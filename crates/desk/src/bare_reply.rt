@@ -1,6 +1,6 @@
 //! The answer to a step, without the pod that it may hand out.
 ghost use Rattle.std.specs.Prelude.{◌≡◌};
-ghost use Rattle.desk.specs.BareReply.{bare_reply, is_refused, reply_with};
+ghost use Rattle.desk.specs.inside.BareReply.{bare_reply, is_refused, reply_with};
 
 use crate::step::{Counts, Reply};
 use book::Refusal;

@@ -2,9 +2,9 @@
 ghost use Rattle.std.specs.Prelude.{◌≡◌, ◌<◌, ℕ, [], IfOk, IfSome, OnOk, OnErr, map, replicate, slice_index, slice_set, length};
 ghost use Rattle.std.specs.Arc.{arc_value};
 ghost use Rattle.std.specs.Bool.{IsTrue};
-ghost use Rattle.desk.specs.Board.{nodes_after, used_after, board_after, rows_shown, with_total};
-ghost use Rattle.desk.specs.Caller.{HasNoCalls};
-ghost use Rattle.desk.specs.NodeCalls.{nodes_of};
+ghost use Rattle.desk.specs.inside.Board.{nodes_after, used_after, board_after, rows_shown, with_total};
+ghost use Rattle.desk.specs.inside.Caller.{HasNoCalls};
+ghost use Rattle.desk.specs.inside.NodeCalls.{nodes_of};
 ghost use Rattle.desk.specs.Shown.{shown};
 ghost use Rattle.desk.specs.declared.limits.TheConstants.{MAX_PASSES};
 
@@ -42,8 +42,8 @@ pub struct Board {
 }
 
 impl Model for Board {
-    ghost use Rattle.desk.specs.Board.{Board as Published};
-    ghost use Rattle.desk.specs.BoardCodes.{board_code};
+    ghost use Rattle.desk.specs.inside.Board.{Board as Published};
+    ghost use Rattle.desk.specs.inside.BoardCodes.{board_code};
 
     ghost Value = { Published };
 

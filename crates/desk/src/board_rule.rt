@@ -10,7 +10,7 @@ pub struct BoardRule<J> {
 }
 
 impl<J: Naming> Protocol<Board, ()> for BoardRule<J> {
-    ghost use Rattle.desk.specs.Board.{IsBoard};
+    ghost use Rattle.desk.specs.inside.Board.{IsBoard};
 
     ghost holds = { λ x views. IsBoard J.book J.limits x };
 
@@ -23,7 +23,7 @@ pub struct Sees<J> {
 }
 
 impl<J: Naming> Outcome<Board, ()> for Sees<J> {
-    ghost use Rattle.desk.specs.Board.{IsBoard};
+    ghost use Rattle.desk.specs.inside.Board.{IsBoard};
 
     ghost then = { λ v before after w. IsBoard J.book J.limits after };
 }

@@ -31,7 +31,7 @@ pub struct Desk<J: Naming> {
 impl<J: Naming> Model for Desk<J> {
     ghost use Rattle.std.specs.Prelude.{◌≡◌, ◌≤◌, []};
     ghost use Rattle.desk.specs.Shared.{Desk as Lent};
-    ghost use Rattle.desk.specs.SharedCodes.{desk_code};
+    ghost use Rattle.desk.specs.inside.SharedCodes.{desk_code};
     ghost use Rattle.desk.specs.declared.limits.TheConstants.{MAX_PASSES};
 
     ghost Value = { Lent };

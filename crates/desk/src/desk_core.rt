@@ -1,7 +1,7 @@
 //! The state of a desk, and each step on it. It has one owner: what passes share it by is a lock, and a board for looks.
 ghost use Rattle.std.specs.Prelude.{◌≡◌, ◌≤◌, ◌<◌, ◌+◌, ℕ, map, IfOk, IfSome, IsErr, MatchResult, slice_index};
 ghost use Rattle.std.specs.Bool.{IsTrue};
-ghost use Rattle.desk.specs.BareReply.{bare_reply};
+ghost use Rattle.desk.specs.inside.BareReply.{bare_reply};
 ghost use Rattle.book.specs.Expiry.{any_expired, without_expired};
 ghost use Rattle.desk.specs.Machine.{after_expiry};
 ghost use Rattle.desk.specs.declared.limits.TheConstants.{MAX_CALLS};
@@ -31,11 +31,11 @@ pub struct Core {
 }
 
 impl Model for Core {
-    ghost use Rattle.desk.specs.Caller.{Core as State};
+    ghost use Rattle.desk.specs.inside.Caller.{Core as State};
 
     ghost Value = { State };
 
-    ghost use Rattle.desk.specs.Codes.{core_code};
+    ghost use Rattle.desk.specs.inside.Codes.{core_code};
 
     ghost coded = { core_code };
 
@@ -49,11 +49,12 @@ impl Model for Core {
 }
 
 impl Core {
-    ghost use Rattle.desk.specs.Caller.{new_core, with_state, IsTimely, hands_out};
+    ghost use Rattle.desk.specs.Caller.{IsTimely};
+    ghost use Rattle.desk.specs.inside.Caller.{new_core, with_state, hands_out};
     ghost use Rattle.desk.specs.Machine.{both, of_node, moved, step, entry_for, counts, reply, after, snapshot};
     ghost use Rattle.desk.specs.Machine as machine;
-    ghost use Rattle.desk.specs.Done.{IsTold, IsTaken, IsDone, IsSaid};
-    ghost use Rattle.desk.specs.BareReply.{bare_reply, handed_by};
+    ghost use Rattle.desk.specs.inside.Done.{IsTold, IsTaken, IsDone, IsSaid};
+    ghost use Rattle.desk.specs.inside.BareReply.{bare_reply, handed_by};
     ghost use Rattle.queue.specs.Queue.{has_entry, after_remove};
     ghost use Rattle.queue.specs.Queue as queue;
 

@@ -3,8 +3,8 @@
 ghost use Rattle.std.specs.Prelude.{◌≡◌, [], IfSome};
 ghost use Rattle.std.specs.Bool.{IsTrue};
 ghost use mathlib.Core.List.{IsPrefix};
-ghost use Rattle.desk.specs.Shared.{head_of, next_call, with_call};
-ghost use Rattle.desk.specs.NodeCalls.{calls_on_nodes};
+ghost use Rattle.desk.specs.inside.Shared.{head_of, next_call, with_call};
+ghost use Rattle.desk.specs.inside.NodeCalls.{calls_on_nodes};
 
 use crate::history_rule::{Adds, Entry, HistoryRule, Nothing};
 use crate::next_call::NextCall;
@@ -56,9 +56,9 @@ pub struct Prefix {
 
 impl Model for Prefix {
     ghost use Rattle.std.specs.Prelude.{◌≡◌, length};
-    ghost use Rattle.desk.specs.Shared.{Prefix as Begun};
-    ghost use Rattle.desk.specs.SharedCodes.{prefix_code};
-    ghost use Rattle.desk.specs.NodeCalls.{calls_on_nodes};
+    ghost use Rattle.desk.specs.inside.Shared.{Prefix as Begun};
+    ghost use Rattle.desk.specs.inside.SharedCodes.{prefix_code};
+    ghost use Rattle.desk.specs.inside.NodeCalls.{calls_on_nodes};
 
     ghost Value = { Begun };
 

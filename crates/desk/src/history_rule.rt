@@ -8,8 +8,8 @@ pub struct Entry;
 
 impl Model for Entry {
     ghost use Rattle.desk.specs.History.{Call};
-    ghost use Rattle.desk.specs.SharedCodes.{call_code};
-    ghost use Rattle.desk.specs.Shared.{no_call};
+    ghost use Rattle.desk.specs.inside.SharedCodes.{call_code};
+    ghost use Rattle.desk.specs.inside.Shared.{no_call};
 
     ghost Value = { Call };
 
@@ -24,7 +24,7 @@ pub struct HistoryRule;
 impl Rule<Entry, u64> for HistoryRule {
     ghost use Rattle.std.specs.Prelude.{[]};
     ghost use base.Fml.{ftrue};
-    ghost use Rattle.desk.specs.Shared.{IsKept};
+    ghost use Rattle.desk.specs.inside.Shared.{IsKept};
 
     ghost holds = { λ cells log. IsKept cells log };
 
@@ -52,7 +52,7 @@ impl Gain<Entry, u64> for Nothing {
 pub struct Adds;
 
 impl Play<Entry, u64> for Adds {
-    ghost use Rattle.desk.specs.Shared.{IsAdded};
+    ghost use Rattle.desk.specs.inside.Shared.{IsAdded};
 
     ghost then = { IsAdded };
 }
@@ -60,7 +60,7 @@ impl Play<Entry, u64> for Adds {
 /// What a step asks for: the call, with the answer that the desk has for it.
 impl<'a> Plain<NextCall<'a>, Entry, u64> for Adds {
     ghost use Rattle.std.specs.Prelude.{None};
-    ghost use Rattle.desk.specs.Shared.{next_call};
+    ghost use Rattle.desk.specs.inside.Shared.{next_call};
 
     ghost ask = { λ next. next_call next.desk.now.state next.pass next.number next.step.now };
 

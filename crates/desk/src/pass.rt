@@ -4,8 +4,8 @@ ghost use Rattle.std.specs.Arc.{arc_value};
 ghost use Rattle.std.specs.Bool.{IsTrue};
 ghost use Rattle.desk.specs.History.{HasCallsOf, state_after};
 ghost use Rattle.desk.specs.Machine.{opening};
-ghost use Rattle.desk.specs.NodeCalls.{WereShown, nodes_in, nodes_of};
-ghost use Rattle.desk.specs.Board.{IsBoard};
+ghost use Rattle.desk.specs.inside.NodeCalls.{WereShown, nodes_in, nodes_of};
+ghost use Rattle.desk.specs.inside.Board.{IsBoard};
 ghost use Rattle.desk.specs.Shared.{IsAhead, IsLooked};
 ghost use Rattle.desk.specs.declared.limits.TheConstants.{MAX_PASSES};
 
@@ -41,9 +41,9 @@ impl<J: Naming> Model for Pass<J> {
     ghost use Rattle.std.specs.Prelude.{◌≡◌, IfSome};
     ghost use Rattle.std.specs.Arc.{arc_value};
     ghost use Rattle.desk.specs.History.{HasCallsOf};
-    ghost use Rattle.desk.specs.NodeCalls.{WereShown};
+    ghost use Rattle.desk.specs.inside.NodeCalls.{WereShown};
     ghost use Rattle.desk.specs.Shared.{Pass as Seeing};
-    ghost use Rattle.desk.specs.SharedCodes.{pass_code};
+    ghost use Rattle.desk.specs.inside.SharedCodes.{pass_code};
 
     ghost Value = { Seeing };
 

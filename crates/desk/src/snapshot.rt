@@ -31,7 +31,7 @@ pub struct Snapshot {
 impl Model for Snapshot {
     ghost use Rattle.std.specs.Prelude.{List, map};
     ghost use Rattle.desk.specs.Shown.{Shown, shown};
-    ghost use Rattle.desk.specs.Codes.{shown_code};
+    ghost use Rattle.desk.specs.inside.Codes.{shown_code};
     ghost use Rattle.std.specs.Coded.{coded_list};
     ghost use Rattle.std.specs.Arc.{arc_value};
 

@@ -48,7 +48,7 @@ pub enum Step {
 }
 
 impl Step {
-    ghost use Rattle.desk.specs.NodeCalls.{tells_of_node};
+    ghost use Rattle.desk.specs.inside.NodeCalls.{tells_of_node};
 
     // Whether it tells of a node.
     pub(crate) fn tells_of_node(&self) -> bool

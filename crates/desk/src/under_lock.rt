@@ -1,10 +1,12 @@
 //! What lies under a desk's lock: the desk itself, and the one way to change what is published of it.
 ghost use Rattle.std.specs.Prelude.{◌≡◌, ◌+◌, ◌<◌, ◌≤◌, ◌++◌, ◌∷◌, [], fold, drop, slice_index, IfOk, OnErr, IsErr, MatchBool};
-ghost use Rattle.desk.specs.Board.{IsBoard, IsSubject, board_after, board_of};
-ghost use Rattle.desk.specs.Caller.{IsTimely, new_core};
-ghost use Rattle.desk.specs.BareReply.{bare_reply, handed_by};
+ghost use Rattle.desk.specs.inside.Board.{IsBoard, IsSubject, board_after, board_of};
+ghost use Rattle.desk.specs.Caller.{IsTimely};
+ghost use Rattle.desk.specs.inside.Caller.{new_core};
+ghost use Rattle.desk.specs.inside.BareReply.{bare_reply, handed_by};
 ghost use Rattle.desk.specs.Machine.{reply};
-ghost use Rattle.desk.specs.Shared.{Stands, IsAhead, IsApplied, Met, Closed, first_held, held_after, prefix_after};
+ghost use Rattle.desk.specs.Shared.{IsAhead, IsApplied, Met, Closed};
+ghost use Rattle.desk.specs.inside.Shared.{Stands, first_held, held_after, prefix_after};
 ghost use Rattle.desk.specs.declared.limits.TheConstants.{MAX_PASSES, MAX_CALLS};
 
 use crate::bare_reply::BareReply;
@@ -40,9 +42,9 @@ pub struct UnderLock<J: Naming> {
 
 impl<J: Naming> Model for UnderLock<J> {
     ghost use Rattle.std.specs.Prelude.{fold, drop};
-    ghost use Rattle.desk.specs.Shared.{Held};
-    ghost use Rattle.desk.specs.Board.{IsPublished};
-    ghost use Rattle.desk.specs.SharedCodes.{held_code};
+    ghost use Rattle.desk.specs.inside.Shared.{Held};
+    ghost use Rattle.desk.specs.inside.Board.{IsPublished};
+    ghost use Rattle.desk.specs.inside.SharedCodes.{held_code};
 
     ghost Value = { Held };
 

@@ -7,7 +7,8 @@ use Rattle.engine.specs.declared.asked.Asked.{Asked}
 use Rattle.engine.specs.declared.fault.RunFault.{RunFault}
 use Rattle.engine.specs.declared.fault.RunFault.TheVariants.{Line, NoMemory, Read, Write, NoPlace}
 use Rattle.engine.specs.Device.{DeviceUse, CountsFailure}
-use Rattle.engine.specs.Output.{first_fault, WritesOutput, WritesFront, IsLineFault}
+use Rattle.engine.specs.Output.{first_fault, WritesOutput, WritesFront}
+use Rattle.engine.specs.inside.Output.{IsLineFault}
 use Rattle.engine.specs.Run.{IsRun}
 
 module _ (rules : RuleSet) (telling : Telling) (source sink : DeviceUse) where

@@ -12,7 +12,7 @@ use Rattle.choose.specs.Choice.{AreVerdicts}
 use Rattle.engine.specs.declared.named_rule.NamedRule.{NamedRule}
 use Rattle.engine.specs.declared.one_cycle.Cycled.{Cycled}
 use Rattle.engine.specs.declared.one_cycle.Cycled.TheVariants.{Idle}
-use Rattle.engine.specs.Cycle.{popped_reply}
+use Rattle.engine.specs.inside.Cycle.{popped_reply}
 use Rattle.engine.specs.CycleAlone.{IsDecidedAlone, AfterPopAlone, IsCycleAlone}
 use Rattle.engine.specs.Telling.{Explains, TellsNodes, verdict_lines}
 

@@ -9,10 +9,12 @@ use Rattle.engine.specs.Telling.{Telling}
 use Rattle.rules.specs.RuleSet.{RuleSet}
 use Rattle.engine.specs.declared.asked.Asked.{Asked}
 use Rattle.manifest.specs.Line.{meaning}
-use Rattle.engine.specs.Device.{AppendsFront, WritesSome}
+use Rattle.engine.specs.Device.{AppendsFront}
+use Rattle.engine.specs.inside.Device.{WritesSome}
 use Rattle.engine.specs.Lines.{lines_of, kept, TakesLine}
 use Rattle.engine.specs.Answers.{State, opening, Answered, AllAnswered}
-use Rattle.engine.specs.Output.{asked_by, asked_then, asked_in, fault_or, fault_from, first_fault, WritesOutput, WritesFront, IsAnswered}
+use Rattle.engine.specs.Output.{asked_by, asked_then, asked_in, fault_or, fault_from, first_fault, WritesOutput, WritesFront}
+use Rattle.engine.specs.inside.Output.{IsAnswered}
 use Rattle.engine.proofs.Taking.{lines_of-nil}
 
 -- ---- a line of which the front is kept

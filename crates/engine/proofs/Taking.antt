@@ -7,7 +7,8 @@ use Rattle.std.proofs.lemmas.List.Elements.{All-append}
 use Rattle.std.proofs.lemmas.List.Splits.{slice_split_at, slice_split_none}
 use Rattle.std.specs.Io.KnownBytes.{Consumes, IsAtEnd, prepend_known}
 use Rattle.std.specs.List.{slice_split, onto_first}
-use Rattle.engine.specs.Lines.{is_newline, without_empty_end, lines_of, IsLine, kept, TakesPiece, TakesLine}
+use Rattle.engine.specs.Lines.{is_newline, without_empty_end, lines_of, IsLine, kept, TakesLine}
+use Rattle.engine.specs.inside.Lines.{TakesPiece}
 
 -- ---- the lines of a text
 

@@ -1,5 +1,5 @@
 -- What is answered to the lines of a script, by the machine of a desk that has one pass.
-use Rattle.std.specs.Prelude.{◌≡◌, ℕ, true, false, List, [], ◌∷◌, ◌++◌, ⊤}
+use Rattle.std.specs.Prelude.{◌≡◌, ℕ, true, false, List, [], ◌∷◌, ◌++◌}
 use Rattle.std.specs.List.{flat_map}
 use Rattle.std.proofs.Common.{lit≤}
 use Rattle.quant.specs.declared.limits.TheConstants.{MAX_NODES, MAX_PLACED, MAX_QUEUED}
@@ -12,7 +12,6 @@ use Rattle.desk.specs.Machine as machine
 use Rattle.desk.specs.Shown.{Shown}
 use Rattle.manifest.specs.declared.command.Command.{Command}
 use Rattle.manifest.specs.declared.command.Command.TheVariants as commands
-use Rattle.desk.specs.Caller as caller
 use Rattle.rules.specs.RuleSet.{RuleSet}
 use Rattle.engine.specs.declared.asked.Asked.{Asked}
 use Rattle.engine.specs.declared.asked.Asked.TheVariants as asked
@@ -42,11 +41,6 @@ served commands.Cycle = asked.Cycle
 served (commands.BindDone uid ticket) = asked.Step (steps.BindDone uid ticket)
 served (commands.Forget uid ticket) = asked.Step (steps.Forget uid ticket)
 served commands.Dump = asked.Step steps.Count
-
--- a moment that is asked for is one that clocks have
-abbrev pub IsTimely : Asked → Type 0
-IsTimely (asked.Step step) = caller.IsTimely step
-IsTimely asked.Cycle = ⊤
 
 -- the state after a step, which is by pass 0; a look changes nothing
 unfoldable pub after : State → Step → State

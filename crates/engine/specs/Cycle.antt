@@ -58,11 +58,6 @@ pub record IsDecided (rules : RuleSet) (desk : Desk) (p : Pass) (pod : Pod) (cam
   pub chosen : IsChosen rules desk p pod decision looked
   pub ends : EndsWith desk looked pod.uid decision came p'
 
--- the answer to `Pop`, by the pod that it gives
-abbrev pub popped_reply : Option Pod → Reply
-popped_reply None = replies.Idle
-popped_reply (Some pod) = replies.Popped pod
-
 -- what follows the answer to `Pop`
 abbrev pub AfterPop : RuleSet → Desk → Pass → Reply → Cycled → Pass → Type 0
 AfterPop rules desk p (replies.Popped pod) came p' = IsDecided rules desk p pod came p'

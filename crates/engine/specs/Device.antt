@@ -10,10 +10,6 @@ CountsFailure old new r = MatchResult r (λ _. new ≡ old) (λ _. new ≡ old +
 abbrev pub AppendsFront : Option (List ℕ) → Option (List ℕ) → List ℕ → Type 0
 AppendsFront old new text = (front rest : List ℕ) × (text ≡ front ++ rest) × Appends old new front
 
--- known bytes grow by a beginning of what waits, and the rest of it waits on
-abbrev pub WritesSome : Option (List ℕ) → Option (List ℕ) → List ℕ → List ℕ → Type 0
-WritesSome old new waits later = (front : List ℕ) × (waits ≡ front ++ later) × Appends old new front
-
 -- What a call makes of a device: its bytes, where they are known, and how many reads or writes of it have failed, before the call and after.
 pub record DeviceUse : Type 1 where
   pub old : Option (List ℕ)

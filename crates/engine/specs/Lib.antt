@@ -10,3 +10,4 @@ pub mod Output
 pub mod Run
 pub mod Telling
 pub mod Text
+pub mod inside

@@ -1,5 +1,5 @@
 -- The lines of a script.
-use Rattle.std.specs.Prelude.{◌≡◌, ℕ, ◌==◌, Bool, true, false, List, [], ◌∷◌, ◌++◌, length, take, Option, Some, None, ⊤, if◌then◌else◌}
+use Rattle.std.specs.Prelude.{◌≡◌, ℕ, ◌==◌, Bool, false, List, [], ◌∷◌, length, take, Option, Some, None, ⊤, if◌then◌else◌}
 use Rattle.std.specs.List.{slice_split, All}
 
 abbrev pub is_newline : ℕ → Bool
@@ -18,11 +18,6 @@ lines_of script = without_empty_end (slice_split is_newline script)
 -- no newline is in it
 abbrev pub IsLine : List ℕ → Type 0
 IsLine text = All (λ b. is_newline b ≡ false) text
-
--- a piece of a line was taken off the front: up to its newline, or all that was there
-abbrev pub TakesPiece : Bool → List ℕ → List ℕ → List ℕ → Type 0
-TakesPiece true old new text = old ≡ text ++ 10 ∷ new
-TakesPiece false old new text = (old ≡ text) × (new ≡ [])
 
 -- the first 65,537 bytes: of a longer line no more is kept
 abbrev pub kept : List ℕ → List ℕ

@@ -6,10 +6,8 @@ use Rattle.rules.specs.RuleSet.{RuleSet}
 use Rattle.engine.specs.declared.asked.Asked.{Asked}
 use Rattle.manifest.specs.Line.{meaning}
 use Rattle.manifest.specs.Reading.{◌>>=◌}
-use Rattle.engine.specs.declared.fault.RunFault.{RunFault}
-use Rattle.engine.specs.declared.fault.RunFault.TheVariants.{Line, NoMemory, Read, Write, NoPlace}
 use Rattle.engine.specs.Lines.{lines_of}
-use Rattle.engine.specs.Answers.{State, opening, served, Answered, AllAnswered}
+use Rattle.engine.specs.Answers.{State, opening, served, AllAnswered}
 use Rattle.std.specs.Io.KnownBytes.{Appends}
 
 -- what a line asks for: nothing, where it is empty
@@ -64,17 +62,3 @@ WritesOutput rules telling script old new = (text : List ℕ) × IsOutput rules 
 -- a beginning of it is written
 abbrev pub WritesFront : RuleSet → (telling : Telling) → (script : List ℕ) → (old new : Option (List ℕ)) → Type 0
 WritesFront rules telling script old new = (text : List ℕ) × BeginsOutput rules telling script text × Appends old new text
-
--- what a line asks for is done and answered: nothing, where it is empty
-abbrev pub IsAnswered : RuleSet → (telling : Telling) → Result (Option Asked) LineFault → State → State → List ℕ → List ℕ → Type 0
-IsAnswered rules telling (Ok None) old new waits later = (new ≡ old) × (later ≡ waits)
-IsAnswered rules telling (Ok (Some asked)) old new waits later = (text : List ℕ) × Answered rules telling old asked new text × (later ≡ waits ++ text)
-IsAnswered rules telling (Err fault) old new waits later = ⊥
-
--- a run ends at this line by its fault, or for want of memory
-abbrev pub IsLineFault : ℕ → Result (Option Asked) LineFault → RunFault → Type 0
-IsLineFault number asked (Line n fault) = (n ≡ number) × (asked ≡ Err fault)
-IsLineFault number asked NoMemory = Unit {0}
-IsLineFault number asked Read = ⊥
-IsLineFault number asked Write = ⊥
-IsLineFault number asked NoPlace = ⊥

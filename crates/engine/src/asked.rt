@@ -1,7 +1,8 @@
 //! What a line of a script asks for.
 ghost use Rattle.std.specs.Prelude.{◌≡◌};
 ghost use Rattle.manifest.specs.Line as line;
-ghost use Rattle.engine.specs.Answers.{served, IsTimely};
+ghost use Rattle.engine.specs.Answers.{served};
+ghost use Rattle.engine.specs.inside.Answers.{IsTimely};
 
 use desk::Step;
 use manifest::Command;

@@ -2,7 +2,8 @@
 ghost use Rattle.std.specs.Prelude.{◌≡◌, ◌≢◌, ◌==◌, ◌⊎◌, ◌+◌, ◌^◌, ◌<◌, ◌≤◌, ◌++◌, [], nat_lt, true, false, Ok, Err, IfErr, IsErrOf, ℕ, List, length, take, slice_index, vec_len, Contains, IsTrue, IfOk, OnOk, IfSome, IfNone};
 ghost use Rattle.std.specs.Io.KnownBytes.{Consumes, IsAtEnd, prepend_known};
 ghost use Rattle.engine.specs.Device.{CountsFailure};
-ghost use Rattle.engine.specs.Lines.{IsLine, TakesPiece, TakesLine, kept};
+ghost use Rattle.engine.specs.Lines.{IsLine, TakesLine, kept};
+ghost use Rattle.engine.specs.inside.Lines.{TakesPiece};
 
 use crate::device::{DeviceFailed, Source};
 use crate::fault::RunFault;

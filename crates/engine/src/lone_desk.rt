@@ -4,7 +4,7 @@ ghost use Rattle.desk.specs.Caller.{IsTimely};
 ghost use Rattle.desk.specs.Machine as machine;
 ghost use Rattle.choose.specs.Kits.{rules_of};
 ghost use Rattle.choose.specs.Choice.{AreVerdicts};
-ghost use Rattle.engine.specs.Cycle.{popped_reply};
+ghost use Rattle.engine.specs.inside.Cycle.{popped_reply};
 ghost use Rattle.engine.specs.CycleAlone.{IsDecidedAlone};
 
 use crate::fault::RunFault;
@@ -30,7 +30,7 @@ pub(crate) struct LoneDesk<J: Naming> {
 impl<J: Naming> Model for LoneDesk<J> {
     ghost use Rattle.std.specs.Prelude.{◌≡◌};
     ghost use Rattle.desk.specs.Machine.{State};
-    ghost use Rattle.desk.specs.Codes.{state_code};
+    ghost use Rattle.desk.specs.inside.Codes.{state_code};
     ghost use Rattle.desk.specs.Shared.{IsPassOf};
     ghost use Rattle.desk.specs.Alone.{state_seen};
 

@@ -2,7 +2,8 @@
 ghost use Rattle.std.specs.Prelude.{◌≡◌, IfOk, IfErr, OnOk, OnErr};
 ghost use Rattle.desk.specs.Shared.{IsApplied, IsPassOf};
 ghost use Rattle.choose.specs.Kits.{rules_of};
-ghost use Rattle.engine.specs.Cycle.{IsFailed, EndsWith, IsAssumed, IsChosen, IsDecided, popped_reply, MayLook, IsGivenUp, IsLeft, IsInVain, IsCycle, IsCutShort, AreSeen, DecideCycle};
+ghost use Rattle.engine.specs.Cycle.{IsFailed, EndsWith, IsAssumed, IsChosen, IsDecided, MayLook, IsGivenUp, IsLeft, IsInVain, IsCycle, IsCutShort, AreSeen, DecideCycle};
+ghost use Rattle.engine.specs.inside.Cycle.{popped_reply};
 
 use choose::{Counts, Decider, Decision};
 use desk::{Desk, Naming, NoMemory, Pass, Refusal, Reply, Step};

@@ -1,13 +1,16 @@
 //! A script from its first line to its last.
 ghost use Rattle.std.specs.Prelude.{◌≡◌, ◌≢◌, ◌^◌, ◌<◌, Err, [], vec_len, IsTrue, IfSome, IfOk, OnOk, OnErr, IfErr};
 ghost use Rattle.std.specs.Io.KnownBytes.{Appends};
-ghost use Rattle.engine.specs.Device.{AppendsFront, WritesSome, CountsFailure, use_of};
+ghost use Rattle.engine.specs.Device.{AppendsFront, CountsFailure, use_of};
+ghost use Rattle.engine.specs.inside.Device.{WritesSome};
 ghost use Rattle.manifest.specs.Reading.{Answers};
 ghost use Rattle.choose.specs.Kits.{rules_of};
-ghost use Rattle.engine.specs.Output.{asked_by, IsAnswered, IsLineFault};
+ghost use Rattle.engine.specs.Output.{asked_by};
+ghost use Rattle.engine.specs.inside.Output.{IsAnswered, IsLineFault};
 ghost use Rattle.engine.specs.Run.{IsRun};
 ghost use Rattle.engine.specs.Telling.{telling};
-ghost use Rattle.engine.specs.Answers.{opening, limits, IsTimely};
+ghost use Rattle.engine.specs.Answers.{opening, limits};
+ghost use Rattle.engine.specs.inside.Answers.{IsTimely};
 
 use crate::asked::{Asked, asked_for};
 use crate::device::{Sink, Source, write_all};

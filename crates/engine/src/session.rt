@@ -2,7 +2,8 @@
 ghost use Rattle.std.specs.Prelude.{◌≡◌, ◌++◌, ◌⊎◌, ℕ, List, true, false, OnOk, OnErr, IfOk, IfErr};
 ghost use Rattle.desk.specs.Caller as caller;
 ghost use Rattle.desk.specs.Machine as machine;
-ghost use Rattle.engine.specs.Answers.{after, text_of, opening, limits, reply_lines, snapshot_lines, Answered, IsTimely};
+ghost use Rattle.engine.specs.Answers.{after, text_of, opening, limits, reply_lines, snapshot_lines, Answered};
+ghost use Rattle.engine.specs.inside.Answers.{IsTimely};
 ghost use Rattle.choose.specs.Kits.{rules_of};
 ghost use Rattle.engine.specs.CycleAlone.{IsCycleAlone};
 ghost use Rattle.engine.specs.Indented.{AreLines};

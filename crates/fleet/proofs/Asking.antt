@@ -7,7 +7,7 @@ use prog.Atomic.{either}
 use Rattle.logbook.specs.Pages.{Cell, cell, keeps, no_nib, step, Moves, Goes}
 use Rattle.desk.proofs.Beginnings.{prefix_whole, prefix_get}
 use Rattle.fleet.specs.declared.asked.Asked.{Asked}
-use Rattle.fleet.specs.Asking.{IsKept, IsAdded}
+use Rattle.fleet.specs.inside.Asking.{IsKept, IsAdded}
 
 abbrev pub shown : List Asked → List Asked
 shown log = []

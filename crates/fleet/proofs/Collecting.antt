@@ -10,7 +10,8 @@ use Rattle.choose.specs.declared.decision.Decision.{Decision}
 use Rattle.choose.specs.Choice.{judged, IsChoice, Choice, AreVerdicts}
 use Rattle.choose.proofs.Verdicts.{all_zip_append}
 use Rattle.fleet.specs.Pieces.{begins, places_of, nodes_of}
-use Rattle.fleet.specs.Speaking.{SpeaksFor, AreSaid}
+use Rattle.fleet.specs.Speaking.{SpeaksFor}
+use Rattle.fleet.specs.inside.Speaking.{AreSaid}
 use Rattle.fleet.proofs.Cutting.{nodes_of_both, nodes_of_all}
 
 map_take : {A B : Type 0} (f : A → B) (n : ℕ) (xs : List A) → map f (take n xs) ≡ take n (map f xs)

@@ -4,7 +4,8 @@ use Rattle.std.proofs.Math.Nat.{mul_assoc, mul_comm, mul-add, mul-add-div_right,
 use Rattle.std.proofs.Math.Seq.{take-add}
 use Rattle.std.proofs.lemmas.Nat.{div-add-mod', le-div}
 use Rattle.std.proofs.lemmas.List.{take_all, drop-drop}
-use Rattle.fleet.specs.Pieces.{begins, places_of, nodes_of, first_pieces, ArePieces}
+use Rattle.fleet.specs.Pieces.{begins, places_of, nodes_of, first_pieces}
+use Rattle.fleet.specs.inside.Pieces.{ArePieces}
 
 -- the place is reckoned without a product of all nodes
 pub begins_by_parts : (nodes pieces piece : ℕ) → 0 < pieces → nodes / pieces * piece + nodes % pieces * piece / pieces ≡ begins nodes pieces piece

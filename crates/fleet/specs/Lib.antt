@@ -1,5 +1,3 @@
-pub mod Asking
-pub mod Message
 pub mod Pieces
 pub mod Speaking
-pub mod Team
+pub mod inside

@@ -1,5 +1,5 @@
 -- How nodes are cut into pieces, one a kit.
-use Rattle.std.specs.Prelude.{◌≡◌, ℕ, zero, suc, ◌+◌, ◌-◌, ◌*◌, ◌/◌, ◌<◌, ◌≤◌, List, [], ◌++◌, length, take, drop}
+use Rattle.std.specs.Prelude.{◌≡◌, ℕ, zero, suc, ◌+◌, ◌-◌, ◌*◌, ◌/◌, ◌<◌, List, [], ◌++◌, length, take, drop}
 use Rattle.desk.specs.Shown.{Shown}
 
 -- the place at which a piece begins, where so many nodes are cut into so many pieces
@@ -22,10 +22,3 @@ first_pieces nodes pieces (suc many) = first_pieces nodes pieces many ++ nodes_o
 -- all pieces, put together in order, are the nodes
 abbrev pub PiecesAreAllNodes : Type 0
 PiecesAreAllNodes = (nodes : List Shown) (pieces : ℕ) → 0 < pieces → first_pieces nodes pieces pieces ≡ nodes
-
--- some of at most 64 pieces, from the first of them on, have so many places
-pub record ArePieces (nodes pieces first many places : ℕ) : Type 0 where
-  pub some : 0 < many
-  pub few : pieces ≤ 64
-  pub there : first + many ≤ pieces
-  pub all : places ≡ places_of nodes pieces first many

@@ -1,6 +1,4 @@
 -- What the kits of a pool say.
-use Rattle.std.specs.Prelude.{List}
-use Rattle.std.specs.List.{AllZip}
 use Rattle.quant.specs.declared.objects.Pod.{Pod}
 use Rattle.desk.specs.Shown.{Shown}
 use Rattle.rules.specs.RuleSet.{RuleSet}
@@ -11,7 +9,3 @@ use Rattle.choose.specs.Verdict.{HasVerdict}
 pub record SpeaksFor (Says : Pod → Shown → Verdict → Type 0) (rules : RuleSet) : Type 0 where
   pub says : (pod : Pod) (node : Shown) (verdict : Verdict) → HasVerdict rules pod node verdict → Says pod node verdict
   pub has : (pod : Pod) (node : Shown) (verdict : Verdict) → Says pod node verdict → HasVerdict rules pod node verdict
-
--- these are said of the nodes, in order
-abbrev pub AreSaid : (Says : Pod → Shown → Verdict → Type 0) → Pod → List Shown → List Verdict → Type 0
-AreSaid Says pod nodes verdicts = AllZip (Says pod) nodes verdicts

@@ -28,7 +28,7 @@ pub struct Fleet<K: Rules + Send> {
 impl<K: Rules + Send> Model for Fleet<K> {
     ghost use Rattle.std.specs.Prelude.{◌<◌, ◌≤◌, length, vec_capacity};
     ghost use Rattle.choose.specs.Kits.{JudgeAlike};
-    ghost use Rattle.fleet.specs.Team.{Team};
+    ghost use Rattle.fleet.specs.inside.Team.{Team};
 
     ghost Value = { Team K };
 

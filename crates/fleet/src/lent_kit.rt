@@ -3,8 +3,10 @@ ghost use Rattle.std.specs.Prelude.{◌≡◌, ◌+◌, ◌≤◌, length};
 ghost use Rattle.std.specs.Bool.{IsTrue};
 ghost use Rattle.std.specs.Arc.{arc_value};
 ghost use Rattle.choose.specs.Choice.{AreVerdicts};
-ghost use Rattle.fleet.specs.Pieces.{nodes_of, ArePieces};
-ghost use Rattle.fleet.specs.Speaking.{SpeaksFor, AreSaid};
+ghost use Rattle.fleet.specs.Pieces.{nodes_of};
+ghost use Rattle.fleet.specs.inside.Pieces.{ArePieces};
+ghost use Rattle.fleet.specs.Speaking.{SpeaksFor};
+ghost use Rattle.fleet.specs.inside.Speaking.{AreSaid};
 
 use crate::asked::{Order, Site};
 use crate::gate::Gate;

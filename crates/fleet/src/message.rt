@@ -21,8 +21,8 @@ pub struct Job<J: Site, K: Rules + Drop> {
 impl<J: Site, K: Rules + Drop> Model for Job<J, K> {
     ghost use Rattle.std.specs.Prelude.{length, vec_len};
     ghost use Rattle.std.specs.Arc.{arc_value};
-    ghost use Rattle.fleet.specs.Message.{Task};
-    ghost use Rattle.fleet.specs.Pieces.{ArePieces};
+    ghost use Rattle.fleet.specs.inside.Message.{Task};
+    ghost use Rattle.fleet.specs.inside.Pieces.{ArePieces};
 
     ghost Value = { Task K };
 
@@ -43,7 +43,7 @@ pub struct Done<J: Site, K: Rules + Drop> {
 impl<J: Site, K: Rules + Drop> Model for Done<J, K> {
     ghost use Rattle.std.specs.Arc.{arc_value};
     ghost use Rattle.choose.specs.Choice.{AreVerdicts};
-    ghost use Rattle.fleet.specs.Message.{Finding};
+    ghost use Rattle.fleet.specs.inside.Message.{Finding};
     ghost use Rattle.fleet.specs.Pieces.{nodes_of};
 
     ghost Value = { Finding K };

@@ -4,7 +4,8 @@ ghost use Rattle.std.specs.List.{All};
 ghost use denote.Param.Send.{IsSync, IsSend};
 ghost use Rattle.desk.specs.Shown.{shown};
 ghost use Rattle.choose.specs.Choice.{AreVerdicts};
-ghost use Rattle.fleet.specs.Pieces.{nodes_of, ArePieces};
+ghost use Rattle.fleet.specs.Pieces.{nodes_of};
+ghost use Rattle.fleet.specs.inside.Pieces.{ArePieces};
 ghost use Rattle.choose.specs.Kits.{JudgeAlike};
 
 use crate::asked::Asked;

@@ -36,7 +36,7 @@ pub struct Pool<J: Site, K: Rules + Drop, G: Drop> {
 
 impl<J: Site, K: Rules + Drop, G: Drop> Model for Pool<J, K, G> {
     ghost use Rattle.std.specs.Prelude.{◌<◌, [], ◌∷◌, length, vec_capacity};
-    ghost use Rattle.fleet.specs.Team.{Team};
+    ghost use Rattle.fleet.specs.inside.Team.{Team};
     ghost use Rattle.fleet.specs.Speaking.{SpeaksFor};
 
     ghost Value = { Team K };

@@ -1,8 +1,10 @@
 -- What the reader's clauses say, from what it gives.
 use Rattle.std.proofs.Common.{ℕ, ◌+◌, ◌<◌, ◌≤◌, List, get_or, drop, ℤ, Ok, Err, Result, get_or-drop}
 use Rattle.std.specs.Prelude.{◌↔◌, IfOk, OnErr, IsErrOf}
-use Rattle.leb.specs.Number.{Sign, Spells, InRange}
-use Rattle.leb.specs.Reading.{reading, value_of, Gives}
+use Rattle.leb.specs.Number.{Sign, Spells}
+use Rattle.leb.specs.inside.Number.{InRange}
+use Rattle.leb.specs.Reading.{reading}
+use Rattle.leb.specs.inside.Reading.{value_of, Gives}
 use Rattle.leb.specs.declared.Spelled.{Spelled}
 use Rattle.leb.specs.declared.LebFault.{LebFault}
 use Rattle.leb.proofs.Grammar.{spelled, reads}

@@ -10,7 +10,8 @@ use Rattle.std.proofs.Math.Seq.{drop-cons}
 use Rattle.std.proofs.Math.ListN.{drop_of_length-le}
 use Rattle.leb.specs.Number.{Sign, unsigned, signed}
 use Rattle.leb.specs.declared.LebFault.TheVariants.{Truncated, TooLong}
-use Rattle.leb.specs.Reading.{before, last_at, join, onto, Found, reading, sign_of}
+use Rattle.leb.specs.Reading.{before, last_at, join, onto, Found, reading}
+use Rattle.leb.specs.inside.Reading.{sign_of}
 use Rattle.leb.specs.declared.LebFault.{LebFault}
 
 -- t is 128 * (h + 1) - (d + 1)

@@ -2,7 +2,8 @@
 use Rattle.std.proofs.Common.{◌≡◌, ℕ, suc, ◌+◌, ◌-◌, ◌*◌, ◌^◌, ◌<◌, inl, inr, List, [], ◌∷◌, ℤ, pos, negsuc, ap, sym, subst, ◌∙◌, arith}
 use Rattle.std.proofs.lemmas.Int.{ints}
 use Rattle.std.proofs.lemmas.Nat.{pow-add}
-use Rattle.leb.specs.Number.{Sign, unsigned, signed, Spells, InRange}
+use Rattle.leb.specs.Number.{Sign, unsigned, signed, Spells}
+use Rattle.leb.specs.inside.Number.{InRange}
 use Rattle.leb.specs.Reading.{join}
 use Rattle.leb.proofs.Digits.{join_is}
 

@@ -1,5 +1,5 @@
 -- How bytes spell a number (WebAssembly Core 1.0, 5.2.2).
-use Rattle.std.specs.Prelude.{◌≡◌, ℕ, ◌+◌, ◌-◌, ◌^◌, ◌<◌, ◌≤◌, ◌⊎◌, List, [], ◌∷◌, ℤ, pos, negsuc, ◌+ℤ◌, ◌-ℤ◌, ◌*ℤ◌}
+use Rattle.std.specs.Prelude.{◌≡◌, ℕ, ◌+◌, ◌-◌, ◌^◌, ◌<◌, ◌≤◌, ◌⊎◌, List, [], ◌∷◌, ℤ, pos, ◌+ℤ◌, ◌-ℤ◌, ◌*ℤ◌}
 
 -- whether a number is spelled with a sign
 pub data Sign : Type 0 where
@@ -20,10 +20,3 @@ Spells s bits [] v rest = ⊥
 Spells s bits (b ∷ bytes) v rest =
     (IsLast s bits b v × (bytes ≡ rest))
     ⊎ ((128 ≤ b) × (b < 256) × (7 < bits) × (high : ℤ) × (v ≡ pos 128 *ℤ high +ℤ pos (b - 128)) × Spells s (bits - 7) bytes high rest)
-
--- the numbers of so many bits
-abbrev pub InRange : Sign → ℕ → ℤ → Type 0
-InRange unsigned bits (pos n) = n < 2 ^ bits
-InRange unsigned bits (negsuc n) = ⊥
-InRange signed bits (pos n) = n < 2 ^ (bits - 1)
-InRange signed bits (negsuc n) = n < 2 ^ (bits - 1)

@@ -1,18 +1,8 @@
--- Only proofs need this: reading as a function on lists, a step between the code and the grammar.
-use Rattle.std.specs.Prelude.{◌≡◌, ℕ, suc, ◌+◌, ◌-◌, ◌*◌, ◌^◌, ◌≤◌, min, List, [], ◌∷◌, length, drop, ℤ, pos, negsuc, Bool, true, false, nat_lt, nat_le, if◌then◌else◌, Result, Ok, Err}
+-- Reading as a function on lists, a step between the code and the grammar.
+use Rattle.std.specs.Prelude.{ℕ, suc, ◌+◌, ◌-◌, ◌*◌, ◌^◌, min, List, [], ◌∷◌, ℤ, pos, negsuc, nat_lt, nat_le, if◌then◌else◌, Result, Ok, Err}
 use Rattle.leb.specs.Number.{Sign, unsigned, signed}
-use Rattle.leb.specs.declared.Spelled.{Spelled}
 use Rattle.leb.specs.declared.LebFault.{LebFault}
 use Rattle.leb.specs.declared.LebFault.TheVariants.{Truncated, TooLong, BadLastByte}
-
--- the number that the code's reader has found
-abbrev pub value_of : Spelled → ℤ
-value_of x = if x.negative then negsuc x.low else pos x.low
-
--- a number without a sign, or with one
-abbrev pub sign_of : Bool → Sign
-sign_of true = signed
-sign_of false = unsigned
 
 -- what a last byte stands for, of a number that has so many bits left
 unfoldable pub last_at : Sign → ℕ → ℕ → Result ℤ LebFault
@@ -20,11 +10,6 @@ last_at unsigned bits b = if nat_lt b (2 ^ min bits 7) then Ok (pos b) else Err 
 last_at signed bits b =
     if nat_lt b (2 ^ min (bits - 1) 6) then Ok (pos b)
     else if nat_le (128 - 2 ^ min (bits - 1) 6) b then Ok (negsuc (127 - b)) else Err BadLastByte
-
--- what the code gives for a last byte is that
-abbrev pub GivesLast : Result (Bool × ℕ) LebFault → Result ℤ LebFault → Type 0
-GivesLast (Ok x) read = read ≡ Ok (if x.0 then negsuc x.1 else pos x.1)
-GivesLast (Err e) read = read ≡ Err e
 
 -- a number, and the bytes after it
 abbrev pub Found : Type 0
@@ -52,8 +37,3 @@ reading s bits (b ∷ bytes) =
     if nat_lt b 128 then before bytes (last_at s bits b)
     else if nat_le bits 7 then Err TooLong
     else onto (b - 128) 128 (reading s (bits - 7) bytes)
-
--- what the code's reader gives is what is read
-abbrev pub Gives : List ℕ → Result Spelled LebFault → Result Found LebFault → Type 0
-Gives bytes (Ok x) read = (x.next ≤ length bytes) × (read ≡ Ok (value_of x, drop x.next bytes))
-Gives bytes (Err e) read = read ≡ Err e

@@ -5,9 +5,11 @@
 mod laws;
 
 ghost use Rattle.std.specs.Prelude.{◌≡◌, ℕ, ◌+◌, ◌-◌, ◌^◌, ◌<◌, ◌≤◌, ◌↔◌, length, drop, pos, ℤ, List, IfOk, IsTrue, IsErrOf, OnErr};
-ghost use Rattle.leb.specs.Number.{Spells, InRange, unsigned, signed};
+ghost use Rattle.leb.specs.Number.{Spells, unsigned, signed};
+ghost use Rattle.leb.specs.inside.Number.{InRange};
 ghost use Rattle.leb.specs.Fault.{number_of, name_of, IsTruncated, IsTooLong, HasBadLastByte};
-ghost use Rattle.leb.specs.Reading.{reading, sign_of, value_of, last_at, Gives, GivesLast};
+ghost use Rattle.leb.specs.Reading.{reading, last_at};
+ghost use Rattle.leb.specs.inside.Reading.{sign_of, value_of, Gives, GivesLast};
 
 pub use laws::one_number;
 use thiserror::Error;

@@ -5,7 +5,7 @@ use Rattle.std.proofs.lemmas.List.{length-set}
 use Rattle.std.proofs.lemmas.Bool.{lt-ltb, le-ltb, eq-eqb, ne_eqb, eqb-true, cases_lt, cases_Bool, or_cases}
 use Rattle.std.proofs.lemmas.Map.Steps.{length-le_from_distinct_below}
 use Rattle.std.specs.List.{IsDistinct, AllByRecursion, list_any}
-use Rattle.name_table.specs.Woven.{nowhere, IsSpelled, times, IsAllOf, walk, chain, Ends}
+use Rattle.name_table.specs.inside.Woven.{nowhere, IsSpelled, times, IsAllOf, walk, chain, Ends}
 
 -- a list spelled in no more than so many steps is the walk of so many
 pub walk_spelled : (links : List ℕ) (n s : ℕ) (xs : List ℕ) → IsSpelled links s xs → length xs ≤ n → walk links n s ≡ xs

@@ -5,7 +5,8 @@ use Rattle.std.proofs.lemmas.List.Sums.{sum_by-append}
 use Rattle.std.proofs.lemmas.List.Folds.{sum_by-replicate}
 use Rattle.std.proofs.lemmas.List.{length-set, length-append, length-replicate, set-append_left, get_or_append_left, get_or-append_right, get_or-replicate, get_or_past}
 use Rattle.name_table.specs.declared.entry.Entry.{Entry}
-use Rattle.name_table.specs.Slots.{Slots, entry_in, with_free, number_in}
+use Rattle.name_table.specs.Slots.{Slots, entry_in, with_free}
+use Rattle.name_table.specs.inside.Slots.{number_in}
 
 module _ {X : Type 0} where
   -- so many free slots

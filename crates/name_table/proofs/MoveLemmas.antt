@@ -4,7 +4,7 @@ use Rattle.std.proofs.Math.Dec.{eqb}
 use Rattle.std.proofs.lemmas.List.{length-set, get_or-replicate, get_or_past, length-replicate}
 use Rattle.std.proofs.lemmas.Bool.{eq-eqb, ne_eqb, cases_lt, cases_eq}
 use Rattle.std.specs.List.{range_with_len}
-use Rattle.name_table.specs.Woven.{nowhere, IsSpelled, times, IsAllOf, chain, Ends}
+use Rattle.name_table.specs.inside.Woven.{nowhere, IsSpelled, times, IsAllOf, chain, Ends}
 use Rattle.name_table.proofs.ChainLemmas.{settle, spelled_outside, spelled_without, times_here, times_other, times_append, ends_step}
 
 -- a test as a number

@@ -16,7 +16,8 @@ use Rattle.std.proofs.lemmas.Bool.{cases_eq, cases_lt, cases_Bool, false_from_ne
 use Rattle.std.proofs.lemmas.List.{get_or_past}
 use Rattle.std.proofs.lemmas.List.Sums.{sum_by-cons, position_or_len_is}
 use Rattle.name_table.specs.declared.entry.Entry.{Entry}
-use Rattle.name_table.specs.Slots.{name_cmp, Slots, entry_in, name_in, value_in, with_value, put_in, has_name, slot_of, filled, map_of, NamesOnce, number_in}
+use Rattle.name_table.specs.Slots.{name_cmp, Slots, entry_in, name_in, value_in, with_value, put_in, has_name, slot_of, filled, map_of, NamesOnce}
+use Rattle.name_table.specs.inside.Slots.{number_in}
 use Rattle.name_table.proofs.SumLemmas.{sum_insert, of_option, entries_empty, same_name}
 
 -- two names are equal or not

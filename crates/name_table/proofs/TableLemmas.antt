@@ -9,8 +9,8 @@ use Rattle.std.proofs.lemmas.List.Sums.{sum_by-set}
 use Rattle.name_table.specs.declared.chains.Chains.{Chains}
 use Rattle.name_table.specs.declared.entry.Entry.{Entry}
 use Rattle.name_table.specs.Slots.{Slots, entry_in, name_in, value_in, with_value, slot_of, map_of, NamesOnce}
-use Rattle.name_table.specs.Woven.{nowhere, IsWoven, times, chain}
-use Rattle.name_table.specs.Buckets.{bucket_of, home_of, IsFiled}
+use Rattle.name_table.specs.inside.Woven.{nowhere, IsWoven, times, chain}
+use Rattle.name_table.specs.inside.Buckets.{bucket_of, home_of, IsFiled}
 use Rattle.name_table.proofs.ChainLemmas.{begins, ends_step, times_here}
 use Rattle.name_table.proofs.MoveLemmas.{home_there, one_at}
 use Rattle.name_table.proofs.SlotLemmas.{within, entry_named, map_named, map_lacks, slot_of_at, slot_of_none, some_free, len_map, once_insert, once_remove, once_put}

@@ -2,7 +2,7 @@
 use Rattle.std.proofs.Common.{◌≡◌, ℕ, ◌+◌, ◌<◌, length, get_or, replicate, sym, ap, subst, ◌∙◌, arith}
 use Rattle.std.proofs.lemmas.List.{length-replicate}
 use Rattle.name_table.specs.declared.chains.Chains.{Chains}
-use Rattle.name_table.specs.Woven.{nowhere, IsWoven}
+use Rattle.name_table.specs.inside.Woven.{nowhere, IsWoven}
 use Rattle.name_table.proofs.MoveLemmas.{AreKept, all_free}
 
 -- each chain of woven ones has its home's slots

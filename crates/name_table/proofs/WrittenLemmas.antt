@@ -7,7 +7,7 @@ use Rattle.std.proofs.lemmas.List.Folds.{sum_by-replicate}
 use Rattle.std.proofs.lemmas.Bool.{cases_lt, cases_eq, lt-ltb}
 use Rattle.std.specs.List.{range_with_len}
 use Rattle.name_table.specs.declared.links.Link.{Link}
-use Rattle.name_table.specs.Written.{listed, Hung, first_link, link_at, hung, unwritten, spot, head_at, AreBlocks}
+use Rattle.name_table.specs.inside.Written.{listed, Hung, first_link, link_at, hung, unwritten, spot, head_at, AreBlocks}
 
 -- as many as are listed
 pub length_listed : (f : ℕ → ℕ) (n : ℕ) → length (listed f n) ≡ n

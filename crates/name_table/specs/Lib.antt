@@ -1,5 +1,3 @@
 pub mod Slots
-pub mod Written
-pub mod Woven
-pub mod Buckets
 pub mod Lends
+pub mod inside

@@ -63,7 +63,3 @@ map_of s = from_entries (filled s)
 -- no two slots have one name
 unfoldable pub NamesOnce : {X : Type 0} → Slots X → Type 0
 NamesOnce s = (i j : ℕ) (name : List ℕ) → name_in s i ≡ Some name → name_in s j ≡ Some name → i ≡ j
-
--- a number of a slot's value, and 0 where it is free
-abbrev pub number_in : {X : Type 0} → (X → ℕ) → Option (Entry X) → ℕ
-number_in number o = option_map_or (λ e. number e.value) o 0

@@ -1,6 +1,6 @@
 //! Chains of slots: each slot hangs in the chain of its home.
 ghost use Rattle.std.specs.Prelude.{◌≡◌, ◌≢◌, ℕ, ◌+◌, ◌<◌, ◌≤◌, List, ◌∷◌, ◌++◌, IfOk, length, replicate, slice_set, slice_index_or};
-ghost use Rattle.name_table.specs.Woven.{nowhere, times, chain, Ends, IsWoven};
+ghost use Rattle.name_table.specs.inside.Woven.{nowhere, times, chain, Ends, IsWoven};
 
 use crate::heads::Heads;
 use crate::links::Links;

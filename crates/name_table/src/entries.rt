@@ -3,7 +3,7 @@ ghost use Rattle.std.specs.Prelude.{◌≡◌, ◌<◌, List, ℕ, None, Some, I
 ghost use Rattle.std.specs.Borrow.{sem};
 ghost use Rattle.std.specs.Option.{option_copied, option_map};
 ghost use Rattle.name_table.specs.Slots.{entry_in, value_in, has_name, with_free};
-ghost use Rattle.name_table.specs.Lends.{lends_value, lends_entry};
+ghost use Rattle.name_table.specs.inside.Lends.{lends_value, lends_entry};
 
 use crate::entry::Entry;
 use quant::Name;

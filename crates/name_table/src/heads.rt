@@ -1,6 +1,6 @@
 //! The first slot of each chain, of which only those that were written near take memory.
 ghost use Rattle.std.specs.Prelude.{◌≡◌, ℕ, ◌*◌, ◌<◌, ◌≤◌, IfOk, length, replicate, slice_set, slice_index_or, vec_len, vec_capacity};
-ghost use Rattle.name_table.specs.Written.{unwritten, head_at, AreBlocks};
+ghost use Rattle.name_table.specs.inside.Written.{unwritten, head_at, AreBlocks};
 
 use std::alloc::{AllocError, Global};
 use std::marker::Model;
@@ -29,7 +29,7 @@ impl Model for Heads {
 
     ghost Value = { List ℕ };
 
-    ghost use Rattle.name_table.specs.Written.{listed, head_at, AreRoomy};
+    ghost use Rattle.name_table.specs.inside.Written.{listed, head_at, AreRoomy};
 
     ghost view = { λ h. listed (head_at h.blocks.items h.written.items h.end) h.len };
 

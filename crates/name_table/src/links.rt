@@ -1,7 +1,7 @@
 //! How slots hang in chains, of which those that never moved take no memory.
 ghost use Rattle.std.specs.Prelude.{◌≡◌, ℕ, ◌+◌, ◌<◌, ◌≤◌, IfOk, length, replicate, slice_set, slice_index_or, vec_len, vec_capacity};
 ghost use Rattle.std.specs.List.{range_with_len};
-ghost use Rattle.name_table.specs.Written.{link_at};
+ghost use Rattle.name_table.specs.inside.Written.{link_at};
 
 use std::alloc::{AllocError, Global};
 use std::marker::Model;
@@ -27,12 +27,12 @@ pub(crate) struct Links {
 }
 
 impl Model for Links {
-    ghost use Rattle.name_table.specs.Written.{Hung};
+    ghost use Rattle.name_table.specs.inside.Written.{Hung};
 
     ghost Value = { Hung };
 
     ghost use Rattle.std.specs.Prelude.{◌≤◌, vec_capacity};
-    ghost use Rattle.name_table.specs.Written.{hung};
+    ghost use Rattle.name_table.specs.inside.Written.{hung};
 
     ghost view = { λ s. hung s.written.items s.room s.free };
 

@@ -5,8 +5,8 @@ ghost use Rattle.std.specs.Option.{option_copied};
 ghost use Rattle.std.specs.FinMap as fin;
 ghost use Rattle.name_table.specs.Slots.{entry_in, name_in, value_in, slot_of, map_of, NamesOnce, put_in, with_free};
 ghost use Rattle.name_table.specs.Lends.{lends_slot};
-ghost use Rattle.name_table.specs.Woven.{Ends, chain, times};
-ghost use Rattle.name_table.specs.Buckets.{bucket_of};
+ghost use Rattle.name_table.specs.inside.Woven.{Ends, chain, times};
+ghost use Rattle.name_table.specs.inside.Buckets.{bucket_of};
 
 use crate::chains::Chains;
 use crate::entries::Entries;
@@ -39,7 +39,7 @@ impl<V> Model for NameTable<V> {
 
     ghost Value = { List (Option (Entry V)) };
 
-    ghost use Rattle.name_table.specs.Buckets.{IsFiled};
+    ghost use Rattle.name_table.specs.inside.Buckets.{IsFiled};
 
     ghost view = { λ t. t.entries };
 

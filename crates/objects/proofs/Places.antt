@@ -10,7 +10,7 @@ use Rattle.quant.specs.Amount.{number}
 use Rattle.quant.proofs.Decimal.{number_more}
 use Rattle.objects.specs.declared.rounding.Rounding.{Rounding}
 use Rattle.objects.specs.Ratio.{rounded}
-use Rattle.objects.specs.Digits.{digit, front, back}
+use Rattle.objects.specs.inside.Digits.{digit, front, back}
 use Rattle.objects.proofs.RatioLemmas.{rounded_sum, rounded_whole, rounded_lower, rounded_tenth}
 
 -- a power of ten isn't 0

@@ -10,7 +10,7 @@ use Rattle.objects.specs.declared.rounding.Rounding.{Rounding}
 use Rattle.objects.specs.declared.suffix.Suffix.{Suffix}
 use Rattle.objects.specs.declared.digits.TheConstants.{BEYOND}
 use Rattle.objects.specs.Ratio.{rounded}
-use Rattle.objects.specs.Digits.{front, back}
+use Rattle.objects.specs.inside.Digits.{front, back}
 use Rattle.objects.specs.Quantity.{worth, at_most}
 use Rattle.objects.proofs.Places.{in_parts}
 

@@ -1,10 +1,10 @@
 pub mod Ratio
 pub mod Suffix
 pub mod Quantity
-pub mod Digits
 pub mod Key
 pub mod Reading
 pub mod Container
 pub mod Resource
 pub mod PodRequest
 pub mod Allocatable
+pub mod inside

@@ -5,7 +5,7 @@ ghost use Rattle.quant.specs.Amount.{is_digit, number, leading_digits, after_dig
 ghost use Rattle.objects.specs.Ratio.{rounded};
 ghost use Rattle.objects.specs.Suffix.{has_minus, after_sign};
 ghost use Rattle.objects.specs.Quantity.{fraction_digits, after_fraction, is_zero};
-ghost use Rattle.objects.specs.Digits.{digit, front, back};
+ghost use Rattle.objects.specs.inside.Digits.{digit, front, back};
 
 use crate::rounding::Rounding;
 

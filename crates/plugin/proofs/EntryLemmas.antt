@@ -13,7 +13,7 @@ use Rattle.indexmap.proofs.MapLemmas.{absent_from_lookup, insert_entry-absent}
 use Rattle.plugin.specs.declared.plugins.Entry.{Entry}
 use Rattle.plugin.specs.declared.plugins.Plugins.TheInside.{Inside}
 use Rattle.plugin.specs.Plugins.{names, IsTaken, IsWeight, IsFuel}
-use Rattle.plugin.specs.Entries.{configured, plugins_of, AreEntries}
+use Rattle.plugin.specs.inside.Entries.{configured, plugins_of, AreEntries}
 
 -- the plugins' names are the table's keys
 names_are : (es : List (List ℕ × Entry)) → names (map configured es) ≡ keys_of es

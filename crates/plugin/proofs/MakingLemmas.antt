@@ -8,7 +8,8 @@ use Rattle.wmach.proofs.OverBr.{slice_get_some}
 use Rattle.plugin.specs.declared.fault.KitFault.{KitFault}
 use Rattle.plugin.specs.Plugins.{Configured, IsWeight}
 use Rattle.plugin.specs.Refused.{HasImage, WhyNotReady, WhyNoKit}
-use Rattle.plugin.specs.Kit.{Ready, InstanceState, ready_parts, IsAtImage, IsReadyOf, OneMoreReady, AreInstances}
+use Rattle.plugin.specs.Kit.{Ready, InstanceState, ready_parts, IsAtImage, IsReadyOf}
+use Rattle.plugin.specs.inside.Kit.{OneMoreReady, AreInstances}
 
 -- one more of each of two lists
 zipped_more : {A B : Type 0} (R : A → B → Type 0) (xs : List A) (ys : List B) (i : ℕ) (x : A) (y : B) → slice_get xs i ≡ Some x → AllZip R (take i xs) ys → R x y → AllZip R (take (suc i) xs) (ys ++ y ∷ [])

@@ -1,6 +1,6 @@
 -- What a kit is seen as, and what its plugins say.
-use Rattle.std.specs.Prelude.{◌≡◌, ℕ, ◌≤◌, List, [], ◌∷◌, ◌++◌, map, length, ◌⊎◌, Option, Some, None, slice_get, slice_set}
-use Rattle.std.specs.List.{All, AllZip}
+use Rattle.std.specs.Prelude.{◌≡◌, ℕ, List, map, ◌⊎◌, Option, Some, None, slice_get, slice_set}
+use Rattle.std.specs.List.{AllZip}
 use Rattle.wbin.specs.Syntax.{ModuleParts, module_of}
 use Rattle.wstore.specs.Store.{Store}
 use Rattle.wmach.specs.declared.export.Export.{Export}
@@ -17,7 +17,7 @@ use Rattle.rules.specs.declared.verdict.ScoreVerdict.{ScoreVerdict}
 use Rattle.rules.specs.declared.verdict.ScoreVerdict.TheVariants as score
 use Rattle.plugin.specs.Verdict.{filter_said, score_said}
 use Rattle.rules.specs.RuleSet.{RuleSet, Told}
-use Rattle.plugin.specs.Plugins.{Configured, IsWeight}
+use Rattle.plugin.specs.Plugins.{Configured}
 
 -- A plugin that is ready to be asked: how much its score counts, the fuel of each call, its module, and the image from which
 -- each call begins.
@@ -90,19 +90,6 @@ pub record IsReadyOf (plugin : Configured) (ready : Ready) : Type 0 where
 -- a kit of the plugins has each of them ready, in their order
 abbrev pub IsKitOf : List Configured → List Ready → Type 0
 IsKitOf plugins kit = AllZip IsReadyOf plugins kit
-
--- there is one more instance, behind the others: it is of this plugin, and where its calls begin
-pub record OneMoreReady (plugin : Configured) (old new : List InstanceState) : Type 0 where
-  pub instance : InstanceState
-  pub joined : new ≡ old ++ instance ∷ []
-  pub is : IsReadyOf plugin instance.ready
-  pub at_image : IsAtImage instance
-  pub weight : IsWeight instance.ready.weight
-
--- there are at most 16 instances, and the score of each one's plugin counts 1 to 10 times
-pub record AreInstances (kit : List InstanceState) : Type 0 where
-  pub most : length kit ≤ 16
-  pub weights : All (λ i. IsWeight i.ready.weight) kit
 
 -- Of all instances only the one at a place has changed, and of it only its store.
 pub record OnlyItsStore (place : ℕ) (old new : List InstanceState) : Type 0 where

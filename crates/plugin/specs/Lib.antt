@@ -3,5 +3,5 @@ pub mod Plugins
 pub mod Entries
 pub mod Refused
 pub mod Kit
-pub mod OneAnswer
 pub mod Laws
+pub mod inside

@@ -24,7 +24,8 @@ pub struct Kit {
 impl Model for Kit {
     ghost use Rattle.std.specs.Prelude.{List};
     ghost use Rattle.std.specs.Coded.{codes};
-    ghost use Rattle.plugin.specs.Kit.{InstanceState, AreInstances};
+    ghost use Rattle.plugin.specs.Kit.{InstanceState};
+    ghost use Rattle.plugin.specs.inside.Kit.{AreInstances};
 
     ghost Value = { List InstanceState };
 

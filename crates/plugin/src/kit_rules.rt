@@ -42,7 +42,7 @@ impl Rules for KitRules {
     ghost use Rattle.std.specs.Prelude.{◌≡◌};
     ghost use Rattle.whost.specs.Handed.{pod_records, node_records};
     ghost use Rattle.plugin.specs.Kit.{rules_of};
-    ghost use Rattle.plugin.specs.OneAnswer.{one_answer};
+    ghost use Rattle.plugin.specs.inside.OneAnswer.{one_answer};
 
     /// The records by which the plugins are told. Each is kilobytes large and is written in place.
     type Notes = Records;

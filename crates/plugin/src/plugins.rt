@@ -4,9 +4,10 @@ ghost use Rattle.std.specs.Arc.{arc_value};
 ghost use Rattle.wbin.specs.Syntax.{module_of};
 ghost use Rattle.whost.specs.Refused.{WhyRefused};
 ghost use Rattle.plugin.specs.Plugins.{IsTaken, IsWeight, IsFuel};
-ghost use Rattle.plugin.specs.Entries.{configured, configured_as};
+ghost use Rattle.plugin.specs.Entries.{configured_as};
+ghost use Rattle.plugin.specs.inside.Entries.{configured};
 ghost use Rattle.plugin.specs.Refused.{WhyNotAdded, WhyNotReady};
-ghost use Rattle.plugin.specs.Kit.{OneMoreReady};
+ghost use Rattle.plugin.specs.inside.Kit.{OneMoreReady};
 
 use crate::fault::{AddFault, KitFault};
 use crate::member::Member;
@@ -61,7 +62,7 @@ impl Model for Plugins {
 
     ghost coded = { Prim.hlevel codes };
 
-    ghost use Rattle.plugin.specs.Entries.{plugins_of, AreEntries};
+    ghost use Rattle.plugin.specs.inside.Entries.{plugins_of, AreEntries};
 
     ghost view = { plugins_of };
 

@@ -9,8 +9,8 @@ use Rattle.std.specs.Cmp.Lexicographic.{options_total}
 use Rattle.std.proofs.lemmas.Cmp.{on_total, then_total, nat_cmp_total}
 use Rattle.std.proofs.lemmas.List.MinMax.{ranks_by}
 use Rattle.queue.specs.Order.{Item}
-use Rattle.queue.specs.Row.{at, IsSwapped, IsPushed}
-use Rattle.queue.specs.Heap.{Pods, moment_of, wait_cmp, item_in, goes_before, IsHeap, GoesFirst, IsHeapBut}
+use Rattle.queue.specs.inside.Row.{at, IsSwapped, IsPushed}
+use Rattle.queue.specs.inside.Heap.{Pods, moment_of, wait_cmp, item_in, goes_before, IsHeap, GoesFirst, IsHeapBut}
 use Rattle.queue.proofs.Ranks.{item_laws}
 use Rattle.queue.proofs.Rows.{same_or_not}
 

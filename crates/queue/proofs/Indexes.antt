@@ -11,9 +11,9 @@ use Rattle.queue.specs.declared.state.PassNumber.{PassNumber}
 use Rattle.quant.specs.declared.amount.Moment.{Moment}
 use Rattle.queue.specs.declared.index.Index.{Index}
 use Rattle.queue.specs.Entry.{Entry, is_active, is_backoff, is_unschedulable}
-use Rattle.queue.specs.Row.{SlotRow, at, IsIn, IsWithout, IsWith}
-use Rattle.queue.specs.Heap.{Pods, wait_cmp, item_in, goes_before, IsHeap}
-use Rattle.queue.specs.Index.{state_in, stands_in, is_unmarked, Lists, ListsBut, IsIndex, IsIndexBut}
+use Rattle.queue.specs.inside.Row.{SlotRow, at, IsIn, IsWithout, IsWith}
+use Rattle.queue.specs.inside.Heap.{Pods, wait_cmp, item_in, goes_before, IsHeap}
+use Rattle.queue.specs.inside.Index.{state_in, stands_in, is_unmarked, Lists, ListsBut, IsIndex, IsIndexBut}
 use Rattle.queue.proofs.Rows.{same_or_not}
 use Rattle.queue.proofs.Heaps.{Kept}
 

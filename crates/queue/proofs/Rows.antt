@@ -4,7 +4,7 @@ use Rattle.std.specs.Prelude.{◌≢◌}
 use Rattle.std.proofs.lemmas.Bool.{cases_lt}
 use Rattle.std.proofs.lemmas.List.{length-take, length-take-le, get_or-take}
 use Rattle.std.proofs.Math.Seq.{take-append_seam}
-use Rattle.queue.specs.Row.{at, IsIn, IsSwapped, IsPushed, HasSame, IsWithout, IsWith}
+use Rattle.queue.specs.inside.Row.{at, IsIn, IsSwapped, IsPushed, HasSame, IsWithout, IsWith}
 
 -- two places are one, or not
 pub same_or_not : (a b : ℕ) → (a ≡ b) ⊎ (a ≢ b)

@@ -22,10 +22,10 @@ use Rattle.queue.specs.declared.refusal.Refusal.TheVariants.{Known, Full, NotInF
 use Rattle.queue.specs.Entry.{Entry, new_entry, is_active, is_backoff, is_unschedulable, is_in_flight, is_in_flight_for, popped}
 use Rattle.queue.specs.Order.{item_cmp, comes_before}
 use Rattle.queue.specs.Queue.{no_entries, counts_of, QueueState, IsQueue, entry_of, has_entry, is_full_queue, stands, next_of, with_entry, with_change, changed_at, with_popped, unless_refused, refusal_to_add, after_add, after_pop, after_remove}
-use Rattle.queue.specs.Row.{at, IsIn}
-use Rattle.queue.specs.Heap.{Pods, moment_of, wait_cmp, item_in, goes_before}
-use Rattle.queue.specs.Index.{stands_in, kept_with, changed_in, IsIndex, IsIndexBut}
-use Rattle.queue.specs.Slots.{state_of, OwnUids, IsKept, one_if, counts_so_far}
+use Rattle.queue.specs.inside.Row.{at, IsIn}
+use Rattle.queue.specs.inside.Heap.{Pods, moment_of, wait_cmp, item_in, goes_before}
+use Rattle.queue.specs.inside.Index.{stands_in, kept_with, changed_in, IsIndex, IsIndexBut}
+use Rattle.queue.specs.inside.Slots.{state_of, OwnUids, IsKept, one_if, counts_so_far}
 use Rattle.queue.proofs.Rows.{same_or_not}
 use Rattle.queue.proofs.Heaps.{Kept, a_slot, top}
 use Rattle.queue.proofs.Changes.{stands_of, none_in_row, once_changed, own_changed, length_changed, map_changed}

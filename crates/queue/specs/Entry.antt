@@ -1,5 +1,5 @@
 -- One pod that waits: what the queue knows of it, and what becomes of it.
-use Rattle.std.specs.Prelude.{ℕ, ◌+◌, ◌-◌, ◌*◌, ◌^◌, ◌≤◌, min, nat_le, Bool, true, false, if◌then◌else◌, ◌==◌}
+use Rattle.std.specs.Prelude.{ℕ, ◌+◌, ◌-◌, ◌*◌, ◌^◌, min, nat_le, Bool, true, false, if◌then◌else◌, ◌==◌}
 use Rattle.quant.specs.declared.amount.Moment.{Moment}
 use Rattle.quant.specs.declared.objects.Pod.{Pod}
 use Rattle.queue.specs.declared.state.PassNumber.{PassNumber}
@@ -112,10 +112,3 @@ state_after_move now attempts (InFlight pass moved) = InFlight pass true
 -- a move at this moment
 abbrev pub moved_on : Moment → Entry → Entry
 moved_on now entry = record entry { state = state_after_move now entry.attempts entry.state }
-
--- an unschedulable pod failed at a moment that a clock has
-abbrev pub IsTimely : State → Type 0
-IsTimely Active = Unit {0}
-IsTimely (Backoff until) = Unit {0}
-IsTimely (Unschedulable since) = since.0 ≤ 1000000000000000
-IsTimely (InFlight pass moved) = Unit {0}

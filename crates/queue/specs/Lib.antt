@@ -2,8 +2,5 @@ pub mod Entry
 pub mod Order
 pub mod Refusal
 pub mod Queue
-pub mod Slots
-pub mod Row
-pub mod Heap
-pub mod Index
 pub mod Calls
+pub mod inside

@@ -1,7 +1,7 @@
 //! How many entries stand where.
 
 ghost use Rattle.std.specs.Prelude.{◌≡◌, ◌+◌, ◌<◌, ◌^◌};
-ghost use Rattle.queue.specs.Slots.{counted, total_of};
+ghost use Rattle.queue.specs.inside.Slots.{counted, total_of};
 
 use crate::state::State;
 

@@ -2,8 +2,8 @@
 ghost use Rattle.std.specs.Prelude.{◌≡◌, ◌≢◌, ℕ, ◌+◌, ◌-◌, ◌*◌, ◌^◌, ◌<◌, ◌≤◌, IsSome, length};
 ghost use Rattle.quant.specs.declared.limits.TheConstants.{MAX_QUEUED};
 ghost use Rattle.name_table.specs.Slots.{entry_in};
-ghost use Rattle.queue.specs.Row.{at, IsIn, HasSame, IsWithout, IsWith};
-ghost use Rattle.queue.specs.Heap.{wait_cmp, goes_before, AllThere, IsHeap, GoesFirst, IsHeapBut};
+ghost use Rattle.queue.specs.inside.Row.{at, IsIn, HasSame, IsWithout, IsWith};
+ghost use Rattle.queue.specs.inside.Heap.{wait_cmp, goes_before, AllThere, IsHeap, GoesFirst, IsHeapBut};
 
 use crate::row::Row;
 use crate::slot::Slot;

@@ -3,9 +3,9 @@ ghost use Rattle.std.specs.Prelude.{◌≡◌, ℕ, ◌+◌, ◌<◌, ◌≤◌,
 ghost use Rattle.quant.specs.declared.limits.TheConstants.{MAX_QUEUED};
 ghost use Rattle.name_table.specs.Slots.{entry_in};
 ghost use Rattle.queue.specs.Entry.{Entry, is_in_flight};
-ghost use Rattle.queue.specs.Row.{at, IsIn};
-ghost use Rattle.queue.specs.Heap.{AllThere};
-ghost use Rattle.queue.specs.Index.{state_in, stands_in, is_due, IsEnd, IsIndex, IsIndexBut};
+ghost use Rattle.queue.specs.inside.Row.{at, IsIn};
+ghost use Rattle.queue.specs.inside.Heap.{AllThere};
+ghost use Rattle.queue.specs.inside.Index.{state_in, stands_in, is_due, IsEnd, IsIndex, IsIndexBut};
 
 use crate::heap::{insert, remove};
 use crate::row::Row;

@@ -31,7 +31,7 @@ impl Model for Queue {
     ghost use Rattle.std.specs.FinMap as table;
     ghost use Rattle.queue.specs.contracts.slot.Slot as slot;
     ghost use Rattle.queue.specs.Queue.{QueueState, Entries};
-    ghost use Rattle.queue.specs.Slots.{state_of, IsKept};
+    ghost use Rattle.queue.specs.inside.Slots.{state_of, IsKept};
 
     ghost Value = { QueueState };
 

@@ -1,7 +1,7 @@
 //! Slots in a row, each at most once, that know their places.
 ghost use Rattle.std.specs.Prelude.{◌≡◌, ℕ, ◌+◌, ◌<◌, ◌≤◌, [], IfOk, length, slice_index_or};
 ghost use Rattle.quant.specs.declared.limits.TheConstants.{MAX_QUEUED};
-ghost use Rattle.queue.specs.Row.{at, IsIn, IsSwapped, IsPushed, IsInverse, IsWithout};
+ghost use Rattle.queue.specs.inside.Row.{at, IsIn, IsSwapped, IsPushed, IsInverse, IsWithout};
 
 use std::alloc::{AllocError, Global};
 use std::marker::Model;
@@ -19,7 +19,7 @@ pub(crate) struct Row {
 
 impl Model for Row {
     ghost use Rattle.std.specs.Prelude.{take, vec_len};
-    ghost use Rattle.queue.specs.Row.{SlotRow, IsRow};
+    ghost use Rattle.queue.specs.inside.Row.{SlotRow, IsRow};
 
     ghost Value = { SlotRow };
 

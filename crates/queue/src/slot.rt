@@ -1,8 +1,8 @@
 //! One entry of the queue.
 ghost use Rattle.std.specs.Prelude.{◌≡◌, ◌≤◌};
 ghost use Rattle.queue.specs.Entry.{new_entry, backoff, backed_off, is_active, is_in_flight, is_in_flight_for, popped, sent_back, failed, ticked, moved_on};
-ghost use Rattle.queue.specs.Heap.{moment_of};
-ghost use Rattle.queue.specs.Index.{applied, is_due, IsTimelyChange};
+ghost use Rattle.queue.specs.inside.Heap.{moment_of};
+ghost use Rattle.queue.specs.inside.Index.{applied, is_due, IsTimelyChange};
 
 use crate::state::{Failure, PassNumber, State};
 use quant::{LATEST_MOMENT, Moment, Name, SharedPod};
@@ -51,7 +51,8 @@ pub(crate) struct Slot {
 
 impl Model for Slot {
     ghost use Rattle.std.specs.Prelude.{◌≡◌};
-    ghost use Rattle.queue.specs.Entry.{Entry, IsTimely};
+    ghost use Rattle.queue.specs.Entry.{Entry};
+    ghost use Rattle.queue.specs.inside.Entry.{IsTimely};
 
     ghost Value = { Entry };
 

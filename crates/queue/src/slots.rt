@@ -4,8 +4,8 @@ ghost use Rattle.quant.specs.declared.limits.TheConstants.{MAX_QUEUED};
 ghost use Rattle.name_table.specs.Slots.{entry_in, map_of, NamesOnce};
 ghost use Rattle.queue.specs.Entry.{is_in_flight, ticked, moved_on};
 ghost use Rattle.queue.specs.Queue.{each_changed};
-ghost use Rattle.queue.specs.Index.{stands_in, IsIndex, applied, IsTimelyChange, changed_in};
-ghost use Rattle.queue.specs.Slots.{OwnUids, counts_so_far};
+ghost use Rattle.queue.specs.inside.Index.{stands_in, IsIndex, applied, IsTimelyChange, changed_in};
+ghost use Rattle.queue.specs.inside.Slots.{OwnUids, counts_so_far};
 
 use crate::counts::Counts;
 use crate::index::Index;

@@ -17,7 +17,7 @@ use Rattle.rules.specs.declared.verdict.ScoreVerdict.TheVariants as score
 use Rattle.plugin.specs.Verdict.{filter_said, score_said}
 use Rattle.plugin.specs.Plugins.{Configured}
 use Rattle.plugin.specs.Kit.{Ready, Ends, Says, IsKitOf, IsReadyOf, records_of, rules_of}
-use Rattle.plugin.specs.OneAnswer.{one_answer}
+use Rattle.plugin.specs.inside.OneAnswer.{one_answer}
 use Rattle.engine.specs.Output.{IsOutput, BeginsOutput, asked_in}
 use Rattle.engine.specs.Lines.{lines_of}
 use Rattle.engine.specs.Answers.{opening}

@@ -19,7 +19,8 @@ use Rattle.faults.specs.declared.fault.Fault.TheVariants.{Run}
 use Rattle.faults.specs.Fault.{status_of}
 use Rattle.serving.specs.Run.{TellsFailures, TellsFault}
 use Rattle.serving.specs.Site.{AreSiteKits, SiteRefused, WhyNoSite}
-use Rattle.serving.specs.Storm.{IsSiteStorm, SiteStorms, StormFaulty, audit_status}
+use Rattle.serving.specs.Storm.{IsSiteStorm, SiteStorms, StormFaulty}
+use Rattle.serving.specs.inside.Storm.{audit_status}
 use Rattle.serving.proofs.Ends.{Besides, site_status}
 
 -- ---- deciders with one kit each, and their kits

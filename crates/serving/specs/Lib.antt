@@ -5,3 +5,4 @@ pub mod Run
 pub mod Site
 pub mod Storm
 pub mod Verdict
+pub mod inside

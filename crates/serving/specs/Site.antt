@@ -70,13 +70,6 @@ WritesSiteFront explains specs modules script old new = (kit : List Ready) × Is
 abbrev pub AreFromFiles : (contents : List ℕ → Option (List ℕ)) → List SpecSyntax → (modules : List (List ℕ)) → Type 0
 AreFromFiles contents specs modules = AllZip (λ spec bytes. IfSome (contents spec.file) (λ whole. bytes ≡ front_of whole)) specs modules
 
--- Why there is no module of the plugin of this name, where files have failed this often before and by now: memory was wanting, and none has
--- failed; or its file couldn't be read.
-abbrev pub WhyNoModule : (name : List ℕ) → (failures_old failures_new : ℕ) → Fault → Type 0
-WhyNoModule name failures_old failures_new (Run run_fault.NoMemory) = failures_new ≡ failures_old
-WhyNoModule name failures_old failures_new (Unread named) = (named ≡ name) × (failures_old < failures_new)
-WhyNoModule name failures_old failures_new _ = ⊥
-
 -- The file of the plugin of this name couldn't be read, where files have failed this often before and by now: the words configure the plugin.
 pub record UnreadPlugin (specs : List SpecSyntax) (failures_old failures_new : ℕ) (name : List ℕ) : Type 0 where
   pub place : ℕ

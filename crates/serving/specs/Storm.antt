@@ -25,11 +25,6 @@ abbrev pub StormFaulty : Fault → (script : Option (List ℕ)) → Type 0
 StormFaulty fault script = (number : ℕ) × (why : LineFault) × (fault ≡ Run (run_fault.Line number why))
     × IfSome script (λ text. first_storm_fault text ≡ Some (number, why))
 
--- the exit status that tells what an audit said
-abbrev pub audit_status : Bool → ℕ
-audit_status true = 0
-audit_status false = 1
-
 -- A storm of a script by the plugins that are configured ended with this status. `AreGiven` says which modules they have.
 pub record IsSiteStorm (AreGiven : List (List ℕ) → Type 0) (specs : List SpecSyntax) (cycles binders : ℕ) (source out err : DeviceUse) (ended : ℕ) : Type 0 where
   -- these are the statuses of a storm

@@ -11,7 +11,8 @@ ghost use Rattle.command.specs.Within.{AreWithinLimits, IsWithinLimits};
 ghost use Rattle.command.specs.Words.{syntax_of};
 ghost use Rattle.engine.specs.declared.fault.RunFault.TheVariants as run_fault;
 ghost use Rattle.faults.specs.declared.fault.Fault.TheVariants.{Run};
-ghost use Rattle.serving.specs.Site.{IsToldAs, AreFromFiles, ArePlugins, AreSiteKits, IsPlugin, NoKit, ModuleRefused, WhyNoModule, WhyNoModules, WhyNoPlugin, WhyNoSite};
+ghost use Rattle.serving.specs.Site.{IsToldAs, AreFromFiles, ArePlugins, AreSiteKits, IsPlugin, NoKit, ModuleRefused, WhyNoModules, WhyNoPlugin, WhyNoSite};
+ghost use Rattle.serving.specs.inside.Site.{WhyNoModule};
 ghost use Rattle.serving.specs.Verdict.{front_of};
 
 use crate::folder::Files;

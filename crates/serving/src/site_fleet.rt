@@ -23,7 +23,7 @@ pub struct SiteFleet {
 
 impl Model for SiteFleet {
     ghost use Rattle.plugin.specs.Kit.{Ready};
-    ghost use Rattle.fleet.specs.Team.{Team};
+    ghost use Rattle.fleet.specs.inside.Team.{Team};
     ghost use Rattle.std.specs.Prelude.{List};
 
     ghost Value = { Team (List Ready) };

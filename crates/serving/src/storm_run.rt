@@ -5,7 +5,8 @@ ghost use Rattle.command.specs.Within.{IsStormPlan};
 ghost use Rattle.command.specs.Words.{syntax_of};
 ghost use Rattle.serving.specs.Run.{TellsFailures};
 ghost use Rattle.serving.specs.Site.{AreFromFiles, UnreadPlugin};
-ghost use Rattle.serving.specs.Storm.{IsSiteStorm, audit_status};
+ghost use Rattle.serving.specs.Storm.{IsSiteStorm};
+ghost use Rattle.serving.specs.inside.Storm.{audit_status};
 
 use crate::folder::Files;
 use crate::site::{modules_in, site_kits};

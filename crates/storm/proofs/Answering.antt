@@ -11,8 +11,9 @@ use Rattle.desk.specs.Shared.{Pass, Desk, IsApplied}
 use Rattle.desk.proofs.Fair.{answered_next}
 use Rattle.binder.specs.declared.job.Job.{Job}
 use Rattle.binder.specs.Binds.{report_of}
-use Rattle.storm.specs.Made.{Makes, IsReport, newcomer}
-use Rattle.storm.specs.Crew.{enlisted}
+use Rattle.storm.specs.Made.{newcomer}
+use Rattle.storm.specs.inside.Made.{Makes, IsReport}
+use Rattle.storm.specs.inside.Crew.{enlisted}
 use Rattle.storm.proofs.Going.{makes_none, makes_more, makes_both}
 
 -- ---- reports

@@ -11,10 +11,12 @@ use Rattle.desk.specs.Shown.{Shown}
 use Rattle.rules.specs.RuleSet.{RuleSet}
 use Rattle.choose.specs.Kits.{rules_of}
 use Rattle.storm.specs.declared.worker.Worker.{Worker}
-use Rattle.storm.specs.Made.{BeginsWith, IsReport, IsReportOrCount, steps_of, newcomer}
-use Rattle.storm.specs.Cycles.{OneCycle, HasCycled, Cycles}
-use Rattle.storm.specs.Crew.{Each, HasFed, IsDumped, enlisted}
-use Rattle.storm.specs.Stages.{HasReported, HasScheduled, IsIdle}
+use Rattle.storm.specs.Made.{BeginsWith, IsReportOrCount, steps_of, newcomer}
+use Rattle.storm.specs.inside.Made.{IsReport}
+use Rattle.storm.specs.Cycles.{OneCycle, Cycles}
+use Rattle.storm.specs.inside.Cycles.{HasCycled}
+use Rattle.storm.specs.inside.Crew.{Each, HasFed, IsDumped, enlisted}
+use Rattle.storm.specs.inside.Stages.{HasReported, HasScheduled, IsIdle}
 use Rattle.storm.specs.Storm.{IsStorm, desk_for}
 use Rattle.storm.proofs.Going.{begins_trans, goes_begins, sandwich, same_steps}
 use Rattle.storm.proofs.Cycling.{cycles_in, last_seen}

@@ -14,7 +14,8 @@ use Rattle.engine.specs.declared.one_cycle.Cycled.{Cycled}
 use Rattle.engine.specs.declared.one_cycle.Cycled.TheVariants as cycled
 use Rattle.engine.specs.Cycle.{IsFailed, IsAssumed, AfterAssume, EndsWith, AfterPop, IsCycle}
 use Rattle.storm.specs.Made.{BeginsWith, IsInformed}
-use Rattle.storm.specs.Cycles.{OneCycle, MakesCycles, HasCycled, EndsIdle}
+use Rattle.storm.specs.Cycles.{OneCycle, MakesCycles}
+use Rattle.storm.specs.inside.Cycles.{HasCycled, EndsIdle}
 use Rattle.storm.proofs.Going.{begins_trans, goes_begins, goes_trans, Later, later_trans, later_same, informed_later, informed_refl, informed_trans, applied_later}
 
 -- ---- what a cycle keeps: the number of its pass, and that what was seen is seen

@@ -18,11 +18,11 @@ use Rattle.engine.specs.declared.fault.RunFault.TheVariants.{Line, NoMemory, Rea
 use Rattle.engine.specs.Device.{DeviceUse, AppendsFront}
 use Rattle.storm.specs.declared.worker.Worker.{Worker}
 use Rattle.storm.specs.Made.{BeginsWith, newcomer}
-use Rattle.storm.specs.Crew.{Each, HasFed, IsDumped, enlisted}
-use Rattle.storm.specs.Stages.{HasReported, HasScheduled, IsIdle}
+use Rattle.storm.specs.inside.Crew.{Each, HasFed, IsDumped, enlisted}
+use Rattle.storm.specs.inside.Stages.{HasReported, HasScheduled, IsIdle}
 use Rattle.storm.specs.Script.{first_storm_fault}
 use Rattle.storm.specs.Storm.{IsStorm, IsAudit, Storms, AreOfScript, IsStormRun, desk_for, storm_text}
-use Rattle.storm.specs.Ending.{IsWorked, HasEnded}
+use Rattle.storm.specs.inside.Ending.{IsWorked, HasEnded}
 use Rattle.storm.proofs.Going.{begins_trans, goes_begins}
 use Rattle.storm.proofs.Closing.{closing, closing_looked, enlisted_length}
 

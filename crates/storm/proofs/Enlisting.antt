@@ -3,7 +3,7 @@ use Rattle.std.proofs.Common.{◌≡◌, ℕ, ◌+◌, ◌<◌, ◌≤◌, false
 use Rattle.desk.specs.Shared.{Pass, Desk}
 use Rattle.storm.specs.declared.worker.Worker.{Worker}
 use Rattle.storm.specs.Made.{newcomer}
-use Rattle.storm.specs.Crew.{ArePassesOf, enlisted}
+use Rattle.storm.specs.inside.Crew.{ArePassesOf, enlisted}
 use Rattle.storm.proofs.Answering.{enlisted_more}
 use Rattle.storm.proofs.Closing.{enlisted_at, enlisted_length}
 

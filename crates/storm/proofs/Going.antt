@@ -7,7 +7,8 @@ use Rattle.desk.specs.declared.step.Reply.{Reply}
 use Rattle.desk.specs.Caller.{Caller}
 use Rattle.desk.specs.History.{Call, GoesOn, AreOthers, call}
 use Rattle.desk.specs.Shared.{Pass, Desk, IsApplied}
-use Rattle.storm.specs.Made.{BeginsWith, calls_by, steps_of, Makes, IsInformed}
+use Rattle.storm.specs.Made.{BeginsWith, calls_by, steps_of, IsInformed}
+use Rattle.storm.specs.inside.Made.{Makes}
 
 -- ---- beginnings
 

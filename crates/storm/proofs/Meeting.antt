@@ -11,8 +11,9 @@ use Rattle.desk.specs.History.{Call, Legal, GoesOn, call}
 use Rattle.desk.specs.Shared.{Pass, Desk, IsAhead, IsApplied, IsLooked, Met}
 use Rattle.desk.specs.Shown.{Shown}
 use Rattle.storm.specs.declared.worker.Worker.{Worker}
-use Rattle.storm.specs.Made.{BeginsWith, Makes, IsInformed}
-use Rattle.storm.specs.Crew.{HasMet, HaveMet, HaveMetFirst, IsDumped}
+use Rattle.storm.specs.Made.{BeginsWith, IsInformed}
+use Rattle.storm.specs.inside.Made.{Makes}
+use Rattle.storm.specs.inside.Crew.{HasMet, HaveMet, HaveMetFirst, IsDumped}
 use Rattle.storm.proofs.Going.{begins_refl, begins_trans, goes_begins, goes_refl, goes_trans, sandwich, informed_later, informed_trans, applied_later, makes_none, makes_more, makes_told}
 
 -- Those that a pass met once before and once after a history made their calls of it before they were met first.

@@ -8,9 +8,10 @@ use Rattle.rules.specs.RuleSet.{RuleSet}
 use Rattle.choose.specs.Kits.{rules_of}
 use Rattle.storm.specs.declared.worker.Worker.{Worker}
 use Rattle.storm.specs.Made.{BeginsWith, IsInformed}
-use Rattle.storm.specs.Cycles.{OneCycle, HasCycled, EndsIdle}
-use Rattle.storm.specs.Crew.{ArePassesOf, Each, HasFed, HasMet, HaveMet}
-use Rattle.storm.specs.Stages.{HasScheduled, HasFinished, IsIdle}
+use Rattle.storm.specs.Cycles.{OneCycle}
+use Rattle.storm.specs.inside.Cycles.{HasCycled, EndsIdle}
+use Rattle.storm.specs.inside.Crew.{ArePassesOf, Each, HasFed, HasMet, HaveMet}
+use Rattle.storm.specs.inside.Stages.{HasScheduled, HasFinished, IsIdle}
 use Rattle.storm.proofs.Going.{begins_trans, makes_told, informed_later, later_trans}
 use Rattle.storm.proofs.Cycling.{cycle_later, cycled_told, cycled_both}
 

@@ -1,5 +1,5 @@
 -- The cycles that a pass made in a history.
-use Rattle.std.specs.Prelude.{◌≡◌, ℕ, List, [], ◌∷◌, ◌++◌}
+use Rattle.std.specs.Prelude.{◌≡◌, ℕ, List, [], ◌∷◌}
 use Rattle.desk.specs.History.{Call, GoesOn}
 use Rattle.desk.specs.Shared.{Pass, Desk}
 use Rattle.rules.specs.RuleSet.{RuleSet}
@@ -28,15 +28,3 @@ Cycles rules desk l pass made = MakesCycles rules desk l (newcomer pass) made
 -- a cycle that found no pod, and began when its pass had seen this history
 abbrev pub IsIdleAfter : List Call → OneCycle → Type 0
 IsIdleAfter l c = (c.came ≡ outcomes.Idle) × BeginsWith c.before.seen l
-
--- ---- for proofs: the same, between two moments of a pass
-
--- these cycles took a pass from one moment to another
-abbrev pub HasCycled : RuleSet → Desk → Pass → List OneCycle → Pass → Type 0
-HasCycled rules desk p [] p' = IsInformed p p'
-HasCycled rules desk p (c ∷ later) p' = IsInformed p c.before × IsCycle rules desk c.before c.came c.after × HasCycled rules desk c.after later p'
-
--- and the last of them found no pod
-pub record EndsIdle (rules : RuleSet) (desk : Desk) (p : Pass) (made : List OneCycle) (last : OneCycle) (p' : Pass) : Type 0 where
-  pub cycled : HasCycled rules desk p (made ++ last ∷ []) p'
-  pub idle : last.came ≡ outcomes.Idle

@@ -1,7 +1,5 @@
 pub mod Script
 pub mod Made
 pub mod Cycles
-pub mod Crew
-pub mod Stages
 pub mod Storm
-pub mod Ending
+pub mod inside

@@ -17,23 +17,6 @@ calls_by pass l = filter (λ c. c.pass == pass) l
 abbrev pub steps_of : ℕ → List Call → List Step
 steps_of pass l = map (λ c. c.step) (calls_by pass l)
 
--- a pass made these steps, in this order, and no others; it may have been told of calls of other passes
-pub record Makes (p : Pass) (made : List Step) (p' : Pass) : Type 0 where
-  pub number : p'.caller.number ≡ p.caller.number
-  pub begins : BeginsWith p'.seen p.seen
-  pub steps : steps_of p.caller.number p'.seen ≡ steps_of p.caller.number p.seen ++ made
-
--- a step that reports a bind
-abbrev pub IsReport : Step → Type 0
-IsReport (steps.Event event) = ⊥
-IsReport steps.Pop = ⊥
-IsReport (steps.Assume uid node) = ⊥
-IsReport (steps.BindDone uid ticket) = ⊤
-IsReport (steps.Forget uid ticket) = ⊤
-IsReport (steps.Fail uid how) = ⊥
-IsReport (steps.Tick now) = ⊥
-IsReport steps.Count = ⊥
-
 -- a step that reports a bind, or asks for the desk's numbers
 abbrev pub IsReportOrCount : Step → Type 0
 IsReportOrCount (steps.Event event) = ⊥

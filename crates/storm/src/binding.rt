@@ -3,7 +3,7 @@ ghost use Rattle.std.specs.Prelude.{◌≡◌, List, false};
 ghost use Rattle.std.specs.List.{AllByRecursion};
 ghost use Rattle.desk.specs.declared.step.Step.{Step};
 ghost use Rattle.desk.specs.Shared.{IsPassOf};
-ghost use Rattle.storm.specs.Made.{Makes, IsReport};
+ghost use Rattle.storm.specs.inside.Made.{Makes, IsReport};
 
 use crate::worker::Worker;
 use binder::{Binder, Job, bind_job};

@@ -3,7 +3,7 @@ ghost use Rattle.std.specs.Prelude.{◌≡◌, OnOk, IfOk, OnErr};
 ghost use Rattle.desk.specs.Shared.{IsPassOf, IsApplied};
 ghost use Rattle.desk.specs.declared.step.Step.TheVariants as steps;
 ghost use Rattle.desk.specs.declared.step.Reply.TheVariants as replies;
-ghost use Rattle.storm.specs.Crew.{ArePassesOf, HaveMet, IsDumped};
+ghost use Rattle.storm.specs.inside.Crew.{ArePassesOf, HaveMet, IsDumped};
 
 use crate::worker::Worker;
 use binder::Binder;

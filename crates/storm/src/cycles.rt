@@ -6,7 +6,8 @@ ghost use Rattle.choose.specs.Kits.{rules_of};
 ghost use Rattle.engine.specs.Cycle.{IsCycle};
 ghost use Rattle.engine.specs.declared.one_cycle.Cycled.{Cycled as Came};
 ghost use Rattle.engine.specs.declared.one_cycle.Cycled.TheVariants as cycled;
-ghost use Rattle.storm.specs.Cycles.{OneCycle, HasCycled, EndsIdle};
+ghost use Rattle.storm.specs.Cycles.{OneCycle};
+ghost use Rattle.storm.specs.inside.Cycles.{HasCycled, EndsIdle};
 
 use crate::bell::Bell;
 use crate::worker::Worker;

@@ -3,7 +3,7 @@ ghost use Rattle.std.specs.Prelude.{◌≡◌, false, IfOk, OnOk};
 ghost use Rattle.std.specs.List.{All};
 ghost use Rattle.desk.specs.Caller.{IsTimely};
 ghost use Rattle.desk.specs.Shared.{IsPassOf};
-ghost use Rattle.storm.specs.Made.{Makes};
+ghost use Rattle.storm.specs.inside.Made.{Makes};
 
 use crate::bell::Bell;
 use crate::worker::Worker;

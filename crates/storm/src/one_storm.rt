@@ -8,8 +8,8 @@ ghost use Rattle.choose.specs.Kits.{rules_of};
 ghost use Rattle.engine.specs.Answers.{limits};
 ghost use Rattle.engine.specs.Device.{use_of, AppendsFront};
 ghost use Rattle.storm.specs.Made.{newcomer};
-ghost use Rattle.storm.specs.Crew.{ArePassesOf, enlisted};
-ghost use Rattle.storm.specs.Ending.{IsWorked, HasEnded};
+ghost use Rattle.storm.specs.inside.Crew.{ArePassesOf, enlisted};
+ghost use Rattle.storm.specs.inside.Ending.{IsWorked, HasEnded};
 ghost use Rattle.storm.specs.Storm.{Storms, IsStormRun, storm_text};
 
 use crate::bell::{Bell, FEEDERS};

@@ -5,8 +5,8 @@ ghost use denote.Param.Send.{IsSend, IsSync};
 ghost use Rattle.desk.specs.Caller.{IsTimely};
 ghost use Rattle.desk.specs.Shared.{Pass as Seeing, IsPassOf};
 ghost use Rattle.storm.specs.declared.worker.Worker.{Worker as Working};
-ghost use Rattle.storm.specs.Crew.{ArePassesOf, Each, HasFed};
-ghost use Rattle.storm.specs.Stages.{HasReported, HasScheduled, IsIdle, HasFinished};
+ghost use Rattle.storm.specs.inside.Crew.{ArePassesOf, Each, HasFed};
+ghost use Rattle.storm.specs.inside.Stages.{HasReported, HasScheduled, IsIdle, HasFinished};
 
 use crate::bell::Bell;
 use crate::binding::{Reporting, bind_all};

@@ -2,7 +2,7 @@
 ghost use Rattle.std.specs.Prelude.{◌≡◌, ◌+◌, ◌⊎◌, ◌↔◌, false, length, IfOk, OnOk, IfErr};
 ghost use Rattle.std.specs.Bool.{IsTrue};
 ghost use Rattle.std.specs.List.{All};
-ghost use Rattle.storm.specs.Crew.{enlisted};
+ghost use Rattle.storm.specs.inside.Crew.{enlisted};
 
 use desk::{Desk, Naming, Pass};
 use engine::RunFault;

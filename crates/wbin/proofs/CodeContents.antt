@@ -7,9 +7,9 @@ use Rattle.wcode.specs.Grammar.{SpellsExpr}
 use Rattle.wbin.specs.declared.module.LocalRun.{LocalRun}
 use Rattle.wbin.specs.Syntax.{Code, locals_of}
 use Rattle.wbin.specs.Grammar.{SpellsVector, SpellsBytes, SpellsRun, run_locals, SpellsCode}
-use Rattle.wbin.specs.Reading.{Nothing, Once, SpellsBoth}
-use Rattle.wbin.specs.Codes.{Fills}
-use Rattle.wbin.specs.Unique.{bytes_once, both_once, vector_once, run_once, expression_once}
+use Rattle.wbin.specs.inside.Reading.{Nothing, Once, SpellsBoth}
+use Rattle.wbin.specs.inside.Codes.{Fills}
+use Rattle.wbin.specs.inside.Unique.{bytes_once, both_once, vector_once, run_once, expression_once}
 
 pub locals_are_runs : (rs : List LocalRun) → locals_of rs ≡ run_locals (map (λ r. (r.count, r.value)) rs)
 locals_are_runs [] = refl

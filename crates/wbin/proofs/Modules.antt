@@ -11,10 +11,10 @@ use Rattle.wbin.specs.Syntax.{ModuleSyntax, FunctionSyntax, ModuleParts, functio
 use Rattle.wbin.specs.Placed.{Stands}
 use Rattle.std.proofs.lemmas.List.{map-id, length-map}
 use Rattle.wbin.specs.Grammar.{Spelling, SpellsEach, SpellsVector, Section, SpellsSection, contents_of, Lists, Starts, Functions, Assembles, header, Spells, SpellsFunctionType, SpellsImport, SpellsTableType, SpellsLimits, SpellsGlobal, SpellsExport, SpellsElement, SpellsData, SpellsCode}
-use Rattle.wbin.specs.Reading.{Once}
-use Rattle.wbin.specs.Unique.{vector_once, index_spelled_once, function_type_once, import_once, table_type_once, limits_once, global_once, export_once, element_once, data_once, code_once}
-use Rattle.wbin.specs.Outline.{section_of, OutlinesUpTo}
-use Rattle.wbin.specs.Decoded.{ReadsWhole, AssemblesTo}
+use Rattle.wbin.specs.inside.Reading.{Once}
+use Rattle.wbin.specs.inside.Unique.{vector_once, index_spelled_once, function_type_once, import_once, table_type_once, limits_once, global_once, export_once, element_once, data_once, code_once}
+use Rattle.wbin.specs.inside.Outline.{section_of, OutlinesUpTo}
+use Rattle.wbin.specs.inside.Decoded.{ReadsWhole, AssemblesTo}
 use Rattle.wbin.specs.declared.module.Tables.{Tables}
 use Rattle.wbin.specs.declared.module.FunctionCode.{FunctionCode}
 use Rattle.std.proofs.lemmas.List.{length-take-le}

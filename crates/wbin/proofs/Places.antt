@@ -13,9 +13,9 @@ use Rattle.wbin.specs.declared.module.FunctionCode.{FunctionCode}
 use Rattle.wbin.specs.Syntax.{expression_in, code_in}
 use Rattle.wbin.specs.Grammar.{Spelling, SpellsBytes, SpellsVector, SpellsRun, SpellsCode}
 use Rattle.wbin.specs.Placed.{StandsAt, IsCode}
-use Rattle.wbin.specs.Reading.{Keeps, Reads}
-use Rattle.wbin.specs.Codes.{Fills, ReadsCode}
-use Rattle.wbin.specs.Kept.{code_kept}
+use Rattle.wbin.specs.inside.Reading.{Keeps, Reads}
+use Rattle.wbin.specs.inside.Codes.{Fills, ReadsCode}
+use Rattle.wbin.specs.inside.Kept.{code_kept}
 use Rattle.wbin.proofs.CodeContents.{filled}
 
 pub stands_found : (bytes : List ℕ) (at after : ℕ) (blocks : List Block) (body : Body) → at < after → after ≤ length bytes → HasBlocks bytes at body after blocks

@@ -7,8 +7,8 @@ use Rattle.std.specs.Str.{IsUtf8}
 use Rattle.wcode.specs.Grammar.{SpellsIndex}
 use Rattle.wcode.proofs.Words.{index_once}
 use Rattle.wbin.specs.Grammar.{SpellsBytes, SpellsName}
-use Rattle.wbin.specs.Reading.{Nothing}
-use Rattle.wbin.specs.Unique.{bytes_once}
+use Rattle.wbin.specs.inside.Reading.{Nothing}
+use Rattle.wbin.specs.inside.Unique.{bytes_once}
 
 -- an index has a byte at least
 pub index_ends : (bytes : List ℕ) (at n next : ℕ) → at ≤ length bytes → next ≤ length bytes → SpellsIndex (drop at bytes) n (drop next bytes) → at < next

@@ -6,9 +6,9 @@ use Rattle.wcode.proofs.Words.{index_once}
 use Rattle.wbin.specs.declared.module.Limits.{Limits}
 use Rattle.wbin.specs.declared.module.ImportKind.TheVariants as imported
 use Rattle.wbin.specs.Grammar.{Byte, SpellsEach, SpellsVector, SpellsValueType, SpellsResults, SpellsFunctionType, SpellsLimits, SpellsTableType, SpellsGlobalType, import_byte, SpellsImportKind}
-use Rattle.wbin.specs.Reading.{Nothing, Reads, SpellsBoth}
+use Rattle.wbin.specs.inside.Reading.{Nothing, Reads, SpellsBoth}
 use Rattle.wcode.specs.declared.fault.BinFault.{BinFault}
-use Rattle.wbin.specs.Unique.{byte_once}
+use Rattle.wbin.specs.inside.Unique.{byte_once}
 
 pub no_results : (bytes next : List ℕ) → SpellsIndex bytes 0 next → SpellsResults bytes None next
 unfolding SpellsEach

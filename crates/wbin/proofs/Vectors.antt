@@ -4,7 +4,7 @@ use Rattle.wcode.specs.declared.fault.BinFault.{BinFault}
 use Rattle.wcode.specs.Grammar.{SpellsIndex}
 use Rattle.wcode.proofs.Words.{index_once}
 use Rattle.wbin.specs.Grammar.{Spelling, SpellsEach, SpellsVector}
-use Rattle.wbin.specs.Reading.{Nothing, Once, Reads, SpellsMany}
+use Rattle.wbin.specs.inside.Reading.{Nothing, Once, Reads, SpellsMany}
 
 -- one more behind
 pub each_push : {A : Type 0} (S : Spelling A) (bytes : List ℕ) (xs : List A) (more : List ℕ) (x : A) (rest : List ℕ) → SpellsEach S bytes xs more → S more x rest → SpellsEach S bytes (xs ++ x ∷ []) rest

@@ -1,10 +1,4 @@
 pub mod Syntax
 pub mod Grammar
-pub mod Reading
-pub mod Unique
 pub mod Placed
-pub mod Kept
-pub mod Codes
-pub mod Outline
-pub mod Decoded
-pub mod Ids
+pub mod inside

@@ -6,10 +6,10 @@ ghost use Rattle.wcode.specs.declared.fault.BinFault.TheVariants.{NoMemory};
 ghost use Rattle.wbin.specs.Syntax.{Code, code_in};
 ghost use Rattle.wbin.specs.Grammar.{SpellsCode};
 ghost use Rattle.wbin.specs.Placed.{IsCode};
-ghost use Rattle.wbin.specs.Reading.{Nothing, Once, Keeps, Reads};
-ghost use Rattle.wbin.specs.Codes.{ReadsCode};
-ghost use Rattle.wbin.specs.Unique.{code_once};
-ghost use Rattle.wbin.specs.Kept.{code_kept};
+ghost use Rattle.wbin.specs.inside.Reading.{Nothing, Once, Keeps, Reads};
+ghost use Rattle.wbin.specs.inside.Codes.{ReadsCode};
+ghost use Rattle.wbin.specs.inside.Unique.{code_once};
+ghost use Rattle.wbin.specs.inside.Kept.{code_kept};
 
 use crate::module::{FunctionCode, LocalRun, Place};
 use crate::placed::Part;

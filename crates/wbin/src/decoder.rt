@@ -6,9 +6,9 @@ ghost use Rattle.wcode.specs.declared.fault.BinFault.TheVariants.{NoMemory};
 ghost use Rattle.wbin.specs.Syntax.{ModuleSyntax, module_of};
 ghost use Rattle.wbin.specs.Grammar.{Lists, Starts, contents_of, header, Spells};
 ghost use Rattle.wbin.specs.Placed.{Stands};
-ghost use Rattle.wbin.specs.Ids.{id_of};
-ghost use Rattle.wbin.specs.Outline.{section_of, Within};
-ghost use Rattle.wbin.specs.Decoded.{ReadsWhole, AssemblesTo};
+ghost use Rattle.wbin.specs.inside.Ids.{id_of};
+ghost use Rattle.wbin.specs.inside.Outline.{section_of, Within};
+ghost use Rattle.wbin.specs.inside.Decoded.{ReadsWhole, AssemblesTo};
 
 use crate::module::{
     DataSegment, ElementSegment, Export, FunctionCode, FunctionType, GlobalVariable, Import,

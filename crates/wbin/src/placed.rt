@@ -8,9 +8,9 @@ ghost use Rattle.wcode.specs.Syntax.{Body};
 ghost use Rattle.wbin.specs.Syntax.{expression_in, contents_in};
 ghost use Rattle.wbin.specs.Grammar.{SpellsBytes, SpellsVector};
 ghost use Rattle.wbin.specs.Placed.{IsExpression, IsStretch};
-ghost use Rattle.wbin.specs.Reading.{Nothing, Once, Keeps, Reads, SpellsBoth, SpellsMany};
-ghost use Rattle.wbin.specs.Unique.{both_once, bytes_once, expression_once, vector_once};
-ghost use Rattle.wbin.specs.Kept.{plain_kept, all_kept, both_kept, expression_kept, stretch_kept};
+ghost use Rattle.wbin.specs.inside.Reading.{Nothing, Once, Keeps, Reads, SpellsBoth, SpellsMany};
+ghost use Rattle.wbin.specs.inside.Unique.{both_once, bytes_once, expression_once, vector_once};
+ghost use Rattle.wbin.specs.inside.Kept.{plain_kept, all_kept, both_kept, expression_kept, stretch_kept};
 
 use crate::module::Place;
 use crate::placeless::{Entry, read_bytes, read_index};

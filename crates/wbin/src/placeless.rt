@@ -5,8 +5,8 @@ ghost use Rattle.std.specs.Prelude.{◌≡◌, ◌≢◌, ℕ, ◌+◌, ◌-◌,
 ghost use Rattle.wcode.specs.declared.fault.BinFault.TheVariants.{NoMemory};
 ghost use Rattle.wcode.specs.Grammar.{SpellsIndex};
 ghost use Rattle.wbin.specs.Grammar.{Byte, SpellsBytes, SpellsName, SpellsVector};
-ghost use Rattle.wbin.specs.Reading.{Nothing, Once, Reads, SpellsBoth};
-ghost use Rattle.wbin.specs.Unique.{both_once, index_spelled_once, vector_once};
+ghost use Rattle.wbin.specs.inside.Reading.{Nothing, Once, Reads, SpellsBoth};
+ghost use Rattle.wbin.specs.inside.Unique.{both_once, index_spelled_once, vector_once};
 
 use crate::placed::{Plain, read_vector};
 use leb::{LebFault, read_u32};

@@ -4,9 +4,9 @@
 ghost use Rattle.std.specs.Prelude.{◌≡◌, ◌≢◌, ℕ, ◌+◌, ◌-◌, ◌<◌, ◌≤◌, ◌⊎◌, ◌↔◌, List, [], length, take, drop, map, IsTrue, IfOk, IfErr, OnErr};
 ghost use Rattle.wcode.specs.declared.fault.BinFault.TheVariants.{NoMemory};
 ghost use Rattle.wbin.specs.Grammar.{Section, SpellsName, SpellsSection};
-ghost use Rattle.wbin.specs.Outline.{Within, ReadsStretch, Outlines};
-ghost use Rattle.wbin.specs.Ids.{id_of};
-ghost use Rattle.wbin.specs.Reading.{Nothing};
+ghost use Rattle.wbin.specs.inside.Outline.{Within, ReadsStretch, Outlines};
+ghost use Rattle.wbin.specs.inside.Ids.{id_of};
+ghost use Rattle.wbin.specs.inside.Reading.{Nothing};
 
 use crate::placeless::{malformed, read_bytes, read_name, truncated};
 use std::alloc::{AllocError, Global};

@@ -9,8 +9,8 @@ ghost use Rattle.wbin.specs.declared.module.ImportKind.{ImportKind};
 ghost use Rattle.wbin.specs.declared.module.ExportKind.{ExportKind};
 ghost use Rattle.wbin.specs.Syntax.{Signature, signature_of};
 ghost use Rattle.wbin.specs.Grammar.{Byte, value_type_byte, SpellsValueType, SpellsResults, SpellsFunctionType, SpellsLimits, SpellsTableType, mutable_byte, SpellsMutable, SpellsGlobalType, SpellsImportKind, export_byte, SpellsExportKind};
-ghost use Rattle.wbin.specs.Reading.{Nothing, Once, Reads};
-ghost use Rattle.wbin.specs.Unique.{value_type_once, results_once, function_type_once, limits_once, table_type_once, mutable_once, global_type_once, import_kind_once, export_kind_once};
+ghost use Rattle.wbin.specs.inside.Reading.{Nothing, Once, Reads};
+ghost use Rattle.wbin.specs.inside.Unique.{value_type_once, results_once, function_type_once, limits_once, table_type_once, mutable_once, global_type_once, import_kind_once, export_kind_once};
 
 use crate::module::{ExportKind, FunctionType, GlobalType, ImportKind, Limits};
 use crate::placeless::{Both, Entry, Many, byte_at, expect_byte, malformed, read_index};

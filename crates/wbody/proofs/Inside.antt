@@ -6,9 +6,9 @@ use Rattle.wbody.specs.declared.scope.Opened.{Opened}
 use Rattle.wbody.specs.declared.scope.Level.{Level}
 use Rattle.wbody.specs.declared.scope.Scope.{Scope}
 use Rattle.wbody.specs.Context.{Context, results_of}
-use Rattle.wbody.specs.Scope.{IsScope, carried, carried_by, labels_of}
-use Rattle.wbody.specs.Steps.{IsBase}
-use Rattle.wbody.specs.Standing.{Open, inner_context, Layers}
+use Rattle.wbody.specs.inside.Scope.{IsScope, carried, carried_by, labels_of}
+use Rattle.wbody.specs.inside.Steps.{IsBase}
+use Rattle.wbody.specs.inside.Standing.{Open, inner_context, Layers}
 
 pub labels_inside : (c : Context) (vs : List Level) (os : List Open) (below : List (Option ValueType)) → Layers vs os below → (inner_context c os).labels ≡ map carried_by vs ++ c.labels
 labels_inside c [] [] below l = refl

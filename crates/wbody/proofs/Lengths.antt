@@ -7,7 +7,7 @@ use Rattle.wcode.specs.declared.value.ValueType.TheVariants.{I32}
 use Rattle.wbody.specs.Context.{Operands}
 use Rattle.wbody.specs.Typing.{PlainType, takes_gives, drops, selects, ends, untyped}
 use Rattle.wbody.specs.Heights.{height_by}
-use Rattle.wbody.specs.Pass.{Stack, unreached, may_be, take_types, taken, given, drop_top, common, join_top, pass_type}
+use Rattle.wbody.specs.inside.Pass.{Stack, unreached, may_be, take_types, taken, given, drop_top, common, join_top, pass_type}
 use Rattle.wbody.proofs.Operands.{through, mapped}
 
 test_of : (b : Bool) (o : Option Stack) (s : Stack) → (if b then o else None) ≡ Some s → o ≡ Some s

@@ -7,7 +7,8 @@ use Rattle.wcode.specs.declared.value.ValueType.{ValueType}
 use Rattle.wcode.specs.declared.value.ValueType.TheVariants.{I32, I64}
 use Rattle.wbody.specs.Context.{Operands, Context}
 use Rattle.wbody.specs.Typing.{PlainType, takes_gives, drops, selects, ends, untyped, of_found, only_where, Rule, TypeAllows, TableTyped, Weakened}
-use Rattle.wbody.specs.Pass.{Stack, unreached, same_type, may_be, fit_operands, fits, take_types, taken, given, drop_top, common, join_top, pass_type, same_types, carries_these, table_type}
+use Rattle.wbody.specs.Pass.{same_type, same_types}
+use Rattle.wbody.specs.inside.Pass.{Stack, unreached, may_be, fit_operands, fits, take_types, taken, given, drop_top, common, join_top, pass_type, carries_these, table_type}
 
 -- ---- tests and options
 

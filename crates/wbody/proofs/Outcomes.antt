@@ -8,8 +8,8 @@ use Rattle.wcode.specs.Syntax.{Body, done, plain, block, loop, if_else, br_table
 use Rattle.wbody.specs.declared.scope.Opened.TheVariants as opened
 use Rattle.wbody.specs.Context.{Context, results_of, with_label}
 use Rattle.wbody.specs.Typing.{plain_type}
-use Rattle.wbody.specs.Pass.{Stack, fresh, taken, pass_type, table_type, closed, pass}
-use Rattle.wbody.specs.Standing.{Open, inner_context, finish, resume, outcome}
+use Rattle.wbody.specs.inside.Pass.{Stack, fresh, taken, pass_type, table_type, closed, pass}
+use Rattle.wbody.specs.inside.Standing.{Open, inner_context, finish, resume, outcome}
 
 -- nothing comes of nothing
 pub resume_none : (c : Context) (os : List Open) → resume c os None ≡ None

@@ -6,7 +6,7 @@ use Rattle.wcode.specs.declared.value.BlockType.{BlockType}
 use Rattle.wcode.specs.Syntax.{Body, done, plain, block, loop, if_else, br_table}
 use Rattle.wbody.specs.Context.{Operands, Context, results_of, with_label}
 use Rattle.wbody.specs.Typing.{plain_type, Rule, Then, Typed}
-use Rattle.wbody.specs.Pass.{Stack, fresh, fits, taken, given, pass_type, table_type, closed, pass}
+use Rattle.wbody.specs.inside.Pass.{Stack, fresh, fits, taken, given, pass_type, table_type, closed, pass}
 use Rattle.wbody.proofs.Operands.{through, under, when_true, none_fit, before_taken, can_take, were_given, can_give, Before, before_type, behind_type, table_allows, table_allowed}
 
 -- For what is to be there behind instructions, what can be there before them.

@@ -5,12 +5,12 @@ use Rattle.wcode.specs.declared.instruction.Plain.{Plain}
 use Rattle.wcode.specs.declared.opcode.Opening.TheVariants as openings
 use Rattle.wcode.specs.Syntax.{Body, done, plain, block, loop, if_else, br_table}
 use Rattle.wcode.specs.Grammar.{one, opens, end, table, SpellsWord, SpellsBody}
-use Rattle.wcode.specs.Ended.{closing, SpellsArms}
+use Rattle.wcode.specs.inside.Ended.{closing, SpellsArms}
 use Rattle.wcode.proofs.Items.{first, first_is, item_plain, item_table, block_parts, loop_parts, if_parts}
 use Rattle.wcode.proofs.Unique.{word_once}
 use Rattle.wbody.specs.declared.scope.Opened.TheVariants as opened
-use Rattle.wbody.specs.Pass.{Stack}
-use Rattle.wbody.specs.Standing.{Open, ArmEnds, GoesOn, Spelled}
+use Rattle.wbody.specs.inside.Pass.{Stack}
+use Rattle.wbody.specs.inside.Standing.{Open, ArmEnds, GoesOn, Spelled}
 use Rattle.wbody.proofs.Outcomes.{opened_block, opened_loop, opened_first, opened_second}
 
 -- a plain instruction stands there

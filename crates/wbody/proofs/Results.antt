@@ -4,8 +4,8 @@ use Rattle.std.specs.Prelude.{◌==◌, ◌&&◌}
 use Rattle.std.proofs.lemmas.List.{length-reverse}
 use Rattle.wcode.specs.declared.value.ValueType.{ValueType}
 use Rattle.wbody.specs.declared.operand_stack.OperandStack.{OperandStack}
-use Rattle.wbody.specs.Pass.{may_be, fit_operands}
-use Rattle.wbody.specs.OperandStack.{stack_of}
+use Rattle.wbody.specs.inside.Pass.{may_be, fit_operands}
+use Rattle.wbody.specs.inside.OperandStack.{stack_of}
 
 never : (b : Bool) → (b ≡ true → ⊥) → b ≡ false
 never true f = absurd (f refl)

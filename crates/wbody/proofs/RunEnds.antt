@@ -9,7 +9,7 @@ use Rattle.std.proofs.lemmas.Bool.Decides.{leb_tells}
 use Rattle.wcode.specs.declared.value.ValueType.{ValueType}
 use Rattle.wbin.specs.declared.module.LocalRun.{LocalRun}
 use Rattle.wbin.specs.Syntax.{locals_of}
-use Rattle.wbody.specs.LocalEnds.{end_of, ends_from, ends_of}
+use Rattle.wbody.specs.inside.LocalEnds.{end_of, ends_from, ends_of}
 use Rattle.wbody.proofs.Found.{get_right, in_run, past_run}
 use Rattle.wbody.proofs.Halved.{count_cons, none_pass, partition_counts}
 

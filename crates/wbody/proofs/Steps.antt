@@ -9,7 +9,7 @@ use Rattle.wcode.specs.declared.value.BlockType.TheVariants.{Empty, Result}
 use Rattle.wcode.specs.declared.instruction.Plain.{Plain}
 use Rattle.wcode.specs.declared.opcode.Opening.TheVariants as openings
 use Rattle.wcode.specs.Syntax.{Body, done, plain, block, loop, if_else, br_table}
-use Rattle.wcode.specs.Ended.{closing}
+use Rattle.wcode.specs.inside.Ended.{closing}
 use Rattle.wcode.proofs.Items.{first, first_spelled}
 use Rattle.wcode.specs.Grammar.{Word, one, opens, otherwise, end, table, SpellsWord, SpellsExpr}
 use Rattle.wbody.specs.declared.scope.Opened.{Opened}
@@ -19,10 +19,10 @@ use Rattle.wbody.specs.declared.operand_stack.OperandStack.{OperandStack}
 use Rattle.wbody.specs.Context.{Context, results_of, with_label}
 use Rattle.wbody.specs.Typing.{plain_type, Typed}
 use Rattle.wbody.specs.Heights.{greatest_height, height_by}
-use Rattle.wbody.specs.Pass.{Stack, fresh, fits, given, taken, pass_type, table_type, closed, pass}
-use Rattle.wbody.specs.OperandStack.{stack_of, below_of, SameBlock}
-use Rattle.wbody.specs.Standing.{Open, inner_context, finish, outcome, second_peak, low_of, outer_peak, Layers, GoesOn, Stands}
-use Rattle.wbody.specs.Steps.{Opens, IsPassed}
+use Rattle.wbody.specs.inside.Pass.{Stack, fresh, fits, given, taken, pass_type, table_type, closed, pass}
+use Rattle.wbody.specs.inside.OperandStack.{stack_of, below_of, SameBlock}
+use Rattle.wbody.specs.inside.Standing.{Open, inner_context, finish, outcome, second_peak, low_of, outer_peak, Layers, GoesOn, Stands}
+use Rattle.wbody.specs.inside.Steps.{Opens, IsPassed}
 use Rattle.wbody.proofs.Passed.{body_typed, others_passed}
 use Rattle.wbody.proofs.Operands.{when_true, under}
 use Rattle.wbody.proofs.Lengths.{height_passed, length-take_types}

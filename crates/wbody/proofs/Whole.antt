@@ -27,7 +27,7 @@ use Rattle.wbody.specs.Context.{Operands, Context, at_most_one, results_of, is_t
 use Rattle.wbody.specs.Typing.{Typed}
 use Rattle.wbody.specs.BodyTyped.{BodyTyped, NoTyping}
 use Rattle.wbody.specs.Scope.{IsFunctionImport}
-use Rattle.wbody.specs.Steps.{IsBase, IsPassed}
+use Rattle.wbody.specs.inside.Steps.{IsBase, IsPassed}
 
 -- the function at a place
 functions_at : (sigs : List ℕ) (cs : List Code) (k s : ℕ) (x : Code) → slice_get sigs k ≡ Some s → slice_get cs k ≡ Some x → slice_get (functions_with sigs cs) k ≡ Some (function_with s x)

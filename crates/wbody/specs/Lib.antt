@@ -5,11 +5,5 @@ pub mod Heights
 pub mod Branches
 pub mod BodyTyped
 pub mod Pass
-pub mod OperandStack
-pub mod Effect
-pub mod LocalEnds
 pub mod Scope
-pub mod Standing
-pub mod Steps
-pub mod Near
-pub mod Trail
+pub mod inside

@@ -3,8 +3,8 @@
 ghost use Rattle.std.specs.Prelude.{◌≡◌};
 ghost use Rattle.wbody.specs.Context.{Context};
 ghost use Rattle.wbody.specs.Typing.{plain_type, convert_type};
-ghost use Rattle.wbody.specs.Effect.{effect_type};
-ghost use Rattle.wbody.specs.Scope.{IsScope, labels_of, NamesLocal, NamesGlobal, NamesMemory, NamesLabel, NamesCall};
+ghost use Rattle.wbody.specs.inside.Effect.{effect_type};
+ghost use Rattle.wbody.specs.inside.Scope.{IsScope, labels_of, NamesLocal, NamesGlobal, NamesMemory, NamesLabel, NamesCall};
 
 use crate::operand_stack::Effect;
 use crate::scope::{Level, Scope, alone, constant, is_aligned_to, moves, none_or_alone};

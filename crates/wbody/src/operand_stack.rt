@@ -2,7 +2,7 @@
 
 ghost use Rattle.std.specs.Prelude.{false, true, ◌≡◌, ◌≤◌, ◌<◌, ◌+◌, [], ◌∷◌, Some, None, IfOk, OnOk, OnErr, MatchOption, MatchResult, vec_len, length, reverse, take, drop, max};
 ghost use Rattle.wbody.specs.Context.{results_of};
-ghost use Rattle.wbody.specs.Pass.{may_be, fits, closed, fresh, unreached, taken, given, drop_top, join_top, pass_type};
+ghost use Rattle.wbody.specs.inside.Pass.{may_be, fits, closed, fresh, unreached, taken, given, drop_top, join_top, pass_type};
 
 use crate::stop::Stop;
 use std::alloc::{AllocError, Global};
@@ -35,7 +35,7 @@ fn may_be_of(t: ValueType, operand: Option<ValueType>) -> bool
 pub struct Missing;
 
 impl OperandStack {
-    ghost use Rattle.wbody.specs.OperandStack.{stack_of, below_of, SameBlock, top_of, pushed};
+    ghost use Rattle.wbody.specs.inside.OperandStack.{stack_of, below_of, SameBlock, top_of, pushed};
 
     // The height at which the innermost block began.
     pub fn floor(&self) -> usize
@@ -274,8 +274,8 @@ pub enum Effect<'a> {
 }
 
 impl OperandStack {
-    ghost use Rattle.wbody.specs.Effect.{effect_type};
-    ghost use Rattle.wbody.specs.OperandStack.{stack_of, SameBlock};
+    ghost use Rattle.wbody.specs.inside.Effect.{effect_type};
+    ghost use Rattle.wbody.specs.inside.OperandStack.{stack_of, SameBlock};
 
     // Behind an instruction that does this.
     pub fn apply(&mut self, effect: Effect<'_>) -> Result<(), Stop>

@@ -5,8 +5,8 @@ ghost use Rattle.wcode.specs.Operators.{load_bytes, store_bytes};
 ghost use Rattle.wbin.specs.Syntax.{signature_of, locals_of};
 ghost use Rattle.wbody.specs.Context.{Context, at_most_one, results_of};
 ghost use Rattle.wbody.specs.Typing.{PlainType, takes_gives, only_where, plain_type, function_at, is_aligned, is_in_range};
-ghost use Rattle.wbody.specs.Effect.{effect_type};
-ghost use Rattle.wbody.specs.LocalEnds.{ends_of};
+ghost use Rattle.wbody.specs.inside.Effect.{effect_type};
+ghost use Rattle.wbody.specs.inside.LocalEnds.{ends_of};
 ghost use Rattle.wcode.specs.declared.instruction.Plain.TheVariants as plains;
 ghost use Rattle.wcode.specs.Operators.{type_of};
 ghost use Rattle.std.specs.Prelude.{reverse};
@@ -146,7 +146,7 @@ pub fn run_ends(alloc: Global, runs: &[LocalRun]) -> Result<Vec<u64>, AllocError
 }
 
 impl<'a> Scope<'a> {
-    ghost use Rattle.wbody.specs.Scope.{IsScope, labels_of, type_found};
+    ghost use Rattle.wbody.specs.inside.Scope.{IsScope, labels_of, type_found};
 
     // The type of a local: the run that has it is found by halving.
     pub fn local(&self, index: u32) -> Option<ValueType>
@@ -223,7 +223,7 @@ impl<'a> Scope<'a> {
 }
 
 impl Level {
-    ghost use Rattle.wbody.specs.Scope.{carried_by};
+    ghost use Rattle.wbody.specs.inside.Scope.{carried_by};
 
     // What a branch to its label carries.
     pub fn carried(self) -> Option<ValueType>

@@ -6,9 +6,9 @@ ghost use Rattle.wcode.specs.Grammar.{Word, table, SpellsIndices};
 ghost use Rattle.wcode.specs.Shown.{Shows};
 ghost use Rattle.wcode.specs.declared.instruction.Op.TheVariants as ops;
 ghost use Rattle.wbody.specs.Context.{Context, at_most_one};
-ghost use Rattle.wbody.specs.Effect.{effect_type};
-ghost use Rattle.wbody.specs.Pass.{table_type};
-ghost use Rattle.wbody.specs.Scope.{labels_of, AllCarry};
+ghost use Rattle.wbody.specs.inside.Effect.{effect_type};
+ghost use Rattle.wbody.specs.inside.Pass.{table_type};
+ghost use Rattle.wbody.specs.inside.Scope.{labels_of, AllCarry};
 
 use crate::operand_stack::Effect;
 use crate::scope::{Level, Scope};

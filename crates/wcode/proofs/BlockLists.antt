@@ -9,9 +9,9 @@ use Rattle.wcode.specs.declared.instruction.Plain.{Plain}
 use Rattle.wcode.specs.declared.opcode.Opening.TheVariants as openings
 use Rattle.wcode.specs.Syntax.{Body, done, plain, block, loop, if_else, br_table}
 use Rattle.wcode.specs.Grammar.{Word, one, opens, otherwise, end, table, SpellsWord, SpellsBody}
-use Rattle.wcode.specs.Ended.{closing, SpellsArms, NoBody}
+use Rattle.wcode.specs.inside.Ended.{closing, SpellsArms, NoBody}
 use Rattle.wcode.specs.Blocks.{EndsAt, SpellsBlocks}
-use Rattle.wcode.specs.Skipped.{BlocksFirst, ArmsBlocks}
+use Rattle.wcode.specs.inside.Skipped.{BlocksFirst, ArmsBlocks}
 use Rattle.wcode.proofs.Items.{item_none, item_then, item_plain, item_table, item_no}
 use Rattle.wcode.proofs.Bodies.{item_block, item_loop, item_if}
 

@@ -4,7 +4,7 @@ use Rattle.wcode.specs.declared.value.BlockType.{BlockType}
 use Rattle.wcode.specs.declared.opcode.Opening.TheVariants as openings
 use Rattle.wcode.specs.Syntax.{Body, done, plain, block, loop, if_else, br_table}
 use Rattle.wcode.specs.Grammar.{opens, end, SpellsWord, SpellsBody}
-use Rattle.wcode.specs.Ended.{closing, SpellsArms, NoBody, StandsFirst}
+use Rattle.wcode.specs.inside.Ended.{closing, SpellsArms, NoBody, StandsFirst}
 use Rattle.wcode.proofs.Unique.{word_once}
 use Rattle.wcode.proofs.Items.{first, first_is, OnlyBody, item_plain, item_table, block_parts, loop_parts, if_parts}
 

@@ -16,7 +16,7 @@ use Rattle.wcode.specs.declared.opcode.Opening.TheVariants as openings
 use Rattle.wcode.specs.Opcodes.{form, indexed_plain}
 use Rattle.wcode.specs.Syntax.{Body, done, plain, block, loop, if_else, br_table}
 use Rattle.wcode.specs.Grammar.{Word, one, opens, otherwise, end, table, SpellsIndex, SpellsIndices, SpellsBlockType, SpellsForm, SpellsWord, SpellsBody, SpellsExpr}
-use Rattle.wcode.specs.Ended.{closing}
+use Rattle.wcode.specs.inside.Ended.{closing}
 use Rattle.wcode.specs.BodyAt.{found_in, number_at, natural, index_at, indices_at, mem_arg_at, form_at, word_at, Ending, before, arms_at, item_at, ending_at, body_at}
 use Rattle.wcode.proofs.Shorter.{word_shorter, body_shorter}
 

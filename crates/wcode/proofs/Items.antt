@@ -5,7 +5,7 @@ use Rattle.wcode.specs.declared.instruction.Plain.{Plain}
 use Rattle.wcode.specs.declared.opcode.Opening.TheVariants as openings
 use Rattle.wcode.specs.Syntax.{Body, done, plain, block, loop, if_else, br_table}
 use Rattle.wcode.specs.Grammar.{Word, one, opens, end, table, SpellsWord, SpellsBody}
-use Rattle.wcode.specs.Ended.{closing, SpellsArms, NoBody, StandsFirst}
+use Rattle.wcode.specs.inside.Ended.{closing, SpellsArms, NoBody, StandsFirst}
 use Rattle.wcode.proofs.Unique.{word_once}
 
 -- the word that a body begins with, where it is ended by this one

@@ -3,7 +3,7 @@ use Rattle.std.proofs.Common.{◌≡◌, ℕ, ◌+◌, ◌<◌, ◌≤◌, Bool,
 use Rattle.wcode.specs.declared.instruction.Instr.{Instr}
 use Rattle.wcode.specs.Syntax.{Body, done, with_instr, body_of}
 use Rattle.wcode.specs.Grammar.{SpellsIndex, SpellsIndices, SpellsWord, SpellsBody}
-use Rattle.wcode.specs.Ended.{closing, NoBody, StandsFirst}
+use Rattle.wcode.specs.inside.Ended.{closing, NoBody, StandsFirst}
 use Rattle.wcode.proofs.Words.{indices_push, indices_once, indices_next}
 use Rattle.wcode.proofs.Items.{item_none, item_then, item_same, item_no}
 

@@ -11,7 +11,7 @@ use Rattle.wcode.specs.Syntax.{Body, done, plain, block, loop, if_else, br_table
 use Rattle.wcode.specs.Grammar.{Word, one, end, SpellsWord, SpellsBody, SpellsExpr}
 use Rattle.wcode.specs.Shown.{Shows}
 use Rattle.wcode.specs.Blocks.{EndsAt, SpellsBlocks}
-use Rattle.wcode.specs.Skipped.{BlocksFirst, ArmsBlocks, op_constant, op_ends}
+use Rattle.wcode.specs.inside.Skipped.{BlocksFirst, ArmsBlocks, op_constant, op_ends}
 use Rattle.wcode.proofs.Items.{first_is, item_plain}
 use Rattle.wcode.proofs.Bodies.{body_once}
 use Rattle.wcode.proofs.Readers.{Found}

@@ -7,7 +7,7 @@ use Rattle.wcode.specs.declared.instruction.Op.TheVariants as ops
 use Rattle.wcode.specs.Syntax.{Body, plain, block, loop, if_else, br_table}
 use Rattle.wcode.specs.Grammar.{Word, end, table, SpellsIndex, SpellsIndices, SpellsWord, SpellsBody}
 use Rattle.wcode.specs.Shown.{Shows}
-use Rattle.wcode.specs.Ended.{closing, SpellsArms, NoBody, StandsFirst}
+use Rattle.wcode.specs.inside.Ended.{closing, SpellsArms, NoBody, StandsFirst}
 use Rattle.wcode.proofs.Words.{index_once, indices_once}
 use Rattle.wcode.proofs.Items.{item_plain, item_table, item_same}
 use Rattle.wcode.proofs.Bodies.{body_once, item_block, item_loop, item_if, no_block, no_loop, no_if}

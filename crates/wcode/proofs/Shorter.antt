@@ -10,8 +10,8 @@ use Rattle.wcode.specs.declared.opcode.Form.TheVariants as forms
 use Rattle.wcode.specs.Opcodes.{form}
 use Rattle.wcode.specs.Syntax.{Body, done, plain, block, loop, if_else, br_table}
 use Rattle.wcode.specs.Grammar.{Word, end, SpellsIndex, SpellsIndices, SpellsBlockType, SpellsForm, SpellsWord, SpellsBody}
-use Rattle.wcode.specs.Ended.{SpellsArms}
-use Rattle.wcode.specs.Shown.{Reads}
+use Rattle.wcode.specs.inside.Ended.{SpellsArms}
+use Rattle.wcode.specs.inside.Shown.{Reads}
 use Rattle.std.specs.Prelude.{IfOk}
 use Rattle.wcode.specs.declared.instruction.Op.{Op}
 use Rattle.wcode.specs.declared.fault.OpFault.{OpFault}

@@ -11,7 +11,8 @@ use Rattle.wcode.specs.declared.fault.OpFault.{OpFault}
 use Rattle.wcode.specs.declared.opcode.Form.TheVariants as forms
 use Rattle.wcode.specs.declared.instruction.Plain.TheVariants as plains
 use Rattle.wcode.specs.Opcodes.{form}
-use Rattle.wcode.specs.Shown.{Shows, Reads}
+use Rattle.wcode.specs.Shown.{Shows}
+use Rattle.wcode.specs.inside.Shown.{Reads}
 use Rattle.wcode.specs.Grammar.{Word, one, SpellsIndex, SpellsIndices, SpellsMemArg, SpellsLabels, SpellsForm, SpellsWord}
 
 pub index_once : (bytes : List ℕ) (n m : ℕ) (rest more : List ℕ) → SpellsIndex bytes n rest → SpellsIndex bytes m more → (n ≡ m) × (rest ≡ more)

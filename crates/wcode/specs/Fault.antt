@@ -2,15 +2,8 @@
 use Rattle.std.specs.Prelude.{ℕ, List, codes}
 use Rattle.wcode.specs.declared.fault.Kind.{Kind}
 use Rattle.wcode.specs.declared.fault.Kind.TheVariants as kinds
-use Rattle.wcode.specs.declared.fault.OpFault.{OpFault}
-use Rattle.wcode.specs.declared.fault.OpFault.TheVariants as op
 use Rattle.wcode.specs.declared.fault.BinFault.{BinFault}
 use Rattle.wcode.specs.declared.fault.BinFault.TheVariants as bin
-
--- the same fault, where memory may be wanting too
-abbrev pub whole : OpFault → BinFault
-whole (op.Malformed kind place) = bin.Malformed kind place
-whole op.Float = bin.Float
 
 -- the number of what is wrong with bytes
 abbrev pub kind_number : Kind → ℕ

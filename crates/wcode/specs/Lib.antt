@@ -3,8 +3,7 @@ pub mod Syntax
 pub mod Opcodes
 pub mod Grammar
 pub mod Shown
-pub mod Ended
 pub mod Fault
 pub mod BodyAt
 pub mod Blocks
-pub mod Skipped
+pub mod inside

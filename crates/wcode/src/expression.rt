@@ -4,7 +4,7 @@ ghost use Rattle.std.specs.Prelude.{◌≡◌, ◌≢◌, ℕ, ◌+◌, ◌-◌,
 ghost use Rattle.wcode.specs.declared.fault.BinFault.TheVariants.{NoMemory};
 ghost use Rattle.wcode.specs.Syntax.{Body, plain, block, loop, if_else, br_table, with_instr, body_of};
 ghost use Rattle.wcode.specs.Grammar.{SpellsIndex, SpellsIndices, SpellsBody, SpellsExpr, end};
-ghost use Rattle.wcode.specs.Ended.{closing, SpellsArms, GivesBody, GivesItem};
+ghost use Rattle.wcode.specs.inside.Ended.{closing, SpellsArms, GivesBody, GivesItem};
 
 use crate::fault::{BinFault, Kind};
 use crate::instruction::{Instr, Op, Plain};

@@ -1,7 +1,8 @@
 //! Why bytes are refused.
 
 ghost use Rattle.std.specs.Prelude.{◌≡◌, codes};
-ghost use Rattle.wcode.specs.Fault.{whole, kind_number, kind_name, number_of, name_of};
+ghost use Rattle.wcode.specs.Fault.{kind_number, kind_name, number_of, name_of};
+ghost use Rattle.wcode.specs.inside.Fault.{whole};
 
 use thiserror::Error;
 

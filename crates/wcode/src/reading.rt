@@ -4,7 +4,8 @@ ghost use Rattle.std.specs.Prelude.{◌≡◌, ℕ, ◌+◌, ◌<◌, ◌≤◌,
 ghost use Rattle.wcode.specs.declared.opcode.Form.TheVariants as forms;
 ghost use Rattle.wcode.specs.Opcodes.{form};
 ghost use Rattle.wcode.specs.Grammar.{Word, SpellsIndex, SpellsIndices, SpellsBlockType, SpellsMemArg, SpellsWord};
-ghost use Rattle.wcode.specs.Shown.{Shows, Reads};
+ghost use Rattle.wcode.specs.Shown.{Shows};
+ghost use Rattle.wcode.specs.inside.Shown.{Reads};
 
 use crate::fault::{Kind, OpFault};
 use crate::instruction::{MemArg, Op, Plain};

@@ -5,7 +5,7 @@ ghost use Rattle.wcode.specs.declared.fault.BinFault.TheVariants.{NoMemory};
 ghost use Rattle.wcode.specs.Syntax.{Body, constant_of};
 ghost use Rattle.wcode.specs.Grammar.{SpellsExpr};
 ghost use Rattle.wcode.specs.Blocks.{HasBlocks};
-ghost use Rattle.wcode.specs.Skipped.{SkipsBody, SkipsItem, SkipsNested, SkipsArms, op_constant, op_ends};
+ghost use Rattle.wcode.specs.inside.Skipped.{SkipsBody, SkipsItem, SkipsNested, SkipsArms, op_constant, op_ends};
 
 use crate::blocks::Block;
 use crate::expression::{NESTING, bad_opcode, too_deep};

@@ -10,7 +10,8 @@ use Rattle.std.specs.declared.cmp.Ordering.{Ordering}
 use Rattle.std.specs.declared.cmp.Ordering.TheVariants.{Less, Equal, Greater}
 use Rattle.std.specs.Cmp.Lexicographic.{slice_cmp, nat_list_cmp_total}
 use Rattle.quant.specs.declared.objects.Label.{Label}
-use Rattle.whost.specs.KeyOrder.{put_in_order, in_key_order, label_at}
+use Rattle.whost.specs.KeyOrder.{put_in_order, in_key_order}
+use Rattle.whost.specs.inside.KeyOrder.{label_at}
 use Rattle.quant.specs.Name.{is_before}
 
 -- places in order, with one more behind those whose keys come before its own, are in order

@@ -7,7 +7,8 @@ use Rattle.std.proofs.lemmas.List.{take_all}
 use Rattle.std.proofs.lemmas.List.Sums.{sum_by-cons}
 use Rattle.std.proofs.lemmas.List.Sorted.{sum_by-IsPermutation}
 use Rattle.quant.specs.declared.objects.Label.{Label}
-use Rattle.whost.specs.KeyOrder.{in_key_order, label_at}
+use Rattle.whost.specs.KeyOrder.{in_key_order}
+use Rattle.whost.specs.inside.KeyOrder.{label_at}
 use Rattle.quant.specs.declared.taint.Taint.{Taint}
 use Rattle.quant.specs.declared.taint.Toleration.{Toleration}
 use Rattle.whost.specs.Record.{text_field, effect_code, operator_code, label_field, labels_field, labels_size, taint_field, taints_field, taints_size, toleration_field, tolerations_field, tolerations_size}

@@ -1,5 +1,5 @@
 -- Labels in rising order of their keys' bytes.
-use Rattle.std.specs.Prelude.{ℕ, Bool, List, [], ◌∷◌, if◌then◌else◌, slice_index_or}
+use Rattle.std.specs.Prelude.{List, [], ◌∷◌, if◌then◌else◌}
 use Rattle.quant.specs.declared.objects.Label.{Label}
 use Rattle.quant.specs.Name.{is_before}
 
@@ -13,7 +13,3 @@ put_in_order label (first ∷ rest) =
 abbrev pub in_key_order : List Label → List Label
 in_key_order [] = []
 in_key_order (label ∷ rest) = put_in_order label (in_key_order rest)
-
--- the label at a place, and an empty one past the end
-abbrev pub label_at : List Label → ℕ → Label
-label_at labels place = slice_index_or labels place (record { key = []; value = [] })

@@ -4,7 +4,8 @@ ghost use Rattle.std.specs.Ordering.{nat_cmp};
 ghost use Rattle.std.specs.Cmp.Lexicographic.{slice_cmp};
 ghost use Rattle.std.specs.List.{prefix_len};
 ghost use Rattle.std.specs.List.Sorted.{IsSortedByKey};
-ghost use Rattle.whost.specs.KeyOrder.{in_key_order, label_at};
+ghost use Rattle.whost.specs.KeyOrder.{in_key_order};
+ghost use Rattle.whost.specs.inside.KeyOrder.{label_at};
 ghost use Rattle.quant.specs.Name.{is_before};
 
 use arrayvec::ArrayVec;

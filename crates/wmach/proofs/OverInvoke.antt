@@ -20,9 +20,9 @@ use Rattle.wmach.specs.Fits.{types_of}
 use Rattle.wmach.specs.Outcome.{Chain}
 use Rattle.wmach.specs.Host.{reduce_import}
 use Rattle.wmach.specs.Reduction.{most_frames, reduce_invoke, imported_count}
-use Rattle.wmach.specs.OpenLabels.{Open, nest, calling}
-use Rattle.wmach.specs.InPlace.{Whole, Moves, context_in, floor_in, before_place}
-use Rattle.wmach.specs.Machine.{frame_words, belows, arity_of, On, Spent, Trapped}
+use Rattle.wmach.specs.inside.OpenLabels.{Open, nest, calling}
+use Rattle.wmach.specs.inside.InPlace.{Whole, Moves, context_in, floor_in, before_place}
+use Rattle.wmach.specs.inside.Machine.{frame_words, belows, arity_of, On, Spent, Trapped}
 use Rattle.wmach.proofs.Going.{at, Quiet, Leads, and_then}
 use Rattle.wmach.proofs.Nested.{one_step, leads_nest, leads_calling, trap_calling}
 use Rattle.wmach.proofs.Sound.{found}

@@ -27,9 +27,9 @@ use Rattle.wmach.specs.Operands.{InRange, value_of, width_of, with_one}
 use Rattle.wmach.specs.Access.{load_of, stored_width, stored_bytes, cap_of, minus_one}
 use Rattle.wmach.specs.Fits.{types_of, StoreFits}
 use Rattle.wmach.specs.Plain.{reduce_plain}
-use Rattle.wmach.specs.OpenLabels.{Open}
-use Rattle.wmach.specs.InPlace.{Whole, context_in}
-use Rattle.wmach.specs.Machine.{frame_words, belows, On, Spent, Trapped}
+use Rattle.wmach.specs.inside.OpenLabels.{Open}
+use Rattle.wmach.specs.inside.InPlace.{Whole, context_in}
+use Rattle.wmach.specs.inside.Machine.{frame_words, belows, On, Spent, Trapped}
 use Rattle.wmach.proofs.Sound.{first_holds}
 use Rattle.wmach.proofs.SoundAccess.{length-with_bytes, same_size, grown}
 use Rattle.wmach.proofs.InRange.{bytes_of_number, bytes_with, bytes_grown, loaded_in_range}

@@ -28,8 +28,8 @@ use Rattle.wmach.specs.Operands.{InRange, value_of, width_of, with_one}
 use Rattle.wmach.specs.Numeric.{unary_gives, binary_gives, test_gives, relation_gives, conversion_gives, converted_from, converted_to, trap_where, after_binary}
 use Rattle.wmach.specs.Fits.{types_of}
 use Rattle.wmach.specs.Plain.{reduce_plain}
-use Rattle.wmach.specs.InPlace.{place_of, context_in, labels_in}
-use Rattle.wmach.specs.Machine.{frame_words, belows, On, Spent, Trapped}
+use Rattle.wmach.specs.inside.InPlace.{place_of, context_in, labels_in}
+use Rattle.wmach.specs.inside.Machine.{frame_words, belows, On, Spent, Trapped}
 use Rattle.wstore.specs.Values.{word_of}
 use Rattle.wmach.proofs.SlotLemmas.{frame_push, snoc_same}
 use Rattle.wmach.proofs.MachineSteps.{went}

@@ -18,9 +18,9 @@ use Rattle.wmach.specs.Fits.{types_of, StoreFits}
 use Rattle.wmach.specs.Plain.{reduce_plain}
 use Rattle.wmach.specs.Outcome.{Chain}
 use Rattle.wmach.specs.Reduction.{branching, returning}
-use Rattle.wmach.specs.OpenLabels.{nest, calling}
-use Rattle.wmach.specs.InPlace.{Stands, Moves, place_of, context_in, floor_in, labels_in}
-use Rattle.wmach.specs.Machine.{frame_words, belows, arity_of, On, Spent, Trapped}
+use Rattle.wmach.specs.inside.OpenLabels.{nest, calling}
+use Rattle.wmach.specs.inside.InPlace.{Stands, Moves, place_of, context_in, floor_in, labels_in}
+use Rattle.wmach.specs.inside.Machine.{frame_words, belows, arity_of, On, Spent, Trapped}
 use Rattle.wmach.proofs.Going.{at, Quiet, and_then}
 use Rattle.wmach.proofs.Nested.{one_step, trap_calling}
 use Rattle.wmach.proofs.StandsOn.{height_is, stands_plain, IsLeft}

@@ -22,9 +22,9 @@ use Rattle.wmach.specs.Operands.{InRange}
 use Rattle.wmach.specs.Fits.{types_of}
 use Rattle.wmach.specs.Plain.{reduce_plain}
 use Rattle.wbody.specs.Heights.{height_by}
-use Rattle.wmach.specs.OpenLabels.{Open, nest}
-use Rattle.wmach.specs.InPlace.{Whole, Stands, context_in, floor_in}
-use Rattle.wmach.specs.Machine.{frame_words, belows, On, Spent, Trapped}
+use Rattle.wmach.specs.inside.OpenLabels.{Open, nest}
+use Rattle.wmach.specs.inside.InPlace.{Whole, Stands, context_in, floor_in}
+use Rattle.wmach.specs.inside.Machine.{frame_words, belows, On, Spent, Trapped}
 use Rattle.wstore.specs.Values.{word_of}
 use Rattle.wmach.proofs.AllOf.{all-set}
 use Rattle.wmach.proofs.Values.{all_at}

@@ -10,7 +10,7 @@ use Rattle.wbin.specs.declared.module.ImportKind.TheVariants as imported
 use Rattle.wbin.specs.Syntax.{ImportSyntax, ModuleSyntax, ModuleParts, module_of, import_of}
 use Rattle.wtype.specs.Accepted.{ImportName, host_number, host_type, IsImportOf, ImportAllowed, ImportsRight}
 use Rattle.wtype.proofs.Sized.{with_last}
-use Rattle.wmach.specs.Coded.{RecordsAgree}
+use Rattle.wmach.specs.inside.Coded.{RecordsAgree}
 use Rattle.wmach.specs.Host.{imported_name, imported_names}
 use Rattle.wmach.proofs.Values.{all_at}
 use Rattle.wmach.proofs.Arms.{some_same}

@@ -16,10 +16,10 @@ use Rattle.wmach.specs.declared.activation.Activation.{Activation}
 use Rattle.wmach.specs.Configuration.{Store}
 use Rattle.wmach.specs.Fits.{types_of}
 use Rattle.wmach.specs.Reduction.{most_frames}
-use Rattle.wmach.specs.OpenLabels.{Open, Caller}
-use Rattle.wmach.specs.InPlace.{Whole, Stands, context_in, floor_in}
-use Rattle.wmach.specs.Machine.{belows, IsCode, Waiting, On}
-use Rattle.wmach.specs.Running.{Run, Widest, bytes_of}
+use Rattle.wmach.specs.inside.OpenLabels.{Open, Caller}
+use Rattle.wmach.specs.inside.InPlace.{Whole, Stands, context_in, floor_in}
+use Rattle.wmach.specs.inside.Machine.{belows, IsCode, Waiting, On}
+use Rattle.wmach.specs.inside.Running.{Run, Widest, bytes_of}
 use Rattle.wmach.proofs.LowHeights.{height_least}
 use Rattle.wmach.proofs.OverBranches.{floor_is}
 use Rattle.wmach.proofs.OverBr.{slice_get_some}

@@ -12,8 +12,8 @@ use Rattle.wbody.specs.Typing.{PlainType, takes_gives, drops, selects, ends, unt
 use Rattle.wbody.specs.Heights.{without, height_by, height_after, greatest_height}
 use Rattle.wbody.specs.declared.trail.Branch.{Branch}
 use Rattle.wbody.specs.Branches.{plain_branches, branches_of}
-use Rattle.wmach.specs.OpenLabels.{Open}
-use Rattle.wmach.specs.InPlace.{Whole, place_of, context_in, room_in, floor_in, labels_in, branches_in, Stands, Moves}
+use Rattle.wmach.specs.inside.OpenLabels.{Open}
+use Rattle.wmach.specs.inside.InPlace.{Whole, place_of, context_in, room_in, floor_in, labels_in, branches_in, Stands, Moves}
 use Rattle.wmach.proofs.Tails.{word_tail, ends_tail}
 use Rattle.wmach.proofs.BranchPlaces.{Between, plain_there}
 use Rattle.wmach.proofs.BehindPlaces.{weaker, next_cut}

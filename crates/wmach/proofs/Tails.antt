@@ -13,7 +13,7 @@ use Rattle.wcode.specs.Opcodes.{form}
 use Rattle.wcode.specs.Syntax.{Body, done, plain, block, loop, if_else, br_table}
 use Rattle.wcode.specs.Grammar.{Word, end, otherwise, SpellsIndex, SpellsIndices, SpellsBlockType, SpellsForm, SpellsWord, SpellsBody}
 use Rattle.wbody.specs.Branches.{position}
-use Rattle.wmach.specs.InPlace.{Whole, Ends}
+use Rattle.wmach.specs.inside.InPlace.{Whole, Ends}
 
 -- the first ones, and then these
 pub record Tail (bytes rest : List ℕ) : Type 0 where

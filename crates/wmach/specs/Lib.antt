@@ -11,13 +11,4 @@ pub mod Fits
 pub mod Outcome
 pub mod Call
 pub mod Trap
-pub mod OpenLabels
-pub mod InPlace
-pub mod Machine
-pub mod Running
-pub mod Coded
-pub mod Calling
-pub mod Known
-pub mod Kept
-pub mod Families
-pub mod Went
+pub mod inside

@@ -5,14 +5,14 @@ ghost use Rattle.wcode.specs.declared.value.Value.{Value as TheValue};
 ghost use Rattle.wbin.specs.Syntax.{module_of};
 ghost use Rattle.wstore.specs.State.{StoreState};
 ghost use Rattle.wmach.specs.Call.{called_function, result_type, ResultFits};
-ghost use Rattle.wmach.specs.Coded.{IsCoded};
+ghost use Rattle.wmach.specs.inside.Coded.{IsCoded};
 ghost use Rattle.wmach.specs.Configuration.{Store as TheStore};
-ghost use Rattle.wmach.specs.Known.{IsChecked};
-ghost use Rattle.wmach.specs.Kept.{HasSlots, Begun, HoldsResult, IsCallOf};
+ghost use Rattle.wmach.specs.inside.Known.{IsChecked};
+ghost use Rattle.wmach.specs.inside.Kept.{HasSlots, Begun, HoldsResult, IsCallOf};
 ghost use Rattle.wmach.specs.declared.shape.Shape.{Shape as TheShape};
 ghost use Rattle.wmach.specs.Outcome.{HasOutcome};
 ghost use Rattle.wmach.specs.Reduction.{most_frames};
-ghost use Rattle.wmach.specs.Running.{Run, Stops};
+ghost use Rattle.wmach.specs.inside.Running.{Run, Stops};
 
 use crate::activation::Activation;
 use crate::calls::push_zeros;

@@ -5,7 +5,7 @@ ghost use Rattle.std.specs.Arc.{arc_value};
 ghost use Rattle.wbin.specs.Syntax.{ElementSyntax, DataSyntax, module_of};
 ghost use Rattle.wstore.specs.Fits.{StoreFits};
 ghost use Rattle.wstore.specs.Segments.{ElementsFit, DataFits, with_elements, with_data};
-ghost use Rattle.wmach.specs.Known.{IsChecked};
+ghost use Rattle.wmach.specs.inside.Known.{IsChecked};
 ghost use Rattle.wmach.specs.Call.{called_function, first_machine, result_type, Calls, ResultFits};
 
 use crate::activation::Activation;
@@ -40,7 +40,7 @@ pub struct Machine {
 impl Model for Machine {
     ghost use Rattle.std.specs.Coded.{codes};
     ghost use Rattle.wmach.specs.Call.{MachineState};
-    ghost use Rattle.wmach.specs.Kept.{machine_of, IsMachine};
+    ghost use Rattle.wmach.specs.inside.Kept.{machine_of, IsMachine};
 
     ghost Value = { MachineState };
 

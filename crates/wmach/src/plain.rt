@@ -7,7 +7,7 @@ ghost use Rattle.wstore.specs.State.{StoreState};
 ghost use Rattle.wmach.specs.declared.activation.Activation.{Activation as Waits};
 ghost use Rattle.std.specs.Prelude.{◌==◌, if◌then◌else◌};
 ghost use Rattle.wstore.specs.Values.{word_of};
-ghost use Rattle.wmach.specs.Running.{Ready, Goes};
+ghost use Rattle.wmach.specs.inside.Running.{Ready, Goes};
 ghost use Rattle.wmach.specs.Access.{load_of as defined_load, stored_width as defined_width};
 
 use crate::numbers::{binary_word, convert_word, relation_word, test_word, trap_where, unary_word};

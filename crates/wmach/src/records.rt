@@ -3,7 +3,7 @@
 ghost use Rattle.std.specs.Prelude.{◌≡◌, ◌<◌, Some, length, slice_get, IfOk};
 ghost use Rattle.wbin.specs.Syntax.{module_of};
 ghost use Rattle.wtype.specs.Accepted.{ImportsRight};
-ghost use Rattle.wmach.specs.Coded.{RecordsAgree};
+ghost use Rattle.wmach.specs.inside.Coded.{RecordsAgree};
 ghost use Rattle.wmach.specs.Host.{imported_names};
 
 use std::alloc::{AllocError, Global};

@@ -10,8 +10,8 @@ use Rattle.std.proofs.lemmas.Grind.{common_steps}
 use Rattle.wmem.specs.Access.{Reading, extend, value_read, with_bytes}
 use Rattle.wmem.specs.Bytes.{bytes_of, number_in}
 use Rattle.wmem.specs.Memory.{zeros}
-use Rattle.wmem.specs.Inside.{IsClear}
-use Rattle.wmem.specs.Tracked.{extended, stretch}
+use Rattle.wmem.specs.inside.Inside.{IsClear}
+use Rattle.wmem.specs.inside.Tracked.{extended, stretch}
 
 -- zeros are as many as they are asked for
 pub length-zeros : (count : ℕ) → length (zeros count) ≡ count

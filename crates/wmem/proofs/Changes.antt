@@ -6,10 +6,10 @@ use Rattle.std.specs.Vec.{with_items}
 use Rattle.wmem.specs.declared.memory.Memory.TheInside.{Inside}
 use Rattle.wmem.specs.Access.{with_bytes}
 use Rattle.std.specs.List.{count_by}
-use Rattle.wmem.specs.Noted.{is_set}
-use Rattle.wmem.specs.Tracked.{TrackedBytes, IsTracked, stretch, extended}
+use Rattle.wmem.specs.inside.Noted.{is_set}
+use Rattle.wmem.specs.inside.Tracked.{TrackedBytes, IsTracked, stretch, extended}
 use Rattle.wmem.specs.Memory.{MemoryInstance, page_size, most_pages, zeros, new_memory, TouchesAtMost}
-use Rattle.wmem.specs.Inside.{instance_of, IsClear, IsSound}
+use Rattle.wmem.specs.inside.Inside.{instance_of, IsClear, IsSound}
 use Rattle.wmem.proofs.Buffers.{length-zeros, length-longer, clear_longer, take-zeros, clear_zeros, clear_later, clear_same, take-clear, length-with_bytes, drop-with_bytes, take-with_bytes}
 
 -- as many bytes are seen as are in use

@@ -7,7 +7,7 @@ use Rattle.std.proofs.lemmas.List.{length-replicate}
 use Rattle.wmem.proofs.Buffers.{get_or-lengthened}
 use Rattle.std.proofs.lemmas.Grind.{get_or_head}
 use Rattle.std.proofs.lemmas.Bool.{cases_eq}
-use Rattle.wmem.specs.Noted.{is_set, IsListed}
+use Rattle.wmem.specs.inside.Noted.{is_set, IsListed}
 
 -- setting a flag that wasn't set makes one more
 pub count-set_true : (flags : List Bool) (page : ℕ) → page < length flags → get_or flags page true ≡ false

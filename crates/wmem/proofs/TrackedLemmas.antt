@@ -5,8 +5,8 @@ use Rattle.std.proofs.lemmas.Bool.{cases_eq, cases_lt}
 use Rattle.wmem.specs.declared.access.Width.{Width}
 use Rattle.wmem.specs.declared.access.Width.TheVariants.{One, Two, Four, Eight}
 use Rattle.wmem.specs.Access.{with_bytes, byte_count}
-use Rattle.wmem.specs.Noted.{Noted, no_pages, with_pages}
-use Rattle.wmem.specs.Tracked.{AgreesElsewhere, stretch, TrackedBytes, IsTracked, extended}
+use Rattle.wmem.specs.inside.Noted.{Noted, no_pages, with_pages}
+use Rattle.wmem.specs.inside.Tracked.{AgreesElsewhere, stretch, TrackedBytes, IsTracked, extended}
 use Rattle.wmem.proofs.Buffers.{length-with_bytes, get_or-lengthened, byte_of_longer, length-longer}
 
 -- a byte before a write is left

@@ -35,7 +35,7 @@ impl Model for Memory {
 
     ghost Value = { MemoryInstance };
 
-    ghost use Rattle.wmem.specs.Inside.{instance_of, IsSound};
+    ghost use Rattle.wmem.specs.inside.Inside.{instance_of, IsSound};
 
     ghost view = { instance_of };
 

@@ -1,6 +1,6 @@
 //! Which stretches of a memory were written since its image was kept.
 ghost use Rattle.std.specs.Prelude.{◌≡◌, ◌<◌, ◌++◌, ◌∷◌, [], length, true, false, IfNone, IfSome, IfOk, ℕ, ◌≤◌, slice_set, slice_index_or, count_by};
-ghost use Rattle.wmem.specs.Noted.{is_set, no_pages, with_pages};
+ghost use Rattle.wmem.specs.inside.Noted.{is_set, no_pages, with_pages};
 
 use std::alloc::{AllocError, Global};
 use std::marker::Model;
@@ -17,7 +17,7 @@ pub(crate) struct NotedPages {
 
 impl Model for NotedPages {
     ghost use Rattle.std.specs.Prelude.{◌≤◌, length, vec_capacity};
-    ghost use Rattle.wmem.specs.Noted.{Noted, noted_code, IsListed};
+    ghost use Rattle.wmem.specs.inside.Noted.{Noted, noted_code, IsListed};
 
     ghost Value = { Noted };
 

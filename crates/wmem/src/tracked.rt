@@ -2,8 +2,8 @@
 ghost use Rattle.std.specs.Prelude.{◌≡◌, ◌+◌, ◌-◌, ◌*◌, ◌^◌, ◌<◌, ◌≤◌, length, replicate, slice_set, slice_index_or, true, false, count_by, IfOk, ℕ, ◌/◌, [], take, drop, ◌++◌};
 ghost use Rattle.wmem.specs.Access.{byte_count, with_bytes};
 ghost use Rattle.wmem.specs.Bytes.{bytes_of};
-ghost use Rattle.wmem.specs.Noted.{is_set};
-ghost use Rattle.wmem.specs.Tracked.{TrackedBytes, AgreesElsewhere, stretch, IsTracked, extended};
+ghost use Rattle.wmem.specs.inside.Noted.{is_set};
+ghost use Rattle.wmem.specs.inside.Tracked.{TrackedBytes, AgreesElsewhere, stretch, IsTracked, extended};
 
 use crate::access::Width;
 use crate::buffer;
@@ -29,7 +29,7 @@ pub(crate) struct Tracked {
 
 impl Model for Tracked {
     ghost use Rattle.std.specs.Prelude.{◌*◌, ◌≤◌, vec_capacity};
-    ghost use Rattle.wmem.specs.Tracked.{TrackedBytes, tracked_code, IsTracked, stretch};
+    ghost use Rattle.wmem.specs.inside.Tracked.{TrackedBytes, tracked_code, IsTracked, stretch};
 
     ghost Value = { TrackedBytes };
 

@@ -5,8 +5,8 @@ use Rattle.wmach.specs.declared.outcome.Outcome.TheVariants as outcome
 use Rattle.wmach.specs.Configuration.{Setting, Store, Configuration, Reduction}
 use Rattle.wmach.specs.Outcome.{next, Chain, call_of, HasOutcome}
 use Rattle.wplain.specs.declared.evaluation.Running.{Running}
-use Rattle.wplain.specs.Running.{configuration_of, EndsAs, EndsFor, Reduces}
-use Rattle.wplain.specs.Seen.{execution_of, reduction_of, written}
+use Rattle.wplain.specs.inside.Running.{configuration_of, EndsAs, EndsFor, Reduces}
+use Rattle.wplain.specs.inside.Seen.{execution_of, reduction_of, written}
 use Rattle.wplain.specs.declared.execution.Effect.{Effect}
 use Rattle.wcode.specs.Syntax.{done}
 use Rattle.wmach.specs.Configuration.{instructions, trap}

@@ -1,5 +1,3 @@
 pub mod Seen
 pub mod Stores
-pub mod Standing
-pub mod Done
-pub mod Running
+pub mod inside

@@ -10,9 +10,10 @@ ghost use Rattle.wmach.specs.Indirect.{type_of_function, call_as as defined_call
 ghost use Rattle.wmach.specs.Host.{imported_names, hand_over as defined_hand_over, reduce_import};
 ghost use Rattle.wmach.specs.Reduction.{zero_of, imported_count as defined_count, enter as defined_enter, reduce_invoke};
 ghost use Rattle.wmach.specs.Operands.{topmost};
-ghost use Rattle.wplain.specs.Seen.{syntax_of, function_of, body_of_code, records_of, setting_of, moved};
+ghost use Rattle.wplain.specs.Seen.{syntax_of, function_of, body_of_code, records_of, setting_of};
+ghost use Rattle.wplain.specs.inside.Seen.{moved};
 ghost use Rattle.wplain.specs.Stores.{store_of};
-ghost use Rattle.wplain.specs.Done.{WentAs};
+ghost use Rattle.wplain.specs.inside.Done.{WentAs};
 
 use crate::code::{Code, end_of};
 use crate::control::Went;

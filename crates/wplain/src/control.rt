@@ -4,9 +4,10 @@ ghost use Rattle.std.specs.Prelude.{◌≡◌, ℕ, List, IfOk, option_map};
 ghost use Rattle.wcode.specs.declared.value.Value.{Value as one_value};
 ghost use Rattle.wmach.specs.Configuration.{instructions};
 ghost use Rattle.wmach.specs.Reduction.{branching, returning, followed_by};
-ghost use Rattle.wplain.specs.Seen.{body_of_code, continuation_of, place_of, execution_of};
-ghost use Rattle.wplain.specs.Standing.{branched, returned, EndedAs};
-ghost use Rattle.wplain.specs.Done.{LeavesLabel, LeavesFrame};
+ghost use Rattle.wplain.specs.Seen.{body_of_code};
+ghost use Rattle.wplain.specs.inside.Seen.{continuation_of, place_of, execution_of};
+ghost use Rattle.wplain.specs.inside.Standing.{branched, returned, EndedAs};
+ghost use Rattle.wplain.specs.inside.Done.{LeavesLabel, LeavesFrame};
 
 use crate::code::Code;
 use crate::execution::{Continuation, Execution, Frame, Label, Move, Next, Place};

@@ -6,7 +6,7 @@ ghost use Rattle.wmach.specs.Outcome.{call_of, HasOutcome};
 ghost use Rattle.wcode.specs.Syntax.{done};
 ghost use Rattle.wplain.specs.Seen.{setting_of, body_of_code};
 ghost use Rattle.wplain.specs.Stores.{store_of};
-ghost use Rattle.wplain.specs.Running.{configuration_of, EndsAs, Goes};
+ghost use Rattle.wplain.specs.inside.Running.{configuration_of, EndsAs, Goes};
 
 use crate::code::Code;
 use crate::execution::{Execution, Next, Place};

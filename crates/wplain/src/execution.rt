@@ -3,7 +3,8 @@
 ghost use Rattle.std.specs.Prelude.{◌≡◌, List, []};
 ghost use Rattle.wcode.specs.declared.value.Value.{Value as one_value};
 ghost use Rattle.wmach.specs.Configuration.{Store, instructions, leads_to};
-ghost use Rattle.wplain.specs.Seen.{body_of_code, place_of, moved};
+ghost use Rattle.wplain.specs.Seen.{body_of_code};
+ghost use Rattle.wplain.specs.inside.Seen.{place_of, moved};
 
 use crate::code::Code;
 use std::alloc::Global;

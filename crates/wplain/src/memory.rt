@@ -5,8 +5,9 @@ ghost use Rattle.wcode.specs.declared.value.Value.{Value as one_value};
 ghost use Rattle.wcode.specs.Operators.{load_type, store_type};
 ghost use Rattle.wmach.specs.Access.{load_of as defined_load, stored_width as defined_width, cap_of as defined_cap, reduce_load, reduce_store, reduce_size, reduce_grow};
 ghost use Rattle.wmach.specs.Operands.{value_of};
-ghost use Rattle.wplain.specs.Done.{bits};
-ghost use Rattle.wplain.specs.Seen.{syntax_of, body_of_code, moved};
+ghost use Rattle.wplain.specs.inside.Done.{bits};
+ghost use Rattle.wplain.specs.Seen.{syntax_of, body_of_code};
+ghost use Rattle.wplain.specs.inside.Seen.{moved};
 ghost use Rattle.wplain.specs.Stores.{store_of};
 
 use crate::code::Code;

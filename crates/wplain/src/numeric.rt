@@ -5,7 +5,7 @@ ghost use Rattle.wcode.specs.Operators.{type_of};
 ghost use Rattle.wcode.specs.declared.value.Value.TheVariants as value;
 ghost use Rattle.wmach.specs.Operands.{value_of, width_of};
 ghost use Rattle.wmach.specs.Numeric.{unary_gives, binary_gives, test_gives, relation_gives, converted_from, converted_to, conversion_gives, reduce_unary, reduce_binary, reduce_test, reduce_relation, reduce_convert};
-ghost use Rattle.wplain.specs.Done.{bits, typed_result, DoneBy};
+ghost use Rattle.wplain.specs.inside.Done.{bits, typed_result, DoneBy};
 
 use crate::stop::Stop;
 use crate::values::{pop, pop_any, push};

@@ -4,9 +4,10 @@ ghost use Rattle.std.specs.Prelude.{◌≡◌, List, IfOk};
 ghost use Rattle.wcode.specs.declared.value.Value.{Value as one_value};
 ghost use Rattle.wmach.specs.Configuration.{Setting as machine_setting, Store as machine_store};
 ghost use Rattle.wmach.specs.Plain.{reduce_plain as defined_plain};
-ghost use Rattle.wplain.specs.Seen.{setting_of, body_of_code, moved};
+ghost use Rattle.wplain.specs.Seen.{setting_of, body_of_code};
+ghost use Rattle.wplain.specs.inside.Seen.{moved};
 ghost use Rattle.wplain.specs.Stores.{store_of};
-ghost use Rattle.wplain.specs.Done.{DoneBy};
+ghost use Rattle.wplain.specs.inside.Done.{DoneBy};
 ghost use Rattle.wcode.specs.declared.instruction.Plain.TheVariants.{Const};
 
 use crate::calls::call_indirect;

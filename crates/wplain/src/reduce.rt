@@ -5,9 +5,10 @@ ghost use Rattle.wcode.specs.declared.value.Value.{Value as one_value};
 ghost use Rattle.wbody.specs.Context.{results_of};
 ghost use Rattle.wmach.specs.Configuration.{instructions, label};
 ghost use Rattle.wmach.specs.Reduction.{reduce_instructions as defined_instructions, reduce as defined_reduce};
-ghost use Rattle.wplain.specs.Seen.{setting_of, body_of_code, continuation_of, place_of, execution_of, reduction_of};
+ghost use Rattle.wplain.specs.Seen.{setting_of, body_of_code};
+ghost use Rattle.wplain.specs.inside.Seen.{continuation_of, place_of, execution_of, reduction_of};
 ghost use Rattle.wplain.specs.Stores.{store_of};
-ghost use Rattle.wplain.specs.Done.{WentAs};
+ghost use Rattle.wplain.specs.inside.Done.{WentAs};
 
 use crate::calls::invoke;
 use crate::code::Code;

@@ -1,7 +1,7 @@
 //! What instructions can read and write besides locals.
 
 ghost use Rattle.std.specs.Prelude.{◌≡◌, true, length};
-ghost use Rattle.wplain.specs.Seen.{written};
+ghost use Rattle.wplain.specs.inside.Seen.{written};
 ghost use Rattle.wplain.specs.Stores.{store_of};
 
 use crate::execution::Write;

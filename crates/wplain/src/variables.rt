@@ -7,9 +7,10 @@ ghost use Rattle.wcode.specs.declared.value.Value.{Value as one_value};
 ghost use Rattle.wcode.specs.declared.instruction.Plain.TheVariants as instruction;
 ghost use Rattle.wmach.specs.Variables.{reduce_drop, reduce_select, reduce_local_get, reduce_local_set, reduce_local_tee, reduce_global_get, reduce_global_set};
 ghost use Rattle.wmach.specs.Plain.{reduce_plain as defined_plain};
-ghost use Rattle.wplain.specs.Seen.{body_of_code, moved};
+ghost use Rattle.wplain.specs.Seen.{body_of_code};
+ghost use Rattle.wplain.specs.inside.Seen.{moved};
 ghost use Rattle.wplain.specs.Stores.{store_of};
-ghost use Rattle.wplain.specs.Done.{DoneBy};
+ghost use Rattle.wplain.specs.inside.Done.{DoneBy};
 
 use crate::code::Code;
 use crate::execution::{Effect, Move, Next, Write, quiet};

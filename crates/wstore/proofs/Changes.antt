@@ -18,13 +18,14 @@ use Rattle.wbody.specs.Context.{function_types}
 use Rattle.wtype.specs.Accepted.{Accepted}
 use Rattle.wstore.specs.declared.store.Store.TheInside.{Inside}
 use Rattle.wstore.specs.Values.{value_of, InRange}
-use Rattle.wstore.specs.Words.{values_in, first_word_of}
-use Rattle.wstore.specs.Kept.{WithImage}
-use Rattle.wstore.specs.Store.{least_of, cap_of, first_memory, first_table}
+use Rattle.wstore.specs.inside.Words.{values_in, first_word_of}
+use Rattle.wstore.specs.inside.Kept.{WithImage}
+use Rattle.wstore.specs.Store.{cap_of, first_memory, first_table}
+use Rattle.wstore.specs.inside.Store.{least_of}
 use Rattle.wstore.specs.Fits.{StoreFits}
 use Rattle.wstore.specs.Segments.{overwritten}
 use Rattle.wstore.specs.State.{StoreState, syntax_of, new_state, with_current, with_globals, with_number}
-use Rattle.wstore.specs.Inside.{parts_of, state_of, GlobalsFit, IsSound}
+use Rattle.wstore.specs.inside.Inside.{parts_of, state_of, GlobalsFit, IsSound}
 use Rattle.wstore.proofs.Globals.{length-values, values_set, in_range_set, types_in, first_values, first_values_in_range}
 use Rattle.wstore.proofs.Sizes.{memory_fits, table_fits_put, first_table_fits, first_zeros}
 

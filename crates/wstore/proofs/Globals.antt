@@ -15,7 +15,7 @@ use Rattle.wbin.specs.Syntax.{GlobalSyntax, global_in, expression_in}
 use Rattle.wbody.specs.Typing.{is_in_range}
 use Rattle.wtype.specs.Accepted.{ConstantOf, GlobalTyped}
 use Rattle.wstore.specs.Values.{value_of, word_of, InRange, types_of, first_value}
-use Rattle.wstore.specs.Words.{values_in, first_word_of}
+use Rattle.wstore.specs.inside.Words.{values_in, first_word_of}
 use Rattle.wstore.specs.State.{with_number}
 
 -- ---- values and their numbers

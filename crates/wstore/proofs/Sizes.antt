@@ -8,7 +8,8 @@ use Rattle.wbin.specs.declared.module.Limits.{Limits}
 use Rattle.wbin.specs.Syntax.{ModuleSyntax}
 use Rattle.wbody.specs.Context.{function_types}
 use Rattle.wtype.specs.Accepted.{LimitsRight, memory_range}
-use Rattle.wstore.specs.Store.{least_of, most_of, cap_of, first_memory, first_table}
+use Rattle.wstore.specs.Store.{most_of, cap_of, first_memory, first_table}
+use Rattle.wstore.specs.inside.Store.{least_of}
 use Rattle.wstore.specs.Fits.{MemoryFits, TableFits}
 use Rattle.wstore.specs.Segments.{overwritten}
 use Rattle.wstore.proofs.Overwriting.{length-overwritten, all_overwritten}

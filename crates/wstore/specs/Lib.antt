@@ -3,6 +3,4 @@ pub mod Store
 pub mod Fits
 pub mod Segments
 pub mod State
-pub mod Kept
-pub mod Words
-pub mod Inside
+pub mod inside

@@ -17,11 +17,6 @@ abbrev pub most_of : Option ℕ → ℕ
 most_of None = most_pages
 most_of (Some most) = min most most_pages
 
--- how many there are at first, of the memory or the table of these limits
-abbrev pub least_of : List Limits → ℕ
-least_of [] = 0
-least_of (l ∷ ls) = l.least
-
 abbrev pub cap_of : List Limits → ℕ
 cap_of [] = 0
 cap_of (l ∷ ls) = most_of l.most

@@ -4,7 +4,7 @@ ghost use Rattle.std.specs.Prelude.{◌≡◌};
 ghost use Rattle.wbin.specs.Syntax.{expression_in};
 ghost use Rattle.wbin.specs.Placed.{IsExpression, IsGlobal};
 ghost use Rattle.wstore.specs.Values.{word_of};
-ghost use Rattle.wstore.specs.Words.{first_word_of};
+ghost use Rattle.wstore.specs.inside.Words.{first_word_of};
 ghost use Rattle.wstore.specs.Segments.{place_of, offset_of};
 
 use wbin::{GlobalVariable, Module, Place};

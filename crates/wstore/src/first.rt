@@ -3,8 +3,9 @@
 ghost use Rattle.std.specs.Prelude.{◌≡◌, ◌≤◌, All, map, IfOk};
 ghost use Rattle.std.specs.List.{AllByRecursion};
 ghost use Rattle.wbin.specs.Placed.{IsGlobal};
-ghost use Rattle.wstore.specs.Store.{least_of, cap_of, first_table};
-ghost use Rattle.wstore.specs.Words.{first_word_of};
+ghost use Rattle.wstore.specs.Store.{cap_of, first_table};
+ghost use Rattle.wstore.specs.inside.Store.{least_of};
+ghost use Rattle.wstore.specs.inside.Words.{first_word_of};
 
 use crate::constants::first_word;
 use std::alloc::{AllocError, Global};

@@ -16,7 +16,7 @@ pub struct Kept<T> {
 }
 
 impl<T> Model for Kept<T> {
-    ghost use Rattle.wstore.specs.Kept.{WithImage, with_image_code, IsKept};
+    ghost use Rattle.wstore.specs.inside.Kept.{WithImage, with_image_code, IsKept};
 
     ghost Value = { WithImage T };
 

@@ -54,7 +54,7 @@ impl Model for Store {
 
     ghost coded = { Prim.hlevel codes };
 
-    ghost use Rattle.wstore.specs.Inside.{state_of, IsSound};
+    ghost use Rattle.wstore.specs.inside.Inside.{state_of, IsSound};
 
     ghost view = { state_of };
 

@@ -4,10 +4,11 @@ ghost use Rattle.std.specs.Option.{option_map};
 ghost use Rattle.std.specs.FinMap as fin;
 ghost use Rattle.book.specs.Rows.{rows_in};
 ghost use Rattle.book.specs.Used.{nothing};
-ghost use Rattle.desk.specs.BareReply.{bare_reply};
-ghost use Rattle.desk.specs.Board.{IsSubject, IsChange, IsRowUnder, total_in, used_in};
+ghost use Rattle.desk.specs.inside.BareReply.{bare_reply};
+ghost use Rattle.desk.specs.inside.Board.{IsSubject, IsChange, IsRowUnder, total_in, used_in};
 ghost use Rattle.book.specs.Cluster.{Cluster};
-ghost use Rattle.desk.specs.Caller.{with_state, IsTimely};
+ghost use Rattle.desk.specs.Caller.{IsTimely};
+ghost use Rattle.desk.specs.inside.Caller.{with_state};
 ghost use Rattle.desk.specs.Machine.{reply, after};
 ghost use Rattle.desk.specs.declared.limits.TheConstants.{MAX_CALLS};
 

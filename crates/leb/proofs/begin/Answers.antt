@@ -1,5 +1,5 @@
 use Rattle.std.proofs.Common.{arith}
-use Rattle.leb.specs.Reading.{sign_of}
+use Rattle.leb.specs.inside.Reading.{sign_of}
 use Rattle.leb.proofs.Digits.{small_is}
 use Rattle.leb.proofs.begin.Goals as goal
 

@@ -1,6 +1,6 @@
 use Rattle.std.proofs.Common.{arith}
 use Rattle.leb.specs.declared.LebFault.TheVariants.{Truncated, TooLong, BadLastByte}
-use Rattle.leb.specs.Reading.{sign_of}
+use Rattle.leb.specs.inside.Reading.{sign_of}
 use Rattle.leb.proofs.Clauses.{spelled_at, range_at, none_at, fault_at}
 use Rattle.leb.proofs.read.Goals as goal
 

@@ -45,7 +45,7 @@ pub const POD: &[u8] = &[7; 257];
 struct PodAlone<'a>(&'a [u8]);
 
 impl Host for PodAlone<'_> {
-    ghost use Rattle.sandbox_tests.specs.Records.{pod_alone};
+    ghost use Rattle.sandbox_tests.specs.inside.Records.{pod_alone};
 
     ghost records = { λ handed. pod_alone handed.0.now };
 

@@ -1,5 +1,5 @@
 use Rattle.std.proofs.Common.{◌≡◌, ◌≤◌, ◌*◌, ◌^◌, sum_by, take}
-use Rattle.audit.specs.Audit.{sum_in}
+use Rattle.audit.specs.inside.Audit.{sum_in}
 use Rattle.audit.proofs.pieces.is_used.Given as goal
 
 -- the sums are those of the pieces so far, each of which adds less than 2^64

@@ -1,5 +1,5 @@
 use Rattle.std.proofs.Common.{take}
-use Rattle.audit.specs.Audit.{IsSumOf}
+use Rattle.audit.specs.inside.Audit.{IsSumOf}
 use Rattle.audit.proofs.sums.sums_of.Given as goal
 
 -- the table has what the slots so far add up to

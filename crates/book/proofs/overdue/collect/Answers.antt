@@ -1,6 +1,6 @@
 use Rattle.std.proofs.Common.{◌≡◌, [], ◌∷◌, ◌++◌, length, Some, sym, ap, ◌∙◌, arith}
 use Rattle.std.proofs.lemmas.List.{length-map, length_push}
-use Rattle.book.specs.Finishes.{finish_in}
+use Rattle.book.specs.inside.Finishes.{finish_in}
 use Rattle.book.proofs.FinishLemmas.{collected_more, collected_all}
 use Rattle.book.proofs.overdue.collect.Goals as goal
 

@@ -2,7 +2,7 @@ use Rattle.std.proofs.Common.{◌+◌, ap, sym, ◌∙◌, arith}
 use Rattle.std.specs.FinMap as fin
 use Rattle.quant.specs.declared.amount.Res.{Res}
 use Rattle.name_table.specs.Slots.{map_of}
-use Rattle.book.specs.Totals.{total_at, plus, one_pod, pods_in, idle_in}
+use Rattle.book.specs.inside.Totals.{total_at, plus, one_pod, pods_in, idle_in}
 use Rattle.book.proofs.TotalLemmas.{total_here, total_added, total_found, total_none, few_totals, idle_again, pods_again, pods_new, nothing_plus}
 use Rattle.book.proofs.places.add.Goals as goal
 

@@ -4,7 +4,7 @@ use Rattle.std.specs.FinMap as fin
 use Rattle.quant.specs.declared.amount.Res.{Res}
 use Rattle.name_table.specs.declared.entry.Entry.{Entry}
 use Rattle.name_table.specs.Slots.{map_of}
-use Rattle.book.specs.Totals.{total_at, plus, one_pod, adds, pods_in, idle_in}
+use Rattle.book.specs.inside.Totals.{total_at, plus, one_pod, adds, pods_in, idle_in}
 use Rattle.book.proofs.TotalLemmas.{total_here, total_away, total_taken, total_last, total_found, idle_again, idle_gone, pods_again, pods_gone, same_res}
 use Rattle.book.proofs.places.take.Goals as goal
 

@@ -4,7 +4,7 @@ use Rattle.desk.specs.Shown.{shown}
 use Rattle.choose.specs.declared.decision.Reason.TheVariants.{Marked}
 use Rattle.choose.specs.declared.decision.Verdict.TheVariants.{Rejected}
 use Rattle.choose.specs.Choice.{judged}
-use Rattle.choose.specs.Finding.{worth_of, StandsFirst}
+use Rattle.choose.specs.inside.Finding.{worth_of, StandsFirst}
 use Rattle.choose.proofs.First.{judged_length, judged_verdict, found_is_there, stands_over_none, stands_over_some, stands_over_all}
 use Rattle.choose.proofs.best.first_of.Goals as goal
 use Rattle.choose.proofs.best.first_of.Goals.{in-Some, in_default}

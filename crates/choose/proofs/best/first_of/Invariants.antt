@@ -1,7 +1,7 @@
 use Rattle.std.proofs.Common.{◌≡◌, length, map, take}
 use Rattle.desk.specs.Shown.{shown}
 use Rattle.choose.specs.Choice.{judged}
-use Rattle.choose.specs.Finding.{StandsFirst}
+use Rattle.choose.specs.inside.Finding.{StandsFirst}
 use Rattle.choose.proofs.best.first_of.Given as goal
 
 abbrev pub invariant-loop-at : goal.invariant-loop-at

@@ -2,7 +2,7 @@ use Rattle.std.proofs.Common.{◌≡◌, ◌<◌, length, map, sym, ◌∙◌, a
 use Rattle.std.proofs.lemmas.List.{length-map}
 use Rattle.desk.specs.Shown.{shown}
 use Rattle.choose.specs.Choice.{judged, most_of}
-use Rattle.choose.specs.Finding.{node_at}
+use Rattle.choose.specs.inside.Finding.{node_at}
 use Rattle.choose.proofs.First.{judged_name}
 use Rattle.choose.proofs.Deciding.{all_bounded, most_judged, none_errs, best_is, none_passes, counts_judged}
 use Rattle.choose.proofs.choice.decide.Goals as goal

@@ -4,7 +4,7 @@ use Rattle.desk.specs.Shown.{shown}
 use Rattle.choose.specs.declared.decision.Reason.TheVariants.{Marked}
 use Rattle.choose.specs.declared.decision.Verdict.TheVariants.{Rejected, Errs}
 use Rattle.choose.specs.Choice.{judged, errs, LeastErring}
-use Rattle.choose.specs.Finding.{node_at}
+use Rattle.choose.specs.inside.Finding.{node_at}
 use Rattle.choose.proofs.First.{judged_name, judged_verdict}
 use Rattle.choose.proofs.Deciding.{least_erring, node_is, is_erring}
 use Rattle.choose.proofs.choice.error_at.Goals as goal

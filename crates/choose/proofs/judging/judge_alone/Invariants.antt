@@ -1,7 +1,7 @@
 use Rattle.std.proofs.Common.{◌≡◌, length, map, take}
 use Rattle.std.specs.List.{AllZip}
 use Rattle.desk.specs.Shown.{shown}
-use Rattle.choose.specs.Finding.{IsBuiltIn}
+use Rattle.choose.specs.inside.Finding.{IsBuiltIn}
 use Rattle.choose.proofs.judging.judge_alone.Given as goal
 
 abbrev pub invariant-loop-at : goal.invariant-loop-at

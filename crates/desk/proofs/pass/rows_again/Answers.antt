@@ -5,7 +5,7 @@ use Rattle.std.specs.Global.{Vec}
 use Rattle.quant.specs.declared.objects.Node.{Node}
 use Rattle.desk.specs.declared.pass.Last.{Last}
 use Rattle.desk.specs.declared.snapshot.Row.{Row}
-use Rattle.desk.specs.NodeCalls.{WereShown, nodes_of}
+use Rattle.desk.specs.inside.NodeCalls.{WereShown, nodes_of}
 use Rattle.desk.proofs.NodesStay.{same_nodes}
 use Rattle.desk.proofs.pass.rows_again.Goals as goal
 

@@ -1,5 +1,5 @@
 use Rattle.std.proofs.Common.{[], replicate, ◌∙◌}
-use Rattle.desk.specs.Shared.{first_held}
+use Rattle.desk.specs.inside.Shared.{first_held}
 use Rattle.desk.specs.declared.limits.TheConstants.{MAX_PASSES}
 use Rattle.desk.proofs.Sharing.{stands_first, first_board, is_board}
 use Rattle.desk.proofs.under_lock.new_writer.Goals as goal

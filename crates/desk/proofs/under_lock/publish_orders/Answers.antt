@@ -1,5 +1,5 @@
 use Rattle.std.proofs.Common.{sym, ◌∙◌, subst, fold}
-use Rattle.desk.specs.Board.{IsBoard, board_after}
+use Rattle.desk.specs.inside.Board.{IsBoard, board_after}
 use Rattle.desk.proofs.under_lock.publish_orders.Goals as goal
 
 -- what is published next stands

@@ -1,6 +1,6 @@
 -- The chain ends, and the slot is still to come until the link is found.
 use Rattle.std.proofs.Common.{◌≡◌, [], ◌∷◌, ◌++◌, length, get_or, refl, sym, ap, subst, ◌∙◌, arith, append_assoc}
-use Rattle.name_table.specs.Woven.{times, chain, Ends}
+use Rattle.name_table.specs.inside.Woven.{times, chain, Ends}
 use Rattle.name_table.proofs.ChainLemmas.{begins, in_rest, ends_step}
 use Rattle.name_table.proofs.chains.slot_before.Goals as goal
 

@@ -1,5 +1,5 @@
 use Rattle.std.proofs.Common.{◌≡◌, ◌≢◌, ℕ, ◌<◌, List, ◌++◌, length}
-use Rattle.name_table.specs.Woven.{times, chain, Ends}
+use Rattle.name_table.specs.inside.Woven.{times, chain, Ends}
 use Rattle.name_table.proofs.chains.slot_before.Given as goal
 
 -- the chain goes on to the slot, which is still to come

@@ -1,6 +1,6 @@
 -- There is room for as many blocks as there are, and the new one is the last.
 use Rattle.std.proofs.Common.{◌≡◌, ◌+◌, ◌*◌, ◌/◌, ◌<◌, ◌≤◌, ◌++◌, length, replicate, set, sym, subst, ap, ◌∙◌, arith, vec_len, vec_capacity}
-use Rattle.name_table.specs.Written.{head_at, AreBlocks}
+use Rattle.name_table.specs.inside.Written.{head_at, AreBlocks}
 use Rattle.name_table.proofs.WrittenLemmas.{blocks_end, block_room, blocks_more, head_more, longer}
 use Rattle.name_table.proofs.heads.write.Goals as goal
 

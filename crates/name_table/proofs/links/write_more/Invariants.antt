@@ -1,6 +1,6 @@
 -- What is written grows, and each link stays as it was.
 use Rattle.std.proofs.Common.{◌≡◌, ℕ, ◌+◌, ◌-◌, ◌≤◌, vec_len, vec_capacity}
-use Rattle.name_table.specs.Written.{link_at}
+use Rattle.name_table.specs.inside.Written.{link_at}
 use Rattle.name_table.proofs.links.write_more.Given as goal
 
 abbrev pub invariant-loop-written : goal.invariant-loop-written

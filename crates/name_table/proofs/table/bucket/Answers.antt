@@ -1,7 +1,7 @@
 -- The bucket is the hash of the name's bytes, masked.
 use Rattle.std.proofs.Common.{ap, ◌∙◌, bit_and}
 use Rattle.std.specs.Hash.DefaultHasher as sip
-use Rattle.name_table.specs.Buckets.{bucket_of}
+use Rattle.name_table.specs.inside.Buckets.{bucket_of}
 use Rattle.name_table.proofs.table.bucket.Goals as goal
 
 pub returns-clause-bucket : goal.returns-clause-bucket

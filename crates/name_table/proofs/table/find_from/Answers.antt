@@ -1,7 +1,7 @@
 -- A slot with the name is still to come, until the chain is over.
 use Rattle.std.proofs.Common.{◌≡◌, ◌<◌, ◌≤◌, true, false, length, get_or, sym, ap, subst, ◌∙◌, arith}
 use Rattle.name_table.specs.Slots.{name_in, entry_in, has_name}
-use Rattle.name_table.specs.Woven.{times, chain, Ends}
+use Rattle.name_table.specs.inside.Woven.{times, chain, Ends}
 use Rattle.name_table.proofs.ChainLemmas.{in_rest, ends_step, chain_over}
 use Rattle.name_table.proofs.SlotLemmas.{has_true, has_back}
 use Rattle.name_table.proofs.table.find_from.Goals as goal

@@ -1,6 +1,6 @@
 use Rattle.std.proofs.Common.{◌≡◌, ℕ, Some, length}
 use Rattle.name_table.specs.Slots.{name_in}
-use Rattle.name_table.specs.Woven.{times, chain, Ends}
+use Rattle.name_table.specs.inside.Woven.{times, chain, Ends}
 use Rattle.name_table.proofs.table.find_from.Given as goal
 
 -- a slot with the name that was in the chain is still to come

@@ -1,5 +1,5 @@
 use Rattle.std.proofs.Common.{◌≡◌, ◌++◌, min}
-use Rattle.objects.specs.Digits.{front}
+use Rattle.objects.specs.inside.Digits.{front}
 use Rattle.objects.specs.declared.digits.TheConstants.{BEYOND}
 use Rattle.objects.proofs.digits.number_in_front.Given as goal
 

@@ -1,6 +1,6 @@
 use Rattle.std.proofs.Common.{◌≡◌, ◌*◌, ◌^◌, ◌≤◌, ◌++◌}
 use Rattle.objects.specs.Ratio.{rounded}
-use Rattle.objects.specs.Digits.{back}
+use Rattle.objects.specs.inside.Digits.{back}
 use Rattle.objects.proofs.digits.rounded_behind.Given as goal
 
 abbrev pub invariant-loop-place : goal.invariant-loop-place

@@ -3,7 +3,7 @@ use Rattle.wbin.specs.Syntax.{module_of}
 use Rattle.wtype.specs.declared.checked.Checked.{Checked}
 use Rattle.whost.specs.Image.{IsImage}
 use Rattle.plugin.specs.Plugins.{IsWeight}
-use Rattle.plugin.specs.Entries.{configured}
+use Rattle.plugin.specs.inside.Entries.{configured}
 use Rattle.plugin.specs.Kit.{IsReadyOf}
 use Rattle.plugin.proofs.MakingLemmas.{on_ok_more}
 use Rattle.plugin.proofs.plugins.made.Goals as goal

@@ -3,7 +3,7 @@ use Rattle.std.specs.Prelude.{Option, Some, option_map}
 use Rattle.std.specs.Ordering.{is_lt}
 use Rattle.std.specs.Option.{option_cmp}
 use Rattle.queue.specs.Order.{Item}
-use Rattle.queue.specs.Heap.{wait_cmp, item_in, goes_before}
+use Rattle.queue.specs.inside.Heap.{wait_cmp, item_in, goes_before}
 use Rattle.queue.proofs.Heaps.{Kept}
 use Rattle.queue.proofs.heap.before.Goals as goal
 

@@ -1,6 +1,6 @@
 use Rattle.std.proofs.Common.{◌≡◌, ◌+◌, ◌-◌, ◌*◌, ◌^◌, ◌<◌, ◌≤◌, length}
-use Rattle.queue.specs.Row.{HasSame}
-use Rattle.queue.specs.Heap.{IsHeapBut}
+use Rattle.queue.specs.inside.Row.{HasSame}
+use Rattle.queue.specs.inside.Heap.{IsHeapBut}
 use Rattle.queue.proofs.heap.fall.Given as goal
 
 -- a heap but for the place so far

@@ -1,5 +1,5 @@
 use Rattle.std.proofs.Common.{◌≡◌, ℕ, ◌+◌, ◌-◌, ◌≤◌, List, length, arith, sym, ap, ◌∙◌, subst}
-use Rattle.queue.specs.Row.{at, IsSwapped, IsPushed, IsWithout}
+use Rattle.queue.specs.inside.Row.{at, IsSwapped, IsPushed, IsWithout}
 use Rattle.queue.proofs.Rows.{same_again, same_swapped, without}
 use Rattle.queue.proofs.Heaps.{replaced}
 use Rattle.queue.proofs.Powers.{at_most_13, power_alone}

@@ -1,6 +1,6 @@
 use Rattle.std.proofs.Common.{◌≡◌, ℕ, ◌+◌, ◌-◌, ◌*◌, ◌/◌, ◌^◌, ◌≤◌, true, arith, sym, ◌∙◌, subst}
-use Rattle.queue.specs.Row.{at}
-use Rattle.queue.specs.Heap.{goes_before}
+use Rattle.queue.specs.inside.Row.{at}
+use Rattle.queue.specs.inside.Heap.{goes_before}
 use Rattle.queue.proofs.Rows.{same_again, same_swapped}
 use Rattle.queue.proofs.Heaps.{compared, risen, risen_first}
 use Rattle.queue.proofs.Powers.{more_up, stays_up, at_most_13, power_alone}

@@ -1,6 +1,6 @@
 use Rattle.std.proofs.Common.{◌≡◌, ◌+◌, ◌-◌, ◌*◌, ◌^◌, ◌<◌, ◌≤◌, length}
-use Rattle.queue.specs.Row.{HasSame}
-use Rattle.queue.specs.Heap.{GoesFirst, IsHeapBut}
+use Rattle.queue.specs.inside.Row.{HasSame}
+use Rattle.queue.specs.inside.Heap.{GoesFirst, IsHeapBut}
 use Rattle.queue.proofs.heap.rise.Given as goal
 
 -- a heap but for the slot's place so far

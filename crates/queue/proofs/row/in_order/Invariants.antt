@@ -1,5 +1,5 @@
 use Rattle.std.proofs.Common.{◌≡◌, ℕ, ◌<◌, length}
-use Rattle.queue.specs.Row.{at}
+use Rattle.queue.specs.inside.Row.{at}
 use Rattle.queue.proofs.row.in_order.Given as goal
 
 -- the numbers so far stand at their places

@@ -1,5 +1,5 @@
 use Rattle.name_table.specs.Slots.{put_in}
-use Rattle.queue.specs.Index.{applied}
+use Rattle.queue.specs.inside.Index.{applied}
 use Rattle.queue.proofs.Indexes.{changed, written}
 use Rattle.queue.proofs.Changes.{put_is}
 use Rattle.queue.proofs.slots.change.Goals as goal

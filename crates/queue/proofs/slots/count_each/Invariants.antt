@@ -1,5 +1,5 @@
 use Rattle.std.proofs.Common.{◌≡◌, ◌≤◌, take}
-use Rattle.queue.specs.Slots.{counts_so_far, total_of}
+use Rattle.queue.specs.inside.Slots.{counts_so_far, total_of}
 use Rattle.queue.proofs.slots.count_each.Given as goal
 
 -- the counts are those of the slots so far

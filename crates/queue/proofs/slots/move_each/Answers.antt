@@ -3,9 +3,9 @@ use Rattle.std.specs.Prelude.{IsSome}
 use Rattle.name_table.specs.Slots.{entry_in, map_of, NamesOnce}
 use Rattle.queue.specs.Entry.{moved_on}
 use Rattle.queue.specs.Queue.{each_changed}
-use Rattle.queue.specs.Heap.{Pods}
-use Rattle.queue.specs.Index.{stands_in, is_unmoved}
-use Rattle.queue.specs.Slots.{OwnUids}
+use Rattle.queue.specs.inside.Heap.{Pods}
+use Rattle.queue.specs.inside.Index.{stands_in, is_unmoved}
+use Rattle.queue.specs.inside.Slots.{OwnUids}
 use Rattle.queue.proofs.Indexes.{there_if}
 use Rattle.queue.proofs.Changes.{tally, once_changed, own_changed, length_changed, each_step, one_less, unchanged, moved_twice, moved_rests, move_leaves, none_unmoved, unmoved_in}
 use Rattle.queue.proofs.slots.move_each.Goals as goal

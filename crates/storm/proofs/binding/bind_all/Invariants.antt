@@ -1,7 +1,7 @@
 use Rattle.std.proofs.Common.{List}
 use Rattle.std.specs.List.{AllByRecursion}
 use Rattle.desk.specs.declared.step.Step.{Step}
-use Rattle.storm.specs.Made.{Makes, IsReport}
+use Rattle.storm.specs.inside.Made.{Makes, IsReport}
 use Rattle.storm.proofs.binding.bind_all.Given as goal
 
 -- the pass made reports alone

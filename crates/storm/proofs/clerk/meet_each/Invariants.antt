@@ -1,4 +1,4 @@
-use Rattle.storm.specs.Crew.{HaveMetFirst}
+use Rattle.storm.specs.inside.Crew.{HaveMetFirst}
 use Rattle.storm.proofs.clerk.meet_each.Given as goal
 
 -- the first ones were met

@@ -1,6 +1,7 @@
 use Rattle.std.proofs.Common.{◌≡◌, List}
 use Rattle.choose.specs.Kits.{rules_of}
-use Rattle.storm.specs.Cycles.{OneCycle, HasCycled}
+use Rattle.storm.specs.Cycles.{OneCycle}
+use Rattle.storm.specs.inside.Cycles.{HasCycled}
 use Rattle.storm.proofs.cycles.cycle_beside.Given as goal
 
 -- the pass made cycles alone, by the rules of kits that stay

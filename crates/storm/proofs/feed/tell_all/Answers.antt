@@ -1,7 +1,7 @@
 use Rattle.std.proofs.Common.{◌≡◌, ℕ, suc, ◌+◌, subst, sym, ap, ◌∙◌, List, ◌++◌, ◌∷◌, [], take, arith}
 use Rattle.std.proofs.Math.Seq.{take-suc}
 use Rattle.desk.specs.declared.step.Step.{Step}
-use Rattle.storm.specs.Made.{Makes}
+use Rattle.storm.specs.inside.Made.{Makes}
 use Rattle.storm.proofs.Going.{makes_more}
 use Rattle.storm.proofs.feed.tell_all.Goals as goal
 

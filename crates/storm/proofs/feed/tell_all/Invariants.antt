@@ -1,5 +1,5 @@
 use Rattle.std.proofs.Common.{take}
-use Rattle.storm.specs.Made.{Makes}
+use Rattle.storm.specs.inside.Made.{Makes}
 use Rattle.storm.proofs.feed.tell_all.Given as goal
 
 -- the pass made the steps so far

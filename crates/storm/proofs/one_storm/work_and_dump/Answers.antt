@@ -1,4 +1,4 @@
-use Rattle.storm.specs.Stages.{HasReported}
+use Rattle.storm.specs.inside.Stages.{HasReported}
 use Rattle.storm.proofs.Staging.{still_passes}
 use Rattle.storm.proofs.Ending.{worked}
 use Rattle.storm.proofs.one_storm.work_and_dump.Goals as goal

@@ -1,5 +1,5 @@
 use Rattle.std.proofs.Common.{◌≡◌, ◌+◌, length}
-use Rattle.storm.specs.Crew.{enlisted}
+use Rattle.storm.specs.inside.Crew.{enlisted}
 use Rattle.storm.proofs.worker.enlist.Given as goal
 
 -- the first tools have workers

@@ -3,8 +3,8 @@ use Rattle.std.proofs.lemmas.Result.{err_from_is_err_and}
 use Rattle.wcode.specs.Grammar.{end}
 use Rattle.wcode.proofs.BlockLists.{blocks_spell}
 use Rattle.wbin.specs.declared.module.FunctionCode.{FunctionCode}
-use Rattle.wbin.specs.Reading.{Reads}
-use Rattle.wbin.specs.Codes.{ReadsCode}
+use Rattle.wbin.specs.inside.Reading.{Reads}
+use Rattle.wbin.specs.inside.Codes.{ReadsCode}
 use Rattle.wbin.proofs.CodeContents.{not_filled, body_missing}
 use Rattle.wbin.proofs.Places.{code_filled}
 use Rattle.wbin.proofs.code.read_code.Goals as goal

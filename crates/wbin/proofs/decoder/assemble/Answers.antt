@@ -1,8 +1,8 @@
 use Rattle.std.proofs.Common.{◌≡◌, map, length, subst, arith}
 use Rattle.std.proofs.lemmas.List.{map-id}
 use Rattle.wbin.specs.Grammar.{Lists, contents_of, SpellsTableType, SpellsLimits}
-use Rattle.wbin.specs.Outline.{section_of}
-use Rattle.wbin.specs.Decoded.{ReadsWhole, AssemblesTo}
+use Rattle.wbin.specs.inside.Outline.{section_of}
+use Rattle.wbin.specs.inside.Decoded.{ReadsWhole, AssemblesTo}
 use Rattle.wbin.proofs.Modules.{functions_listed, counts_differ}
 use Rattle.wbin.proofs.decoder.assemble.Goals as goal
 

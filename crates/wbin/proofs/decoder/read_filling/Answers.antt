@@ -1,6 +1,6 @@
 use Rattle.std.proofs.Common.{take, drop, []}
-use Rattle.wbin.specs.Reading.{Reads}
-use Rattle.wbin.specs.Decoded.{ReadsWhole}
+use Rattle.wbin.specs.inside.Reading.{Reads}
+use Rattle.wbin.specs.inside.Decoded.{ReadsWhole}
 use Rattle.wbin.proofs.Mapped.{mapped_ok}
 use Rattle.wbin.proofs.Modules.{left_over}
 use Rattle.wbin.proofs.Places.{part_filled}

@@ -1,9 +1,9 @@
 use Rattle.std.proofs.Common.{map, sym, subst, ap, ◌∙◌}
 use Rattle.std.specs.Prelude.{All, option_map, ◌==◌}
 use Rattle.std.proofs.lemmas.List.Elements.{All-nil}
-use Rattle.wbin.specs.Ids.{id_of}
-use Rattle.wbin.specs.Outline.{Within}
-use Rattle.wbin.specs.Decoded.{ReadsWhole}
+use Rattle.wbin.specs.inside.Ids.{id_of}
+use Rattle.wbin.specs.inside.Outline.{Within}
+use Rattle.wbin.specs.inside.Decoded.{ReadsWhole}
 use Rattle.wbin.proofs.Modules.{inside, contents_are, found_has, list_reads, none_listed}
 use Rattle.wbin.proofs.decoder.read_list.Goals as goal
 

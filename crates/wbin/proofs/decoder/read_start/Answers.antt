@@ -1,8 +1,8 @@
 use Rattle.std.proofs.Common.{sym, ap, ◌∙◌}
 use Rattle.std.specs.Prelude.{option_map, ◌==◌}
 use Rattle.std.proofs.lemmas.Result.{err_from_is_err_and}
-use Rattle.wbin.specs.Outline.{Within}
-use Rattle.wbin.specs.Decoded.{ReadsWhole}
+use Rattle.wbin.specs.inside.Outline.{Within}
+use Rattle.wbin.specs.inside.Decoded.{ReadsWhole}
 use Rattle.wbin.proofs.Modules.{inside, contents_are, found_has, starts_at, starts_missing, starts_not}
 use Rattle.wbin.proofs.decoder.read_start.Goals as goal
 

@@ -1,6 +1,6 @@
 use Rattle.std.proofs.Common.{map, subst, sym}
 use Rattle.std.proofs.lemmas.Result.{err_from_is_err_and}
-use Rattle.wbin.specs.Outline.{section_of, OutlinesUpTo}
+use Rattle.wbin.specs.inside.Outline.{section_of, OutlinesUpTo}
 use Rattle.wbin.proofs.Modules.{decoded_tables, decoded_none}
 use Rattle.wbin.proofs.decoder.read_tables.Goals as goal
 

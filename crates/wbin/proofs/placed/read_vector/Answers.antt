@@ -1,5 +1,5 @@
 use Rattle.std.proofs.Common.{map}
-use Rattle.wbin.specs.Reading.{Reads}
+use Rattle.wbin.specs.inside.Reading.{Reads}
 use Rattle.wbin.proofs.Vectors.{vector_reads}
 use Rattle.wbin.proofs.placed.read_vector.Goals as goal
 

@@ -1,5 +1,5 @@
 use Rattle.std.proofs.Common.{drop, ◌∙◌, sym}
-use Rattle.wbin.specs.Reading.{Reads}
+use Rattle.wbin.specs.inside.Reading.{Reads}
 use Rattle.wbin.proofs.Sized.{name_none, not_utf8}
 use Rattle.wbin.proofs.placeless.read_name.Goals as goal
 

@@ -1,5 +1,5 @@
 use Rattle.std.proofs.Common.{arith}
-use Rattle.wbin.specs.Reading.{Reads}
+use Rattle.wbin.specs.inside.Reading.{Reads}
 use Rattle.wbin.proofs.Sized.{index_ends, part_length, part_spelled, part_within, part_none}
 use Rattle.wbin.proofs.placeless.read_sized.Goals as goal
 

@@ -1,8 +1,8 @@
 use Rattle.std.proofs.Common.{◌+◌, ◌-◌, drop, take, length, get_or, rules}
 use Rattle.std.proofs.lemmas.Result.{err_from_is_err_and}
 use Rattle.leb.proofs.Digits.{at_place}
-use Rattle.wbin.specs.Reading.{Reads}
-use Rattle.wbin.specs.Outline.{ReadsStretch}
+use Rattle.wbin.specs.inside.Reading.{Reads}
+use Rattle.wbin.specs.inside.Outline.{ReadsStretch}
 use Rattle.wbin.proofs.Mapped.{mapped_err}
 use Rattle.wbin.proofs.Sections.{no_custom_name}
 use Rattle.wbin.proofs.section.read_stretch.Goals as goal

@@ -1,6 +1,6 @@
 use Rattle.std.proofs.Common.{◌≡◌, ◌+◌, ◌∷◌, drop, subst}
 use Rattle.std.proofs.lemmas.Result.{err_from_is_err_and}
-use Rattle.wbin.specs.Reading.{Reads}
+use Rattle.wbin.specs.inside.Reading.{Reads}
 use Rattle.wbin.proofs.SpelledTypes.{table_missing, memory_missing, global_missing}
 use Rattle.wbin.proofs.types.read_imported.Goals as goal
 

@@ -1,5 +1,5 @@
 use Rattle.std.proofs.Common.{◌≡◌, ◌≤◌, ◌^◌, ◌++◌, drop}
-use Rattle.wbody.specs.LocalEnds.{ends_from, ends_of}
+use Rattle.wbody.specs.inside.LocalEnds.{ends_from, ends_of}
 use Rattle.wbody.proofs.scope.run_ends.Given as goal
 
 -- those so far and those to come are all

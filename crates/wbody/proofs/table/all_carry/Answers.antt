@@ -1,6 +1,6 @@
 use Rattle.std.proofs.Common.{drop, arith}
 use Rattle.wbody.specs.Context.{at_most_one}
-use Rattle.wbody.specs.Scope.{labels_of}
+use Rattle.wbody.specs.inside.Scope.{labels_of}
 use Rattle.wbody.proofs.TableLabels.{passed_none, passed_more, passed_other, passed_all, stands_next}
 use Rattle.wbody.proofs.table.all_carry.Goals as goal
 

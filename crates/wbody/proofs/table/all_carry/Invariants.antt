@@ -1,7 +1,7 @@
 use Rattle.std.proofs.Common.{◌≡◌, ℕ, ◌≤◌, List, length, drop}
 use Rattle.wcode.specs.Grammar.{SpellsIndices}
 use Rattle.wbody.specs.Context.{at_most_one}
-use Rattle.wbody.specs.Scope.{labels_of}
+use Rattle.wbody.specs.inside.Scope.{labels_of}
 use Rattle.wbody.proofs.TableLabels.{Passed}
 use Rattle.wbody.proofs.table.all_carry.Given as goal
 

@@ -4,7 +4,7 @@ use Rattle.wcode.specs.Shown.{Shows}
 use Rattle.wcode.specs.declared.instruction.Op.TheVariants as ops
 use Rattle.wbody.specs.Context.{Operands, at_most_one}
 use Rattle.wbody.specs.Typing.{ends}
-use Rattle.wbody.specs.Scope.{labels_of}
+use Rattle.wbody.specs.inside.Scope.{labels_of}
 use Rattle.wbody.proofs.TableLabels.{Split, split_labels, first_label, table_at, shows_table, first_missing, others_differ, others_same}
 use Rattle.wbody.proofs.table.table_effect.Goals as goal
 

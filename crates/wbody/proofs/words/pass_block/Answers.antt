@@ -2,7 +2,7 @@ use Rattle.std.proofs.Common.{List, reverse, sym, ap, ◌∙◌, subst}
 use Rattle.wcode.specs.Grammar.{opens, SpellsWord}
 use Rattle.wcode.specs.declared.opcode.Opening.TheVariants as openings
 use Rattle.wbody.specs.declared.scope.Level.{Level}
-use Rattle.wbody.specs.Standing.{Stands}
+use Rattle.wbody.specs.inside.Standing.{Stands}
 use Rattle.wbody.proofs.LevelLists.{reverse-last, on_ok}
 use Rattle.wbody.proofs.Steps.{block_step}
 use Rattle.wbody.specs.declared.scope.Opened.TheVariants as opened

@@ -1,7 +1,7 @@
 use Rattle.std.proofs.Common.{List, reverse, refl, sym, ap, ◌∙◌, subst}
 use Rattle.wbody.specs.declared.scope.Level.{Level}
 use Rattle.wbody.specs.declared.scope.Opened.TheVariants as opened
-use Rattle.wbody.specs.Standing.{Stands}
+use Rattle.wbody.specs.inside.Standing.{Stands}
 use Rattle.wbody.proofs.LevelLists.{reverse-last, empty_of}
 use Rattle.wbody.proofs.Steps.{else_step, else_stop, no_else}
 use Rattle.wbody.proofs.words.pass_else.Goals as goal

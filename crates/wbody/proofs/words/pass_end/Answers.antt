@@ -1,6 +1,6 @@
 use Rattle.std.proofs.Common.{List, reverse, refl, subst}
 use Rattle.wbody.specs.declared.scope.Level.{Level}
-use Rattle.wbody.specs.Standing.{Stands}
+use Rattle.wbody.specs.inside.Standing.{Stands}
 use Rattle.wbody.proofs.LevelLists.{reverse-last, on_ok_4}
 use Rattle.wbody.proofs.Steps.{end_step, end_stop, missing_stop}
 use Rattle.wbody.proofs.NotedMoves.{closed_height}

@@ -1,9 +1,9 @@
 use Rattle.std.proofs.Common.{reverse, refl, sym, ap, ◌∙◌}
 use Rattle.wbody.specs.Typing.{PlainType}
-use Rattle.wbody.specs.Pass.{pass_type}
-use Rattle.wbody.specs.Effect.{effect_type}
-use Rattle.wbody.specs.OperandStack.{stack_of}
-use Rattle.wbody.specs.Standing.{inner_context}
+use Rattle.wbody.specs.inside.Pass.{pass_type}
+use Rattle.wbody.specs.inside.Effect.{effect_type}
+use Rattle.wbody.specs.inside.OperandStack.{stack_of}
+use Rattle.wbody.specs.inside.Standing.{inner_context}
 use Rattle.wbody.proofs.Inside.{scope_inside, base_labels}
 use Rattle.wbody.proofs.LevelLists.{on_ok_3}
 use Rattle.wbody.proofs.Steps.{plain_step, plain_stop}

@@ -1,13 +1,13 @@
 use Rattle.std.proofs.Common.{[], false, None, reverse, refl, sym, ap, ◌∙◌, subst}
 use Rattle.wcode.specs.Grammar.{SpellsWord}
 use Rattle.wbody.specs.Typing.{PlainType}
-use Rattle.wbody.specs.Pass.{pass_type}
-use Rattle.wbody.specs.OperandStack.{stack_of}
-use Rattle.wbody.specs.Standing.{inner_context}
+use Rattle.wbody.specs.inside.Pass.{pass_type}
+use Rattle.wbody.specs.inside.OperandStack.{stack_of}
+use Rattle.wbody.specs.inside.Standing.{inner_context}
 use Rattle.wbody.proofs.Inside.{base_labels}
 use Rattle.wbody.proofs.LevelLists.{on_ok_3}
 use Rattle.wbody.specs.Context.{Context}
-use Rattle.wbody.specs.Scope.{labels_of}
+use Rattle.wbody.specs.inside.Scope.{labels_of}
 use Rattle.wbody.proofs.TableLabels.{shows_table, table_unreached}
 use Rattle.wbody.proofs.Steps.{table_step, table_stop}
 use Rattle.wbody.proofs.NotedMoves.{cut_height}

@@ -1,7 +1,7 @@
 use Rattle.std.proofs.Common.{◌-◌, drop, subst, sym}
 use Rattle.std.proofs.lemmas.Result.{err_from_is_err_and}
 use Rattle.wcode.specs.Syntax.{with_instr, body_of}
-use Rattle.wcode.specs.Ended.{GivesBody, GivesItem}
+use Rattle.wcode.specs.inside.Ended.{GivesBody, GivesItem}
 use Rattle.wcode.proofs.Items.{no_body}
 use Rattle.wcode.proofs.Lists.{HasItems, more_items, items_end}
 use Rattle.wcode.proofs.Readers.{plain_stands, block_stands, loop_stands, if_stands, table_stands, block_missing, loop_missing, if_missing, nested_after, arms_after, else_is_no_end, no_end, no_first_arm, no_second_arm}

@@ -1,7 +1,7 @@
 use Rattle.std.proofs.Common.{drop}
 use Rattle.std.proofs.lemmas.Result.{err_from_is_err_and}
 use Rattle.wcode.specs.Syntax.{body_of}
-use Rattle.wcode.specs.Ended.{GivesBody}
+use Rattle.wcode.specs.inside.Ended.{GivesBody}
 use Rattle.wcode.proofs.Readers.{else_is_no_end, no_end}
 use Rattle.wcode.proofs.expression.read_expr.Goals as goal
 

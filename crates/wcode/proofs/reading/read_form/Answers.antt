@@ -1,7 +1,7 @@
 use Rattle.std.proofs.Common.{◌+◌, drop, sym, subst}
 use Rattle.std.proofs.lemmas.Result.{err_from_is_err_and}
 use Rattle.wcode.specs.Grammar.{SpellsForm}
-use Rattle.wcode.specs.Shown.{Reads}
+use Rattle.wcode.specs.inside.Shown.{Reads}
 use Rattle.wcode.proofs.Words.{call_indirect_reads}
 use Rattle.wcode.proofs.reading.read_form.Goals as goal
 

@@ -1,5 +1,5 @@
 use Rattle.std.proofs.Common.{arith, ◌+◌, ◌≤◌, length, subst}
-use Rattle.wcode.specs.Shown.{Reads}
+use Rattle.wcode.specs.inside.Shown.{Reads}
 use Rattle.wcode.proofs.Words.{word_found, word_none, no_word}
 use Rattle.wcode.proofs.Shorter.{word_end}
 use Rattle.wcode.proofs.reading.read_op.Goals as goal

@@ -1,5 +1,5 @@
 use Rattle.std.proofs.Common.{arith, refl}
-use Rattle.wcode.specs.Shown.{Reads}
+use Rattle.wcode.specs.inside.Shown.{Reads}
 use Rattle.wcode.specs.Grammar.{opens}
 use Rattle.wcode.proofs.reading.read_opening.Goals as goal
 

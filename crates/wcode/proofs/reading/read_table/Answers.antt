@@ -1,7 +1,7 @@
 use Rattle.std.proofs.Common.{drop, refl, subst}
 use Rattle.std.proofs.lemmas.Result.{err_from_is_err_and}
 use Rattle.wcode.specs.Grammar.{table, SpellsIndex}
-use Rattle.wcode.specs.Shown.{Reads}
+use Rattle.wcode.specs.inside.Shown.{Reads}
 use Rattle.wcode.proofs.Words.{labels_none, default_none}
 use Rattle.wcode.proofs.reading.read_table.Goals as goal
 

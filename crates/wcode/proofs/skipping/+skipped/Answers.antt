@@ -4,9 +4,9 @@ use Rattle.std.proofs.lemmas.Result.{err_from_is_err_and}
 use Rattle.wcode.specs.declared.blocks.Block.{Block}
 use Rattle.wcode.specs.Syntax.{done, plain, block, loop, if_else, br_table}
 use Rattle.wcode.specs.Grammar.{end}
-use Rattle.wcode.specs.Ended.{closing}
+use Rattle.wcode.specs.inside.Ended.{closing}
 use Rattle.wcode.specs.Blocks.{SpellsBlocks}
-use Rattle.wcode.specs.Skipped.{SkipsBody, SkipsItem, SkipsNested, SkipsArms}
+use Rattle.wcode.specs.inside.Skipped.{SkipsBody, SkipsItem, SkipsNested, SkipsArms}
 use Rattle.wcode.proofs.Items.{no_body}
 use Rattle.wcode.proofs.Readers.{block_missing, loop_missing, if_missing, nested_after, arms_after, else_is_no_end, no_end, no_first_arm, no_second_arm, true_of}
 use Rattle.wcode.proofs.BlockLists.{blocks_spell, arms_spell, passed_begins, passed_more, passed_ends, closed}

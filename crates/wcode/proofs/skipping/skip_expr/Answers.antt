@@ -1,7 +1,7 @@
 use Rattle.std.proofs.Common.{drop}
 use Rattle.std.proofs.lemmas.Result.{err_from_is_err_and}
-use Rattle.wcode.specs.Ended.{closing}
-use Rattle.wcode.specs.Skipped.{SkipsBody}
+use Rattle.wcode.specs.inside.Ended.{closing}
+use Rattle.wcode.specs.inside.Skipped.{SkipsBody}
 use Rattle.wcode.proofs.Readers.{else_is_no_end, no_end}
 use Rattle.wcode.proofs.BlockLists.{blocks_spell}
 use Rattle.wcode.proofs.Shorter.{place_after, body_shorter}

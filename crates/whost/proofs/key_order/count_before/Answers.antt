@@ -1,7 +1,7 @@
 use Rattle.std.proofs.Common.{ℕ, ◌+◌, ◌-◌, ◌/◌, ◌<◌, length, map, arith}
 use Rattle.std.proofs.lemmas.List.{length-map}
 use Rattle.std.proofs.lemmas.List.Sums.{prefix_len-le-length}
-use Rattle.whost.specs.KeyOrder.{label_at}
+use Rattle.whost.specs.inside.KeyOrder.{label_at}
 use Rattle.quant.specs.Name.{is_before}
 use Rattle.whost.proofs.KeyOrderLemmas.{more_before, no_more_before}
 use Rattle.whost.proofs.key_order.count_before.Goals as goal

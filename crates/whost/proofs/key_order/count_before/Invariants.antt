@@ -1,6 +1,6 @@
 use Rattle.std.proofs.Common.{ℕ, ◌-◌, ◌≤◌, length, map}
 use Rattle.std.specs.List.{prefix_len}
-use Rattle.whost.specs.KeyOrder.{label_at}
+use Rattle.whost.specs.inside.KeyOrder.{label_at}
 use Rattle.quant.specs.Name.{is_before}
 use Rattle.whost.proofs.key_order.count_before.Given as goal
 

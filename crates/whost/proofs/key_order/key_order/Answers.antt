@@ -1,6 +1,6 @@
 use Rattle.std.proofs.Common.{map, drop, ◌≡◌, ℕ, ◌<◌, ◌+◌, ◌-◌, length, arith, get_or}
 use Rattle.std.specs.List.{prefix_len}
-use Rattle.whost.specs.KeyOrder.{label_at}
+use Rattle.whost.specs.inside.KeyOrder.{label_at}
 use Rattle.quant.specs.Name.{is_before}
 use Rattle.whost.proofs.KeyOrderLemmas.{step, read_at, all_inserted, order_rises}
 use Rattle.whost.proofs.key_order.key_order.Goals as goal

@@ -1,5 +1,6 @@
 use Rattle.std.proofs.Common.{◌≡◌, ◌+◌, ◌<◌, length, drop, map, All}
-use Rattle.whost.specs.KeyOrder.{in_key_order, label_at}
+use Rattle.whost.specs.KeyOrder.{in_key_order}
+use Rattle.whost.specs.inside.KeyOrder.{label_at}
 use Rattle.whost.proofs.key_order.key_order.Given as goal
 
 -- the labels from here on are in order

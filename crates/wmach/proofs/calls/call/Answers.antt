@@ -1,7 +1,7 @@
 use Rattle.std.proofs.Common.{reverse, take, drop, refl, sym, subst, arith}
 use Rattle.std.proofs.lemmas.Result.{err_from_is_err_and}
-use Rattle.wmach.specs.Running.{bytes_of, activation_of}
-use Rattle.wmach.specs.Calling.{Invokes}
+use Rattle.wmach.specs.inside.Running.{bytes_of, activation_of}
+use Rattle.wmach.specs.inside.Calling.{Invokes}
 use Rattle.wmach.proofs.AcceptedFunctions.{functions_right}
 use Rattle.wmach.proofs.Arms.{spent_err}
 use Rattle.wmach.proofs.Branching.{paid_state}

@@ -3,11 +3,11 @@ use Rattle.std.proofs.lemmas.Result.{err_from_is_err_and}
 use Rattle.wmach.specs.declared.outcome.Trap.TheVariants.{UndefinedElement, UninitializedElement, SignatureMismatch}
 use Rattle.wcode.specs.declared.value.ValueType.TheVariants.{I32}
 use Rattle.wmach.specs.Operands.{value_of}
-use Rattle.wmach.specs.Running.{bytes_of, activation_of}
+use Rattle.wmach.specs.inside.Running.{bytes_of, activation_of}
 use Rattle.std.specs.Prelude.{slice_get}
 use Rattle.wmach.specs.declared.state.Stop.TheVariants as stop
-use Rattle.wmach.specs.Running.{Stopped}
-use Rattle.wmach.specs.Calling.{ElementGives, Invokes}
+use Rattle.wmach.specs.inside.Running.{Stopped}
+use Rattle.wmach.specs.inside.Calling.{ElementGives, Invokes}
 use Rattle.wmach.proofs.AcceptedFunctions.{functions_right}
 use Rattle.wmach.proofs.Arms.{one_there, spent_err}
 use Rattle.wmach.proofs.Stepping.{cut_off}

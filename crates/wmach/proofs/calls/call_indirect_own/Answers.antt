@@ -4,9 +4,9 @@ use Rattle.wcode.specs.declared.value.ValueType.TheVariants.{I32}
 use Rattle.wmach.specs.declared.outcome.Trap.TheVariants.{UndefinedElement, UninitializedElement, SignatureMismatch}
 use Rattle.wmach.specs.declared.state.Stop.TheVariants as stop
 use Rattle.wmach.specs.Operands.{value_of}
-use Rattle.wmach.specs.Running.{bytes_of, activation_of, Stopped}
-use Rattle.wmach.specs.Went.{IsCall}
-use Rattle.wmach.specs.Calling.{ElementGives}
+use Rattle.wmach.specs.inside.Running.{bytes_of, activation_of, Stopped}
+use Rattle.wmach.specs.inside.Went.{IsCall}
+use Rattle.wmach.specs.inside.Calling.{ElementGives}
 use Rattle.wmach.proofs.AcceptedFunctions.{functions_right}
 use Rattle.wmach.proofs.Arms.{one_there}
 use Rattle.wmach.proofs.Stepping.{cut_off, no_fuel}

@@ -1,6 +1,6 @@
 use Rattle.std.proofs.Common.{inr, reverse, take, drop, refl, arith}
 use Rattle.std.proofs.lemmas.Result.{err_from_is_err_and}
-use Rattle.wmach.specs.Running.{bytes_of, activation_of}
+use Rattle.wmach.specs.inside.Running.{bytes_of, activation_of}
 use Rattle.wmach.proofs.AcceptedFunctions.{functions_right}
 use Rattle.wmach.proofs.Arms.{spent_err}
 use Rattle.wmach.proofs.Invoking.{can_invoke, invokes}

@@ -2,9 +2,9 @@ use Rattle.std.proofs.Common.{◌≡◌, ◌-◌, [], length, reverse, refl, sym
 use Rattle.std.specs.Prelude.{slice_get}
 use Rattle.std.proofs.lemmas.Option.{slice_get_within}
 use Rattle.wbin.specs.Syntax.{module_of}
-use Rattle.wmach.specs.Kept.{IsCallOf}
+use Rattle.wmach.specs.inside.Kept.{IsCallOf}
 use Rattle.wmach.specs.Reduction.{imported_count}
-use Rattle.wmach.specs.Running.{At}
+use Rattle.wmach.specs.inside.Running.{At}
 use Rattle.wmach.proofs.Invocations.{imports_are, run_of, own_there, locals_room, at_start}
 use Rattle.wmach.proofs.invocation.invoke.Goals as goal
 

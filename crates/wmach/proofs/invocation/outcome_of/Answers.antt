@@ -1,9 +1,9 @@
 use Rattle.std.proofs.Common.{◌-◌, sym, subst}
 use Rattle.wmach.specs.declared.outcome.Outcome.TheVariants as outcome
 use Rattle.wmach.specs.Call.{result_type}
-use Rattle.wmach.specs.Kept.{HoldsResult}
+use Rattle.wmach.specs.inside.Kept.{HoldsResult}
 use Rattle.wmach.specs.Outcome.{HasOutcome}
-use Rattle.wmach.specs.Running.{Stops}
+use Rattle.wmach.specs.inside.Running.{Stops}
 use Rattle.wmach.proofs.Invocations.{exhausted_outcome, trap_outcome, held, value_outcome, result_fits}
 use Rattle.wmach.proofs.invocation.outcome_of.Goals as goal
 

@@ -6,7 +6,7 @@ use Rattle.wmach.proofs.OverNumbers.{binary_here, binary_spent, over_binary, ove
 use Rattle.wmach.proofs.Stepping.{cut_off}
 use Rattle.wmach.specs.Numeric.{trap_where}
 use Rattle.wmach.specs.Operands.{value_of, width_of}
-use Rattle.wmach.specs.Running.{activation_of, bytes_of}
+use Rattle.wmach.specs.inside.Running.{activation_of, bytes_of}
 use Rattle.wmach.proofs.plain.binary.Goals as goal
 
 pub returns-in_err-left : goal.returns-in_err-left
@@ -53,4 +53,4 @@ returns-in-Err c w st r h q =
     let s = c.args.state in let slots = c.args.slots.now in
     let popped = two_back s.top slots c.topmost-first.result c.topmost-second.result c.topmost-second.ensures c.topmost-first.ensures in
     let t = over_binary_trap r.setting (bytes_of r) r.checked r.start h.spent (activation_of s) w (take s.top slots) st.current h.on c.args.t c.args.op (drop c.args.next (bytes_of r)) (take (s.top - 2) slots) c.topmost-first.result c.topmost-second.result c.in-Err.undefined q.spelled popped (sym c.binary_word.ensures.gives ∙ c.in-Err.is) in
-    subst (λ y. Rattle.wmach.specs.Running.Stopped r (Rattle.wmach.specs.declared.state.Stop.TheVariants.Trap y c.in_ok-left.left) slots st) (sym c.trap_where.ensures) (cut_off r s w slots st h (trap_where c.in-Err.undefined) c.in_ok-left.left c.in_ok-left.ensures.some t)
+    subst (λ y. Rattle.wmach.specs.inside.Running.Stopped r (Rattle.wmach.specs.declared.state.Stop.TheVariants.Trap y c.in_ok-left.left) slots st) (sym c.trap_where.ensures) (cut_off r s w slots st h (trap_where c.in-Err.undefined) c.in_ok-left.left c.in_ok-left.ensures.some t)

@@ -2,7 +2,7 @@ use Rattle.std.proofs.Common.{[], ◌∷◌, ◌++◌, take, ap, ◌∙◌, arit
 use Rattle.wmach.proofs.Arms.{pushed_free, room_above}
 use Rattle.wmach.proofs.OverVariables.{over_const}
 use Rattle.wstore.specs.Values.{word_of}
-use Rattle.wmach.specs.Running.{activation_of, bytes_of}
+use Rattle.wmach.specs.inside.Running.{activation_of, bytes_of}
 use Rattle.wmach.proofs.plain.constant.Goals as goal
 
 pub push-top-requires : goal.push-top-requires

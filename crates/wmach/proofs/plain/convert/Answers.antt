@@ -5,7 +5,7 @@ use Rattle.wmach.proofs.Arms.{one_there, pushed, spent_err}
 use Rattle.wmach.proofs.OverNumbers.{convert_here, convert_spent, one_top, over_convert}
 use Rattle.wmach.specs.Numeric.{converted_from, converted_to}
 use Rattle.wmach.specs.Operands.{value_of, width_of}
-use Rattle.wmach.specs.Running.{activation_of, bytes_of}
+use Rattle.wmach.specs.inside.Running.{activation_of, bytes_of}
 use Rattle.wmach.proofs.plain.convert.Goals as goal
 
 pub returns-in_err-left : goal.returns-in_err-left

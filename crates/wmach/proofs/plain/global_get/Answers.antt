@@ -3,7 +3,7 @@ use Rattle.std.proofs.lemmas.Result.{err_from_is_err_and}
 use Rattle.wmach.proofs.Arms.{pushed, room_above, spent_err, stored_word}
 use Rattle.wmach.proofs.OverGlobals.{global_get_here, here_within}
 use Rattle.wstore.specs.Values.{word_of}
-use Rattle.wmach.specs.Running.{activation_of, bytes_of}
+use Rattle.wmach.specs.inside.Running.{activation_of, bytes_of}
 use Rattle.wmach.proofs.plain.global_get.Goals as goal
 
 pub returns-in_err-left : goal.returns-in_err-left

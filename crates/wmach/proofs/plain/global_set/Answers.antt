@@ -5,9 +5,9 @@ use Rattle.wmach.proofs.Arms.{moved, spent_err}
 use Rattle.wmach.proofs.MachineSteps.{went}
 use Rattle.wmach.proofs.OverGlobals.{global_set_here, here_within, number_fits, set_by_number}
 use Rattle.wmach.proofs.Stepping.{operands_there}
-use Rattle.wmach.specs.Machine.{On}
+use Rattle.wmach.specs.inside.Machine.{On}
 use Rattle.wmach.specs.Operands.{value_of}
-use Rattle.wmach.specs.Running.{activation_of, bytes_of}
+use Rattle.wmach.specs.inside.Running.{activation_of, bytes_of}
 use Rattle.wstore.specs.State.{StoreState}
 use Rattle.wmach.proofs.plain.global_set.Goals as goal
 

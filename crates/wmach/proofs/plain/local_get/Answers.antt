@@ -3,7 +3,7 @@ use Rattle.std.proofs.lemmas.Option.{slice_get_within}
 use Rattle.std.proofs.lemmas.Result.{err_from_is_err_and}
 use Rattle.wmach.proofs.Arms.{in_use, pushed, room_above, some_same, spent_err}
 use Rattle.wmach.proofs.OverVariables.{get_here}
-use Rattle.wmach.specs.Running.{activation_of, bytes_of}
+use Rattle.wmach.specs.inside.Running.{activation_of, bytes_of}
 use Rattle.wmach.proofs.plain.local_get.Goals as goal
 
 pub returns-in_err-left : goal.returns-in_err-left

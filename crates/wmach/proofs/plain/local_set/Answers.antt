@@ -4,8 +4,8 @@ use Rattle.wmach.proofs.Arms.{length_set, moved, spent_err, written_in_use}
 use Rattle.wmach.proofs.MachineSteps.{went}
 use Rattle.wmach.proofs.OverVariables.{set_here}
 use Rattle.wmach.proofs.Stepping.{used_long}
-use Rattle.wmach.specs.Machine.{On}
-use Rattle.wmach.specs.Running.{activation_of, bytes_of}
+use Rattle.wmach.specs.inside.Machine.{On}
+use Rattle.wmach.specs.inside.Running.{activation_of, bytes_of}
 use Rattle.wmach.proofs.plain.local_set.Goals as goal
 
 pub returns-in_err-left : goal.returns-in_err-left

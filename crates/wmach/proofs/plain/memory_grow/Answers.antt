@@ -7,9 +7,9 @@ use Rattle.wmach.proofs.MachineSteps.{went}
 use Rattle.wmach.proofs.OverMemory.{grow_here, grow_spent, over_grow, over_grow_fails}
 use Rattle.wmach.proofs.OverNumbers.{one_top}
 use Rattle.wmach.specs.Access.{cap_of}
-use Rattle.wmach.specs.Machine.{On}
+use Rattle.wmach.specs.inside.Machine.{On}
 use Rattle.wmach.specs.Operands.{value_of}
-use Rattle.wmach.specs.Running.{activation_of, bytes_of}
+use Rattle.wmach.specs.inside.Running.{activation_of, bytes_of}
 use Rattle.wmem.specs.Memory.{pages_in}
 use Rattle.wstore.specs.State.{GrowthGives, StoreState}
 use Rattle.wmach.proofs.plain.memory_grow.Goals as goal

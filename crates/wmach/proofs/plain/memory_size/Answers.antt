@@ -2,7 +2,7 @@ use Rattle.std.proofs.Common.{take, drop, refl, arith}
 use Rattle.std.proofs.lemmas.Result.{err_from_is_err_and}
 use Rattle.wmach.proofs.Arms.{pushed, room_above, spent_err}
 use Rattle.wmach.proofs.OverMemory.{over_size, size_spent}
-use Rattle.wmach.specs.Running.{activation_of, bytes_of}
+use Rattle.wmach.specs.inside.Running.{activation_of, bytes_of}
 use Rattle.wmem.specs.Memory.{pages_in}
 use Rattle.wmach.proofs.plain.memory_size.Goals as goal
 

@@ -2,7 +2,7 @@ use Rattle.std.proofs.Common.{take, drop, refl, arith}
 use Rattle.std.proofs.lemmas.Result.{err_from_is_err_and}
 use Rattle.wmach.proofs.Arms.{moved, spent_err}
 use Rattle.wmach.proofs.OverVariables.{nop_spent, over_nop}
-use Rattle.wmach.specs.Running.{activation_of, bytes_of}
+use Rattle.wmach.specs.inside.Running.{activation_of, bytes_of}
 use Rattle.wmach.proofs.plain.nop.Goals as goal
 
 pub returns-in_err-left : goal.returns-in_err-left

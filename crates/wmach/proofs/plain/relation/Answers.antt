@@ -5,7 +5,7 @@ use Rattle.wcode.specs.declared.value.ValueType.TheVariants.{I32}
 use Rattle.wmach.proofs.Arms.{pushed, spent_err, two_back, two_there}
 use Rattle.wmach.proofs.OverNumbers.{over_relation, relation_here, relation_spent, two_top}
 use Rattle.wmach.specs.Operands.{value_of, width_of}
-use Rattle.wmach.specs.Running.{activation_of, bytes_of}
+use Rattle.wmach.specs.inside.Running.{activation_of, bytes_of}
 use Rattle.wmach.proofs.plain.relation.Goals as goal
 
 pub returns-in_err-left : goal.returns-in_err-left

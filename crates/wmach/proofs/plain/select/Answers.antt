@@ -3,7 +3,7 @@ use Rattle.std.proofs.lemmas.Result.{err_from_is_err_and}
 use Rattle.wmach.proofs.Arms.{pushed, spent_err, three_back}
 use Rattle.wmach.proofs.OverVariables.{select_here}
 use Rattle.wmach.proofs.Stepping.{operands_there}
-use Rattle.wmach.specs.Running.{activation_of, bytes_of}
+use Rattle.wmach.specs.inside.Running.{activation_of, bytes_of}
 use Rattle.wmach.proofs.plain.select.Goals as goal
 
 pub returns-in_err-left : goal.returns-in_err-left

@@ -6,9 +6,9 @@ use Rattle.wmach.proofs.Arms.{moved, spent_err, two_back, two_there}
 use Rattle.wmach.proofs.MachineSteps.{went}
 use Rattle.wmach.proofs.OverMemory.{over_store, over_store_trap, store_base, store_here, store_spent}
 use Rattle.wmach.proofs.Stepping.{cut_off}
-use Rattle.wmach.specs.Machine.{On}
+use Rattle.wmach.specs.inside.Machine.{On}
 use Rattle.wmach.specs.Operands.{value_of}
-use Rattle.wmach.specs.Running.{activation_of, bytes_of}
+use Rattle.wmach.specs.inside.Running.{activation_of, bytes_of}
 use Rattle.wmach.specs.declared.outcome.Trap.TheVariants.{MemoryOutOfBounds}
 use Rattle.wmem.specs.Access.{byte_count}
 use Rattle.wmem.specs.declared.trap.Trap.TheVariants as mem_traps
@@ -56,4 +56,4 @@ returns-in-Err c w r h q =
     let gives = subst (λ y. StoreGives mem_traps.MemoryOutOfBounds st (c.topmost-base.result + c.args.arg.offset) (Rattle.wmem.specs.Bytes.bytes_of (byte_count c.width_of_store.result) c.topmost-number.result) y c.store.new.self) c.in-Err.is c.store.ensures in
     let stored = subst (λ y. StoreGives mem_traps.MemoryOutOfBounds st (c.topmost-base.result + c.args.arg.offset) (Rattle.wmem.specs.Bytes.bytes_of (byte_count y) c.topmost-number.result) (Err c.in-Err.field-0) c.store.new.self) c.width_of_store.ensures gives in
     let t = over_store_trap r.setting (bytes_of r) r.checked r.start h.spent (activation_of s) w (take s.top slots) st.current h.on c.args.op c.args.arg (drop c.args.next (bytes_of r)) (take (s.top - 2) slots) c.topmost-base.result c.topmost-number.result q.spelled popped stored.0 in
-    subst (λ x. Rattle.wmach.specs.Running.Stopped r (Rattle.wmach.specs.declared.state.Stop.TheVariants.Trap MemoryOutOfBounds c.in_ok-left.left) slots x) (sym stored.2) (cut_off r s w slots st h MemoryOutOfBounds c.in_ok-left.left c.in_ok-left.ensures.some t)
+    subst (λ x. Rattle.wmach.specs.inside.Running.Stopped r (Rattle.wmach.specs.declared.state.Stop.TheVariants.Trap MemoryOutOfBounds c.in_ok-left.left) slots x) (sym stored.2) (cut_off r s w slots st h MemoryOutOfBounds c.in_ok-left.left c.in_ok-left.ensures.some t)

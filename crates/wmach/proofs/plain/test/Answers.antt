@@ -5,7 +5,7 @@ use Rattle.wcode.specs.declared.value.ValueType.TheVariants.{I32}
 use Rattle.wmach.proofs.Arms.{one_there, pushed, spent_err}
 use Rattle.wmach.proofs.OverNumbers.{one_top, over_test, test_here, test_spent}
 use Rattle.wmach.specs.Operands.{value_of, width_of}
-use Rattle.wmach.specs.Running.{activation_of, bytes_of}
+use Rattle.wmach.specs.inside.Running.{activation_of, bytes_of}
 use Rattle.wmach.proofs.plain.test.Goals as goal
 
 pub returns-in_err-left : goal.returns-in_err-left

@@ -4,7 +4,7 @@ use Rattle.wcode.specs.declared.instruction.Plain.TheVariants as plains
 use Rattle.wmach.proofs.Arms.{one_there, pushed, spent_err}
 use Rattle.wmach.proofs.OverNumbers.{one_top, over_unary, unary_here, unary_spent}
 use Rattle.wmach.specs.Operands.{value_of, width_of}
-use Rattle.wmach.specs.Running.{activation_of, bytes_of}
+use Rattle.wmach.specs.inside.Running.{activation_of, bytes_of}
 use Rattle.wmach.proofs.plain.unary.Goals as goal
 
 pub returns-in_err-left : goal.returns-in_err-left

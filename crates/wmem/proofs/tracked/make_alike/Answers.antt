@@ -1,6 +1,6 @@
 use Rattle.std.proofs.Common.{◌≡◌, ℕ, ◌*◌, List, length, take, drop, ap, sym, ◌∙◌, arith, length-set, length-drop}
 use Rattle.std.proofs.lemmas.List.{length-take-le}
-use Rattle.wmem.specs.Tracked.{stretch}
+use Rattle.wmem.specs.inside.Tracked.{stretch}
 use Rattle.wmem.proofs.Buffers.{length-with_bytes}
 use Rattle.wmem.proofs.TrackedLemmas.{copy_agrees, none_noted}
 use Rattle.wmem.proofs.tracked.make_alike.Goals as goal

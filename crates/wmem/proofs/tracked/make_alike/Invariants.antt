@@ -1,5 +1,5 @@
 use Rattle.std.proofs.Common.{◌≡◌, ◌*◌, length}
-use Rattle.wmem.specs.Tracked.{AgreesElsewhere, stretch}
+use Rattle.wmem.specs.inside.Tracked.{AgreesElsewhere, stretch}
 use Rattle.wmem.proofs.tracked.make_alike.Given as goal
 
 abbrev pub invariant-loop-page : goal.invariant-loop-page

@@ -2,7 +2,7 @@ use Rattle.std.proofs.Common.{◌∙◌, Option, IfOk, subst, sym}
 use Rattle.wmach.specs.Configuration.{Reduction}
 use Rattle.wplain.specs.Seen.{setting_of, body_of_code}
 use Rattle.wplain.specs.Stores.{store_of}
-use Rattle.wplain.specs.Done.{WentAs}
+use Rattle.wplain.specs.inside.Done.{WentAs}
 use Rattle.wplain.proofs.Invoked.{invoked_own, invoked_import}
 use Rattle.wplain.proofs.calls.invoke.Goals as goal
 

@@ -3,7 +3,7 @@ use Rattle.std.specs.Prelude.{slice_get, option_and_then}
 use Rattle.wbin.specs.Syntax.{FunctionSyntax, Signature}
 use Rattle.wmach.specs.Reduction.{enter}
 use Rattle.wplain.specs.Seen.{syntax_of, function_of, body_of_code}
-use Rattle.wplain.specs.Done.{WentAs}
+use Rattle.wplain.specs.inside.Done.{WentAs}
 use Rattle.wplain.proofs.calls.invoke_own.Goals as goal
 
 pub returns : goal.returns

@@ -1,5 +1,6 @@
 use Rattle.std.proofs.Common.{◌+◌, ◌<◌, ◌≤◌, refl, arith}
-use Rattle.wplain.specs.Seen.{setting_of, execution_of, reduction_of}
+use Rattle.wplain.specs.Seen.{setting_of}
+use Rattle.wplain.specs.inside.Seen.{execution_of, reduction_of}
 use Rattle.wplain.specs.Stores.{store_of}
 use Rattle.wplain.specs.declared.evaluation.Running.{Running}
 use Rattle.wplain.proofs.Reached.{one_more}

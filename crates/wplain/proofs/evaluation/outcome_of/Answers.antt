@@ -2,7 +2,7 @@ use Rattle.std.proofs.Common.{subst, sym}
 use Rattle.wmach.specs.Outcome.{HasOutcome}
 use Rattle.wplain.specs.Seen.{setting_of}
 use Rattle.wplain.specs.Stores.{store_of}
-use Rattle.wplain.specs.Running.{Goes}
+use Rattle.wplain.specs.inside.Running.{Goes}
 use Rattle.wplain.proofs.Reached.{reached_next, ends}
 use Rattle.wplain.proofs.evaluation.outcome_of.Goals as goal
 

@@ -1,7 +1,7 @@
 use Rattle.std.proofs.Common.{◌∙◌, subst}
 use Rattle.wmach.specs.Configuration.{Setting}
 use Rattle.wmach.specs.Plain.{reduce_plain}
-use Rattle.wplain.specs.Done.{DoneBy}
+use Rattle.wplain.specs.inside.Done.{DoneBy}
 use Rattle.wplain.specs.Seen.{body_of_code}
 use Rattle.wplain.proofs.plain.on_operands.Goals as goal
 

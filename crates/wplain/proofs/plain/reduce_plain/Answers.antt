@@ -1,6 +1,7 @@
 use Rattle.std.proofs.Common.{◌≡◌, IfOk, subst, sym}
 use Rattle.wmach.specs.Plain.{reduce_plain}
-use Rattle.wplain.specs.Seen.{setting_of, body_of_code, moved}
+use Rattle.wplain.specs.Seen.{setting_of, body_of_code}
+use Rattle.wplain.specs.inside.Seen.{moved}
 use Rattle.wplain.specs.Stores.{store_of}
 use Rattle.wplain.proofs.plain.reduce_plain.Goals as goal
 

@@ -1,8 +1,9 @@
 use Rattle.std.proofs.Common.{◌≡◌, ◌+◌, ◌∙◌, Some, ap, subst, sym}
 use Rattle.wmach.specs.Reduction.{reduce, reduce_label, reduce_frame, inside_label, inside_frame}
-use Rattle.wplain.specs.Seen.{setting_of, body_of_code, continuation_of, place_of, execution_of, reduction_of}
+use Rattle.wplain.specs.Seen.{setting_of, body_of_code}
+use Rattle.wplain.specs.inside.Seen.{continuation_of, place_of, execution_of, reduction_of}
 use Rattle.wplain.specs.Stores.{store_of}
-use Rattle.wplain.specs.Done.{WentAs, LeavesLabel, LeavesFrame}
+use Rattle.wplain.specs.inside.Done.{WentAs, LeavesLabel, LeavesFrame}
 use Rattle.wplain.specs.declared.execution.Write.TheVariants.{Nothing}
 use Rattle.wplain.proofs.reduce.+reduce.Goals as goal
 

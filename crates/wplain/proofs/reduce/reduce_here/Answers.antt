@@ -1,8 +1,9 @@
 use Rattle.std.proofs.Common.{IfOk, subst, sym}
 use Rattle.wmach.specs.Reduction.{reduce}
-use Rattle.wplain.specs.Seen.{setting_of, place_of}
+use Rattle.wplain.specs.Seen.{setting_of}
+use Rattle.wplain.specs.inside.Seen.{place_of}
 use Rattle.wplain.specs.Stores.{store_of}
-use Rattle.wplain.specs.Done.{WentAs}
+use Rattle.wplain.specs.inside.Done.{WentAs}
 use Rattle.wplain.proofs.reduce.reduce_here.Goals as goal
 
 pub returns-in-Call : goal.returns-in-Call

@@ -1,5 +1,5 @@
 use Rattle.std.proofs.Common.{◌≡◌, ◌≤◌, length, map, take, vec_len, vec_capacity}
-use Rattle.wstore.specs.Words.{first_word_of}
+use Rattle.wstore.specs.inside.Words.{first_word_of}
 use Rattle.wstore.proofs.first.first_words.Given as goal
 
 -- those so far, with room for the others

@@ -1,7 +1,7 @@
 use Rattle.std.proofs.Common.{sym, subst, ◌∙◌}
 use Rattle.quant.specs.declared.amount.Res.{Res}
 use Rattle.std.specs.Prelude.{ℕ, List}
-use Rattle.book.specs.Tables.{IsShown}
+use Rattle.book.specs.inside.Tables.{IsShown}
 use Rattle.book.proofs.book.Book.finish.Goals as goal
 
 -- as much is used of each node as before

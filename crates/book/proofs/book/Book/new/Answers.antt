@@ -1,7 +1,7 @@
 use Rattle.std.proofs.Common.{map, sym, ap, subst}
 use Rattle.quant.specs.declared.objects.Node.{Node}
 use Rattle.book.specs.declared.place.Place.{Place}
-use Rattle.book.specs.Tables.{NodeTable, Held, IsShown}
+use Rattle.book.specs.inside.Tables.{NodeTable, Held, IsShown}
 use Rattle.book.specs.Used.{used}
 use Rattle.book.proofs.SumLemmas.{entries_empty}
 use Rattle.book.proofs.book.Book.new.Goals as goal

@@ -1,6 +1,6 @@
 use Rattle.std.proofs.Common.{ap, subst, ◌∙◌, set}
 use Rattle.book.specs.Rows.{IsRowOf, IsGapFor}
-use Rattle.book.specs.Tables.{IsShown}
+use Rattle.book.specs.inside.Tables.{IsShown}
 use Rattle.book.proofs.Beside.{opened, closed, beside_kept, beside_missing}
 use Rattle.book.proofs.nodes.Nodes.keep.Goals as goal
 

@@ -2,7 +2,7 @@ use Rattle.std.proofs.Common.{ap, sym, ◌∙◌, arith}
 use Rattle.std.specs.FinMap as fin
 use Rattle.std.specs.List.{remove}
 use Rattle.book.specs.Rows.{IsRowOf, IsGapFor}
-use Rattle.book.specs.Tables.{NodeTable}
+use Rattle.book.specs.inside.Tables.{NodeTable}
 use Rattle.book.proofs.Beside.{opened, closed, beside_gone}
 use Rattle.book.proofs.RowLemmas.{remove_row, has_row, has_no_row}
 use Rattle.book.proofs.nodes.Nodes.remove.Goals as goal

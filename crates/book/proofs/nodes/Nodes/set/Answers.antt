@@ -3,7 +3,7 @@ use Rattle.std.proofs.lemmas.Bool.{le-leb, lt-leb}
 use Rattle.std.specs.FinMap as fin
 use Rattle.std.specs.List.{insert}
 use Rattle.book.specs.Rows.{IsRowOf, IsGapFor}
-use Rattle.book.specs.Tables.{NodeTable}
+use Rattle.book.specs.inside.Tables.{NodeTable}
 use Rattle.book.proofs.Beside.{opened, closed, beside_come, beside_again}
 use Rattle.book.proofs.RowLemmas.{set_row, insert_row, has_row, has_no_row, len_rows, no_gap, in_gap}
 use Rattle.book.proofs.nodes.Nodes.set.Goals as goal

@@ -1,6 +1,6 @@
 use Rattle.std.proofs.Common.{◌≡◌, ◌-◌, length}
 use Rattle.name_table.specs.Slots.{map_of}
-use Rattle.book.specs.Finishes.{IsGathered}
+use Rattle.book.specs.inside.Finishes.{IsGathered}
 use Rattle.book.proofs.overdue.Overdue.first.Given as goal
 
 -- those that have a place are still to come

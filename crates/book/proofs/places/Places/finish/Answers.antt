@@ -1,6 +1,6 @@
 use Rattle.std.proofs.Common.{◌≡◌, length, refl, ap, sym, ◌∙◌, arith}
 use Rattle.name_table.specs.Slots.{map_of}
-use Rattle.book.specs.Tables.{Held}
+use Rattle.book.specs.inside.Tables.{Held}
 use Rattle.book.specs.Used.{used, assumed_in}
 use Rattle.book.specs.declared.place.Place.{Place}
 use Rattle.book.proofs.FinishLemmas.{slot_timed, timed_put}

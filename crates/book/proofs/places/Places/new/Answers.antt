@@ -3,8 +3,8 @@ use Rattle.std.specs.Prelude.{IfSome}
 use Rattle.std.proofs.lemmas.List.{length-replicate}
 use Rattle.std.specs.FinMap as fin
 use Rattle.name_table.specs.Slots.{Slots, map_of, filled}
-use Rattle.book.specs.Totals.{IsCounted}
-use Rattle.book.specs.Finishes.{finish_in, IsGathered}
+use Rattle.book.specs.inside.Totals.{IsCounted}
+use Rattle.book.specs.inside.Finishes.{finish_in, IsGathered}
 use Rattle.book.specs.declared.finishes.TheConstants.{NEVER}
 use Rattle.book.specs.declared.place.Place.{Place}
 use Rattle.quant.specs.declared.amount.Res.{Res}

@@ -4,8 +4,8 @@ use Rattle.std.proofs.lemmas.Bool.{leb-false}
 use Rattle.std.proofs.lemmas.List.{length-map}
 use Rattle.name_table.specs.Slots.{map_of}
 use Rattle.book.specs.declared.place.Place.{Place}
-use Rattle.book.specs.Finishes.{finish_in}
-use Rattle.book.specs.Tables.{Held, IsShown}
+use Rattle.book.specs.inside.Finishes.{finish_in}
+use Rattle.book.specs.inside.Tables.{Held, IsShown}
 use Rattle.book.specs.Used.{used}
 use Rattle.book.proofs.FinishLemmas.{slot_timed, timed_put, timed_set}
 use Rattle.book.proofs.SumLemmas.{get_removed, insert_over}

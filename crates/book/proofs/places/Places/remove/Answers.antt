@@ -3,7 +3,7 @@ use Rattle.std.specs.Option.{option_map}
 use Rattle.std.specs.FinMap as fin
 use Rattle.name_table.specs.declared.entry.Entry.{Entry}
 use Rattle.name_table.specs.Slots.{map_of}
-use Rattle.book.specs.Tables.{Held, IsShown}
+use Rattle.book.specs.inside.Tables.{Held, IsShown}
 use Rattle.book.specs.Used.{used}
 use Rattle.book.specs.declared.place.Place.{Place}
 use Rattle.book.proofs.FinishLemmas.{slot_timed, timed_set, gathered_any}

@@ -1,5 +1,5 @@
 use Rattle.std.proofs.Common.{length, ap, ◌∙◌}
-use Rattle.book.specs.Tables.{Held}
+use Rattle.book.specs.inside.Tables.{Held}
 use Rattle.book.specs.declared.place.Place.{Place}
 use Rattle.book.proofs.FreeSlots.{written_map, written_once}
 use Rattle.book.proofs.places.Places.slots.Goals as goal

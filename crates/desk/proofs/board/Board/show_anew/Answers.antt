@@ -3,7 +3,7 @@ use Rattle.std.proofs.lemmas.List.{map_push, get_or_default}
 use Rattle.quant.specs.declared.amount.Res.{Res}
 use Rattle.quant.specs.declared.objects.Node.{Node}
 use Rattle.book.specs.Used.{nothing}
-use Rattle.desk.specs.Board.{Board}
+use Rattle.desk.specs.inside.Board.{Board}
 use Rattle.desk.specs.Shown.{Shown, shown}
 use Rattle.desk.specs.declared.snapshot.Row.{Row}
 use Rattle.desk.proofs.NodesStay.{shown_more, shown_whole}

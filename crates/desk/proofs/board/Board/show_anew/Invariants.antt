@@ -1,5 +1,5 @@
 use Rattle.std.proofs.Common.{◌≡◌, map, take}
-use Rattle.desk.specs.Board.{rows_shown}
+use Rattle.desk.specs.inside.Board.{rows_shown}
 use Rattle.desk.specs.Shown.{shown}
 use Rattle.desk.proofs.board.Board.show_anew.Given as goal
 

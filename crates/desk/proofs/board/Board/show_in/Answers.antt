@@ -1,10 +1,10 @@
 use Rattle.std.proofs.Common.{◌≡◌, ◌<◌, get_or, length, refl, ap, sym, ◌∙◌, map, arith}
 use Rattle.std.proofs.lemmas.List.{with_items_is, get_or_default}
 use Rattle.book.specs.Used.{nothing}
-use Rattle.desk.specs.Board.{Board}
+use Rattle.desk.specs.inside.Board.{Board}
 use Rattle.desk.specs.declared.snapshot.Row.{Row}
 use Rattle.desk.specs.Shown.{shown}
-use Rattle.desk.specs.NodeCalls.{nodes_of}
+use Rattle.desk.specs.inside.NodeCalls.{nodes_of}
 use Rattle.desk.proofs.NodesStay.{written_more, written_all, nodes_kept, as_many}
 use Rattle.desk.proofs.board.Board.show_in.Goals as goal
 

@@ -1,7 +1,7 @@
 use Rattle.std.proofs.Common.{◌≡◌, map, take}
-use Rattle.desk.specs.Board.{rows_shown}
+use Rattle.desk.specs.inside.Board.{rows_shown}
 use Rattle.desk.specs.Shown.{shown}
-use Rattle.desk.specs.NodeCalls.{nodes_of}
+use Rattle.desk.specs.inside.NodeCalls.{nodes_of}
 use Rattle.desk.proofs.board.Board.show_in.Given as goal
 
 -- the nodes stay, and the rows so far show what is used now

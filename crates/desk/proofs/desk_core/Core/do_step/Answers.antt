@@ -4,10 +4,10 @@ use Rattle.desk.specs.declared.step.Step.{Step}
 use Rattle.desk.specs.declared.step.Reply.{Reply}
 use Rattle.desk.specs.declared.bare_reply.BareReply.{BareReply}
 use Rattle.desk.specs.declared.bare_reply.BareReply.TheVariants as said
-use Rattle.desk.specs.Caller.{Core}
+use Rattle.desk.specs.inside.Caller.{Core}
 use Rattle.desk.specs.Machine.{Outcome, step}
-use Rattle.desk.specs.BareReply.{bare_reply}
-use Rattle.desk.specs.Done.{IsDone, IsSaid}
+use Rattle.desk.specs.inside.BareReply.{bare_reply}
+use Rattle.desk.specs.inside.Done.{IsDone, IsSaid}
 use Rattle.desk.proofs.desk_core.Core.do_step.Goals as goal
 
 -- what was done or refused is said so

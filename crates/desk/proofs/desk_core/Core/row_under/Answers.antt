@@ -3,8 +3,8 @@ use Rattle.std.specs.Option.{option_copied}
 use Rattle.std.specs.FinMap as fin
 use Rattle.book.specs.Cluster.{Cluster}
 use Rattle.book.specs.Rows.{rows_in}
-use Rattle.desk.specs.Board.{IsRowUnder}
-use Rattle.desk.specs.Caller.{Core}
+use Rattle.desk.specs.inside.Board.{IsRowUnder}
+use Rattle.desk.specs.inside.Caller.{Core}
 use Rattle.desk.proofs.Changes.{no_row}
 use Rattle.desk.proofs.desk_core.Core.row_under.Goals as goal
 

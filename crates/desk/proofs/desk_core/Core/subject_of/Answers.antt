@@ -1,5 +1,5 @@
 use Rattle.std.proofs.Common.{IfOk, sym, subst}
-use Rattle.desk.specs.Board.{IsSubject}
+use Rattle.desk.specs.inside.Board.{IsSubject}
 use Rattle.desk.proofs.desk_core.Core.subject_of.Goals as goal
 
 -- an event is the step's

@@ -1,7 +1,7 @@
 use Rattle.std.proofs.Common.{◌≡◌, ◌++◌, ap, ◌∙◌}
 use Rattle.book.specs.Cluster.{Cluster}
-use Rattle.desk.specs.Board.{used_in}
-use Rattle.desk.specs.Caller.{Core}
+use Rattle.desk.specs.inside.Board.{used_in}
+use Rattle.desk.specs.inside.Caller.{Core}
 use Rattle.desk.proofs.Changes.{all_change}
 use Rattle.desk.proofs.Noted.{all_nodes, all_room}
 use Rattle.desk.proofs.desk_core.Core.take_of_all.Goals as goal

@@ -1,6 +1,6 @@
 use Rattle.std.proofs.Common.{sym, ap, subst}
-use Rattle.desk.specs.Board.{IsChange}
-use Rattle.desk.specs.Caller.{Core}
+use Rattle.desk.specs.inside.Board.{IsChange}
+use Rattle.desk.specs.inside.Caller.{Core}
 use Rattle.desk.specs.declared.change.Change.TheVariants.{Nothing}
 use Rattle.desk.proofs.Noted.{nobody_change}
 use Rattle.desk.proofs.desk_core.Core.take_of_nobody.Goals as goal

@@ -2,8 +2,8 @@ use Rattle.std.proofs.Common.{◌≡◌, sym, ap, subst, ◌∙◌}
 use Rattle.std.specs.FinMap as fin
 use Rattle.book.specs.Cluster.{Cluster}
 use Rattle.book.specs.Rows.{named, rows_in}
-use Rattle.desk.specs.Board.{IsChange}
-use Rattle.desk.specs.Caller.{Core}
+use Rattle.desk.specs.inside.Board.{IsChange}
+use Rattle.desk.specs.inside.Caller.{Core}
 use Rattle.desk.specs.declared.change.Change.TheVariants.{Used}
 use Rattle.desk.proofs.Changes.{listed_by, pod_change}
 use Rattle.desk.proofs.Noted.{nodes_stay, others_stay}

@@ -1,6 +1,6 @@
 use Rattle.std.proofs.Common.{ap, sym, ◌∙◌}
 use Rattle.queue.specs.Queue.{QueueState}
-use Rattle.desk.specs.Caller.{with_state}
+use Rattle.desk.specs.inside.Caller.{with_state}
 use Rattle.desk.proofs.Noted.{unremoved}
 use Rattle.desk.proofs.desk_core.Core.unqueue.Goals as goal
 

@@ -2,7 +2,7 @@ use Rattle.std.proofs.Common.{◌≤◌, ap, subst, arith, length, List}
 use Rattle.std.proofs.lemmas.Bool.Decides.{nat_tests}
 use mathlib.Core.List.{IsPrefix}
 use Rattle.desk.specs.History.{Call}
-use Rattle.desk.specs.Shared.{Prefix}
+use Rattle.desk.specs.inside.Shared.{Prefix}
 use Rattle.desk.proofs.Beginnings.{prefix_shorter}
 use Rattle.desk.proofs.history.Prefix.begins.Goals as goal
 

@@ -1,5 +1,5 @@
 use Rattle.std.proofs.Common.{◌≡◌, sym, ◌∙◌, ap, length}
-use Rattle.desk.specs.Shared.{Prefix}
+use Rattle.desk.specs.inside.Shared.{Prefix}
 use Rattle.desk.proofs.Adding.{adds_moves}
 use Rattle.desk.proofs.history.Prefix.with_call.Goals as goal
 

@@ -2,11 +2,12 @@ use Rattle.std.proofs.Common.{◌≡◌, map, refl, ap, sym, ◌∙◌}
 use Rattle.std.specs.Arc.{arc_value}
 use Rattle.std.specs.Global.{Vec}
 use Rattle.desk.specs.declared.snapshot.Row.{Row}
-use Rattle.desk.specs.Board.{Board}
+use Rattle.desk.specs.inside.Board.{Board}
 use Rattle.desk.specs.History.{state_after}
 use Rattle.desk.specs.Machine.{opening}
-use Rattle.desk.specs.NodeCalls.{nodes_in}
-use Rattle.desk.specs.Shared.{Pass, Prefix}
+use Rattle.desk.specs.inside.NodeCalls.{nodes_in}
+use Rattle.desk.specs.Shared.{Pass}
+use Rattle.desk.specs.inside.Shared.{Prefix}
 use Rattle.desk.specs.Shown.{shown}
 use Rattle.desk.proofs.NodesStay.{nodes_shown, nodes_published, used_long}
 use Rattle.desk.proofs.Sharing.{looked_on_board}

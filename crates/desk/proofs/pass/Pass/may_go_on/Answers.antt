@@ -1,6 +1,6 @@
 use Rattle.std.proofs.Common.{sym, ap, ◌∙◌, subst}
 use mathlib.Core.List.{IsPrefix}
-use Rattle.desk.specs.Board.{Board}
+use Rattle.desk.specs.inside.Board.{Board}
 use Rattle.desk.specs.Shared.{Pass, IsAhead}
 use Rattle.desk.proofs.Sharing.{ahead_on_board}
 use Rattle.desk.proofs.pass.Pass.may_go_on.Goals as goal

@@ -1,8 +1,9 @@
 use Rattle.std.proofs.Common.{◌≡◌, ◌+◌, ◌++◌, ◌∷◌, [], sym, ap, ◌∙◌, refl, subst, slice_index}
 use Rattle.desk.specs.Machine.{reply}
 use Rattle.desk.specs.History.{HasCallsOf}
-use Rattle.desk.specs.BareReply.{bare_reply, reply_with}
-use Rattle.desk.specs.Shared.{Prefix, Held, Stands, IsApplied, held_after, next_call}
+use Rattle.desk.specs.inside.BareReply.{bare_reply, reply_with}
+use Rattle.desk.specs.Shared.{IsApplied}
+use Rattle.desk.specs.inside.Shared.{Prefix, Held, Stands, held_after, next_call}
 use Rattle.desk.proofs.Histories.{calls_made}
 use Rattle.desk.proofs.Saying.{said_whole}
 use Rattle.desk.proofs.Sharing.{stands_after, counted_alike, applied_more}

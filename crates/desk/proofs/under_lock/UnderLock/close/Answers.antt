@@ -1,5 +1,5 @@
 use Rattle.std.proofs.Common.{◌∙◌}
-use Rattle.desk.specs.Shared.{Held}
+use Rattle.desk.specs.inside.Shared.{Held}
 use Rattle.desk.proofs.Sharing.{is_board}
 use Rattle.desk.proofs.under_lock.UnderLock.close.Goals as goal
 

@@ -1,6 +1,6 @@
 use Rattle.std.proofs.Common.{◌++◌, ◌∷◌, [], sym, ap, ◌∙◌, subst, drop}
-use Rattle.desk.specs.Board.{IsPublished}
-use Rattle.desk.specs.Shared.{Held}
+use Rattle.desk.specs.inside.Board.{IsPublished}
+use Rattle.desk.specs.inside.Shared.{Held}
 use Rattle.desk.proofs.Sharing.{still_nothing, no_order}
 use Rattle.desk.proofs.under_lock.UnderLock.make_room.Goals as goal
 

@@ -1,7 +1,7 @@
 use Rattle.std.proofs.Common.{◌≡◌, sym, ap, ◌∙◌, subst, fold}
-use Rattle.desk.specs.Board.{board_of, board_after}
-use Rattle.desk.specs.Caller.{new_core}
-use Rattle.desk.specs.Shared.{Held, Stands, first_held}
+use Rattle.desk.specs.inside.Board.{board_of, board_after}
+use Rattle.desk.specs.inside.Caller.{new_core}
+use Rattle.desk.specs.inside.Shared.{Held, Stands, first_held}
 use Rattle.desk.proofs.Sharing.{stands_first}
 use Rattle.desk.proofs.under_lock.UnderLock.new.Goals as goal
 

@@ -1,9 +1,9 @@
 use Rattle.std.proofs.Common.{◌≡◌, ◌+◌, sym, ap, ◌∙◌, subst, drop, fold, slice_index}
 use Rattle.desk.specs.declared.board.Order.{Order}
-use Rattle.desk.specs.Board.{IsChange, board_after, board_of}
-use Rattle.desk.specs.Caller.{Core, with_state}
+use Rattle.desk.specs.inside.Board.{IsChange, board_after, board_of}
+use Rattle.desk.specs.inside.Caller.{Core, with_state}
 use Rattle.desk.specs.Machine.{after}
-use Rattle.desk.specs.Shared.{Held, Stands, held_after}
+use Rattle.desk.specs.inside.Shared.{Held, Stands, held_after}
 use Rattle.desk.proofs.Sharing.{published_more, is_board}
 use Rattle.desk.proofs.under_lock.UnderLock.take_call.Goals as goal
 

@@ -1,6 +1,6 @@
 use Rattle.std.proofs.Common.{◌≡◌, ◌++◌, ◌<◌, true, false, Ok, length, ap, subst, arith, rules}
 use Rattle.std.proofs.lemmas.List.{length-append}
-use Rattle.engine.specs.Lines.{TakesPiece}
+use Rattle.engine.specs.inside.Lines.{TakesPiece}
 use Rattle.engine.proofs.Taking.{IsTaken-more, IsTaken-piece, told-still, TakesLine-newline, TakesLine-last, length-kept}
 use Rattle.engine.proofs.lines.LineReader.next_line.Goals as goal
 

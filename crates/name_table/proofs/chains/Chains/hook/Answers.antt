@@ -2,8 +2,8 @@
 use Rattle.std.proofs.Common.{◌≡◌, ℕ, set, sym, subst}
 use Rattle.std.proofs.lemmas.List.{length-set}
 use Rattle.name_table.specs.declared.chains.Chains.{Chains}
-use Rattle.name_table.specs.Written.{Hung}
-use Rattle.name_table.specs.Woven.{IsWoven}
+use Rattle.name_table.specs.inside.Written.{Hung}
+use Rattle.name_table.specs.inside.Woven.{IsWoven}
 use Rattle.name_table.proofs.MoveLemmas.{hooked, AreKept}
 use Rattle.name_table.proofs.WovenLemmas.{kept_of, woven_after}
 use Rattle.name_table.proofs.chains.Chains.hook.Goals as goal

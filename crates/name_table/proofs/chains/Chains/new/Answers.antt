@@ -4,7 +4,7 @@ use Rattle.std.proofs.lemmas.List.{length-replicate, get_or-replicate, length-se
 use Rattle.std.proofs.lemmas.List.FromFn.{length-range_with_len, get_or-range_with_len}
 use Rattle.std.specs.List.{range_with_len}
 use Rattle.name_table.specs.declared.chains.Chains.{Chains}
-use Rattle.name_table.specs.Woven.{IsWoven}
+use Rattle.name_table.specs.inside.Woven.{IsWoven}
 use Rattle.name_table.proofs.WovenLemmas.{woven_new}
 use Rattle.name_table.proofs.chains.Chains.new.Goals as goal
 

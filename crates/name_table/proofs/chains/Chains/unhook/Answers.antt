@@ -2,7 +2,7 @@
 use Rattle.std.proofs.Common.{◌≡◌, ℕ, ◌<◌, ◌∷◌, ◌++◌, length, get_or, set, refl, sym, ap, subst, ◌∙◌}
 use Rattle.std.proofs.lemmas.List.{get_or_default, length-set}
 use Rattle.name_table.specs.declared.chains.Chains.{Chains}
-use Rattle.name_table.specs.Woven.{nowhere, IsWoven, chain}
+use Rattle.name_table.specs.inside.Woven.{nowhere, IsWoven, chain}
 use Rattle.name_table.proofs.MoveLemmas.{unhooked_first, unhooked_later, AreKept}
 use Rattle.name_table.proofs.WovenLemmas.{kept_of, woven_after}
 use Rattle.name_table.proofs.chains.Chains.unhook.Goals as goal

@@ -1,7 +1,7 @@
 -- A head whose block was never written is the end.
 use Rattle.std.proofs.Common.{◌≡◌, ◌+◌, ◌*◌, ◌/◌, ◌%◌, ◌<◌, length, get_or, ◌∙◌, arith}
 use Rattle.std.proofs.lemmas.List.{get_or_read}
-use Rattle.name_table.specs.Written.{head_at}
+use Rattle.name_table.specs.inside.Written.{head_at}
 use Rattle.name_table.proofs.WrittenLemmas.{listed_many, listed_read}
 use Rattle.name_table.proofs.heads.Heads.get.Goals as goal
 

@@ -1,6 +1,6 @@
 -- None is written.
 use Rattle.std.proofs.Common.{◌≡◌, ◌+◌, ◌/◌, [], replicate, ◌∙◌}
-use Rattle.name_table.specs.Written.{unwritten, listed, head_at}
+use Rattle.name_table.specs.inside.Written.{unwritten, listed, head_at}
 use Rattle.name_table.proofs.WrittenLemmas.{heads_new}
 use Rattle.name_table.proofs.heads.Heads.new.Goals as goal
 

@@ -1,7 +1,7 @@
 -- The block is there, and no other head's place is the one that is written.
 use Rattle.std.proofs.Common.{◌≡◌, ◌+◌, ◌*◌, ◌/◌, ◌%◌, ◌<◌, ◌≤◌, length, get_or, set, ap, ◌∙◌, arith}
 use Rattle.std.proofs.lemmas.List.{get_or_read}
-use Rattle.name_table.specs.Written.{listed, head_at}
+use Rattle.name_table.specs.inside.Written.{listed, head_at}
 use Rattle.name_table.proofs.WrittenLemmas.{listed_many, head_there, head_set, heads_after}
 use Rattle.name_table.proofs.heads.Heads.set.Goals as goal
 

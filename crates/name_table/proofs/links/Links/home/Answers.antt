@@ -1,7 +1,7 @@
 -- A link that was never written is the first.
 use Rattle.std.proofs.Common.{get_or, ap, ◌∙◌, arith}
 use Rattle.name_table.specs.declared.links.Link.{Link}
-use Rattle.name_table.specs.Written.{first_link}
+use Rattle.name_table.specs.inside.Written.{first_link}
 use Rattle.name_table.proofs.WrittenLemmas.{home_read}
 use Rattle.name_table.proofs.links.Links.home.Goals as goal
 

@@ -1,6 +1,6 @@
 -- None is written.
 use Rattle.std.proofs.Common.{ap, ◌∙◌}
-use Rattle.name_table.specs.Written.{hung}
+use Rattle.name_table.specs.inside.Written.{hung}
 use Rattle.name_table.proofs.WrittenLemmas.{hung_new}
 use Rattle.name_table.proofs.links.Links.new.Goals as goal
 

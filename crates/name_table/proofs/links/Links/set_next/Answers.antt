@@ -2,7 +2,7 @@
 use Rattle.std.proofs.Common.{◌≡◌, ◌<◌, length, get_or, ap, arith}
 use Rattle.std.proofs.lemmas.List.{get_or_read}
 use Rattle.name_table.specs.declared.links.Link.{Link}
-use Rattle.name_table.specs.Written.{first_link}
+use Rattle.name_table.specs.inside.Written.{first_link}
 use Rattle.name_table.proofs.WrittenLemmas.{next_many, next_set}
 use Rattle.name_table.proofs.links.Links.set_next.Goals as goal
 

@@ -2,7 +2,7 @@
 use Rattle.std.proofs.Common.{◌≡◌, ◌+◌, ◌<◌, length, set, None, sym, ap, subst, ◌∙◌, arith}
 use Rattle.std.specs.FinMap as fin
 use Rattle.name_table.specs.Slots.{Slots, entry_in, map_of, NamesOnce}
-use Rattle.name_table.specs.Buckets.{IsFiled}
+use Rattle.name_table.specs.inside.Buckets.{IsFiled}
 use Rattle.name_table.proofs.SlotLemmas.{map_insert, once_insert}
 use Rattle.name_table.proofs.TableLemmas.{free_head, homes_many, home_chain, filed_insert}
 use Rattle.name_table.proofs.table.NameTable.insert.Goals as goal

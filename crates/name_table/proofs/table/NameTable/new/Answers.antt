@@ -1,7 +1,7 @@
 -- All slots are free.
 use Rattle.std.proofs.Common.{◌≡◌, ◌+◌, ◌-◌, ◌≤◌, replicate, sym, ap, subst, ◌∙◌, arith, rules}
 use Rattle.name_table.specs.Slots.{Slots}
-use Rattle.name_table.specs.Buckets.{IsFiled}
+use Rattle.name_table.specs.inside.Buckets.{IsFiled}
 use Rattle.name_table.proofs.TableLemmas.{filed_free}
 use Rattle.name_table.proofs.table.NameTable.new.Goals as goal
 

@@ -4,7 +4,7 @@ use Rattle.std.specs.Option.{option_map}
 use Rattle.std.specs.FinMap as fin
 use Rattle.name_table.specs.declared.entry.Entry.{Entry}
 use Rattle.name_table.specs.Slots.{Slots, entry_in, name_in, map_of, NamesOnce}
-use Rattle.name_table.specs.Buckets.{IsFiled}
+use Rattle.name_table.specs.inside.Buckets.{IsFiled}
 use Rattle.name_table.proofs.SlotLemmas.{map_remove, once_remove, some_within}
 use Rattle.name_table.proofs.TableLemmas.{home_chain, filed_remove}
 use Rattle.name_table.proofs.table.NameTable.remove_at.Goals as goal

@@ -1,7 +1,7 @@
 use Rattle.std.proofs.Common.{◌≡◌, ◌<◌, ◌++◌, ◌∷◌, [], List, length, sym, ap, ◌∙◌, subst, arith}
 use Rattle.std.proofs.lemmas.List.{length-map}
 use Rattle.plugin.specs.Plugins.{Configured, IsTaken}
-use Rattle.plugin.specs.Entries.{configured}
+use Rattle.plugin.specs.inside.Entries.{configured}
 use Rattle.plugin.proofs.EntryLemmas.{grown, entries_kept, entries_grown, plugins_grown, where_ok, where_err}
 use Rattle.plugin.proofs.plugins.Plugins.put.Goals as goal
 

@@ -3,7 +3,7 @@ use Rattle.quant.specs.declared.objects.Pod.{Pod}
 use Rattle.queue.specs.declared.refusal.Refusal.TheVariants.{Known, Full}
 use Rattle.queue.specs.Entry.{new_entry}
 use Rattle.queue.specs.Queue.{has_entry, is_full_queue, with_entry, refusal_to_add, after_add}
-use Rattle.queue.specs.Slots.{state_of}
+use Rattle.queue.specs.inside.Slots.{state_of}
 use Rattle.queue.proofs.States.{refused, known_to_add, full_to_add, may_add, add_some, index_added}
 use Rattle.queue.proofs.queue.Queue.add.Goals as goal
 

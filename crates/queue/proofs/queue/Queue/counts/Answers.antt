@@ -1,8 +1,8 @@
 use Rattle.std.proofs.Common.{length, sym, subst, ap, ◌∙◌, arith}
 use Rattle.name_table.proofs.FreeLemmas.{free_least}
-use Rattle.queue.specs.Heap.{Pods}
+use Rattle.queue.specs.inside.Heap.{Pods}
 use Rattle.queue.specs.Queue.{IsQueue, counts_of}
-use Rattle.queue.specs.Slots.{counts_so_far}
+use Rattle.queue.specs.inside.Slots.{counts_so_far}
 use Rattle.queue.proofs.States.{is_queue, counts-state, counts-free}
 use Rattle.queue.proofs.queue.Queue.counts.Goals as goal
 

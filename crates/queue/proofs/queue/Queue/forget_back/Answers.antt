@@ -2,9 +2,9 @@ use Rattle.std.proofs.Common.{◌≡◌, true, false, arith, refl, sym, ap, ◌�
 use Rattle.std.specs.Prelude.{Some, None}
 use Rattle.queue.specs.declared.refusal.Refusal.TheVariants.{NotInFlight}
 use Rattle.queue.specs.Entry.{Entry, is_in_flight, sent_back}
-use Rattle.queue.specs.Index.{stands_in}
+use Rattle.queue.specs.inside.Index.{stands_in}
 use Rattle.queue.specs.Queue.{changed_at, refusal_to_forget, after_forget}
-use Rattle.queue.specs.Slots.{state_of}
+use Rattle.queue.specs.inside.Slots.{state_of}
 use Rattle.queue.proofs.Changes.{kept_in, stands_of}
 use Rattle.queue.proofs.States.{refused, refusal_by, entry_of_kept, change_accepted, kept_changed, name_of_kept, value_of_kept}
 use Rattle.queue.proofs.queue.Queue.forget_back.Goals as goal

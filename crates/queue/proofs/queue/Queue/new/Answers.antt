@@ -1,8 +1,8 @@
 use Rattle.std.proofs.Common.{length, arith, sym, ap, ◌∙◌, subst}
 use Rattle.name_table.specs.Slots.{NamesOnce}
-use Rattle.queue.specs.Heap.{Pods}
-use Rattle.queue.specs.Index.{IsIndex}
-use Rattle.queue.specs.Slots.{OwnUids, state_of}
+use Rattle.queue.specs.inside.Heap.{Pods}
+use Rattle.queue.specs.inside.Index.{IsIndex}
+use Rattle.queue.specs.inside.Slots.{OwnUids, state_of}
 use Rattle.queue.proofs.States.{once_free, own_free, free_state, length_free}
 use Rattle.queue.proofs.queue.Queue.new.Goals as goal
 

@@ -5,8 +5,8 @@ use Rattle.name_table.specs.Slots.{entry_in}
 use Rattle.queue.specs.Entry.{is_in_flight, popped}
 use Rattle.queue.specs.Order.{Item}
 use Rattle.queue.specs.Queue.{next_of, after_pop}
-use Rattle.queue.specs.Heap.{Pods}
-use Rattle.queue.specs.Index.{stands_in}
+use Rattle.queue.specs.inside.Heap.{Pods}
+use Rattle.queue.specs.inside.Index.{stands_in}
 use Rattle.queue.proofs.Changes.{kept_in}
 use Rattle.queue.proofs.States.{root_there, next_some, next_none, kept_changed, stands_changed, pop_some, pop_none, name_of_kept}
 use Rattle.queue.proofs.queue.Queue.pop.Goals as goal

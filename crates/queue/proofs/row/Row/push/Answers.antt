@@ -1,6 +1,6 @@
 use Rattle.std.proofs.Common.{◌≡◌, ℕ, ◌<◌, ◌≤◌, List, length, arith, ap, ◌∙◌, subst}
 use Rattle.std.proofs.lemmas.List.{get_or_read}
-use Rattle.queue.specs.Row.{SlotRow, at, IsIn, IsSwapped}
+use Rattle.queue.specs.inside.Row.{SlotRow, at, IsIn, IsSwapped}
 use Rattle.queue.proofs.Rows.{behind, pushed}
 use Rattle.queue.proofs.row.Row.push.Goals as goal
 

@@ -1,8 +1,8 @@
 use Rattle.std.proofs.Common.{◌≡◌, drop, take, length, ◌-◌, rules}
 use Rattle.std.proofs.lemmas.Result.{err_from_is_err_and}
 use Rattle.wcode.specs.declared.fault.BinFault.TheVariants.{NoMemory}
-use Rattle.wbin.specs.Reading.{Reads}
-use Rattle.wbin.specs.Codes.{ReadsCode}
+use Rattle.wbin.specs.inside.Reading.{Reads}
+use Rattle.wbin.specs.inside.Codes.{ReadsCode}
 use Rattle.wbin.proofs.Mapped.{mapped_ok, mapped_err}
 use Rattle.wbin.proofs.CodeContents.{code_missing}
 use Rattle.wbin.proofs.Places.{code_found}

@@ -1,6 +1,6 @@
 use Rattle.std.proofs.Common.{drop, subst, arith}
 use Rattle.wbin.specs.Grammar.{SpellsBytes}
-use Rattle.wbin.specs.Reading.{Reads}
+use Rattle.wbin.specs.inside.Reading.{Reads}
 use Rattle.wbin.proofs.placed.ContentsPart.read.Goals as goal
 
 pub returns-clause-read : goal.returns-clause-read

@@ -1,5 +1,5 @@
 use Rattle.std.proofs.lemmas.Result.{err_from_is_err_and}
-use Rattle.wbin.specs.Reading.{Reads}
+use Rattle.wbin.specs.inside.Reading.{Reads}
 use Rattle.wbin.proofs.section_entries.DataSegmentPart.read.Goals as goal
 
 pub returns-in_err-found-clause-read : goal.returns-in_err-found-clause-read

@@ -1,7 +1,7 @@
 use Rattle.std.proofs.Common.{◌+◌, drop}
 use Rattle.std.proofs.lemmas.List.{map-id}
 use Rattle.std.proofs.lemmas.Result.{err_from_is_err_and}
-use Rattle.wbin.specs.Reading.{Reads}
+use Rattle.wbin.specs.inside.Reading.{Reads}
 use Rattle.wbin.proofs.SpelledTypes.{function_type_missing}
 use Rattle.wbin.proofs.types.FunctionTypeEntry.read.Goals as goal
 

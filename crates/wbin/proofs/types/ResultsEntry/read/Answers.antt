@@ -1,7 +1,7 @@
 use Rattle.std.proofs.Common.{drop, subst}
 use Rattle.std.proofs.lemmas.Result.{err_from_is_err_and}
 use Rattle.wcode.specs.Grammar.{SpellsIndex}
-use Rattle.wbin.specs.Reading.{Reads}
+use Rattle.wbin.specs.inside.Reading.{Reads}
 use Rattle.wbin.proofs.SpelledTypes.{no_results, one_result, result_missing, many_results}
 use Rattle.wbin.proofs.types.ResultsEntry.read.Goals as goal
 

@@ -1,7 +1,7 @@
 use Rattle.std.proofs.Common.{◌≡◌, ◌-◌, length, arith}
-use Rattle.wbody.specs.OperandStack.{stack_of}
+use Rattle.wbody.specs.inside.OperandStack.{stack_of}
 use Rattle.wbody.specs.Context.{results_of}
-use Rattle.wbody.specs.Pass.{fits}
+use Rattle.wbody.specs.inside.Pass.{fits}
 use Rattle.std.proofs.Common.{sym, ap, ◌∙◌}
 use Rattle.wcode.specs.declared.value.BlockType.{BlockType}
 use Rattle.wbody.proofs.Results.{none_there, more_there, how_many}

@@ -1,5 +1,5 @@
 use Rattle.std.proofs.Common.{Some, reverse, take, sym, ap, ◌∙◌}
-use Rattle.wbody.specs.Pass.{Stack, taken}
+use Rattle.wbody.specs.inside.Pass.{Stack, taken}
 use Rattle.wbody.proofs.Operands.{any_taken}
 use Rattle.wbody.proofs.operand_stack.OperandStack.take_all.Goals as goal
 

@@ -1,6 +1,6 @@
 use Rattle.std.proofs.Common.{◌≡◌, ◌≤◌, length, take, reverse}
-use Rattle.wbody.specs.OperandStack.{stack_of, SameBlock}
-use Rattle.wbody.specs.Pass.{taken}
+use Rattle.wbody.specs.inside.OperandStack.{stack_of, SameBlock}
+use Rattle.wbody.specs.inside.Pass.{taken}
 use Rattle.wbody.proofs.operand_stack.OperandStack.take_all.Given as goal
 
 -- to take all is to take those that are left, from what is there now

@@ -1,5 +1,6 @@
 use Rattle.std.proofs.Common.{◌≡◌, ◌++◌, ◌∷◌, List, ℕ, length, map, ap, ◌∙◌, ◌+◌, length-append}
-use Rattle.whost.specs.KeyOrder.{in_key_order, label_at}
+use Rattle.whost.specs.KeyOrder.{in_key_order}
+use Rattle.whost.specs.inside.KeyOrder.{label_at}
 use Rattle.whost.specs.Record.{labels_field}
 use Rattle.whost.proofs.RecordLemmas.{at_all_places, labels_length}
 use Rattle.whost.proofs.record.Record.put_labels.Goals as goal

@@ -1,7 +1,7 @@
 use Rattle.std.proofs.Common.{◌≡◌, ◌+◌, ◌*◌, ◌≤◌, ◌∷◌, ◌++◌, length, take}
 use Rattle.std.specs.List.{flat_map}
 use Rattle.whost.specs.Record.{label_field}
-use Rattle.whost.specs.KeyOrder.{label_at}
+use Rattle.whost.specs.inside.KeyOrder.{label_at}
 use Rattle.whost.proofs.record.Record.put_labels.Given as goal
 
 -- the first labels in order stand behind their count

@@ -2,10 +2,10 @@ use Rattle.std.proofs.Common.{length, sym, ap, ◌∙◌, subst}
 use Rattle.std.proofs.lemmas.List.{with_items_is}
 use Rattle.wbin.specs.Syntax.{module_of}
 use Rattle.wtype.specs.CheckedModule.{CheckedModule}
-use Rattle.wmach.specs.Coded.{ShapesAgree, RecordsAgree}
+use Rattle.wmach.specs.inside.Coded.{ShapesAgree, RecordsAgree}
 use Rattle.wmach.specs.Host.{imported_names}
-use Rattle.wmach.specs.Known.{IsChecked}
-use Rattle.wmach.specs.Running.{Widest}
+use Rattle.wmach.specs.inside.Known.{IsChecked}
+use Rattle.wmach.specs.inside.Running.{Widest}
 use Rattle.wmach.proofs.machine.Machine.invoke.Goals as goal
 
 pub invoke-requires-clause-checked : goal.invoke-requires-clause-checked

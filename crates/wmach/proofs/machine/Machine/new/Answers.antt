@@ -4,12 +4,12 @@ use Rattle.wbin.specs.Syntax.{ModuleParts, module_of}
 use Rattle.wtype.specs.Accepted.{most_slots}
 use Rattle.wtype.specs.CheckedModule.{CheckedModule}
 use Rattle.wstore.specs.State.{StoreState}
-use Rattle.wmach.specs.Coded.{ShapesAgree, RecordsAgree}
+use Rattle.wmach.specs.inside.Coded.{ShapesAgree, RecordsAgree}
 use Rattle.wmach.specs.Host.{imported_names}
-use Rattle.wmach.specs.Kept.{AllFrames}
-use Rattle.wmach.specs.Known.{IsChecked}
+use Rattle.wmach.specs.inside.Kept.{AllFrames}
+use Rattle.wmach.specs.inside.Known.{IsChecked}
 use Rattle.wmach.specs.Reduction.{most_frames}
-use Rattle.wmach.specs.Running.{Widest}
+use Rattle.wmach.specs.inside.Running.{Widest}
 use Rattle.wmach.proofs.Widening.{few_frames, wide_is}
 use Rattle.wmach.proofs.machine.Machine.new.Goals as goal
 

@@ -1,5 +1,5 @@
 use Rattle.std.proofs.Common.{◌≡◌, ℕ, ◌+◌, ◌-◌, ◌*◌, ◌/◌, ◌≤◌, length, arith, ap, ◌∙◌}
-use Rattle.wmem.specs.Tracked.{stretch}
+use Rattle.wmem.specs.inside.Tracked.{stretch}
 use Rattle.wmem.proofs.Buffers.{length-longer}
 use Rattle.wmem.proofs.Changes.{length-bytes, extend_sound, extend_view, grow_sound, grow_view, grown_is}
 use Rattle.wmem.proofs.memory.Memory.grow.Goals as goal

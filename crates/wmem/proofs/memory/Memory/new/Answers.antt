@@ -1,6 +1,6 @@
 use Rattle.std.proofs.Common.{◌≡◌, ◌*◌, ◌/◌, arith, ap, ◌∙◌}
 use Rattle.wmem.specs.Memory.{zeros}
-use Rattle.wmem.specs.Tracked.{stretch}
+use Rattle.wmem.specs.inside.Tracked.{stretch}
 use Rattle.wmem.proofs.Changes.{new_sound, new_view}
 use Rattle.wmem.proofs.Buffers.{extended_from_none}
 use Rattle.wmem.proofs.memory.Memory.new.Goals as goal

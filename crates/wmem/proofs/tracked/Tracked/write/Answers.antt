@@ -1,7 +1,7 @@
 use Rattle.std.proofs.Common.{◌≡◌, ℕ, Bool, refl, ◌+◌, ◌-◌, ◌/◌, ◌≤◌, List, length, set, true, ap, ◌∙◌, arith, length-set}
 use Rattle.wmem.specs.Access.{byte_count}
 use Rattle.wmem.specs.Bytes.{bytes_of}
-use Rattle.wmem.specs.Tracked.{stretch}
+use Rattle.wmem.specs.inside.Tracked.{stretch}
 use Rattle.wmem.proofs.Buffers.{length-bytes_of}
 use Rattle.wmem.proofs.Changes.{written_items}
 use Rattle.wmem.proofs.TrackedLemmas.{write_tracked, byte_count_bounds, two_pages, unset_before}

@@ -2,7 +2,7 @@ use Rattle.std.proofs.Common.{◌≡◌, ◌<◌, ◌∙◌, Some, length, sym, 
 use Rattle.std.specs.Prelude.{slice_get, option_map}
 use Rattle.wstore.specs.Values.{word_of}
 use Rattle.wstore.specs.State.{StoreState}
-use Rattle.wstore.specs.Inside.{parts_of}
+use Rattle.wstore.specs.inside.Inside.{parts_of}
 use Rattle.wstore.proofs.Globals.{word_at}
 use Rattle.wstore.proofs.Changes.{there}
 use Rattle.wstore.proofs.store.Store.global.Goals as goal

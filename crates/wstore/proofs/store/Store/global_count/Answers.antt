@@ -1,6 +1,6 @@
 use Rattle.std.proofs.Common.{◌≡◌, ◌∙◌, length, sym, ap, subst}
 use Rattle.wstore.specs.State.{StoreState}
-use Rattle.wstore.specs.Inside.{parts_of}
+use Rattle.wstore.specs.inside.Inside.{parts_of}
 use Rattle.wstore.proofs.Globals.{length-values}
 use Rattle.wstore.proofs.store.Store.global_count.Goals as goal
 

@@ -5,8 +5,9 @@ use Rattle.wbin.specs.declared.module.Tables.{Tables}
 use Rattle.wbin.specs.Syntax.{ModuleParts, module_of}
 use Rattle.wtype.specs.CheckedModule.{CheckedModule}
 use Rattle.wtype.specs.Accepted.{Accepted}
-use Rattle.wstore.specs.Store.{least_of, cap_of, first_table}
-use Rattle.wstore.specs.Words.{first_word_of}
+use Rattle.wstore.specs.Store.{cap_of, first_table}
+use Rattle.wstore.specs.inside.Store.{least_of}
+use Rattle.wstore.specs.inside.Words.{first_word_of}
 use Rattle.wstore.proofs.Changes.{IsFirst, first_sound, first_view}
 use Rattle.wstore.proofs.store.Store.new.Goals as goal
 

@@ -9,7 +9,7 @@ use Rattle.wtype.proofs.Each.{at_place}
 use Rattle.wtype.proofs.Sized.{At, some_at}
 use Rattle.wstore.specs.Segments.{offset_of, ElementsFit}
 use Rattle.wstore.specs.State.{StoreState, syntax_of}
-use Rattle.wstore.specs.Inside.{parts_of}
+use Rattle.wstore.specs.inside.Inside.{parts_of}
 use Rattle.wstore.proofs.Changes.{put_sound, same_bound}
 use Rattle.wstore.proofs.store.Store.put_elements.Goals as goal
 

@@ -1,0 +1,6 @@
+pub mod Tables
+pub mod Totals
+pub mod Rows
+pub mod Codes
+pub mod Step
+pub mod Finishes

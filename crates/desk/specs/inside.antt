@@ -1,0 +1,10 @@
+pub mod Caller
+pub mod History
+pub mod Shared
+pub mod Board
+pub mod Codes
+pub mod SharedCodes
+pub mod BoardCodes
+pub mod NodeCalls
+pub mod BareReply
+pub mod Done

@@ -1,0 +1,5 @@
+pub mod Answers
+pub mod Cycle
+pub mod Device
+pub mod Lines
+pub mod Output

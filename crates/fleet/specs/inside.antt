@@ -1,0 +1,5 @@
+pub mod Asking
+pub mod Message
+pub mod Pieces
+pub mod Speaking
+pub mod Team

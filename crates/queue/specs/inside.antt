@@ -1,0 +1,5 @@
+pub mod Entry
+pub mod Slots
+pub mod Row
+pub mod Heap
+pub mod Index

@@ -1,0 +1,108 @@
+-- Which slots stand where.
+use Rattle.std.specs.Prelude.{◌≡◌, ◌≢◌, ℕ, ◌+◌, ◌<◌, nat_le, None, Some, Bool, true, false, ◌≤◌, List, length, Option, option_map, slice_set}
+use Rattle.std.specs.Option.{option_map_or}
+use Rattle.name_table.specs.declared.entry.Entry.{Entry as Named}
+use Rattle.name_table.specs.Slots.{entry_in}
+use Rattle.quant.specs.declared.amount.Moment.{Moment}
+use Rattle.queue.specs.declared.state.State.{State}
+use Rattle.queue.specs.declared.state.State.TheVariants.{Active, Backoff, Unschedulable, InFlight}
+use Rattle.queue.specs.declared.index.Index.{Index}
+use Rattle.queue.specs.declared.slot.Change.{Change}
+use Rattle.queue.specs.declared.slot.Change.TheVariants.{Pop, SendBack, Fail, Tick, Move}
+use Rattle.queue.specs.Entry.{Entry, is_active, is_backoff, is_unschedulable, popped, sent_back, failed, ticked, moved_on}
+use Rattle.queue.specs.inside.Row.{SlotRow, at, IsIn}
+use Rattle.queue.specs.inside.Heap.{Pods, IsHeap}
+
+-- where the pod in a slot stands
+abbrev pub state_in : Pods → ℕ → Option State
+state_in pods s = option_map (λ e. e.value.state) (entry_in pods s)
+
+-- whether a slot has a pod that stands there
+abbrev pub stands_in : (State → Bool) → Pods → ℕ → Bool
+stands_in test pods s = option_map_or test (state_in pods s) false
+
+-- some pass has popped it, and there was no move since
+abbrev pub is_unmarked : State → Bool
+is_unmarked Active = false
+is_unmarked (Backoff until) = false
+is_unmarked (Unschedulable since) = false
+is_unmarked (InFlight pass true) = false
+is_unmarked (InFlight pass false) = true
+
+-- the row has just the slots whose pods stand there
+pub record Lists (test : State → Bool) (pods : Pods) (row : SlotRow) : Type 0 where
+  pub room : row.room ≡ length pods
+  pub there : (t : ℕ) → IsIn row.slots t → stands_in test pods t ≡ true
+  pub all : (t : ℕ) → stands_in test pods t ≡ true → IsIn row.slots t
+
+-- the same, but for one slot, which is not in the row
+pub record ListsBut (test : State → Bool) (pods : Pods) (row : SlotRow) (s : ℕ) : Type 0 where
+  pub room : row.room ≡ length pods
+  pub there : (t : ℕ) → IsIn row.slots t → stands_in test pods t ≡ true
+  pub all : (t : ℕ) → (t ≢ s) → stands_in test pods t ≡ true → IsIn row.slots t
+  pub out : IsIn row.slots s → ⊥
+
+-- each slot that has a pod is where that stands
+pub record IsIndex (pods : Pods) (index : Index) : Type 0 where
+  pub active : Lists is_active pods index.active
+  pub backoff : Lists is_backoff pods index.backoff
+  pub unschedulable : Lists is_unschedulable pods index.unschedulable
+  pub unmarked : Lists is_unmarked pods index.unmarked
+  pub by_order : IsHeap pods index.active.slots
+  pub by_end : IsHeap pods index.backoff.slots
+  pub by_failure : IsHeap pods index.unschedulable.slots
+
+-- the same, but for one slot, which is nowhere
+pub record IsIndexBut (pods : Pods) (index : Index) (s : ℕ) : Type 0 where
+  pub active : ListsBut is_active pods index.active s
+  pub backoff : ListsBut is_backoff pods index.backoff s
+  pub unschedulable : ListsBut is_unschedulable pods index.unschedulable s
+  pub unmarked : ListsBut is_unmarked pods index.unmarked s
+  pub by_order : IsHeap pods index.active.slots
+  pub by_end : IsHeap pods index.backoff.slots
+  pub by_failure : IsHeap pods index.unschedulable.slots
+
+-- what a change makes of an entry
+abbrev pub applied : Change → Entry → Entry
+applied (Pop pass) entry = popped pass entry
+applied (SendBack now) entry = sent_back now entry
+applied (Fail how now) entry = failed how now entry
+applied (Tick now) entry = ticked now entry
+applied (Move now) entry = moved_on now entry
+
+-- a change at a moment that a clock has
+abbrev pub IsTimelyChange : Change → Type 0
+IsTimelyChange (Pop pass) = Unit {0}
+IsTimelyChange (SendBack now) = now.0 ≤ 1000000000000000
+IsTimelyChange (Fail how now) = now.0 ≤ 1000000000000000
+IsTimelyChange (Tick now) = Unit {0}
+IsTimelyChange (Move now) = Unit {0}
+
+-- what a slot has, with its pod changed
+abbrev pub kept_with : (Entry → Entry) → Option (Named Entry) → Option (Named Entry)
+kept_with change None = None
+kept_with change (Some e) = Some (record { name = e.name; value = change e.value })
+
+-- the slots with the pod in one of them changed
+abbrev pub changed_in : Pods → ℕ → (Entry → Entry) → Pods
+changed_in pods s change = slice_set pods s (kept_with change (entry_in pods s))
+
+-- a tick to this moment releases it: its backoff has ended, or it failed 300,000 ms before or earlier
+abbrev pub is_due : Moment → State → Bool
+is_due now Active = false
+is_due now (Backoff until) = nat_le until.0 now.0
+is_due now (Unschedulable since) = nat_le (since.0 + 300000) now.0
+is_due now (InFlight pass moved) = false
+
+-- it has not seen the last move: no node would take it, or it is in flight with no move since
+abbrev pub is_unmoved : State → Bool
+is_unmoved Active = false
+is_unmoved (Backoff until) = false
+is_unmoved (Unschedulable since) = true
+is_unmoved (InFlight pass true) = false
+is_unmoved (InFlight pass false) = true
+
+-- the slot at a place of a row, if the row has any
+abbrev pub IsEnd : List ℕ → ℕ → Option ℕ → Type 0
+IsEnd xs k None = length xs ≡ 0
+IsEnd xs k (Some s) = (k < length xs) × (at xs k ≡ s)

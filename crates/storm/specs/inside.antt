@@ -1,0 +1,5 @@
+pub mod Made
+pub mod Cycles
+pub mod Crew
+pub mod Stages
+pub mod Ending

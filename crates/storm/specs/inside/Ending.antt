@@ -1,0 +1,35 @@
+-- What is known of a storm when all have ended.
+use Rattle.std.specs.Prelude.{◌≡◌, ℕ, false, List, length, slice_index_or}
+use Rattle.std.specs.List.{All}
+use Rattle.desk.specs.declared.step.Step.{Step}
+use Rattle.desk.specs.declared.step.Counts.{Counts}
+use Rattle.desk.specs.Shared.{Pass, Desk, IsPassOf}
+use Rattle.desk.specs.Shown.{Shown}
+use Rattle.rules.specs.RuleSet.{RuleSet}
+use Rattle.storm.specs.declared.worker.Worker.{Worker}
+use Rattle.storm.specs.Made.{BeginsWith}
+use Rattle.storm.specs.inside.Crew.{Each, HasFed, IsDumped}
+use Rattle.storm.specs.inside.Stages.{HasReported, HasScheduled, IsIdle}
+use Rattle.storm.specs.Storm.{IsStorm, desk_for}
+
+-- Workers that were so did what they are to do, memory was wanting to none of them, and a pass met them all and took the dump.
+pub record IsWorked {J D B Kit : Type 0} (answers : Kit → RuleSet) (kits : D → List Kit) (desk : Desk) (fed : List Step) (clerk : Pass) (feeders : List (Worker J (Unit {0})))
+    (cyclers : List (Worker J D)) (reporters : List (Worker J B)) (counts : Counts) (rows : List Shown) (clerk' : Pass) : Type 0 where
+  pub feeders' : List (Worker J (Unit {0}))
+  pub cyclers' : List (Worker J D)
+  pub reporters' : List (Worker J B)
+  pub told : Each (HasFed fed) feeders feeders'
+  pub turned : Each (HasScheduled answers kits desk) cyclers cyclers'
+  pub idle : (d : Worker J D) → (slice_index_or cyclers' 0 d).failed ≡ false → IsIdle answers kits desk feeders' (slice_index_or cyclers 0 d) (slice_index_or cyclers' 0 d)
+  pub reported : Each HasReported reporters reporters'
+  pub all_told : All (λ w. w.failed ≡ false) feeders'
+  pub all_turned : All (λ w. w.failed ≡ false) cyclers'
+  pub all_reported : All (λ w. w.failed ≡ false) reporters'
+  pub dumped : IsDumped desk clerk feeders' cyclers' reporters' counts rows clerk'
+
+-- A storm of these steps was dumped; the pass that is left knows the history of which the rows are the snapshot.
+pub record HasEnded {D : Type 0} (rules : D → RuleSet) (deciders : List D) (binders : ℕ) (desk : Desk) (fed : List Step) (counts : Counts) (rows : List Shown) (clerk : Pass) : Type 0 where
+  pub desk_is : desk ≡ desk_for (length deciders) binders
+  pub storm : IsStorm rules deciders desk fed rows counts
+  pub of : IsPassOf clerk desk
+  pub knows : BeginsWith clerk.seen storm.looked

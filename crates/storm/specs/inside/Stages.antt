@@ -1,0 +1,47 @@
+-- What the workers of a storm have done when all have ended.
+use Rattle.std.specs.Prelude.{◌≡◌, false, List}
+use Rattle.std.specs.List.{All, AllByRecursion}
+use Rattle.desk.specs.History.{Call, Legal}
+use Rattle.desk.specs.declared.step.Step.{Step}
+use Rattle.desk.specs.Shared.{Pass, Desk}
+use Rattle.rules.specs.RuleSet.{RuleSet}
+use Rattle.choose.specs.Kits.{rules_of}
+use Rattle.storm.specs.declared.worker.Worker.{Worker}
+use Rattle.storm.specs.Made.{BeginsWith}
+use Rattle.storm.specs.inside.Made.{Makes, IsReport}
+use Rattle.storm.specs.inside.Crew.{HaveMet}
+use Rattle.storm.specs.Cycles.{OneCycle}
+use Rattle.storm.specs.inside.Cycles.{HasCycled, EndsIdle}
+
+-- a worker reported binds, and did nothing else
+pub record HasReported {J B : Type 0} (w w' : Worker J B) : Type 0 where
+  pub number : w'.pass.caller.number ≡ w.pass.caller.number
+  pub made : List Step
+  pub makes : Makes w.pass made w'.pass
+  pub reports : AllByRecursion IsReport made
+
+module _ {J D Kit : Type 0} (answers : Kit → RuleSet) (kits : D → List Kit) (desk : Desk) where
+  -- a worker made cycles by its decider's rules, and did nothing else, if memory was not wanting
+  pub record HasScheduled (w w' : Worker J D) : Type 0 where
+    pub number : w'.pass.caller.number ≡ w.pass.caller.number
+    pub same : kits w'.tool ≡ kits w.tool
+    pub made : w'.failed ≡ false → (made : List OneCycle) × HasCycled (rules_of answers (kits w.tool)) desk w.pass made w'.pass
+
+  -- and the last of its cycles found no pod, and began when it had seen all that these feeders had, in one history
+  pub record IsIdle (feeders : List (Worker J (Unit {0}))) (w w' : Worker J D) : Type 0 where
+    pub all_fed : List Call
+    pub legal : Legal desk.limits desk.handed all_fed
+    pub told : All (λ f. BeginsWith all_fed f.pass.seen) feeders
+    pub made : List OneCycle
+    pub last : OneCycle
+    pub cycled : EndsIdle (rules_of answers (kits w.tool)) desk w.pass made last w'.pass
+    pub after : BeginsWith last.before.seen all_fed
+
+  -- a worker met these feeders, and then made cycles up to one that found no pod
+  pub record HasFinished (feeders : List (Worker J (Unit {0}))) (w : Worker J D) (feeders' : List (Worker J (Unit {0}))) (w' : Worker J D) : Type 0 where
+    pub told : Pass
+    pub met : HaveMet desk w.pass feeders told feeders'
+    pub number : w'.pass.caller.number ≡ w.pass.caller.number
+    pub same : kits w'.tool ≡ kits w.tool
+    pub before : w'.failed ≡ false → w.failed ≡ false
+    pub made : w'.failed ≡ false → (made : List OneCycle) × (last : OneCycle) × EndsIdle (rules_of answers (kits w.tool)) desk told made last w'.pass

@@ -1,0 +1,9 @@
+pub mod Pass
+pub mod OperandStack
+pub mod Effect
+pub mod LocalEnds
+pub mod Scope
+pub mod Standing
+pub mod Steps
+pub mod Near
+pub mod Trail

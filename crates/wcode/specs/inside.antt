@@ -1,0 +1,4 @@
+pub mod Shown
+pub mod Ended
+pub mod Fault
+pub mod Skipped

@@ -1,0 +1,10 @@
+pub mod OpenLabels
+pub mod InPlace
+pub mod Machine
+pub mod Running
+pub mod Coded
+pub mod Calling
+pub mod Known
+pub mod Kept
+pub mod Families
+pub mod Went

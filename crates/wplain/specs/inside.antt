@@ -1,0 +1,4 @@
+pub mod Seen
+pub mod Standing
+pub mod Done
+pub mod Running

@@ -1,0 +1,4 @@
+pub mod Store
+pub mod Kept
+pub mod Words
+pub mod Inside
