@@ -43,7 +43,8 @@ impl Sums {
     // Gives a node another sum.
     fn set(&mut self, node: Name, sum: Res) -> Result<(), AllocError>
         ensures same { OnOk result (sum_in self.new node ≡ sum) }
-        ensures others { OnOk result ((other : List ℕ) → bytes_eq node other ≡ false → sum_in self.new other ≡ sum_in self.old other) }
+        ensures others { OnOk result ((other : List ℕ) → bytes_eq node other ≡ false →
+            sum_in self.new other ≡ sum_in self.old other) }
     {
         self.by_node.insert(node, sum)?;
         Ok(())
@@ -66,7 +67,8 @@ impl Sums {
     // What a slot has, if it isn't free.
     fn add_slot(&mut self, slot: &Option<Entry<Place>>) -> Result<(), AllocError>
         requires { (node : List ℕ) → HasRoom (sum_in self.old node) }
-        ensures { OnOk result ((node : List ℕ) → sum_in self.new node ≡ plus (sum_in self.old node) (share_in node slot.now)) }
+        ensures { OnOk result ((node : List ℕ) → sum_in self.new node
+            ≡ plus (sum_in self.old node) (share_in node slot.now)) }
     {
         match slot {
             Some(entry) => self.add(&entry.value),

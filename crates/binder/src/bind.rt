@@ -61,7 +61,8 @@ pub fn bind_job<J: Naming, R: Wait>(
     requires { IsPassOf pass.old desk.now }
     ensures asked { IsAskedOnce (asks binder.old) (asks binder.new) }
     ensures told { asks binder.old < MAX_BINDS → told binder.new ≡ Some (bind_of job.now) }
-    ensures applied { IfOk result (λ answer. IsApplied desk.now pass.old (report_of job.now (nat_lt (dones binder.old) (dones binder.new))) answer pass.new) }
+    ensures applied { IfOk result (λ answer. IsApplied desk.now pass.old
+        (report_of job.now (nat_lt (dones binder.old) (dones binder.new))) answer pass.new) }
     ensures unapplied { OnErr result (pass.new ≡ pass.old) }
     ensures step { IfErr result (λ left. left.step ≡ report_of job.now (nat_lt (dones binder.old) (dones binder.new))) }
 {

@@ -139,7 +139,8 @@ impl Book {
     }
 
     fn set_node(&mut self, version: Version, node: SharedNode) -> Result<Reply, Refusal>
-        ensures { (queued queue_full : Bool) → IsTaken self.old (steps.Event (event.NodeSet version node) queued queue_full) result self.new }
+        ensures { (queued queue_full : Bool) → IsTaken self.old
+            (steps.Event (event.NodeSet version node) queued queue_full) result self.new }
     {
         self.check_version(version)?;
         let used = self.places.used(&node.name);
@@ -149,7 +150,8 @@ impl Book {
     }
 
     fn remove_node(&mut self, version: Version, name: &Name) -> Result<Reply, Refusal>
-        ensures { (queued queue_full : Bool) → IsTaken self.old (steps.Event (event.NodeGone version name.now) queued queue_full) result self.new }
+        ensures { (queued queue_full : Bool) → IsTaken self.old
+            (steps.Event (event.NodeGone version name.now) queued queue_full) result self.new }
     {
         self.check_version(version)?;
         self.nodes.remove(name)?;
@@ -185,7 +187,8 @@ impl Book {
         node: Name,
         request: Request,
     ) -> Result<Reply, Refusal>
-        ensures { (queued queue_full : Bool) → IsTaken self.old (steps.Event (event.PodBound version uid node request) queued queue_full) result self.new }
+        ensures { (queued queue_full : Bool) → IsTaken self.old
+            (steps.Event (event.PodBound version uid node request) queued queue_full) result self.new }
     {
         self.check_version(version)?;
         let place = Place {
@@ -199,7 +202,8 @@ impl Book {
     }
 
     fn remove_pod(&mut self, version: Version, uid: &Name, queued: bool) -> Result<Reply, Refusal>
-        ensures { (queue_full : Bool) → IsTaken self.old (steps.Event (event.PodGone version uid.now) queued queue_full) result self.new }
+        ensures { (queue_full : Bool) → IsTaken self.old (steps.Event (event.PodGone version uid.now) queued queue_full)
+            result self.new }
     {
         self.check_version(version)?;
         if !self.places.remove(&mut self.nodes, uid) && !queued {

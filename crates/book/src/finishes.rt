@@ -94,7 +94,8 @@ fn keep_earliest(each: &[u64], earliest: &mut Vec<u64>, at: usize, before: u64)
     requires here { at < length each.now }
     requires kept { IsEarliest (slice_set each.now at before) earliest.old.items }
     ensures kept { IsEarliest each.now earliest.new.items }
-    ensures block { slice_set earliest.new.items (at / BLOCK) (slice_index earliest.old.items (at / BLOCK)) ≡ earliest.old.items }
+    ensures block { slice_set earliest.new.items (at / BLOCK) (slice_index earliest.old.items (at / BLOCK))
+        ≡ earliest.old.items }
 {
     let block = at / BLOCK;
     let now = each[at];
@@ -109,7 +110,8 @@ fn keep_earliest(each: &[u64], earliest: &mut Vec<u64>, at: usize, before: u64)
 fn earliest_in(each: &[u64], block: usize) -> u64
     requires here { block * BLOCK < length each.now }
     requires few { length each.now ≤ MAX_PLACED }
-    ensures { (i : ℕ) → block * BLOCK ≤ i → i < block * BLOCK + BLOCK → i < length each.now → result ≤ slice_index each.now i }
+    ensures { (i : ℕ) → block * BLOCK ≤ i → i < block * BLOCK + BLOCK → i < length each.now →
+        result ≤ slice_index each.now i }
 {
     let start = block * BLOCK;
     let end = each.len().min(start + BLOCK);

@@ -103,7 +103,8 @@ impl Nodes {
     /// Errors: `Full` where no row has the name and there is no room for one more; nothing changes.
     pub(crate) fn set(&mut self, node: SharedNode, used: Res) -> Result<(), Refusal>
         ensures set { OnOk result (self.new.map ≡ fin.insert self.old.map node.name node) }
-        ensures shown { OnOk result ((f : List ℕ → Res) → IsShown f self.old → used ≡ f node.name → IsShown f self.new) }
+        ensures shown { OnOk result ((f : List ℕ → Res) → IsShown f self.old → used ≡ f node.name →
+            IsShown f self.new) }
         ensures same { self.new.room ≡ self.old.room }
         ensures room { OnOk result (is_full_for self.old.map self.old.room node.name ≡ false) }
         ensures full { OnErr result (is_full_for self.old.map self.old.room node.name ≡ true) }
@@ -150,7 +151,8 @@ impl Nodes {
     pub(crate) fn keep(&mut self, name: &Name, used: Res, slot: usize)
         ensures map { self.new.map ≡ self.old.map }
         ensures room { self.new.room ≡ self.old.room }
-        ensures shown { (f g : List ℕ → Res) → IsShown f self.old → used ≡ g name.now → IsAlikeBut name.now f g → IsShown g self.new }
+        ensures shown { (f g : List ℕ → Res) → IsShown f self.old → used ≡ g name.now → IsAlikeBut name.now f g →
+            IsShown g self.new }
     {
         let guess = self.guesses.get(slot).copied().unwrap_or(0);
         let Ok(at) = place_near(&self.rows, name, guess) else {

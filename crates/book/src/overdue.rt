@@ -47,7 +47,8 @@ impl Overdue {
         requires small { length table.now ≤ MAX_PLACED }
         requires timed { finishes.now ≡ map finish_in table.now }
         requires early { limit < NEVER }
-        requires known { IfSome self.old.limit (λ known. IsGathered (map_of table.now) known self.old.names.items self.old.given) }
+        requires known { IfSome self.old.limit (λ known. IsGathered (map_of table.now) known self.old.names.items
+            self.old.given) }
         ensures room { vec_capacity self.old.names ≤ vec_capacity self.new.names }
         ensures limit { self.new.limit ≡ Some limit }
         ensures gathered { IsGathered (map_of table.now) limit self.new.names.items self.new.given }
@@ -75,7 +76,8 @@ impl Overdue {
     pub(crate) fn first(&mut self, table: &NameTable<Place>, limit: u64) -> Option<Name>
         requires { IsGathered (map_of table.now) limit self.old.names.items self.old.given }
         ensures finished { IfSome result (λ uid. is_finished_by limit (fin.get (map_of table.now) uid) ≡ true) }
-        ensures least { IfSome result (λ uid. (other : List ℕ) → is_finished_by limit (fin.get (map_of table.now) other) ≡ true → is_lt (name_cmp other uid) ≡ false) }
+        ensures least { IfSome result (λ uid. (other : List ℕ) →
+            is_finished_by limit (fin.get (map_of table.now) other) ≡ true → is_lt (name_cmp other uid) ≡ false) }
         ensures none { IfNone result ((uid : List ℕ) → is_finished_by limit (fin.get (map_of table.now) uid) ≡ false) }
         ensures names { self.new.names ≡ self.old.names }
         ensures limit { self.new.limit ≡ self.old.limit }
@@ -99,7 +101,8 @@ fn collect(names: &mut Vec<Name>, table: &NameTable<Place>, finishes: &Finishes,
     requires timed { finishes.now ≡ map finish_in table.now }
     requires early { limit < NEVER }
     ensures room { vec_capacity names.old ≤ vec_capacity names.new }
-    ensures all { (uid : List ℕ) → is_finished_by limit (fin.get (map_of table.now) uid) ≡ true → Contains names.new.items uid }
+    ensures all { (uid : List ℕ) → is_finished_by limit (fin.get (map_of table.now) uid) ≡ true →
+        Contains names.new.items uid }
 {
     names.clear();
     let placed = table.len();

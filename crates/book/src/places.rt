@@ -260,7 +260,8 @@ fn add(totals: &mut NameTable<Res>, node: &Name, request: &Request) -> (usize, R
     requires small { length totals.old ≤ MAX_PLACED }
     requires within { IsWithin (total_at (map_of totals.old) node.now) (most_of MAX_PLACED) }
     requires in_use { idle_in (map_of totals.old) ≡ 0 }
-    ensures each { (other : List ℕ) → total_at (map_of totals.new) other ≡ plus (total_at (map_of totals.old) other) (adds node.now request.now other) }
+    ensures each { (other : List ℕ) → total_at (map_of totals.new) other
+        ≡ plus (total_at (map_of totals.old) other) (adds node.now request.now other) }
     ensures now { result.1 ≡ total_at (map_of totals.new) node.now }
     ensures pods { pods_in (map_of totals.new) ≡ pods_in (map_of totals.old) + 1 }
     ensures in_use { idle_in (map_of totals.new) ≡ 0 }
@@ -291,9 +292,11 @@ fn add(totals: &mut NameTable<Res>, node: &Name, request: &Request) -> (usize, R
 // Takes a pod out of its node's total, which goes with the last pod. The slot of that total, and what it is now.
 fn take(totals: &mut NameTable<Res>, node: &Name, request: &Request) -> (usize, Res)
     requires within { IsWithin (one_pod request.now) (total_at (map_of totals.old) node.now) }
-    requires last { (total_at (map_of totals.old) node.now).pods ≡ 1 → total_at (map_of totals.old) node.now ≡ one_pod request.now }
+    requires last { (total_at (map_of totals.old) node.now).pods ≡ 1 →
+        total_at (map_of totals.old) node.now ≡ one_pod request.now }
     requires in_use { idle_in (map_of totals.old) ≡ 0 }
-    ensures each { (other : List ℕ) → plus (total_at (map_of totals.new) other) (adds node.now request.now other) ≡ total_at (map_of totals.old) other }
+    ensures each { (other : List ℕ) → plus (total_at (map_of totals.new) other) (adds node.now request.now other)
+        ≡ total_at (map_of totals.old) other }
     ensures now { result.1 ≡ total_at (map_of totals.new) node.now }
     ensures pods { pods_in (map_of totals.new) + 1 ≡ pods_in (map_of totals.old) }
     ensures in_use { idle_in (map_of totals.new) ≡ 0 }

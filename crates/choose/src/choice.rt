@@ -38,7 +38,8 @@ pub fn decide(rows: &[Row], verdicts: &[Verdict]) -> Decision
 fn error_at(rows: &[Row], verdicts: &[Verdict], found: Found) -> Decision
     requires all { length verdicts.now ≡ length rows.now }
     requires there { found.at < length rows.now }
-    requires found { let nodes = judged (map shown rows.now) verdicts.now in StandsFirst Worth.Error nodes nodes (Some found) }
+    requires found { let nodes = judged (map shown rows.now) verdicts.now in
+        StandsFirst Worth.Error nodes nodes (Some found) }
     ensures { IsChoice (judged (map shown rows.now) verdicts.now) result }
 {
     let at = found.at;

@@ -33,7 +33,8 @@ pub trait Decider {
     ) -> Result<Decision, NoMemory>
         requires { IsSync R.row }
         ensures chosen { IfOk result (Choice (rules_of Self.Kit.answers (kits self.old)) snapshot pod.now) }
-        ensures judged { OnOk result (AreVerdicts (rules_of Self.Kit.answers (kits self.old)) pod.now snapshot (last self.new)) }
+        ensures judged { OnOk result (AreVerdicts (rules_of Self.Kit.answers (kits self.old)) pod.now snapshot
+            (last self.new)) }
         ensures kits { kits self.new ≡ kits self.old };
 
     /// The verdicts of its last decision, in the order of the nodes.

@@ -142,7 +142,8 @@ pub fn verdicts_of<R: Rules>(
     pod: &Pod,
     rules: &mut R,
 ) -> Result<Vec<Verdict>, AllocError>
-    ensures are { IfOk result (λ verdicts. AreVerdicts (R.answers rules.old) pod.now (map shown rows.now) verdicts.items) }
+    ensures are { IfOk result (λ verdicts. AreVerdicts (R.answers rules.old) pod.now (map shown rows.now)
+        verdicts.items) }
     ensures stays { rules.new ≡ rules.old }
 {
     let mut verdicts = Vec::new(alloc);

@@ -125,7 +125,8 @@ fn command_line<'a>(alloc: Global) -> Result<Command<'a>, AllocError>
 
 // The plugins that were found behind a command.
 fn specs_behind<'a>(alloc: Global, matches: &ArgMatches<'a>) -> Result<Vec<Spec<'a>>, WordFault>
-    ensures ok { IfOk result (λ specs. specs_found (rows_of (found_of matches.now)) ≡ Some (map syntax_of specs.items)) }
+    ensures ok { IfOk result (λ specs. specs_found (rows_of (found_of matches.now))
+        ≡ Some (map syntax_of specs.items)) }
     ensures refused { result ≡ Err WordFault.BadWords → specs_found (rows_of (found_of matches.now)) ≡ None }
     ensures within { IfOk result (λ specs. AreWithinLimits specs.items) }
 {
@@ -211,7 +212,8 @@ fn words_of<'a>(alloc: Global, matches: &ArgMatches<'a>) -> Result<Words<'a>, Wo
 // Has `clap` read the words.
 fn found_in<'a, S: AsStr>(alloc: Global, args: &'a [S]) -> Result<ArgMatches<'a>, WordFault>
     ensures taken { IfOk result (λ _. are_taken (map S.text args.now) ≡ true) }
-    ensures found { IfOk result (λ matches. subcommand_rows_of matches ≡ subcommand_of command_line (map S.text args.now)) }
+    ensures found { IfOk result (λ matches. subcommand_rows_of matches
+        ≡ subcommand_of command_line (map S.text args.now)) }
     ensures refused { result ≡ Err WordFault.BadWords → are_taken (map S.text args.now) ≡ false }
 {
     let Ok(command) = command_line(alloc) else {

@@ -60,7 +60,13 @@ impl Model for Board {
 impl Board {
     /// No nodes, with room for as many as the limits say, and no calls.
     pub(crate) fn new(alloc: Global, limits: Limits, nothing: &Prefix) -> Result<Self, NoMemory>
-        ensures { IfOk result (λ b. b ≡ record { nodes = []; used = []; room = limits.nodes; calls = replicate MAX_PASSES 0; prefix = nothing.now }) }
+        ensures { IfOk result (λ b. b ≡ record {
+          nodes = [];
+          used = [];
+          room = limits.nodes;
+          calls = replicate MAX_PASSES 0;
+          prefix = nothing.now;
+        }) }
     {
         let nodes = Vec::with_capacity(alloc, limits.nodes)?;
         let used = Vec::with_capacity(alloc, limits.nodes)?;
@@ -88,7 +94,10 @@ impl Board {
     // So much is used of each row's node.
     #[tactic(auto, unfolding(crate::specs::Board::nodes_after, crate::specs::Board::used_after))]
     fn write_all(&mut self, all: &Vec<Res>)
-        ensures { self.new ≡ record self.old { used = used_after self.old.room (Change.AllUsed all.now) self.old.used } }
+        ensures { self.new ≡ record self.old {
+          used = used_after self.old.room (Change.AllUsed all.now)
+              self.old.used;
+        } }
     {
         if all.len() == self.used.len() {
             self.used.as_mut_slice().copy_from_slice(all.as_slice());

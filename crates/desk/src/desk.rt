@@ -72,7 +72,10 @@ impl<J: Naming> Desk<J> {
     ///
     /// Errors: `NoPlace` where all were handed out, and where no reader's place was got; nothing changes.
     pub fn pass(&mut self) -> Result<Pass<J>, NoPlace>
-        ensures pass { IfOk result (λ pass. pass ≡ record { caller = record { number = self.old.handed; calls = 0 }; seen = [] }) }
+        ensures pass { IfOk result (λ pass. pass ≡ record {
+          caller = record { number = self.old.handed; calls = 0 };
+          seen = [];
+        }) }
         ensures handed { OnOk result (self.new ≡ record self.old { handed = self.old.handed + 1 }) }
         ensures of { IfOk result (λ pass. IsPassOf pass self.new) }
         ensures all_handed { self.old.handed ≡ MAX_PASSES → IsErr result }

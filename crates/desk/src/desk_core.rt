@@ -103,7 +103,8 @@ impl Core {
 
     // A node's row is set, and there is a move.
     fn set_node(&mut self, event: Event) -> Result<Reply, Refusal>
-        ensures { IsDone self.old (both self.old.state (of_node self.old.state event) (moved self.old.state self.old.state.queue)) result self.new }
+        ensures { IsDone self.old (both self.old.state (of_node self.old.state event)
+            (moved self.old.state self.old.state.queue)) result self.new }
     {
         self.take_node(event)?;
         self.queue.move_all(self.clock);
@@ -112,7 +113,8 @@ impl Core {
 
     // A node is gone, and there is no move.
     fn drop_node(&mut self, event: Event) -> Result<Reply, Refusal>
-        ensures { IsDone self.old (both self.old.state (of_node self.old.state event) self.old.state.queue) result self.new }
+        ensures { IsDone self.old (both self.old.state (of_node self.old.state event) self.old.state.queue) result
+            self.new }
     {
         self.take_node(event)?;
         Ok(Reply::Done)
@@ -136,7 +138,8 @@ impl Core {
     // A pod's entry goes, if there is one.
     fn unqueue(&mut self, queued: bool, uid: &Name)
         requires { queued ≡ has_entry self.old.state.queue uid.now }
-        ensures { self.new ≡ with_state self.old (record self.old.state { queue = after_remove self.old.state.queue uid.now }) }
+        ensures { self.new ≡ with_state self.old (record self.old.state
+            { queue = after_remove self.old.state.queue uid.now }) }
     {
         if queued {
             self.queue.remove(uid);
@@ -151,7 +154,8 @@ impl Core {
         node: Name,
         request: Request,
     ) -> Result<Reply, Refusal>
-        ensures { IsDone self.old (step self.old.state 0 (Step.Event (Event.PodBound version uid node request))) result self.new }
+        ensures { IsDone self.old (step self.old.state 0 (Step.Event (Event.PodBound version uid node request))) result
+            self.new }
     {
         let bound = uid.copied();
         let queued = self.queue.has(&uid);

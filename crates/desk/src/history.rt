@@ -133,7 +133,8 @@ impl Prefix {
     /// With one call more, if this is the whole history and there is room for a call in it.
     pub(crate) fn with_call<J: Naming>(&self, head: &Head<J>, next: &NextCall<'_>) -> Option<Prefix>
         requires { self.now.book ≡ J.book }
-        ensures { IfSome result (λ more. more ≡ with_call self.now (next_call next.now.desk.now.state next.now.pass next.now.number next.now.step.now)) }
+        ensures { IfSome result (λ more. more ≡ with_call self.now
+            (next_call next.now.desk.now.state next.now.pass next.now.number next.now.step.now)) }
     {
         let calls = self.calls;
         if calls >= 1 << 62 {

@@ -17,8 +17,10 @@ pub fn desk_limits_are_these()
 /// Whatever legal history came before, the nodes that are there and the places of pods are those that the
 /// history tells, by the last accepted steps that name each.
 pub fn history_tells_the_state()
-    ensures nodes { (limits : Limits) (passes : ℕ) (l : List Call) → Legal limits passes l → (state_after (opening limits) l).cluster.nodes ≡ rows_of l }
-    ensures places { (limits : Limits) (passes : ℕ) (l : List Call) → Legal limits passes l → (state_after (opening limits) l).cluster.places ≡ places_of l }
+    ensures nodes { (limits : Limits) (passes : ℕ) (l : List Call) → Legal limits passes l →
+        (state_after (opening limits) l).cluster.nodes ≡ rows_of l }
+    ensures places { (limits : Limits) (passes : ℕ) (l : List Call) → Legal limits passes l →
+        (state_after (opening limits) l).cluster.places ≡ places_of l }
 {}
 
 /// No ticket is given twice, whichever passes ask: a history gives the tickets 1, 2, 3, .. in this order.

@@ -92,7 +92,8 @@ impl<J: Naming> Pass<J> {
         requires stands { IsBoard J.book J.limits board.now }
         requires of { self.now.caller.number < handed }
         requires handed { handed ≤ MAX_PASSES }
-        ensures { IsTrue result → IsAhead (record { limits = J.limits; handed = handed }) self.now board.now.prefix.list }
+        ensures { IsTrue result → IsAhead (record { limits = J.limits; handed = handed }) self.now
+            board.now.prefix.list }
     {
         self.prefix.begins(&board.prefix) && board.counts_alike(self.number, self.calls, handed)
     }
@@ -111,7 +112,10 @@ impl<J: Naming> Pass<J> {
         requires calls { self.old.caller.calls < 10 ^ 18 }
         requires own { HasCallsOf (record self.old.caller { calls = self.old.caller.calls + 1 }) prefix.list }
         requires book { prefix.book ≡ J.book }
-        ensures { self.new ≡ record { caller = record self.old.caller { calls = self.old.caller.calls + 1 }; seen = prefix.list } }
+        ensures { self.new ≡ record {
+          caller = record self.old.caller { calls = self.old.caller.calls + 1 };
+          seen = prefix.list;
+        } }
     {
         self.calls += 1;
         self.prefix = prefix;
@@ -121,7 +125,8 @@ impl<J: Naming> Pass<J> {
     pub(crate) fn look(&mut self, handed: usize) -> Result<Snapshot, NoMemory>
         requires of { self.old.caller.number < handed }
         requires handed { handed ≤ MAX_PASSES }
-        ensures looked { IfOk result (λ shown. IsLooked (record { limits = J.limits; handed = handed }) self.old shown self.new) }
+        ensures looked { IfOk result (λ shown. IsLooked (record { limits = J.limits; handed = handed }) self.old shown
+            self.new) }
         ensures err { OnErr result (self.new ≡ self.old) }
     {
         let Some(reader) = self.reader.take() else {
@@ -145,7 +150,8 @@ impl<J: Naming> Pass<J> {
         requires stands { IsBoard J.book J.limits board.now }
         requires of { self.old.caller.number < handed }
         requires handed { handed ≤ MAX_PASSES }
-        ensures looked { IfOk result (λ shown. IsLooked (record { limits = J.limits; handed = handed }) self.old shown self.new) }
+        ensures looked { IfOk result (λ shown. IsLooked (record { limits = J.limits; handed = handed }) self.old shown
+            self.new) }
         ensures err { OnErr result (self.new ≡ self.old) }
     {
         if !self.may_go_on(board, handed) {
@@ -167,7 +173,8 @@ impl<J: Naming> Pass<J> {
 fn rows_again<J: Naming>(last: Option<Last>, now: &Prefix) -> Option<Vec<Row>>
     requires last { IfSome last (λ last. WereShown J.book J.limits last.prefix (arc_value last.rows).items) }
     requires book { now.now.book ≡ J.book }
-    ensures { IfSome result (λ rows. nodes_of rows.items ≡ nodes_in (state_after (opening J.limits) now.now.list).cluster) }
+    ensures { IfSome result (λ rows. nodes_of rows.items
+        ≡ nodes_in (state_after (opening J.limits) now.now.list).cluster) }
 {
     let Last { prefix, rows } = last?;
     if !prefix.has_same_nodes(now) {

@@ -65,7 +65,12 @@ pub(crate) struct Ready {
 
 // Nothing is changed, with this history and these counts.
 fn no_order(board: &Board) -> Order
-    ensures { result ≡ record { change = Change.Nothing; pass = 0; calls = slice_index board.now.calls 0; prefix = board.now.prefix } }
+    ensures { result ≡ record {
+      change = Change.Nothing;
+      pass = 0;
+      calls = slice_index board.now.calls 0;
+      prefix = board.now.prefix;
+    } }
 {
     Order {
         change: Change::Nothing,
@@ -85,7 +90,8 @@ fn add_order<J: Naming, R: Wait>(
     writer: Writer<Board, Order, (), BoardRule<J>>,
     order: Order,
 ) -> Writer<Board, Order, (), BoardRule<J>>
-    ensures { (result.desk.shown.value ≡ writer.desk.shown.value) × (drop result.behind result.log.items ≡ drop writer.behind writer.log.items ++ order ∷ []) }
+    ensures { (result.desk.shown.value ≡ writer.desk.shown.value) ×
+        (drop result.behind result.log.items ≡ drop writer.behind writer.log.items ++ order ∷ []) }
 {
     let mut writer = writer;
     let mut order = order;
@@ -103,7 +109,8 @@ fn publish_orders<J: Naming, R: Wait>(
     rt: &R,
     writer: Writer<Board, Order, (), BoardRule<J>>,
 ) -> Writer<Board, Order, (), BoardRule<J>>
-    requires { IsBoard J.book J.limits (fold board_after writer.desk.shown.value (drop writer.behind writer.log.items)) }
+    requires { IsBoard J.book J.limits (fold board_after writer.desk.shown.value
+        (drop writer.behind writer.log.items)) }
     ensures { (result.desk.shown.value ≡ fold board_after writer.desk.shown.value (drop writer.behind writer.log.items))
         × (drop result.behind result.log.items ≡ []) }
 {
@@ -200,7 +207,8 @@ impl<J: Naming> UnderLock<J> {
         ensures left { IfOk result (λ ready. pass.now.caller.calls < MAX_CALLS) }
         ensures stands { IfOk result (λ ready. Stands J.book J.limits self.old) }
         ensures used_up { MAX_CALLS ≤ pass.now.caller.calls → IsErr result }
-        ensures ahead { IfOk result (λ ready. IsAhead (record { limits = J.limits; handed = handed }) pass.now self.old.prefix.list) }
+        ensures ahead { IfOk result (λ ready. IsAhead (record { limits = J.limits; handed = handed }) pass.now
+            self.old.prefix.list) }
         ensures prefix { IfOk result (λ ready. ready.prefix ≡ prefix_after self.old pass.now.caller step.now) }
         ensures pod { IfOk result (λ ready. ready.pod ≡ handed_by self.old.desk.state step.now) }
         ensures subject { IfOk result (λ ready. IsSubject self.old.desk.state.cluster step.now ready.subject) }
@@ -225,7 +233,8 @@ impl<J: Naming> UnderLock<J> {
         requires handed { handed ≤ MAX_PASSES }
         requires fits { pass.now.caller.calls < MAX_CALLS }
         ensures stands { Stands J.book J.limits self.now }
-        ensures ahead { IfOk result (λ ready. IsAhead (record { limits = J.limits; handed = handed }) pass.now self.now.prefix.list) }
+        ensures ahead { IfOk result (λ ready. IsAhead (record { limits = J.limits; handed = handed }) pass.now
+            self.now.prefix.list) }
         ensures prefix { IfOk result (λ ready. ready.prefix ≡ prefix_after self.now pass.now.caller step.now) }
         ensures pod { IfOk result (λ ready. ready.pod ≡ handed_by self.now.desk.state step.now) }
         ensures subject { IfOk result (λ ready. IsSubject self.now.desk.state.cluster step.now ready.subject) }
@@ -306,7 +315,8 @@ impl<J: Naming> UnderLock<J> {
         requires of { pass.old.caller.number < handed }
         requires handed { handed ≤ MAX_PASSES }
         requires timely { IsTimely step }
-        ensures applied { IfOk result.1 (λ answer. IsApplied (record { limits = J.limits; handed = handed }) pass.old step answer pass.new) }
+        ensures applied { IfOk result.1 (λ answer. IsApplied (record { limits = J.limits; handed = handed }) pass.old
+            step answer pass.new) }
         ensures used_up { MAX_CALLS ≤ pass.old.caller.calls → IsErr result.1 }
         ensures err { OnErr result.1 (pass.new ≡ pass.old) }
         ensures same { OnErr result.1 (result.0 ≡ self) }

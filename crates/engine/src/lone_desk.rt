@@ -103,8 +103,10 @@ impl<J: Naming> LoneDesk<J> {
         pod: &SharedPod,
         decider: &mut D,
     ) -> Result<Cycled, CutShort>
-        ensures decided { IfOk result (λ came. IsDecidedAlone (rules_of D.Kit.answers (D.kits decider.old)) self.old pod.now came self.new) }
-        ensures verdicts { OnOk result (AreVerdicts (rules_of D.Kit.answers (D.kits decider.old)) pod.now (machine.snapshot self.old.cluster) (D.last decider.new)) }
+        ensures decided { IfOk result (λ came. IsDecidedAlone (rules_of D.Kit.answers (D.kits decider.old)) self.old
+            pod.now came self.new) }
+        ensures verdicts { OnOk result (AreVerdicts (rules_of D.Kit.answers (D.kits decider.old)) pod.now
+            (machine.snapshot self.old.cluster) (D.last decider.new)) }
         ensures kits { D.kits decider.new ≡ D.kits decider.old }
     {
         one_pass_is_alone();

@@ -171,8 +171,10 @@ fn decide<J: Naming, T: Wait + Threads + Sync, D: Decider>(
     decider: &mut D,
 ) -> Result<Decision, NoMemory>
     requires { IsPassOf pass.old desk.now }
-    ensures chosen { IfOk result (λ decision. IsChosen (rules_of D.Kit.answers (D.kits decider.old)) desk.now pass.old pod.now decision pass.new) }
-    ensures verdicts { OnOk result (AreSeen (rules_of D.Kit.answers (D.kits decider.old)) desk.now pass.old pod.now (D.last decider.new)) }
+    ensures chosen { IfOk result (λ decision. IsChosen (rules_of D.Kit.answers (D.kits decider.old)) desk.now pass.old
+        pod.now decision pass.new) }
+    ensures verdicts { OnOk result (AreSeen (rules_of D.Kit.answers (D.kits decider.old)) desk.now pass.old pod.now
+        (D.last decider.new)) }
     ensures looked { OnErr result (MayLook desk.now pass.old pass.new) }
     ensures kits { D.kits decider.new ≡ D.kits decider.old }
 {
@@ -211,8 +213,10 @@ pub(crate) fn place<J: Naming, T: Wait + Threads + Sync, D: Decider>(
     decider: &mut D,
 ) -> Result<Cycled, CutShort>
     requires { IsPassOf pass.old desk.now }
-    ensures decided { IfOk result (λ came. IsDecided (rules_of D.Kit.answers (D.kits decider.old)) desk.now pass.old pod.now came pass.new) }
-    ensures verdicts { OnOk result (AreSeen (rules_of D.Kit.answers (D.kits decider.old)) desk.now pass.old pod.now (D.last decider.new)) }
+    ensures decided { IfOk result (λ came. IsDecided (rules_of D.Kit.answers (D.kits decider.old)) desk.now pass.old
+        pod.now came pass.new) }
+    ensures verdicts { OnOk result (AreSeen (rules_of D.Kit.answers (D.kits decider.old)) desk.now pass.old pod.now
+        (D.last decider.new)) }
     ensures in_vain { IfErr result (λ short. IsInVain desk.now pass.old pod.now.uid short.held pass.new) }
     ensures kits { D.kits decider.new ≡ D.kits decider.old }
 {
@@ -234,8 +238,10 @@ pub fn cycle<J: Naming, T: Wait + Threads + Sync, D: Decider>(
     decider: &mut D,
 ) -> Result<Cycled, CutShort>
     requires { IsPassOf pass.old desk.now }
-    ensures cycled { IfOk result (λ came. IsCycle (rules_of D.Kit.answers (D.kits decider.old)) desk.now pass.old came pass.new) }
-    ensures verdicts { OnOk result (DecideCycle (rules_of D.Kit.answers (D.kits decider.old)) desk.now pass.old (D.last decider.new)) }
+    ensures cycled { IfOk result (λ came. IsCycle (rules_of D.Kit.answers (D.kits decider.old)) desk.now pass.old came
+        pass.new) }
+    ensures verdicts { OnOk result (DecideCycle (rules_of D.Kit.answers (D.kits decider.old)) desk.now pass.old
+        (D.last decider.new)) }
     ensures cut_short { IfErr result (λ short. IsCutShort desk.now pass.old short.held pass.new) }
     ensures kits { D.kits decider.new ≡ D.kits decider.old }
 {

@@ -48,7 +48,8 @@ fn flush<W: Sink>(sink: &mut W, pending: &mut Vec<u8>) -> Result<(), RunFault>
 // Writes what waits, where it is due or has grown to the most that may wait.
 fn flush_if<W: Sink>(sink: &mut W, pending: &mut Vec<u8>, due: bool) -> Result<(), RunFault>
     requires { W.failure_count sink.old < 10 ^ 18 }
-    ensures written { OnOk result (WritesSome (W.written sink.old) (W.written sink.new) pending.old.items pending.new.items) }
+    ensures written { OnOk result (WritesSome (W.written sink.old) (W.written sink.new) pending.old.items
+        pending.new.items) }
     ensures told { OnOk result (IsTrue due → pending.new.items ≡ []) }
     ensures bounded { OnOk result (vec_len pending.new < MAX_PENDING) }
     ensures front { OnErr result (AppendsFront (W.written sink.old) (W.written sink.new) pending.old.items) }

@@ -122,7 +122,8 @@ impl<J: Naming> Session<J> {
         explains: bool,
         decider: &mut D,
     ) -> Result<Cycled, RunFault>
-        ensures cycled { IfOk result (λ came. IsCycleAlone (rules_of D.Kit.answers (D.kits decider.old)) self.old.desk came self.new.desk) }
+        ensures cycled { IfOk result (λ came. IsCycleAlone (rules_of D.Kit.answers (D.kits decider.old)) self.old.desk
+            came self.new.desk) }
         ensures told { OnOk result ((told : List ℕ) × TellsNodes (rules_of D.Kit.answers (D.kits decider.old)) named.now explains self.old.desk told
             × AreLines true told × (self.new.text.items ≡ self.old.text.items ++ told)) }
         ensures kits { D.kits decider.new ≡ D.kits decider.old }
@@ -212,7 +213,8 @@ fn push_numbers(out: &mut Vec<u8>, n: Counts) -> Result<(), AllocError>
 ///
 /// Errors: `AllocError`. A beginning of them may be added.
 pub fn push_dump(out: &mut Vec<u8>, snapshot: &Snapshot, counts: Counts) -> Result<(), AllocError>
-    ensures { OnOk result (out.new.items ≡ out.old.items ++ (snapshot_lines snapshot.now ++ reply_lines (Reply.Counts counts))) }
+    ensures { OnOk result (out.new.items ≡ out.old.items ++
+        (snapshot_lines snapshot.now ++ reply_lines (Reply.Counts counts))) }
 {
     push_snapshot(out, snapshot)?;
     push_numbers(out, counts)

@@ -137,7 +137,8 @@ fn push_total(
     scores: &[u8],
 ) -> Result<(), AllocError>
     requires { count ≤ most }
-    ensures text { OnOk result (out.new.items ≡ out.old.items ++ total_text named.now most pod.now (shown row.now) count score scores.now) }
+    ensures text { OnOk result (out.new.items ≡ out.old.items ++ total_text named.now most pod.now (shown row.now) count
+        score scores.now) }
     ensures line { OnOk result (IsLine (total_text named.now most pod.now (shown row.now) count score scores.now)) }
 {
     let fit = row.allocatable().least_allocated(row.used, pod.request);
@@ -160,7 +161,8 @@ fn push_verdict(
     verdict: Verdict,
 ) -> Result<(), AllocError>
     requires { count_of verdict ≤ most }
-    ensures text { OnOk result (out.new.items ≡ out.old.items ++ verdict_text named.now most pod.now (shown row.now) verdict) }
+    ensures text { OnOk result (out.new.items ≡ out.old.items ++ verdict_text named.now most pod.now (shown row.now)
+        verdict) }
     ensures line { OnOk result (IsLine (verdict_text named.now most pod.now (shown row.now) verdict)) }
 {
     match verdict {
@@ -191,7 +193,8 @@ fn push_line(
     verdict: Verdict,
 ) -> Result<(), AllocError>
     requires { count_of verdict ≤ most }
-    ensures text { OnOk result (out.new.items ≡ out.old.items ++ verdict_line named.now most pod.now (shown row.now, verdict)) }
+    ensures text { OnOk result (out.new.items ≡ out.old.items ++ verdict_line named.now most pod.now
+        (shown row.now, verdict)) }
     ensures lines { OnOk result (AreLines true (verdict_line named.now most pod.now (shown row.now, verdict))) }
 {
     push_text(out, b"  ", row.node.name.as_bytes())?;
@@ -210,7 +213,8 @@ pub(crate) fn push_verdicts(
     verdicts: &[Verdict],
 ) -> Result<(), AllocError>
     requires { length verdicts.now ≡ length rows.now }
-    ensures text { OnOk result (out.new.items ≡ out.old.items ++ verdict_lines named.now pod.now (map shown rows.now) verdicts.now) }
+    ensures text { OnOk result (out.new.items ≡ out.old.items ++ verdict_lines named.now pod.now (map shown rows.now)
+        verdicts.now) }
     ensures lines { OnOk result (AreLines true (verdict_lines named.now pod.now (map shown rows.now) verdicts.now)) }
 {
     let most = most_taints(verdicts);

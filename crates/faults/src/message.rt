@@ -116,7 +116,8 @@ fn count_letter(count: Count) -> &'static str
 fn push_place(message: &mut Message, what: &str, number: usize)
     requires what { length what.now ≤ 6 }
     requires room { length message.old.items + 40 ≤ 320 }
-    ensures text { message.new.items ≡ message.old.items ++ (codes " " ++ what.now ++ codes " of word " ++ decimal number) }
+    ensures text { message.new.items ≡ message.old.items ++
+        (codes " " ++ what.now ++ codes " of word " ++ decimal number) }
     ensures len { length message.new.items ≤ length message.old.items + 40 }
 {
     push(message, b" ");
@@ -155,7 +156,8 @@ fn push_words_fault(message: &mut Message, misuse: Misuse)
 // Adds which plugin is refused, and why.
 fn push_plugin_fault(message: &mut Message, name: &Name, refusal: Refusal)
     requires { length message.old.items + 200 ≤ 320 }
-    ensures text { message.new.items ≡ message.old.items ++ (codes "plugin " ++ name.now ++ codes ": " ++ refusal_text refusal) }
+    ensures text { message.new.items ≡ message.old.items ++
+        (codes "plugin " ++ name.now ++ codes ": " ++ refusal_text refusal) }
     ensures len { length message.new.items ≤ length message.old.items + 200 }
 {
     push(message, b"plugin ");

@@ -93,8 +93,10 @@ where
         pod: &Pod,
         gate: &G,
     ) -> Result<Decision, NoMemory>
-        ensures chosen { IfOk result (λ decision. All (λ kit. Choice (K.answers kit) snapshot.now pod.now decision) self.old.kits) }
-        ensures judged { OnOk result (All (λ kit. AreVerdicts (K.answers kit) pod.now snapshot.now self.new.verdicts) self.old.kits) }
+        ensures chosen { IfOk result (λ decision. All (λ kit. Choice (K.answers kit) snapshot.now pod.now decision)
+            self.old.kits) }
+        ensures judged { OnOk result (All (λ kit. AreVerdicts (K.answers kit) pod.now snapshot.now self.new.verdicts)
+            self.old.kits) }
         ensures some { 0 < length self.old.kits }
         ensures kits { self.new.kits ≡ self.old.kits }
         ensures no_memory { OnErr result (self.old.room < length snapshot.now) }
@@ -112,8 +114,10 @@ where
         pod: &Pod,
         gate: &G,
     ) -> Result<Decision, NoMemory>
-        ensures chosen { IfOk result (λ decision. All (λ kit. Choice (K.answers kit) (map shown rows.now) pod.now decision) self.old.kits) }
-        ensures judged { OnOk result (All (λ kit. AreVerdicts (K.answers kit) pod.now (map shown rows.now) self.new.verdicts) self.old.kits) }
+        ensures chosen { IfOk result (λ decision. All (λ kit. Choice (K.answers kit) (map shown rows.now) pod.now
+            decision) self.old.kits) }
+        ensures judged { OnOk result (All (λ kit. AreVerdicts (K.answers kit) pod.now (map shown rows.now)
+            self.new.verdicts) self.old.kits) }
         ensures some { 0 < length self.old.kits }
         ensures kits { self.new.kits ≡ self.old.kits }
         ensures no_memory { OnErr result (self.old.room < length rows.now) }
@@ -132,7 +136,8 @@ where
         pod: &Pod,
         gate: &G,
     ) -> Result<(), NoMemory>
-        ensures judged { OnOk result (All (λ kit. AreVerdicts (K.answers kit) pod.now (map shown rows.now) self.new.verdicts) self.old.kits) }
+        ensures judged { OnOk result (All (λ kit. AreVerdicts (K.answers kit) pod.now (map shown rows.now)
+            self.new.verdicts) self.old.kits) }
         ensures all { OnOk result (length self.new.verdicts ≡ length rows.now) }
         ensures some { 0 < length self.old.kits }
         ensures kits { self.new.kits ≡ self.old.kits }

@@ -125,7 +125,8 @@ impl<J: Site, K: Rules + Drop> Helper<J, K> {
         piece: usize,
         verdicts: &mut [Verdict],
     ) -> bool
-        ensures are { IsTrue result → AreSaid J.Says order.now.pod (nodes_of order.now.snapshot order.now.pieces piece 1) verdicts.new }
+        ensures are { IsTrue result → AreSaid J.Says order.now.pod
+            (nodes_of order.now.snapshot order.now.pieces piece 1) verdicts.new }
         ensures length { length verdicts.new ≡ length verdicts.old }
     {
         if !self.is_out {
@@ -197,7 +198,8 @@ fn take<J: Site, K: Rules + Drop>(
     piece: usize,
     verdicts: &mut [Verdict],
 ) -> bool
-    ensures are { IsTrue result → AreVerdicts (K.answers done.now.kit) order.now.pod (nodes_of order.now.snapshot order.now.pieces piece 1) verdicts.new }
+    ensures are { IsTrue result → AreVerdicts (K.answers done.now.kit) order.now.pod
+        (nodes_of order.now.snapshot order.now.pieces piece 1) verdicts.new }
     ensures length { length verdicts.new ≡ length verdicts.old }
 {
     if done.piece != piece {
@@ -258,9 +260,11 @@ pub fn collect<J: Site, K: Rules + Drop, R: Wait, G: Gate>(
     first: usize,
     verdicts: &mut [Verdict],
 )
-    requires pieces { ArePieces (length order.now.snapshot) order.now.pieces first (length helpers.old) (length verdicts.old) }
+    requires pieces { ArePieces (length order.now.snapshot) order.now.pieces first (length helpers.old)
+        (length verdicts.old) }
     requires speaks { SpeaksFor J.Says (K.answers home.old) }
-    ensures are { AreSaid J.Says order.now.pod (nodes_of order.now.snapshot order.now.pieces first (length helpers.old)) verdicts.new }
+    ensures are { AreSaid J.Says order.now.pod (nodes_of order.now.snapshot order.now.pieces first (length helpers.old))
+        verdicts.new }
     ensures stays { home.new ≡ home.old }
     ensures length { length helpers.new ≡ length helpers.old }
 {

@@ -35,7 +35,8 @@ pub fn judge_piece<K: Rules, G: Gate>(
     verdicts: &mut [Verdict],
 )
     requires { ArePieces (length work.now.rows.now) work.now.pieces piece 1 (length verdicts.old) }
-    ensures are { AreVerdicts (K.answers kit.old) work.now.pod.now (map shown (nodes_of work.now.rows.now work.now.pieces piece 1)) verdicts.new }
+    ensures are { AreVerdicts (K.answers kit.old) work.now.pod.now
+        (map shown (nodes_of work.now.rows.now work.now.pieces piece 1)) verdicts.new }
     ensures stays { kit.new ≡ kit.old }
 {
     let nodes = work.rows.len();
@@ -54,7 +55,8 @@ pub fn judge_asked<K: Rules, G: Gate>(
     verdicts: &mut [Verdict],
 )
     requires { ArePieces (length asked.now.snapshot) asked.now.pieces piece 1 (length verdicts.old) }
-    ensures are { AreVerdicts (K.answers kit.old) asked.now.pod (nodes_of asked.now.snapshot asked.now.pieces piece 1) verdicts.new }
+    ensures are { AreVerdicts (K.answers kit.old) asked.now.pod (nodes_of asked.now.snapshot asked.now.pieces piece 1)
+        verdicts.new }
     ensures stays { kit.new ≡ kit.old }
 {
     if verdicts.is_empty() {
@@ -81,7 +83,8 @@ pub fn judge_pieces<R: Threads + Sync, K: Rules + Send, G: Gate + Sync>(
 )
 where
     K::Notes: Send,
-    requires pieces { ArePieces (length work.now.rows.now) work.now.pieces first (length kits.old) (length verdicts.old) }
+    requires pieces { ArePieces (length work.now.rows.now) work.now.pieces first (length kits.old)
+        (length verdicts.old) }
     requires alike { JudgeAlike K.answers kits.old }
     ensures are { All (λ kit. AreVerdicts (K.answers kit) work.now.pod.now (map shown
         (nodes_of work.now.rows.now work.now.pieces first (length kits.old))) verdicts.new) kits.old }
@@ -117,8 +120,10 @@ fn judge_both<R: Threads + Sync, K: Rules + Send, G: Gate + Sync>(
 )
 where
     K::Notes: Send,
-    requires pieces_here { ArePieces (length work.now.rows.now) work.now.pieces first (length kits_here.old) (length here.old) }
-    requires pieces_there { ArePieces (length work.now.rows.now) work.now.pieces middle (length kits_there.old) (length there.old) }
+    requires pieces_here { ArePieces (length work.now.rows.now) work.now.pieces first (length kits_here.old)
+        (length here.old) }
+    requires pieces_there { ArePieces (length work.now.rows.now) work.now.pieces middle (length kits_there.old)
+        (length there.old) }
     requires alike_here { JudgeAlike K.answers kits_here.old }
     requires alike_there { JudgeAlike K.answers kits_there.old }
     ensures are_here { All (λ kit. AreVerdicts (K.answers kit) work.now.pod.now (map shown

@@ -104,7 +104,8 @@ impl<J: Site, K: Rules + Drop, G: Gate + Drop> Pool<J, K, G> {
         pod: &SharedPod,
     ) -> Result<Decision, NoMemory>
         ensures chosen { IfOk result (Choice (rules_of K.answers self.old.kits) snapshot pod.now) }
-        ensures judged { OnOk result (AreVerdicts (rules_of K.answers self.old.kits) pod.now snapshot self.new.verdicts) }
+        ensures judged { OnOk result (AreVerdicts (rules_of K.answers self.old.kits) pod.now snapshot
+            self.new.verdicts) }
         ensures kits { self.new.kits ≡ self.old.kits }
     {
         let nodes = snapshot.rows().len();
@@ -209,7 +210,8 @@ fn choose_there<J: Site, K: Rules + Drop, G: Gate, R: Wait>(
     requires places { length verdicts.old ≡ length (arc_value order.now).snapshot }
     requires speaks { SpeaksFor J.Says (K.answers home.old) }
     ensures chosen { let asked = arc_value order.now in Choice (K.answers home.old) asked.snapshot asked.pod result }
-    ensures judged { let asked = arc_value order.now in AreVerdicts (K.answers home.old) asked.pod asked.snapshot verdicts.new }
+    ensures judged { let asked = arc_value order.now in
+        AreVerdicts (K.answers home.old) asked.pod asked.snapshot verdicts.new }
     ensures stays { home.new ≡ home.old }
     ensures length { length helpers.new ≡ length helpers.old }
 {

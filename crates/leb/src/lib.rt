@@ -115,13 +115,16 @@ fn read(bytes: &[u8], at: usize, bits: u32, signed: bool) -> Result<Spelled, Leb
     requires place { at ≤ length bytes.now }
     requires some { 7 ≤ bits }
     requires most { bits ≤ 64 }
-    ensures number { IfOk result (λ x. Spells (sign_of signed) bits (drop at bytes.now) (value_of x) (drop x.next bytes.now)) }
+    ensures number { IfOk result (λ x. Spells (sign_of signed) bits (drop at bytes.now) (value_of x)
+        (drop x.next bytes.now)) }
     ensures range { IfOk result (λ x. InRange (sign_of signed) bits (value_of x)) }
     ensures end { IfOk result (λ x. x.next ≤ length bytes.now) }
-    ensures none { OnErr result ((v : ℤ) (rest : List ℕ) → Spells (sign_of signed) bits (drop at bytes.now) v rest → ⊥) }
+    ensures none { OnErr result ((v : ℤ) (rest : List ℕ) → Spells (sign_of signed) bits (drop at bytes.now) v rest →
+        ⊥) }
     ensures truncated { IsErrOf result LebFault.Truncated ↔ IsTruncated bits (drop at bytes.now) }
     ensures too_long { IsErrOf result LebFault.TooLong ↔ IsTooLong bits (drop at bytes.now) }
-    ensures bad_last_byte { IsErrOf result LebFault.BadLastByte ↔ HasBadLastByte (sign_of signed) bits (drop at bytes.now) }
+    ensures bad_last_byte { IsErrOf result LebFault.BadLastByte ↔ HasBadLastByte (sign_of signed) bits
+        (drop at bytes.now) }
 {
     begin(bytes, at, bits, signed)
 }

@@ -91,7 +91,8 @@ fn slot_before(links: &Links, first: usize, slot: usize) -> usize
     requires there { times slot (chain links.now.nexts first) ≡ 1 }
     requires later { first ≢ slot }
     ensures a_slot { result < length links.now.nexts }
-    ensures linked { (front : List ℕ) × (back : List ℕ) × (chain links.now.nexts first ≡ front ++ result ∷ slot ∷ back) }
+    ensures linked { (front : List ℕ) × (back : List ℕ) ×
+        (chain links.now.nexts first ≡ front ++ result ∷ slot ∷ back) }
 {
     let mut at = first;
     while links.next(at) as usize != slot {

@@ -89,7 +89,8 @@ fn open(blocks: &mut Vec<u16>, written: &mut Vec<u32>, block: usize, end: u32)
     ensures as_many { vec_len blocks.new ≡ vec_len blocks.old }
     ensures room { vec_capacity written.old ≤ vec_capacity written.new }
     ensures there { slice_index_or blocks.new.items block 0 < unwritten }
-    ensures same { (k : ℕ) → head_at blocks.new.items written.new.items end k ≡ head_at blocks.old.items written.old.items end k }
+    ensures same { (k : ℕ) → head_at blocks.new.items written.new.items end k
+        ≡ head_at blocks.old.items written.old.items end k }
 {
     if blocks[block] == UNWRITTEN {
         write(blocks, written, block, end);
@@ -107,7 +108,8 @@ fn write(blocks: &mut Vec<u16>, written: &mut Vec<u32>, block: usize, end: u32)
     ensures as_many { vec_len blocks.new ≡ vec_len blocks.old }
     ensures room { vec_capacity written.old ≤ vec_capacity written.new }
     ensures there { slice_index_or blocks.new.items block 0 < unwritten }
-    ensures same { (k : ℕ) → head_at blocks.new.items written.new.items end k ≡ head_at blocks.old.items written.old.items end k }
+    ensures same { (k : ℕ) → head_at blocks.new.items written.new.items end k
+        ≡ head_at blocks.old.items written.old.items end k }
 {
     let len = written.len();
     blocks[block] = (len / BLOCK) as u16;

@@ -88,7 +88,10 @@ impl Links {
     #[inline]
     pub(crate) fn set(&mut self, slot: usize, next: u32, home: u32)
         requires { slot < length self.old.nexts }
-        ensures { self.new ≡ record { nexts = slice_set self.old.nexts slot next; homes = slice_set self.old.homes slot home } }
+        ensures { self.new ≡ record {
+          nexts = slice_set self.old.nexts slot next;
+          homes = slice_set self.old.homes slot home;
+        } }
     {
         write_up_to(&mut self.written, slot, self.free);
         self.written[slot] = Link { next, home };

@@ -102,7 +102,8 @@ impl<V: Drop> NameTable<V> {
     pub fn find(&self, name: &Name) -> Option<usize>
         ensures slot { result ≡ slot_of self.now name.now }
         ensures there { is_some result ≡ fin.contains_key (map_of self.now) name.now }
-        ensures value { MatchOption result (fin.get (map_of self.now) name.now ≡ None) (λ i. fin.get (map_of self.now) name.now ≡ value_in self.now i) }
+        ensures value { MatchOption result (fin.get (map_of self.now) name.now ≡ None)
+            (λ i. fin.get (map_of self.now) name.now ≡ value_in self.now i) }
         ensures name { IfSome result (λ i. name_in self.now i ≡ Some name.now) }
         ensures filled { IfSome result (λ i. IsSome (entry_in self.now i)) }
         ensures once { NamesOnce self.now }
@@ -140,7 +141,8 @@ impl<V: Drop> NameTable<V> {
     pub fn value_at(&self, slot: usize) -> &V
         requires { IsSome (entry_in self.now slot) }
         ensures value { value_in self.now slot ≡ Some result.now }
-        ensures by_name { (name : List ℕ) → name_in self.now slot ≡ Some name → fin.get (map_of self.now) name ≡ Some result.now }
+        ensures by_name { (name : List ℕ) → name_in self.now slot ≡ Some name →
+            fin.get (map_of self.now) name ≡ Some result.now }
     {
         &self.entry_at(slot).value
     }
@@ -191,7 +193,8 @@ impl<V: Drop> NameTable<V> {
     /// Takes out the entry of a name, if there is one, and answers its value.
     pub fn remove(&mut self, name: &Name) -> Option<V>
         ensures value { result ≡ fin.get (map_of self.old) name.now }
-        ensures slots { MatchOption (slot_of self.old name.now) (self.new ≡ self.old) (λ i. self.new ≡ slice_set self.old i None) }
+        ensures slots { MatchOption (slot_of self.old name.now) (self.new ≡ self.old) (λ i. self.new
+            ≡ slice_set self.old i None) }
         ensures map { map_of self.new ≡ fin.remove (map_of self.old) name.now }
         ensures room { length self.new ≡ length self.old }
         ensures once { NamesOnce self.new }
@@ -215,7 +218,8 @@ impl<V: Drop> NameTable<V> {
         requires { IsSome (entry_in self.old slot) }
         ensures before { value_in self.old slot ≡ Some result }
         ensures slots { self.new ≡ put_in self.old slot value }
-        ensures map { (name : List ℕ) → name_in self.old slot ≡ Some name → map_of self.new ≡ fin.insert (map_of self.old) name value }
+        ensures map { (name : List ℕ) → name_in self.old slot ≡ Some name →
+            map_of self.new ≡ fin.insert (map_of self.old) name value }
         ensures room { length self.new ≡ length self.old }
     {
         mem::replace(self.value_at_mut(slot), value)
@@ -242,7 +246,8 @@ fn find_from<V: Drop>(
 ) -> Option<usize>
     requires ends { Ends links.now.nexts first }
     ensures found { IfSome result (λ i. name_in entries.now i ≡ Some name.now) }
-    ensures none { IfNone result ((i : ℕ) → name_in entries.now i ≡ Some name.now → times i (chain links.now.nexts first) ≡ 0) }
+    ensures none { IfNone result ((i : ℕ) → name_in entries.now i ≡ Some name.now →
+        times i (chain links.now.nexts first) ≡ 0) }
 {
     let mut at = first;
     while at < links.room() {

@@ -156,7 +156,8 @@ impl Plugins {
         members: &mut Vec<Member>,
     ) -> Result<(), KitFault>
         requires { place < length self.now }
-        ensures joined { OnOk result (IfSome (slice_get self.now place) (λ p. OneMoreReady p members.old.items members.new.items)) }
+        ensures joined { OnOk result (IfSome (slice_get self.now place)
+            (λ p. OneMoreReady p members.old.items members.new.items)) }
         ensures refused { IfErr result (λ fault. IfSome (slice_get self.now place) (λ p. WhyNotReady p fault)) }
     {
         let (name, entry) = self.entry(place);
@@ -173,7 +174,8 @@ impl Plugins {
 // Makes an instance of an entry's module, as one more of these members.
 fn made(alloc: Global, entry: &Entry, members: &mut Vec<Member>) -> Result<(), InstanceFault>
     requires { IsWeight entry.now.weight }
-    ensures joined { OnOk result ((name : List ℕ) → OneMoreReady (configured (name, entry.now)) members.old.items members.new.items) }
+    ensures joined { OnOk result ((name : List ℕ) → OneMoreReady (configured (name, entry.now)) members.old.items
+        members.new.items) }
     ensures refused { IfErr result (WhyRefused (module_of (arc_value entry.now.checked).content) entry.now.fuel) }
 {
     let Ok(checked) = entry.checked.clone() else {

@@ -119,7 +119,8 @@ impl Index {
     /// A slot whose pod has not seen a move, if there is any.
     pub(crate) fn unmoved(&self) -> Option<usize>
         ensures some { IfSome result (λ s. IsIn self.now.unschedulable.slots s ⊎ IsIn self.now.unmarked.slots s) }
-        ensures none { IfNone result ((length self.now.unschedulable.slots ≡ 0) × (length self.now.unmarked.slots ≡ 0)) }
+        ensures none { IfNone result ((length self.now.unschedulable.slots ≡ 0) ×
+            (length self.now.unmarked.slots ≡ 0)) }
     {
         let waiting = self.unschedulable.len();
         if waiting > 0 {
@@ -137,7 +138,8 @@ impl Index {
 fn due_in(row: &Row, pods: &NameTable<Slot>, now: Moment) -> Option<usize>
     requires { AllThere pods.now row.now.slots }
     ensures some { IfSome result (λ s. stands_in (is_due now) pods.now s ≡ true) }
-    ensures none { IfNone result (0 < length row.now.slots → stands_in (is_due now) pods.now (at row.now.slots 0) ≡ false) }
+    ensures none { IfNone result (0 < length row.now.slots →
+        stands_in (is_due now) pods.now (at row.now.slots 0) ≡ false) }
 {
     if row.len() == 0 {
         return None;

@@ -321,7 +321,8 @@ fn tell_and_place<J: Naming + Send + Sync, R: Threads + Wait + Sync>(
 
 /// Four passes.
 fn four<J: Naming>(desk: &mut Desk<J>) -> Result<(Pass<J>, Pass<J>, Pass<J>, Pass<J>), NoPlace>
-    ensures { IfOk result (λ p. IsPassOf p.0 desk.new × IsPassOf p.1 desk.new × IsPassOf p.2 desk.new × IsPassOf p.3 desk.new) }
+    ensures { IfOk result (λ p. IsPassOf p.0 desk.new × IsPassOf p.1 desk.new × IsPassOf p.2 desk.new ×
+        IsPassOf p.3 desk.new) }
 {
     Ok((desk.pass()?, desk.pass()?, desk.pass()?, desk.pass()?))
 }

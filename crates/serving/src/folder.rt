@@ -21,7 +21,8 @@ pub trait Files {
     /// Errors: `Read` where the file can't be opened or read, and `NoMemory`.
     fn read_front(&mut self, alloc: Global, name: &str, most: usize) -> Result<Vec<u8>, RunFault>
         requires { failure_count self.old < 10 ^ 18 }
-        ensures front { IfOk result (λ bytes. IfSome (contents self.old name.now) (λ whole. bytes.items ≡ take most whole)) }
+        ensures front { IfOk result (λ bytes. IfSome (contents self.old name.now) (λ whole. bytes.items
+            ≡ take most whole)) }
         ensures faults { IfErr result (λ e. (e ≡ Read) ⊎ (e ≡ NoMemory)) }
         ensures failed { IfErr result (λ e. e ≡ Read → failure_count self.old < failure_count self.new) }
         ensures wanting { IfErr result (λ e. e ≡ NoMemory → failure_count self.new ≡ failure_count self.old) }
@@ -68,7 +69,8 @@ impl<R: fs::Files> Files for Folder<'_, R> {
 fn fill<R: Source>(source: &mut R, buffer: &mut [u8]) -> Result<usize, DeviceFailed>
     requires { R.failure_count source.old < 10 ^ 18 }
     ensures within { IfOk result (λ n. n ≤ length buffer.new) }
-    ensures front { IfOk result (λ n. IfSome (R.remaining source.old) (λ whole. take n buffer.new ≡ take (length buffer.new) whole)) }
+    ensures front { IfOk result (λ n. IfSome (R.remaining source.old) (λ whole. take n buffer.new
+        ≡ take (length buffer.new) whole)) }
     ensures failed { CountsFailure (R.failure_count source.old) (R.failure_count source.new) result }
 {
     let mut at = 0;

@@ -43,7 +43,8 @@ pub fn site_kits(
 ) -> Result<Vec<KitRules>, Fault>
     requires specs { AreWithinLimits specs.now }
     requires modules { length modules.now ≡ length specs.now }
-    ensures made { IfOk result (λ kits. AreSiteKits (map syntax_of specs.now) (map (λ m. m.items) modules.now) many kits.items) }
+    ensures made { IfOk result (λ kits. AreSiteKits (map syntax_of specs.now) (map (λ m. m.items) modules.now) many
+        kits.items) }
     ensures alike { IfOk result (λ kits. JudgeAlike rules_of kits.items) }
     ensures refused { IfErr result (WhyNoSite (map syntax_of specs.now) (map (λ m. m.items) modules.now)) }
 {
@@ -82,7 +83,8 @@ fn add_plugin(
     requires limits { IsWithinLimits spec.now }
     requires alone { ¬ (IsTaken plugins.old spec.now.name) }
     requires room { length plugins.old < 16 }
-    ensures added { OnOk result ((p : _) × IsPlugin (syntax_of spec.now) bytes.now p × (plugins.new ≡ plugins.old ++ p ∷ [])) }
+    ensures added { OnOk result ((p : _) × IsPlugin (syntax_of spec.now) bytes.now p ×
+        (plugins.new ≡ plugins.old ++ p ∷ [])) }
     ensures refused { IfErr result (WhyNoPlugin spec.now.name bytes.now) }
 {
     let checked = checked_from(alloc, &spec.name, bytes)?;
@@ -151,8 +153,10 @@ pub fn modules_in<F: Files>(
     files: &mut F,
 ) -> Result<Vec<Vec<u8>>, Fault>
     requires { F.failure_count files.old < 10 ^ 18 }
-    ensures modules { IfOk result (λ modules. AreFromFiles (F.contents files.old) (map syntax_of specs.now) (map (λ m. m.items) modules.items)) }
-    ensures failed { IfErr result (WhyNoModules (map syntax_of specs.now) (F.failure_count files.old) (F.failure_count files.new)) }
+    ensures modules { IfOk result (λ modules. AreFromFiles (F.contents files.old) (map syntax_of specs.now)
+        (map (λ m. m.items) modules.items)) }
+    ensures failed { IfErr result (WhyNoModules (map syntax_of specs.now) (F.failure_count files.old)
+        (F.failure_count files.new)) }
     ensures read { OnOk result (F.failure_count files.new ≡ F.failure_count files.old) }
 {
     let mut modules = Vec::new(alloc);
@@ -168,7 +172,8 @@ pub fn modules_in<F: Files>(
 // The module of a plugin, as its file has it.
 fn module_in<F: Files>(alloc: Global, spec: &Spec<'_>, files: &mut F) -> Result<Vec<u8>, Fault>
     requires { F.failure_count files.old < 10 ^ 18 }
-    ensures front { IfOk result (λ bytes. IfSome (F.contents files.old spec.now.file.now) (λ whole. bytes.items ≡ front_of whole)) }
+    ensures front { IfOk result (λ bytes. IfSome (F.contents files.old spec.now.file.now) (λ whole. bytes.items
+        ≡ front_of whole)) }
     ensures failed { IfErr result (WhyNoModule spec.now.name (F.failure_count files.old) (F.failure_count files.new)) }
     ensures read { OnOk result (F.failure_count files.new ≡ F.failure_count files.old) }
     ensures same { F.contents files.new ≡ F.contents files.old }

@@ -62,7 +62,8 @@ pub(crate) fn bind_all<J: Naming, R: Wait, B: Reporting>(
 )
     requires { IsPassOf worker.old.pass desk.now }
     ensures number { worker.new.pass.caller.number ≡ worker.old.pass.caller.number }
-    ensures reports { (steps : List Step) × Makes worker.old.pass steps worker.new.pass × AllByRecursion IsReport steps }
+    ensures reports { (steps : List Step) × Makes worker.old.pass steps worker.new.pass ×
+        AllByRecursion IsReport steps }
 {
     for _ in rt.forever() {
         let Ok(job) = jobs.recv(rt) else {

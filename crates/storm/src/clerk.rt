@@ -33,7 +33,8 @@ fn count<J: Naming, R: Wait>(
     clerk: &mut Pass<J>,
 ) -> Result<Counts, NoMemory>
     requires { IsPassOf clerk.old desk.now }
-    ensures counted { IfOk result (λ counts. IsApplied desk.now clerk.old steps.Count (replies.Counts counts) clerk.new) }
+    ensures counted { IfOk result (λ counts. IsApplied desk.now clerk.old steps.Count (replies.Counts counts)
+        clerk.new) }
     ensures err { OnErr result (clerk.new ≡ clerk.old) }
 {
     match desk.apply(rt, clerk, Step::Count)? {
@@ -60,7 +61,8 @@ pub(crate) fn take_dump<J: Naming, R: Wait, D: Drop>(
     requires feeders { ArePassesOf desk.now feeders.old }
     requires cyclers { ArePassesOf desk.now cyclers.old }
     requires reporters { ArePassesOf desk.now reporters.old }
-    ensures dumped { IfOk result (λ dump. IsDumped desk.now clerk.old feeders.old cyclers.old reporters.old dump.0 dump.1 clerk.new) }
+    ensures dumped { IfOk result (λ dump. IsDumped desk.now clerk.old feeders.old cyclers.old reporters.old dump.0
+        dump.1 clerk.new) }
     ensures number { clerk.new.caller.number ≡ clerk.old.caller.number }
 {
     meet_each(rt, desk, clerk, feeders);

@@ -63,7 +63,8 @@ fn cycle_beside<J: Naming, R: Wait + Threads + Sync, D: Decider>(
 ) -> Result<(), NoMemory>
     requires { IsPassOf pass.old desk.now }
     ensures number { pass.new.caller.number ≡ pass.old.caller.number }
-    ensures made { OnOk result ((made : List OneCycle) × HasCycled (rules_of D.Kit.answers (D.kits decider.old)) desk.now pass.old made pass.new) }
+    ensures made { OnOk result ((made : List OneCycle) ×
+        HasCycled (rules_of D.Kit.answers (D.kits decider.old)) desk.now pass.old made pass.new) }
     ensures kits { D.kits decider.new ≡ D.kits decider.old }
 {
     for _ in rt.forever() {

@@ -49,9 +49,11 @@ fn hand_out<J: Naming, D: Decider + Drop>(
     requires { desk.old.handed ≡ 0 }
     ensures feeders { IfOk result (λ hands. hands.feeders.items ≡ enlisted 0 (tt ∷ tt ∷ [])) }
     ensures cyclers { IfOk result (λ hands. hands.cyclers.items ≡ enlisted 2 deciders.items) }
-    ensures reporters { IfOk result (λ hands. hands.reporters.items ≡ enlisted (2 + length deciders.items) binders.items) }
+    ensures reporters { IfOk result (λ hands. hands.reporters.items
+        ≡ enlisted (2 + length deciders.items) binders.items) }
     ensures clerk { IfOk result (λ hands. hands.clerk ≡ newcomer (2 + length deciders.items + length binders.items)) }
-    ensures handed { OnOk result (desk.new ≡ record desk.old { handed = 2 + length deciders.items + length binders.items + 1 }) }
+    ensures handed { OnOk result (desk.new ≡ record desk.old
+        { handed = 2 + length deciders.items + length binders.items + 1 }) }
     ensures faults { IfErr result (λ e. (e ≡ RunFault.NoMemory) ⊎ (e ≡ RunFault.NoPlace)) }
 {
     let mut both = Vec::new(alloc);
@@ -162,8 +164,10 @@ fn tell<W: Sink>(
     sink: &mut W,
 ) -> Result<(), RunFault>
     requires { W.failure_count sink.old < 10 ^ 18 }
-    ensures wrote { OnOk result (Appends (W.written sink.old) (W.written sink.new) (storm_text shown.now counts is_right)) }
-    ensures front { result ≡ Err RunFault.Write → AppendsFront (W.written sink.old) (W.written sink.new) (storm_text shown.now counts is_right) }
+    ensures wrote { OnOk result (Appends (W.written sink.old) (W.written sink.new)
+        (storm_text shown.now counts is_right)) }
+    ensures front { result ≡ Err RunFault.Write → AppendsFront (W.written sink.old) (W.written sink.new)
+        (storm_text shown.now counts is_right) }
     ensures quiet { OnErr result (result ≢ Err RunFault.Write → sink.new ≡ sink.old) }
     ensures faults { IfErr result (λ e. (e ≡ RunFault.NoMemory) ⊎ (e ≡ RunFault.Write)) }
     ensures write { result ≡ Err RunFault.Write → W.failure_count sink.old < W.failure_count sink.new }

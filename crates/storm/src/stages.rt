@@ -149,11 +149,13 @@ fn schedule<
     };
     // Where no thread can be made, the second is done first.
     let mut turning = ||
-        requires { IsSync R.row × IsSend J.row × IsSync J.row × IsSend D.row × ArePassesOf stage.now.desk.now cyclers.now }
+        requires { IsSync R.row × IsSend J.row × IsSync J.row × IsSend D.row ×
+            ArePassesOf stage.now.desk.now cyclers.now }
         ensures { Each (HasScheduled D.Kit.answers D.kits stage.entry.now.desk.now) cyclers.entry.now cyclers.exit.now }
     { cycle_all(stage, rt, &jobs, cyclers) };
     let mut feeding = ||
-        requires { IsSync R.row × IsSend J.row × IsSync J.row × ArePassesOf stage.now.desk.now feeders.now × All IsTimely stage.now.steps.now }
+        requires { IsSync R.row × IsSend J.row × IsSync J.row × ArePassesOf stage.now.desk.now feeders.now ×
+            All IsTimely stage.now.steps.now }
         ensures { Each (HasFed stage.entry.now.steps.now) feeders.entry.now feeders.exit.now }
     { feed_all(stage, rt, feeders) };
     join_mut(rt, &mut turning, &mut feeding);

@@ -138,7 +138,8 @@ fn read_list<P: Part>(
     id: SectionId,
 ) -> Result<Vec<P::Out>, BinFault>
     requires { All (Within bytes.now) sections.now }
-    ensures read { ReadsWhole (Lists P.spells (contents_of (id_of id) (map (section_of bytes.now) sections.now))) (λ v. map (P.seen bytes.now) v.items) result }
+    ensures read { ReadsWhole (Lists P.spells (contents_of (id_of id) (map (section_of bytes.now) sections.now)))
+        (λ v. map (P.seen bytes.now) v.items) result }
     ensures placed { IfOk result (λ v. All (P.placed bytes.now) v.items) }
 {
     match find_section(sections, id) {
@@ -172,7 +173,8 @@ fn find_section(sections: &[Stretch], id: SectionId) -> Option<Stretch>
 // What fills a section.
 fn read_filling<P: Part>(alloc: Global, bytes: &[u8], section: Stretch) -> Result<P::Out, BinFault>
     requires { Within bytes.now section }
-    ensures read { ReadsWhole (λ x. P.spells (drop section.start (take section.end bytes.now)) x []) (P.seen bytes.now) result }
+    ensures read { ReadsWhole (λ x. P.spells (drop section.start (take section.end bytes.now)) x []) (P.seen bytes.now)
+        result }
     ensures placed { IfOk result (P.placed bytes.now) }
 {
     let read = P::read(alloc, &bytes[..section.end], section.start);

@@ -134,7 +134,8 @@ pub fn read_sized(bytes: &[u8], at: usize) -> Result<(&[u8], usize), BinFault>
     requires { at ≤ length bytes.now }
     ensures read { Reads SpellsBytes (λ s. s.now) bytes.now at result }
     ensures memory { IfErr result (λ e. e ≢ NoMemory) }
-    ensures place { IfOk result (λ x. (length x.0.now ≤ x.1) × (at + length x.0.now < x.1) × (x.0.now ≡ drop (x.1 - length x.0.now) (take x.1 bytes.now))) }
+    ensures place { IfOk result (λ x. (length x.0.now ≤ x.1) × (at + length x.0.now < x.1) ×
+        (x.0.now ≡ drop (x.1 - length x.0.now) (take x.1 bytes.now))) }
 {
     let (size, start) = read_index(bytes, at)?;
     let end = start + size as usize;
@@ -149,7 +150,8 @@ pub fn read_bytes(bytes: &[u8], at: usize) -> Result<(&[u8], usize), BinFault>
     requires { at ≤ length bytes.now }
     ensures read { Reads SpellsBytes (λ s. s.now) bytes.now at result }
     ensures memory { IfErr result (λ e. e ≢ NoMemory) }
-    ensures place { IfOk result (λ x. (length x.0.now ≤ x.1) × (at + length x.0.now < x.1) × (x.0.now ≡ drop (x.1 - length x.0.now) (take x.1 bytes.now))) }
+    ensures place { IfOk result (λ x. (length x.0.now ≤ x.1) × (at + length x.0.now < x.1) ×
+        (x.0.now ≡ drop (x.1 - length x.0.now) (take x.1 bytes.now))) }
 {
     read_sized(bytes, at).map_err(|fault| match fault {
         BinFault::Malformed {

@@ -12,7 +12,8 @@ use wcode::{CvtOp, Plain, ValueType};
 
 // What an instruction does under these open blocks, the innermost last.
 pub fn effect_of<'a>(scope: &Scope<'a>, levels: &[Level], plain: Plain) -> Effect<'a>
-    ensures { (c : Context) → IsScope scope.now c → c.labels ≡ labels_of levels.now scope.now.result → effect_type result ≡ plain_type c plain }
+    ensures { (c : Context) → IsScope scope.now c → c.labels ≡ labels_of levels.now scope.now.result →
+        effect_type result ≡ plain_type c plain }
 {
     match plain {
         Plain::Const(value) => constant(value),
@@ -127,7 +128,8 @@ fn memory_effect<'a>(scope: &Scope<'a>, plain: Plain) -> Effect<'a>
 // A branch that isn't by an index, or a return.
 fn branch_effect<'a>(scope: &Scope<'a>, levels: &[Level], plain: Plain) -> Effect<'a>
     requires { NamesLabel plain }
-    ensures { (c : Context) → IsScope scope.now c → c.labels ≡ labels_of levels.now scope.now.result → effect_type result ≡ plain_type c plain }
+    ensures { (c : Context) → IsScope scope.now c → c.labels ≡ labels_of levels.now scope.now.result →
+        effect_type result ≡ plain_type c plain }
 {
     match plain {
         Plain::Br(label) => match scope.label(levels, label) {

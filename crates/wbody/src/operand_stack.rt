@@ -81,7 +81,8 @@ impl OperandStack {
 
     // Takes off the topmost operand, whatever its type.
     pub fn take_any(&mut self) -> Result<Option<ValueType>, Missing>
-        ensures ok { OnOk result (drop_top (stack_of self.old).operands (stack_of self.old).reached ≡ Some (stack_of self.new)) }
+        ensures ok { OnOk result (drop_top (stack_of self.old).operands (stack_of self.old).reached
+            ≡ Some (stack_of self.new)) }
         ensures top { IfOk result (λ x. x ≡ top_of (stack_of self.old).operands) }
         ensures err { OnErr result (drop_top (stack_of self.old).operands (stack_of self.old).reached ≡ None) }
         ensures same { OnOk result (SameBlock self.old self.new) }
@@ -140,8 +141,10 @@ impl OperandStack {
 
     // Takes off two operands of one type and gives back one.
     pub fn join(&mut self) -> Result<(), Stop>
-        ensures ok { OnOk result (join_top (stack_of self.old).operands (stack_of self.old).reached ≡ Some (stack_of self.new)) }
-        ensures err { result ≡ Err Stop.Untyped → join_top (stack_of self.old).operands (stack_of self.old).reached ≡ None }
+        ensures ok { OnOk result (join_top (stack_of self.old).operands (stack_of self.old).reached
+            ≡ Some (stack_of self.new)) }
+        ensures err { result ≡ Err Stop.Untyped → join_top (stack_of self.old).operands (stack_of self.old).reached
+            ≡ None }
         ensures same { OnOk result (SameBlock self.old self.new) }
         ensures greatest { OnOk result (self.new.greatest ≡ max self.old.greatest (vec_len self.new.items)) }
     {

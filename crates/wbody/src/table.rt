@@ -34,7 +34,8 @@ fn all_carry(
     at: usize,
     wanted: Option<ValueType>,
 ) -> bool
-    requires { (at ≤ length bytes.now) × (labels rest : List ℕ) × (count ≡ length labels) × SpellsIndices (drop at bytes.now) labels rest }
+    requires { (at ≤ length bytes.now) × (labels rest : List ℕ) × (count ≡ length labels) ×
+        SpellsIndices (drop at bytes.now) labels rest }
     ensures { (labels rest : List ℕ) → count ≡ length labels → SpellsIndices (drop at bytes.now) labels rest
         → MatchBool result (AllCarry (labels_of levels.now scope.now.result) (at_most_one wanted) labels)
         (AllCarry (labels_of levels.now scope.now.result) (at_most_one wanted) labels → ⊥) }

@@ -44,9 +44,12 @@ pub fn pass_table(
     labels_at: usize,
 ) -> Result<(), Stop>
     requires { (w : Word) × Shows bytes.now (ops.BrTable count labels_at) w }
-    ensures ok { OnOk result ((w : Word) → Shows bytes.now (ops.BrTable count labels_at) w → GoesOver scope.now w levels.now stack.old levels.now stack.new) }
-    ensures moves { OnOk result (Moves scope.now (ops.BrTable count labels_at) levels.now stack.old levels.now stack.new) }
-    ensures err { result ≡ Err Stop.Untyped → (w : Word) → Shows bytes.now (ops.BrTable count labels_at) w → StopsAt scope.now w levels.now stack.old }
+    ensures ok { OnOk result ((w : Word) → Shows bytes.now (ops.BrTable count labels_at) w →
+        GoesOver scope.now w levels.now stack.old levels.now stack.new) }
+    ensures moves { OnOk result (Moves scope.now (ops.BrTable count labels_at) levels.now stack.old levels.now
+        stack.new) }
+    ensures err { result ≡ Err Stop.Untyped → (w : Word) → Shows bytes.now (ops.BrTable count labels_at) w →
+        StopsAt scope.now w levels.now stack.old }
 {
     stack.apply(table_effect(scope, levels, bytes, count, labels_at))
 }
@@ -80,8 +83,10 @@ pub fn pass_block(
     levels: &mut SmallVec<Level, 16>,
     block_type: BlockType,
 ) -> Result<(), Stop>
-    ensures ok { OnOk result ((scope : TheScope) → GoesOver scope (opens openings.Block block_type) levels.old.items stack.old levels.new.items stack.new) }
-    ensures moves { OnOk result ((scope : TheScope) → Moves scope (ops.Block block_type) levels.old.items stack.old levels.new.items stack.new) }
+    ensures ok { OnOk result ((scope : TheScope) → GoesOver scope (opens openings.Block block_type) levels.old.items
+        stack.old levels.new.items stack.new) }
+    ensures moves { OnOk result ((scope : TheScope) → Moves scope (ops.Block block_type) levels.old.items stack.old
+        levels.new.items stack.new) }
     ensures err { result ≡ Err Stop.Untyped → ⊥ }
 {
     enter(stack, levels, Opened::Block, block_type)
@@ -92,8 +97,10 @@ pub fn pass_loop(
     levels: &mut SmallVec<Level, 16>,
     block_type: BlockType,
 ) -> Result<(), Stop>
-    ensures ok { OnOk result ((scope : TheScope) → GoesOver scope (opens openings.Loop block_type) levels.old.items stack.old levels.new.items stack.new) }
-    ensures moves { OnOk result ((scope : TheScope) → Moves scope (ops.Loop block_type) levels.old.items stack.old levels.new.items stack.new) }
+    ensures ok { OnOk result ((scope : TheScope) → GoesOver scope (opens openings.Loop block_type) levels.old.items
+        stack.old levels.new.items stack.new) }
+    ensures moves { OnOk result ((scope : TheScope) → Moves scope (ops.Loop block_type) levels.old.items stack.old
+        levels.new.items stack.new) }
     ensures err { result ≡ Err Stop.Untyped → ⊥ }
 {
     enter(stack, levels, Opened::Loop, block_type)
@@ -105,9 +112,12 @@ pub fn pass_if(
     levels: &mut SmallVec<Level, 16>,
     block_type: BlockType,
 ) -> Result<(), Stop>
-    ensures ok { OnOk result ((scope : TheScope) → GoesOver scope (opens openings.If block_type) levels.old.items stack.old levels.new.items stack.new) }
-    ensures moves { OnOk result ((scope : TheScope) → Moves scope (ops.If block_type) levels.old.items stack.old levels.new.items stack.new) }
-    ensures err { result ≡ Err Stop.Untyped → (scope : TheScope) → StopsAt scope (opens openings.If block_type) levels.old.items stack.old }
+    ensures ok { OnOk result ((scope : TheScope) → GoesOver scope (opens openings.If block_type) levels.old.items
+        stack.old levels.new.items stack.new) }
+    ensures moves { OnOk result ((scope : TheScope) → Moves scope (ops.If block_type) levels.old.items stack.old
+        levels.new.items stack.new) }
+    ensures err { result ≡ Err Stop.Untyped → (scope : TheScope) →
+        StopsAt scope (opens openings.If block_type) levels.old.items stack.old }
 {
     stack.take(ValueType::I32)?;
     enter(stack, levels, Opened::First, block_type)
@@ -115,8 +125,10 @@ pub fn pass_if(
 
 // Over an `else`, inside the first arm of an `if`.
 pub fn pass_else(stack: &mut OperandStack, levels: &mut SmallVec<Level, 16>) -> Result<(), Stop>
-    ensures ok { OnOk result ((scope : TheScope) → GoesOver scope otherwise levels.old.items stack.old levels.new.items stack.new) }
-    ensures moves { OnOk result ((scope : TheScope) → Moves scope ops.Else levels.old.items stack.old levels.new.items stack.new) }
+    ensures ok { OnOk result ((scope : TheScope) → GoesOver scope otherwise levels.old.items stack.old levels.new.items
+        stack.new) }
+    ensures moves { OnOk result ((scope : TheScope) → Moves scope ops.Else levels.old.items stack.old levels.new.items
+        stack.new) }
     ensures err { result ≡ Err Stop.Untyped → (scope : TheScope) → StopsAt scope otherwise levels.old.items stack.old }
 {
     let Some(level) = levels.pop() else {
@@ -152,9 +164,12 @@ fn lacks_else(level: Level) -> bool
 // Over the `end` of a block.
 pub fn pass_end(stack: &mut OperandStack, level: Level) -> Result<(), Stop>
     requires { level.floor ≤ stack.old.floor }
-    ensures ok { OnOk result ((scope : TheScope) → (levels : List Level) → GoesOver scope end (levels ++ level ∷ []) stack.old levels stack.new) }
-    ensures moves { OnOk result ((scope : TheScope) → (levels : List Level) → Moves scope ops.End (levels ++ level ∷ []) stack.old levels stack.new) }
-    ensures err { result ≡ Err Stop.Untyped → (scope : TheScope) → (levels : List Level) → StopsAt scope end (levels ++ level ∷ []) stack.old }
+    ensures ok { OnOk result ((scope : TheScope) → (levels : List Level) →
+        GoesOver scope end (levels ++ level ∷ []) stack.old levels stack.new) }
+    ensures moves { OnOk result ((scope : TheScope) → (levels : List Level) →
+        Moves scope ops.End (levels ++ level ∷ []) stack.old levels stack.new) }
+    ensures err { result ≡ Err Stop.Untyped → (scope : TheScope) → (levels : List Level) →
+        StopsAt scope end (levels ++ level ∷ []) stack.old }
 {
     if lacks_else(level) {
         return Err(Stop::Untyped);

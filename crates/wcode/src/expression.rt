@@ -25,7 +25,8 @@ pub fn read_expr(alloc: Global, bytes: &[u8], at: usize) -> Result<(Vec<Instr>, 
     requires { at ≤ length bytes.now }
     ensures found { IfOk result (λ x. SpellsExpr (drop at bytes.now) (body_of x.0.items) (drop x.1 bytes.now)) }
     ensures end { IfOk result (λ x. x.1 ≤ length bytes.now) }
-    ensures none { IfErr result (λ e. e ≢ NoMemory → (body : Body) (rest : List ℕ) → SpellsExpr (drop at bytes.now) body rest → ⊥) }
+    ensures none { IfErr result (λ e. e ≢ NoMemory → (body : Body) (rest : List ℕ) →
+        SpellsExpr (drop at bytes.now) body rest → ⊥) }
 {
     let ended = read_body(alloc, bytes, at, NESTING)?;
     if ended.by_else {
@@ -121,9 +122,11 @@ fn read_nested(
     room: u32,
 ) -> Result<(Vec<Instr>, usize), BinFault>
     requires { next ≤ length bytes.now }
-    ensures found { IfOk result (λ x. (0 < room) × SpellsBody (room - 1) end (drop next bytes.now) (body_of x.0.items) (drop x.1 bytes.now)) }
+    ensures found { IfOk result (λ x. (0 < room) × SpellsBody (room - 1) end (drop next bytes.now) (body_of x.0.items)
+        (drop x.1 bytes.now)) }
     ensures end { IfOk result (λ x. x.1 ≤ length bytes.now) }
-    ensures none { IfErr result (λ e. e ≢ NoMemory → 0 < room → (body : Body) (rest : List ℕ) → SpellsBody (room - 1) end (drop next bytes.now) body rest → ⊥) }
+    ensures none { IfErr result (λ e. e ≢ NoMemory → 0 < room → (body : Body) (rest : List ℕ) →
+        SpellsBody (room - 1) end (drop next bytes.now) body rest → ⊥) }
 {
     if room == 0 {
         return Err(too_deep(at));
@@ -146,9 +149,11 @@ fn read_arms(
     room: u32,
 ) -> Result<(Vec<Instr>, Vec<Instr>, usize), BinFault>
     requires { next ≤ length bytes.now }
-    ensures found { IfOk result (λ x. (0 < room) × SpellsArms (room - 1) (drop next bytes.now) (body_of x.0.items) (body_of x.1.items) (drop x.2 bytes.now)) }
+    ensures found { IfOk result (λ x. (0 < room) × SpellsArms (room - 1) (drop next bytes.now) (body_of x.0.items)
+        (body_of x.1.items) (drop x.2 bytes.now)) }
     ensures end { IfOk result (λ x. x.2 ≤ length bytes.now) }
-    ensures none { IfErr result (λ e. e ≢ NoMemory → 0 < room → (a b : Body) (rest : List ℕ) → SpellsArms (room - 1) (drop next bytes.now) a b rest → ⊥) }
+    ensures none { IfErr result (λ e. e ≢ NoMemory → 0 < room → (a b : Body) (rest : List ℕ) →
+        SpellsArms (room - 1) (drop next bytes.now) a b rest → ⊥) }
 {
     if room == 0 {
         return Err(too_deep(at));

@@ -17,8 +17,10 @@ pub fn one_word()
 
 /// An `else` or an `end` is its opcode alone.
 pub fn marks_are_one_byte()
-    ensures else_mark { (bytes : List ℕ) (at : ℕ) → at < length bytes → form (slice_index bytes at) ≡ forms.Else → SpellsWord (drop at bytes) otherwise (drop (at + 1) bytes) }
-    ensures end_mark { (bytes : List ℕ) (at : ℕ) → at < length bytes → form (slice_index bytes at) ≡ forms.End → SpellsWord (drop at bytes) end (drop (at + 1) bytes) }
+    ensures else_mark { (bytes : List ℕ) (at : ℕ) → at < length bytes → form (slice_index bytes at) ≡ forms.Else →
+        SpellsWord (drop at bytes) otherwise (drop (at + 1) bytes) }
+    ensures end_mark { (bytes : List ℕ) (at : ℕ) → at < length bytes → form (slice_index bytes at) ≡ forms.End →
+        SpellsWord (drop at bytes) end (drop (at + 1) bytes) }
 {}
 
 /// Bytes begin with one expression at most, which ends at one place.

@@ -22,7 +22,8 @@ use leb::{LebFault, read_i32, read_i64, read_u32};
 #[inline]
 pub fn read_op(bytes: &[u8], at: usize) -> Result<(Op, usize), OpFault>
     requires { at ≤ length bytes.now }
-    ensures found { IfOk result (λ x. (w : Word) × Shows bytes.now x.0 w × SpellsWord (drop at bytes.now) w (drop x.1 bytes.now)) }
+    ensures found { IfOk result (λ x. (w : Word) × Shows bytes.now x.0 w ×
+        SpellsWord (drop at bytes.now) w (drop x.1 bytes.now)) }
     ensures end { IfOk result (λ x. (at < x.1) × (x.1 ≤ length bytes.now)) }
     ensures none { OnErr result ((w : Word) (rest : List ℕ) → SpellsWord (drop at bytes.now) w rest → ⊥) }
 {
@@ -188,9 +189,11 @@ fn read_table(bytes: &[u8], at: usize) -> Result<(Op, usize), OpFault>
 // The place after so many labels.
 fn skip_labels(bytes: &[u8], at: usize, count: u32) -> Result<usize, OpFault>
     requires { at ≤ length bytes.now }
-    ensures found { IfOk result (λ last. (labels : List ℕ) × (count ≡ length labels) × SpellsIndices (drop at bytes.now) labels (drop last bytes.now)) }
+    ensures found { IfOk result (λ last. (labels : List ℕ) × (count ≡ length labels) ×
+        SpellsIndices (drop at bytes.now) labels (drop last bytes.now)) }
     ensures end { IfOk result (λ last. last ≤ length bytes.now) }
-    ensures none { OnErr result ((labels rest : List ℕ) → count ≡ length labels → SpellsIndices (drop at bytes.now) labels rest → ⊥) }
+    ensures none { OnErr result ((labels rest : List ℕ) → count ≡ length labels →
+        SpellsIndices (drop at bytes.now) labels rest → ⊥) }
 {
     let mut place = at;
     for _i in 0..count {

@@ -24,7 +24,8 @@ pub fn skip_expr(alloc: Global, bytes: &[u8], at: usize) -> Result<(Vec<Block>, 
     requires { at ≤ length bytes.now }
     ensures found { IfOk result (λ x. (body : Body) × HasBlocks bytes.now at body x.1 x.0.items) }
     ensures end { IfOk result (λ x. (at < x.1) × (x.1 ≤ length bytes.now)) }
-    ensures none { IfErr result (λ e. e ≢ NoMemory → (body : Body) (rest : List ℕ) → SpellsExpr (drop at bytes.now) body rest → ⊥) }
+    ensures none { IfErr result (λ e. e ≢ NoMemory → (body : Body) (rest : List ℕ) →
+        SpellsExpr (drop at bytes.now) body rest → ⊥) }
 {
     let mut blocks = Vec::new(alloc);
     let skipped = skip_body(bytes, at, NESTING, &mut blocks)?;

@@ -37,7 +37,8 @@ fn data_fits(machine: &Machine) -> bool
 
 /// Tests the bounds of all element segments, and then those of all data segments.
 pub fn test_bounds(machine: &Machine) -> Result<(), InstanceFault>
-    ensures { MatchResult result (λ _. InBounds (module_of machine.now.content) machine.now.store) (BoundsRefused (module_of machine.now.content) machine.now.store) }
+    ensures { MatchResult result (λ _. InBounds (module_of machine.now.content) machine.now.store)
+        (BoundsRefused (module_of machine.now.content) machine.now.store) }
 {
     if !elements_fit(machine) {
         return Err(InstanceFault::ElementOutOfBounds);
@@ -51,7 +52,10 @@ pub fn test_bounds(machine: &Machine) -> Result<(), InstanceFault>
 /// Writes all segments, the element segments first.
 pub fn write_segments(machine: &mut Machine)
     requires { InBounds (module_of machine.old.content) machine.old.store }
-    ensures { machine.new ≡ record machine.old { store = with_segments (module_of machine.old.content) machine.old.store } }
+    ensures { machine.new ≡ record machine.old {
+      store = with_segments (module_of machine.old.content)
+          machine.old.store;
+    } }
 {
     write_elements(machine);
     write_data(machine);
@@ -60,7 +64,10 @@ pub fn write_segments(machine: &mut Machine)
 // Writes the element segments, one after the other.
 fn write_elements(machine: &mut Machine)
     requires { All (λ s. ElementsFit s machine.old.store) (module_of machine.old.content).element_segments }
-    ensures { machine.new ≡ record machine.old { store = with_all_elements (module_of machine.old.content).element_segments machine.old.store } }
+    ensures { machine.new ≡ record machine.old {
+      store = with_all_elements
+          (module_of machine.old.content).element_segments machine.old.store;
+    } }
 {
     for segment in 0..machine.element_segment_count() {
         machine.put_elements(segment);
@@ -70,7 +77,10 @@ fn write_elements(machine: &mut Machine)
 // Writes the data segments, one after the other.
 fn write_data(machine: &mut Machine)
     requires { All (λ s. DataFits s machine.old.store) (module_of machine.old.content).data_segments }
-    ensures { machine.new ≡ record machine.old { store = with_all_data (module_of machine.old.content).data_segments machine.old.store } }
+    ensures { machine.new ≡ record machine.old {
+      store = with_all_data (module_of machine.old.content).data_segments
+          machine.old.store;
+    } }
 {
     for segment in 0..machine.data_segment_count() {
         machine.put_data(segment);

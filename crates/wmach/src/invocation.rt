@@ -28,7 +28,8 @@ use wstore::Store;
 // At the beginning of a function that takes nothing, by its place among those of the module: its locals are zeros.
 fn begin(code: &Code<'_>, slots: &mut [u64], function: usize, fuel: u64) -> State
     requires there { function < length code.now.shapes.now }
-    requires room { (shape : TheShape) → slice_get code.now.shapes.now function ≡ Some shape → shape.locals ≤ length slots.old }
+    requires room { (shape : TheShape) → slice_get code.now.shapes.now function ≡ Some shape →
+        shape.locals ≤ length slots.old }
     ensures begun { Begun code.now function fuel result slots.new }
     ensures long { length slots.new ≡ length slots.old }
 {
@@ -60,7 +61,8 @@ fn result_of(slots: &[u64], export: Export) -> Option<Value>
 
 // The outcome of a call that stopped, by what was left of its fuel.
 fn outcome_of(slots: &[u64], export: Export, fuel: u64, how: Stop) -> Outcome
-    requires { (r : Run) × (before : TheStore) × (function : ℕ) × (store : StoreState) × IsCallOf r before export function fuel × Stops r how slots.now store }
+    requires { (r : Run) × (before : TheStore) × (function : ℕ) × (store : StoreState) ×
+        IsCallOf r before export function fuel × Stops r how slots.now store }
     ensures outcome { (r : Run) (before : TheStore) (function : ℕ) (store : StoreState) → IsCallOf r before export function fuel
         → Stops r how slots.now store → HasOutcome r.setting before function fuel result store.current }
     ensures fits { ResultFits (result_type export) result }
@@ -88,7 +90,10 @@ pub fn invoke<H: Host>(
     requires room { most_frames ≤ vec_capacity waiting.old }
     requires slots { HasSlots store.old.checked slots.old }
     requires there { called_function (module_of store.old.checked.content) export ≡ Some function }
-    ensures ends { HasOutcome (record { module_syntax = module_of store.old.checked.content; records = H.records host.now }) store.old.current function fuel result store.new.current }
+    ensures ends { HasOutcome (record {
+      module_syntax = module_of store.old.checked.content;
+      records = H.records host.now;
+    }) store.old.current function fuel result store.new.current }
     ensures fits { ResultFits (result_type export) result }
     ensures checked { store.new.checked ≡ store.old.checked }
     ensures image { store.new.image ≡ store.old.image }

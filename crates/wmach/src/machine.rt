@@ -161,7 +161,8 @@ impl Machine {
     /// Whether all of this element segment lies within the table.
     pub fn fits_elements(&self, segment: usize) -> bool
         requires { segment < length (module_of self.now.content).element_segments }
-        ensures { (s : ElementSyntax) → slice_get (module_of self.now.content).element_segments segment ≡ Some s → IsTrue result ↔ ElementsFit s self.now.store }
+        ensures { (s : ElementSyntax) → slice_get (module_of self.now.content).element_segments segment ≡ Some s →
+            IsTrue result ↔ ElementsFit s self.now.store }
     {
         self.store.fits_elements(segment)
     }
@@ -169,7 +170,8 @@ impl Machine {
     /// Writes this element segment's functions into the table.
     pub fn put_elements(&mut self, segment: usize)
         requires there { segment < length (module_of self.old.content).element_segments }
-        requires in_bounds { (s : ElementSyntax) → slice_get (module_of self.old.content).element_segments segment ≡ Some s → ElementsFit s self.old.store }
+        requires in_bounds { (s : ElementSyntax) → slice_get (module_of self.old.content).element_segments segment
+            ≡ Some s → ElementsFit s self.old.store }
         ensures { (s : ElementSyntax) → slice_get (module_of self.old.content).element_segments segment ≡ Some s
             → self.new ≡ record self.old { store = with_elements s self.old.store } }
     {
@@ -179,7 +181,8 @@ impl Machine {
     /// Whether all of this data segment lies within the memory.
     pub fn fits_data(&self, segment: usize) -> bool
         requires { segment < length (module_of self.now.content).data_segments }
-        ensures { (s : DataSyntax) → slice_get (module_of self.now.content).data_segments segment ≡ Some s → IsTrue result ↔ DataFits s self.now.store }
+        ensures { (s : DataSyntax) → slice_get (module_of self.now.content).data_segments segment ≡ Some s →
+            IsTrue result ↔ DataFits s self.now.store }
     {
         self.store.fits_data(segment)
     }
@@ -187,7 +190,8 @@ impl Machine {
     /// Writes this data segment's bytes into the memory.
     pub fn put_data(&mut self, segment: usize)
         requires there { segment < length (module_of self.old.content).data_segments }
-        requires in_bounds { (s : DataSyntax) → slice_get (module_of self.old.content).data_segments segment ≡ Some s → DataFits s self.old.store }
+        requires in_bounds { (s : DataSyntax) → slice_get (module_of self.old.content).data_segments segment ≡ Some s →
+            DataFits s self.old.store }
         ensures { (s : DataSyntax) → slice_get (module_of self.old.content).data_segments segment ≡ Some s
             → self.new ≡ record self.old { store = with_data s self.old.store } }
     {

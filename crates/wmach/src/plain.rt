@@ -20,8 +20,10 @@ use wstore::Store;
 /// unreachable
 #[inline(always)]
 pub fn unreachable_here(slots: &[u64], state: State, next: usize) -> Result<State, Stop>
-    requires { (waiting : List Waits) × (store : StoreState) × Ready (one plains.Unreachable) next state waiting slots.now store }
-    ensures { (waiting : List Waits) (store : StoreState) → Goes (one plains.Unreachable) next state waiting slots.now store result waiting slots.now store }
+    requires { (waiting : List Waits) × (store : StoreState) ×
+        Ready (one plains.Unreachable) next state waiting slots.now store }
+    ensures { (waiting : List Waits) (store : StoreState) →
+        Goes (one plains.Unreachable) next state waiting slots.now store result waiting slots.now store }
 {
     let _ = slots;
     let _ = next;
@@ -32,8 +34,10 @@ pub fn unreachable_here(slots: &[u64], state: State, next: usize) -> Result<Stat
 /// nop
 #[inline(always)]
 pub fn nop(slots: &[u64], state: State, next: usize) -> Result<State, Stop>
-    requires { (waiting : List Waits) × (store : StoreState) × Ready (one plains.Nop) next state waiting slots.now store }
-    ensures { (waiting : List Waits) (store : StoreState) → Goes (one plains.Nop) next state waiting slots.now store result waiting slots.now store }
+    requires { (waiting : List Waits) × (store : StoreState) ×
+        Ready (one plains.Nop) next state waiting slots.now store }
+    ensures { (waiting : List Waits) (store : StoreState) →
+        Goes (one plains.Nop) next state waiting slots.now store result waiting slots.now store }
 {
     let _ = slots;
     let left = spend(state.left)?;
@@ -58,8 +62,10 @@ fn number_of(value: Value) -> u64
 /// t.const
 #[inline(always)]
 pub fn constant(slots: &mut [u64], state: State, next: usize, value: Value) -> State
-    requires { (waiting : List Waits) × (store : StoreState) × Ready (one (plains.Const value)) next state waiting slots.old store }
-    ensures { (waiting : List Waits) (store : StoreState) → Goes (one (plains.Const value)) next state waiting slots.old store (Ok result) waiting slots.new store }
+    requires { (waiting : List Waits) × (store : StoreState) ×
+        Ready (one (plains.Const value)) next state waiting slots.old store }
+    ensures { (waiting : List Waits) (store : StoreState) →
+        Goes (one (plains.Const value)) next state waiting slots.old store (Ok result) waiting slots.new store }
 {
     let top = push(slots, state.top, number_of(value));
     State {
@@ -72,8 +78,10 @@ pub fn constant(slots: &mut [u64], state: State, next: usize, value: Value) -> S
 /// drop
 #[inline(always)]
 pub fn drop_one(slots: &[u64], state: State, next: usize) -> Result<State, Stop>
-    requires { (waiting : List Waits) × (store : StoreState) × Ready (one plains.Drop) next state waiting slots.now store }
-    ensures { (waiting : List Waits) (store : StoreState) → Goes (one plains.Drop) next state waiting slots.now store result waiting slots.now store }
+    requires { (waiting : List Waits) × (store : StoreState) ×
+        Ready (one plains.Drop) next state waiting slots.now store }
+    ensures { (waiting : List Waits) (store : StoreState) →
+        Goes (one plains.Drop) next state waiting slots.now store result waiting slots.now store }
 {
     let left = spend(state.left)?;
     let _dropped = topmost(slots, state.top);
@@ -96,8 +104,10 @@ fn chosen_by(condition: u64, first: u64, second: u64) -> u64
 /// select
 #[inline(always)]
 pub fn select(slots: &mut [u64], state: State, next: usize) -> Result<State, Stop>
-    requires { (waiting : List Waits) × (store : StoreState) × Ready (one plains.Select) next state waiting slots.old store }
-    ensures { (waiting : List Waits) (store : StoreState) → Goes (one plains.Select) next state waiting slots.old store result waiting slots.new store }
+    requires { (waiting : List Waits) × (store : StoreState) ×
+        Ready (one plains.Select) next state waiting slots.old store }
+    ensures { (waiting : List Waits) (store : StoreState) →
+        Goes (one plains.Select) next state waiting slots.old store result waiting slots.new store }
 {
     let left = spend(state.left)?;
     let condition = topmost(slots, state.top);
@@ -116,8 +126,10 @@ pub fn select(slots: &mut [u64], state: State, next: usize) -> Result<State, Sto
 /// local.get
 #[inline(always)]
 pub fn local_get(slots: &mut [u64], state: State, next: usize, x: u32) -> Result<State, Stop>
-    requires { (waiting : List Waits) × (store : StoreState) × Ready (one (plains.LocalGet x)) next state waiting slots.old store }
-    ensures { (waiting : List Waits) (store : StoreState) → Goes (one (plains.LocalGet x)) next state waiting slots.old store result waiting slots.new store }
+    requires { (waiting : List Waits) × (store : StoreState) ×
+        Ready (one (plains.LocalGet x)) next state waiting slots.old store }
+    ensures { (waiting : List Waits) (store : StoreState) →
+        Goes (one (plains.LocalGet x)) next state waiting slots.old store result waiting slots.new store }
 {
     let left = spend(state.left)?;
     let number = slot(slots, state.base + x as usize);
@@ -133,8 +145,10 @@ pub fn local_get(slots: &mut [u64], state: State, next: usize, x: u32) -> Result
 /// local.set
 #[inline(always)]
 pub fn local_set(slots: &mut [u64], state: State, next: usize, x: u32) -> Result<State, Stop>
-    requires { (waiting : List Waits) × (store : StoreState) × Ready (one (plains.LocalSet x)) next state waiting slots.old store }
-    ensures { (waiting : List Waits) (store : StoreState) → Goes (one (plains.LocalSet x)) next state waiting slots.old store result waiting slots.new store }
+    requires { (waiting : List Waits) × (store : StoreState) ×
+        Ready (one (plains.LocalSet x)) next state waiting slots.old store }
+    ensures { (waiting : List Waits) (store : StoreState) →
+        Goes (one (plains.LocalSet x)) next state waiting slots.old store result waiting slots.new store }
 {
     let left = spend(state.left)?;
     let number = topmost(slots, state.top);
@@ -150,8 +164,10 @@ pub fn local_set(slots: &mut [u64], state: State, next: usize, x: u32) -> Result
 /// local.tee: the value once more, and then local.set, each of which costs one.
 #[inline(always)]
 pub fn local_tee(slots: &mut [u64], state: State, next: usize, x: u32) -> Result<State, Stop>
-    requires { (waiting : List Waits) × (store : StoreState) × Ready (one (plains.LocalTee x)) next state waiting slots.old store }
-    ensures { (waiting : List Waits) (store : StoreState) → Goes (one (plains.LocalTee x)) next state waiting slots.old store result waiting slots.new store }
+    requires { (waiting : List Waits) × (store : StoreState) ×
+        Ready (one (plains.LocalTee x)) next state waiting slots.old store }
+    ensures { (waiting : List Waits) (store : StoreState) →
+        Goes (one (plains.LocalTee x)) next state waiting slots.old store result waiting slots.new store }
 {
     let first = spend(state.left)?;
     let left = spend(first)?;
@@ -174,7 +190,8 @@ pub fn global_get(
     x: u32,
 ) -> Result<State, Stop>
     requires { (waiting : List Waits) × Ready (one (plains.GlobalGet x)) next state waiting slots.old store.now }
-    ensures { (waiting : List Waits) → Goes (one (plains.GlobalGet x)) next state waiting slots.old store.now result waiting slots.new store.now }
+    ensures { (waiting : List Waits) → Goes (one (plains.GlobalGet x)) next state waiting slots.old store.now result
+        waiting slots.new store.now }
 {
     let left = spend(state.left)?;
     let number = store.global(x as usize);
@@ -197,7 +214,8 @@ pub fn global_set(
     x: u32,
 ) -> Result<State, Stop>
     requires { (waiting : List Waits) × Ready (one (plains.GlobalSet x)) next state waiting slots.now store.old }
-    ensures { (waiting : List Waits) → Goes (one (plains.GlobalSet x)) next state waiting slots.now store.old result waiting slots.now store.new }
+    ensures { (waiting : List Waits) → Goes (one (plains.GlobalSet x)) next state waiting slots.now store.old result
+        waiting slots.now store.new }
 {
     let left = spend(state.left)?;
     let number = topmost(slots, state.top);
@@ -219,8 +237,10 @@ pub fn unary(
     t: ValueType,
     op: UnOp,
 ) -> Result<State, Stop>
-    requires { (waiting : List Waits) × (store : StoreState) × Ready (one (plains.Unary t op)) next state waiting slots.old store }
-    ensures { (waiting : List Waits) (store : StoreState) → Goes (one (plains.Unary t op)) next state waiting slots.old store result waiting slots.new store }
+    requires { (waiting : List Waits) × (store : StoreState) ×
+        Ready (one (plains.Unary t op)) next state waiting slots.old store }
+    ensures { (waiting : List Waits) (store : StoreState) →
+        Goes (one (plains.Unary t op)) next state waiting slots.old store result waiting slots.new store }
 {
     let left = spend(state.left)?;
     let number = topmost(slots, state.top);
@@ -242,8 +262,10 @@ pub fn binary(
     t: ValueType,
     op: BinOp,
 ) -> Result<State, Stop>
-    requires { (waiting : List Waits) × (store : StoreState) × Ready (one (plains.Binary t op)) next state waiting slots.old store }
-    ensures { (waiting : List Waits) (store : StoreState) → Goes (one (plains.Binary t op)) next state waiting slots.old store result waiting slots.new store }
+    requires { (waiting : List Waits) × (store : StoreState) ×
+        Ready (one (plains.Binary t op)) next state waiting slots.old store }
+    ensures { (waiting : List Waits) (store : StoreState) →
+        Goes (one (plains.Binary t op)) next state waiting slots.old store result waiting slots.new store }
 {
     let left = spend(state.left)?;
     let second = topmost(slots, state.top);
@@ -271,8 +293,10 @@ pub fn test(
     t: ValueType,
     op: TestOp,
 ) -> Result<State, Stop>
-    requires { (waiting : List Waits) × (store : StoreState) × Ready (one (plains.Test t op)) next state waiting slots.old store }
-    ensures { (waiting : List Waits) (store : StoreState) → Goes (one (plains.Test t op)) next state waiting slots.old store result waiting slots.new store }
+    requires { (waiting : List Waits) × (store : StoreState) ×
+        Ready (one (plains.Test t op)) next state waiting slots.old store }
+    ensures { (waiting : List Waits) (store : StoreState) →
+        Goes (one (plains.Test t op)) next state waiting slots.old store result waiting slots.new store }
 {
     let left = spend(state.left)?;
     let number = topmost(slots, state.top);
@@ -294,8 +318,10 @@ pub fn relation(
     t: ValueType,
     op: RelOp,
 ) -> Result<State, Stop>
-    requires { (waiting : List Waits) × (store : StoreState) × Ready (one (plains.Relation t op)) next state waiting slots.old store }
-    ensures { (waiting : List Waits) (store : StoreState) → Goes (one (plains.Relation t op)) next state waiting slots.old store result waiting slots.new store }
+    requires { (waiting : List Waits) × (store : StoreState) ×
+        Ready (one (plains.Relation t op)) next state waiting slots.old store }
+    ensures { (waiting : List Waits) (store : StoreState) →
+        Goes (one (plains.Relation t op)) next state waiting slots.old store result waiting slots.new store }
 {
     let left = spend(state.left)?;
     let second = topmost(slots, state.top);
@@ -312,8 +338,10 @@ pub fn relation(
 /// t2.cvtop_t1
 #[inline(always)]
 pub fn convert(slots: &mut [u64], state: State, next: usize, op: CvtOp) -> Result<State, Stop>
-    requires { (waiting : List Waits) × (store : StoreState) × Ready (one (plains.Convert op)) next state waiting slots.old store }
-    ensures { (waiting : List Waits) (store : StoreState) → Goes (one (plains.Convert op)) next state waiting slots.old store result waiting slots.new store }
+    requires { (waiting : List Waits) × (store : StoreState) ×
+        Ready (one (plains.Convert op)) next state waiting slots.old store }
+    ensures { (waiting : List Waits) (store : StoreState) →
+        Goes (one (plains.Convert op)) next state waiting slots.old store result waiting slots.new store }
 {
     let left = spend(state.left)?;
     let number = topmost(slots, state.top);
@@ -371,7 +399,8 @@ pub fn load(
     arg: MemArg,
 ) -> Result<State, Stop>
     requires { (waiting : List Waits) × Ready (one (plains.Load op arg)) next state waiting slots.old store.now }
-    ensures { (waiting : List Waits) → Goes (one (plains.Load op arg)) next state waiting slots.old store.now result waiting slots.new store.now }
+    ensures { (waiting : List Waits) → Goes (one (plains.Load op arg)) next state waiting slots.old store.now result
+        waiting slots.new store.now }
 {
     let left = spend(state.left)?;
     let base = topmost(slots, state.top) as u32;
@@ -400,7 +429,8 @@ pub fn store(
     arg: MemArg,
 ) -> Result<State, Stop>
     requires { (waiting : List Waits) × Ready (one (plains.Store op arg)) next state waiting slots.now memory.old }
-    ensures { (waiting : List Waits) → Goes (one (plains.Store op arg)) next state waiting slots.now memory.old result waiting slots.now memory.new }
+    ensures { (waiting : List Waits) → Goes (one (plains.Store op arg)) next state waiting slots.now memory.old result
+        waiting slots.now memory.new }
 {
     let left = spend(state.left)?;
     let number = topmost(slots, state.top);
@@ -425,7 +455,8 @@ pub fn memory_size(
     next: usize,
 ) -> Result<State, Stop>
     requires { (waiting : List Waits) × Ready (one plains.MemorySize) next state waiting slots.old store.now }
-    ensures { (waiting : List Waits) → Goes (one plains.MemorySize) next state waiting slots.old store.now result waiting slots.new store.now }
+    ensures { (waiting : List Waits) → Goes (one plains.MemorySize) next state waiting slots.old store.now result
+        waiting slots.new store.now }
 {
     let left = spend(state.left)?;
     let top = push(slots, state.top, store.size() as u64);
@@ -446,7 +477,8 @@ pub fn memory_grow(
     next: usize,
 ) -> Result<State, Stop>
     requires { (waiting : List Waits) × Ready (one plains.MemoryGrow) next state waiting slots.old store.old }
-    ensures { (waiting : List Waits) → Goes (one plains.MemoryGrow) next state waiting slots.old store.old result waiting slots.new store.new }
+    ensures { (waiting : List Waits) → Goes (one plains.MemoryGrow) next state waiting slots.old store.old result
+        waiting slots.new store.new }
 {
     let left = spend(state.left)?;
     let delta = topmost(slots, state.top) as u32;

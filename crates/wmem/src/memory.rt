@@ -105,7 +105,8 @@ impl Memory {
     /// [`Trap::MemoryOutOfBounds`] where one of the bytes lies past the end: nothing is written then.
     #[inline(always)]
     pub fn store(&mut self, base: u32, offset: u32, width: Width, value: u64) -> Result<(), Trap>
-        ensures { WriteGives MemoryOutOfBounds self.old (base + offset) (bytes_of (byte_count width) value) result self.new }
+        ensures { WriteGives MemoryOutOfBounds self.old (base + offset) (bytes_of (byte_count width) value) result
+            self.new }
     {
         let address = effective_address(base, offset);
         if address + width.bytes() > self.byte_size() {
@@ -206,7 +207,10 @@ impl Memory {
     #[inline(always)]
     fn write_at(&mut self, address: usize, width: Width, value: u64)
         requires { address + byte_count width ≤ length self.old.bytes }
-        ensures { self.new ≡ record self.old { bytes = with_bytes self.old.bytes address (bytes_of (byte_count width) value) } }
+        ensures { self.new ≡ record self.old {
+          bytes = with_bytes self.old.bytes address
+              (bytes_of (byte_count width) value);
+        } }
     {
         self.tracked.write(address, width, value);
     }

@@ -75,7 +75,8 @@ impl NotedPages {
         requires { to ≤ length self.old.flags }
         ensures pages { length self.new.flags ≡ length self.old.flags }
         ensures noted { (page : ℕ) → from ≤ page → page < to → slice_index_or self.new.flags page false ≡ true }
-        ensures stays { (page : ℕ) → slice_index_or self.new.flags page false ≡ false → slice_index_or self.old.flags page false ≡ false }
+        ensures stays { (page : ℕ) → slice_index_or self.new.flags page false ≡ false →
+            slice_index_or self.old.flags page false ≡ false }
         ensures room { self.new.room ≡ self.old.room }
     {
         for page in from..to {

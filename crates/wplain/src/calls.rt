@@ -34,7 +34,8 @@ use wtype::host_number;
 
 // How many functions are imported. It gives up where they can't be counted.
 fn count(imports: &[Import]) -> Result<usize, Stop>
-    ensures { IfOk result (λ n. (types : List Signature) → length (imported_functions types (map import_of imports.now)) ≡ n) }
+    ensures { IfOk result (λ n. (types : List Signature) →
+        length (imported_functions types (map import_of imports.now)) ≡ n) }
 {
     match imports {
         [] => Ok(0),
@@ -111,7 +112,8 @@ fn type_of(program: &Program, function: u32) -> Result<&FunctionType, Stop>
 
 // The imported function at this place among them.
 fn imported_at(imports: &[Import], place: usize) -> Result<&Import, Stop>
-    ensures { IfOk result (λ i. slice_get (imported_names (map import_of imports.now)) place ≡ Some (i.now.module.items, i.now.name.items)) }
+    ensures { IfOk result (λ i. slice_get (imported_names (map import_of imports.now)) place
+        ≡ Some (i.now.module.items, i.now.name.items)) }
 {
     match imports {
         [] => Err(Stop::Stuck),

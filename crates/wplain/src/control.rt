@@ -51,7 +51,8 @@ pub enum Ended<'b> {
 }
 
 fn what_comes(next: Next<'_>) -> Comes
-    ensures branches { (values : List one_value) (depth : ℕ) → branching depth (place_of values next.entry) ≡ branched depth values result }
+    ensures branches { (values : List one_value) (depth : ℕ) →
+        branching depth (place_of values next.entry) ≡ branched depth values result }
     ensures returns { (values : List one_value) → returning (place_of values next.entry) ≡ returned values result }
 {
     match next {
@@ -116,7 +117,8 @@ fn end_in<'b>(execution: &'b Execution<'_>) -> Ended<'b>
 
 // What comes after a label that is branched to.
 fn continued<'a>(continuation: Continuation<'a>, rest: &'a Code) -> Next<'a>
-    ensures { (values : List one_value) → place_of values result ≡ instructions values (followed_by (continuation_of continuation.entry) (body_of_code rest.now)) }
+    ensures { (values : List one_value) → place_of values result
+        ≡ instructions values (followed_by (continuation_of continuation.entry) (body_of_code rest.now)) }
 {
     match continuation {
         Continuation::Nothing => Next::Code(rest),
@@ -156,7 +158,8 @@ pub fn leave_label<'a>(alloc: Global, label: &Label<'a>) -> Result<Left<'a>, Sto
 
 /// A frame, unless what is inside goes on.
 pub fn leave_frame<'a>(alloc: Global, frame: &Frame<'a>) -> Result<Left<'a>, Stop>
-    ensures { IfOk result (LeavesFrame frame.now.below.items frame.now.arity (body_of_code frame.now.rest.now) (execution_of frame.now.inside.value)) }
+    ensures { IfOk result (LeavesFrame frame.now.below.items frame.now.arity (body_of_code frame.now.rest.now)
+        (execution_of frame.now.inside.value)) }
 {
     let inside = &frame.inside;
     let below = frame.below.as_slice();

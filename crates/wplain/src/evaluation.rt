@@ -57,7 +57,8 @@ fn advance<'a>(
     running: &mut Running<'a>,
 ) -> Result<Option<Outcome>, Stop>
     requires { running.old.cost ≤ fuel }
-    ensures { IfOk result (Goes (setting_of setting.now) fuel (store_of store.old) running.old (store_of store.new) running.new) }
+    ensures { IfOk result (Goes (setting_of setting.now) fuel (store_of store.old) running.old (store_of store.new)
+        running.new) }
 {
     if let Some(outcome) = end_of(running) {
         return Ok(Some(outcome));
@@ -110,7 +111,8 @@ fn outcome_of<'a>(
 ) -> Result<Outcome, Stop>
     requires place { (store : machine_store) → configuration_of store running.old ≡ call_of store function }
     requires cost { running.old.cost ≡ 0 }
-    ensures { IfOk result (λ outcome. HasOutcome (setting_of setting.now) (store_of store.old) function fuel outcome (store_of store.new)) }
+    ensures { IfOk result (λ outcome. HasOutcome (setting_of setting.now) (store_of store.old) function fuel outcome
+        (store_of store.new)) }
 {
     for _i in 0..most {
         if let Some(outcome) = advance(alloc, setting, store, fuel, running)? {
@@ -141,7 +143,8 @@ pub fn evaluate(
     fuel: u64,
     most: u64,
 ) -> Result<Option<Outcome>, AllocError>
-    ensures { IfOk result (λ o. IfSome o (λ outcome. HasOutcome (setting_of setting.now) (store_of store.old) function fuel outcome (store_of store.new))) }
+    ensures { IfOk result (λ o. IfSome o (λ outcome. HasOutcome (setting_of setting.now) (store_of store.old) function
+        fuel outcome (store_of store.new))) }
 {
     let rest = Code::Done;
     let mut running = called(alloc, function, &rest);

@@ -100,7 +100,8 @@ pub struct Move<'a> {
 
 /// A reduction of this cost that writes nothing.
 pub fn quiet(cost: u64, next: Next<'_>) -> Move<'_>
-    ensures { (store : Store) (locals values : List one_value) → leads_to cost store locals (place_of values next.entry) ≡ moved store locals values result }
+    ensures { (store : Store) (locals values : List one_value) →
+        leads_to cost store locals (place_of values next.entry) ≡ moved store locals values result }
 {
     let write = Write::Nothing;
     Move {

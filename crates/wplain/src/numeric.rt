@@ -24,7 +24,8 @@ pub enum Worked {
 // The operands are of one type.
 fn binary_of(op: BinOp, a: Value, b: Value) -> Result<Result<Value, wnum::Trap>, Stop>
     ensures typed { IfOk result (λ r. type_of a ≡ type_of b) }
-    ensures value { IfOk result (λ r. r ≡ typed_result (type_of a) (binary_gives op (width_of (type_of a)) (bits a) (bits b))) }
+    ensures value { IfOk result (λ r. r ≡ typed_result (type_of a)
+        (binary_gives op (width_of (type_of a)) (bits a) (bits b))) }
 {
     match (a, b) {
         (Value::I32(a), Value::I32(b)) => match binary32(op, a, b) {
@@ -41,7 +42,8 @@ fn binary_of(op: BinOp, a: Value, b: Value) -> Result<Result<Value, wnum::Trap>,
 
 // t.binop
 pub fn binary(values: &mut Vec<Value>, t: ValueType, op: BinOp) -> Result<Worked, Stop>
-    ensures { IfOk result (DoneBy (λ store locals values rest. reduce_binary store locals values t op rest) values.old.items values.new.items) }
+    ensures { IfOk result (DoneBy (λ store locals values rest. reduce_binary store locals values t op rest)
+        values.old.items values.new.items) }
 {
     let second = pop(values, t)?;
     let first = pop(values, t)?;
@@ -65,7 +67,8 @@ fn unary_of(op: UnOp, a: Value) -> Value
 
 // t.unop
 pub fn unary(values: &mut Vec<Value>, t: ValueType, op: UnOp) -> Result<Worked, Stop>
-    ensures { IfOk result (DoneBy (λ store locals values rest. reduce_unary store locals values t op rest) values.old.items values.new.items) }
+    ensures { IfOk result (DoneBy (λ store locals values rest. reduce_unary store locals values t op rest)
+        values.old.items values.new.items) }
 {
     let a = pop(values, t)?;
     push(values, unary_of(op, a))?;
@@ -83,7 +86,8 @@ fn test_of(op: TestOp, a: Value) -> Value
 
 // t.testop
 pub fn test(values: &mut Vec<Value>, t: ValueType, op: TestOp) -> Result<Worked, Stop>
-    ensures { IfOk result (DoneBy (λ store locals values rest. reduce_test store locals values t op rest) values.old.items values.new.items) }
+    ensures { IfOk result (DoneBy (λ store locals values rest. reduce_test store locals values t op rest)
+        values.old.items values.new.items) }
 {
     let a = pop(values, t)?;
     push(values, test_of(op, a))?;
@@ -104,7 +108,8 @@ fn relation_of(op: RelOp, a: Value, b: Value) -> Result<Value, Stop>
 
 // t.relop
 pub fn relation(values: &mut Vec<Value>, t: ValueType, op: RelOp) -> Result<Worked, Stop>
-    ensures { IfOk result (DoneBy (λ store locals values rest. reduce_relation store locals values t op rest) values.old.items values.new.items) }
+    ensures { IfOk result (DoneBy (λ store locals values rest. reduce_relation store locals values t op rest)
+        values.old.items values.new.items) }
 {
     let second = pop(values, t)?;
     let first = pop(values, t)?;
@@ -132,7 +137,8 @@ fn converted(op: CvtOp, a: Value) -> Result<Value, Stop>
 
 // t2.cvtop_t1
 pub fn convert(values: &mut Vec<Value>, op: CvtOp) -> Result<Worked, Stop>
-    ensures { IfOk result (DoneBy (λ store locals values rest. reduce_convert store locals values op rest) values.old.items values.new.items) }
+    ensures { IfOk result (DoneBy (λ store locals values rest. reduce_convert store locals values op rest)
+        values.old.items values.new.items) }
 {
     let a = pop_any(values)?;
     push(values, converted(op, a)?)?;

@@ -42,7 +42,8 @@ fn enter_block<'a>(
     inside: &'a Code,
     rest: &'a Code,
 ) -> Result<Execution<'a>, Stop>
-    ensures { IfOk result (λ e. execution_of e ≡ label values.old.items arity (continuation_of continuation.entry) (instructions [] (body_of_code inside.now)) (body_of_code rest.now)) }
+    ensures { IfOk result (λ e. execution_of e ≡ label values.old.items arity (continuation_of continuation.entry)
+        (instructions [] (body_of_code inside.now)) (body_of_code rest.now)) }
 {
     let below = mem::replace(values, Vec::new(alloc));
     let inside = Box::new(alloc, Execution::Here(begun(alloc, inside)))?;
@@ -57,7 +58,8 @@ fn enter_block<'a>(
 
 // The arm that a condition takes.
 fn arm<'a>(condition: u32, then_arm: &'a Code, else_arm: &'a Code) -> &'a Code
-    ensures { (if condition == 0 then body_of_code else_arm.now else body_of_code then_arm.now) ≡ body_of_code result.now }
+    ensures { (if condition == 0 then body_of_code else_arm.now else body_of_code then_arm.now)
+        ≡ body_of_code result.now }
 {
     if condition == 0 { else_arm } else { then_arm }
 }

@@ -22,7 +22,8 @@ use wcode::{Plain, Value};
 
 // drop
 pub fn drop_one(values: &mut Vec<Value>) -> Result<Worked, Stop>
-    ensures { IfOk result (DoneBy (λ store locals values rest. reduce_drop store locals values rest) values.old.items values.new.items) }
+    ensures { IfOk result (DoneBy (λ store locals values rest. reduce_drop store locals values rest) values.old.items
+        values.new.items) }
 {
     let _dropped = pop_any(values)?;
     Ok(Worked::Values)
@@ -30,7 +31,8 @@ pub fn drop_one(values: &mut Vec<Value>) -> Result<Worked, Stop>
 
 // select
 pub fn select(values: &mut Vec<Value>) -> Result<Worked, Stop>
-    ensures { IfOk result (DoneBy (λ store locals values rest. reduce_select store locals values rest) values.old.items values.new.items) }
+    ensures { IfOk result (DoneBy (λ store locals values rest. reduce_select store locals values rest) values.old.items
+        values.new.items) }
 {
     let condition = pop_i32(values)?;
     let second = pop_any(values)?;
@@ -46,7 +48,8 @@ pub fn local_get<'a>(
     x: u32,
     rest: &'a Code,
 ) -> Result<Move<'a>, Stop>
-    ensures { (store : machine_store) → IfOk result (λ m. reduce_local_get store locals.now values.old.items x (body_of_code rest.now) ≡ moved store locals.now values.new.items m) }
+    ensures { (store : machine_store) → IfOk result (λ m. reduce_local_get store locals.now values.old.items x
+        (body_of_code rest.now) ≡ moved store locals.now values.new.items m) }
 {
     let v = *locals.get(x as usize).ok_or(Stop::Stuck)?;
     push(values, v)?;
@@ -60,7 +63,8 @@ pub fn local_set<'a>(
     x: u32,
     rest: &'a Code,
 ) -> Result<Move<'a>, Stop>
-    ensures { (store : machine_store) → IfOk result (λ m. reduce_local_set store locals.old.items values.old.items x (body_of_code rest.now) ≡ moved store locals.new.items values.new.items m) }
+    ensures { (store : machine_store) → IfOk result (λ m. reduce_local_set store locals.old.items values.old.items x
+        (body_of_code rest.now) ≡ moved store locals.new.items values.new.items m) }
 {
     let v = pop_any(values)?;
     let place = x as usize;
@@ -73,7 +77,9 @@ pub fn local_set<'a>(
 
 // local.tee x
 pub fn local_tee<'a>(values: &mut Vec<Value>, x: u32, rest: &'a Code) -> Result<Move<'a>, Stop>
-    ensures { (store : machine_store) (locals : List one_value) → IfOk result (λ m. reduce_local_tee store locals values.old.items x (body_of_code rest.now) ≡ moved store locals values.new.items m) }
+    ensures { (store : machine_store) (locals : List one_value) →
+        IfOk result (λ m. reduce_local_tee store locals values.old.items x (body_of_code rest.now)
+        ≡ moved store locals values.new.items m) }
 {
     let v = pop_any(values)?;
     push(values, v)?;
@@ -88,7 +94,8 @@ pub fn global_get<'a>(
     x: u32,
     rest: &'a Code,
 ) -> Result<Move<'a>, Stop>
-    ensures { (locals : List one_value) → IfOk result (λ m. reduce_global_get (store_of store.now) locals values.old.items x (body_of_code rest.now) ≡ moved (store_of store.now) locals values.new.items m) }
+    ensures { (locals : List one_value) → IfOk result (λ m. reduce_global_get (store_of store.now) locals
+        values.old.items x (body_of_code rest.now) ≡ moved (store_of store.now) locals values.new.items m) }
 {
     let v = *store.globals.get(x as usize).ok_or(Stop::Stuck)?;
     push(values, v)?;
@@ -102,7 +109,8 @@ pub fn global_set<'a>(
     x: u32,
     rest: &'a Code,
 ) -> Result<Move<'a>, Stop>
-    ensures { (locals : List one_value) → IfOk result (λ m. reduce_global_set (store_of store.now) locals values.old.items x (body_of_code rest.now) ≡ moved (store_of store.now) locals values.new.items m) }
+    ensures { (locals : List one_value) → IfOk result (λ m. reduce_global_set (store_of store.now) locals
+        values.old.items x (body_of_code rest.now) ≡ moved (store_of store.now) locals values.new.items m) }
 {
     let v = pop_any(values)?;
     let place = x as usize;

@@ -10,8 +10,10 @@ use wbin::Module;
 /// The offset of an element segment, and its functions.
 pub fn elements_of(decoded: &Module, segment: usize) -> (u32, &[u32])
     requires { segment < length (module_of decoded.now).element_segments }
-    ensures at { (s : ElementSyntax) → slice_get (module_of decoded.now).element_segments segment ≡ Some s → result.0 ≡ offset_of s.offset }
-    ensures functions { (s : ElementSyntax) → slice_get (module_of decoded.now).element_segments segment ≡ Some s → result.1.now ≡ s.functions }
+    ensures at { (s : ElementSyntax) → slice_get (module_of decoded.now).element_segments segment ≡ Some s →
+        result.0 ≡ offset_of s.offset }
+    ensures functions { (s : ElementSyntax) → slice_get (module_of decoded.now).element_segments segment ≡ Some s →
+        result.1.now ≡ s.functions }
 {
     let elements = &decoded.tables().element_segments[segment];
     (
@@ -23,8 +25,10 @@ pub fn elements_of(decoded: &Module, segment: usize) -> (u32, &[u32])
 /// The offset of a data segment, and its bytes.
 pub fn data_of(decoded: &Module, segment: usize) -> (u32, &[u8])
     requires { segment < length (module_of decoded.now).data_segments }
-    ensures at { (s : DataSyntax) → slice_get (module_of decoded.now).data_segments segment ≡ Some s → result.0 ≡ offset_of s.offset }
-    ensures bytes { (s : DataSyntax) → slice_get (module_of decoded.now).data_segments segment ≡ Some s → result.1.now ≡ s.bytes }
+    ensures at { (s : DataSyntax) → slice_get (module_of decoded.now).data_segments segment ≡ Some s →
+        result.0 ≡ offset_of s.offset }
+    ensures bytes { (s : DataSyntax) → slice_get (module_of decoded.now).data_segments segment ≡ Some s →
+        result.1.now ≡ s.bytes }
 {
     let data = decoded.tables().data_segments[segment];
     let bytes = &decoded.bytes()[data.contents.begin..data.contents.end];

@@ -136,7 +136,8 @@ impl Store {
     /// [`Trap::MemoryOutOfBounds`] where one of the bytes lies past the end: nothing is written then.
     #[inline(always)]
     pub fn store(&mut self, base: u32, offset: u32, width: Width, value: u64) -> Result<(), Trap>
-        ensures { StoreGives MemoryOutOfBounds self.old (base + offset) (bytes_of (byte_count width) value) result self.new }
+        ensures { StoreGives MemoryOutOfBounds self.old (base + offset) (bytes_of (byte_count width) value) result
+            self.new }
     {
         self.memory.store(base, offset, width, value)
     }
@@ -180,7 +181,8 @@ impl Store {
     #[inline(always)]
     pub fn set_global(&mut self, index: usize, number: u64)
         requires there { index < length self.old.current.globals }
-        requires in_range { IfSome (slice_get self.old.current.globals index) (λ value. InRange (value_of (type_of value) number)) }
+        requires in_range { IfSome (slice_get self.old.current.globals index)
+            (λ value. InRange (value_of (type_of value) number)) }
         ensures { self.new ≡ with_globals self.old (with_number self.old.current.globals index number) }
     {
         self.globals.set(index, number);
@@ -211,7 +213,8 @@ impl Store {
     /// Whether all of this element segment lies within the table.
     pub fn fits_elements(&self, segment: usize) -> bool
         requires { segment < length (syntax_of self.now).element_segments }
-        ensures { (s : ElementSyntax) → slice_get (syntax_of self.now).element_segments segment ≡ Some s → IsTrue result ↔ ElementsFit s self.now.current }
+        ensures { (s : ElementSyntax) → slice_get (syntax_of self.now).element_segments segment ≡ Some s →
+            IsTrue result ↔ ElementsFit s self.now.current }
     {
         let (at, functions) = elements_of(self.checked.module(), segment);
         is_within(at, functions.len(), self.table.places().len())
@@ -220,7 +223,8 @@ impl Store {
     /// Writes this element segment's functions into the table.
     pub fn put_elements(&mut self, segment: usize)
         requires there { segment < length (syntax_of self.old).element_segments }
-        requires in_bounds { (s : ElementSyntax) → slice_get (syntax_of self.old).element_segments segment ≡ Some s → ElementsFit s self.old.current }
+        requires in_bounds { (s : ElementSyntax) → slice_get (syntax_of self.old).element_segments segment ≡ Some s →
+            ElementsFit s self.old.current }
         ensures { (s : ElementSyntax) → slice_get (syntax_of self.old).element_segments segment ≡ Some s
             → self.new ≡ with_current self.old (with_elements s self.old.current) }
     {
@@ -231,7 +235,8 @@ impl Store {
     /// Whether all of this data segment lies within the memory.
     pub fn fits_data(&self, segment: usize) -> bool
         requires { segment < length (syntax_of self.now).data_segments }
-        ensures { (s : DataSyntax) → slice_get (syntax_of self.now).data_segments segment ≡ Some s → IsTrue result ↔ DataFits s self.now.current }
+        ensures { (s : DataSyntax) → slice_get (syntax_of self.now).data_segments segment ≡ Some s →
+            IsTrue result ↔ DataFits s self.now.current }
     {
         let (at, bytes) = data_of(self.checked.module(), segment);
         is_within(at, bytes.len(), self.memory.bytes().len())
@@ -240,8 +245,10 @@ impl Store {
     /// Writes this data segment's bytes into the memory.
     pub fn put_data(&mut self, segment: usize)
         requires there { segment < length (syntax_of self.old).data_segments }
-        requires in_bounds { (s : DataSyntax) → slice_get (syntax_of self.old).data_segments segment ≡ Some s → DataFits s self.old.current }
-        ensures { (s : DataSyntax) → slice_get (syntax_of self.old).data_segments segment ≡ Some s → self.new ≡ with_current self.old (with_data s self.old.current) }
+        requires in_bounds { (s : DataSyntax) → slice_get (syntax_of self.old).data_segments segment ≡ Some s →
+            DataFits s self.old.current }
+        ensures { (s : DataSyntax) → slice_get (syntax_of self.old).data_segments segment ≡ Some s →
+            self.new ≡ with_current self.old (with_data s self.old.current) }
     {
         let (at, bytes) = data_of(self.checked.module(), segment);
         let _ = self.memory.copy_in(at, bytes);

@@ -12,7 +12,8 @@ use wbody::{Notes, TypeFault, type_body};
 
 // The fault of a body, told with the index of its function.
 fn of_function(fault: TypeFault, index: usize) -> TypeFault
-    ensures untyped { (function : Option ℕ) (place : ℕ) → fault ≡ TypeFault.Untyped function place → result ≡ TypeFault.Untyped (Some index) place }
+    ensures untyped { (function : Option ℕ) (place : ℕ) → fault ≡ TypeFault.Untyped function place →
+        result ≡ TypeFault.Untyped (Some index) place }
     ensures same { fault ≡ TypeFault.NoMemory → result ≡ TypeFault.NoMemory }
 {
     match fault {

@@ -35,7 +35,8 @@ fn type_of_value(value: Value) -> ValueType
 // The expression there is one constant of this type.
 pub fn is_constant(decoded: &Module, place: Place, wanted: ValueType) -> bool
     requires { IsExpression decoded.now.bytes place }
-    ensures { MatchBool result (ConstantOf wanted (expression_in decoded.now.bytes place)) (ConstantOf wanted (expression_in decoded.now.bytes place) → ⊥) }
+    ensures { MatchBool result (ConstantOf wanted (expression_in decoded.now.bytes place))
+        (ConstantOf wanted (expression_in decoded.now.bytes place) → ⊥) }
 {
     match read_constant(decoded.bytes(), place.begin) {
         Some(value) => type_of_value(value) == wanted,

@@ -43,7 +43,8 @@ pub fn are_there(decoded: &Module, exports: &[Export]) -> bool
 
 // No two of them have one name. A set keeps this near linear in how many there are.
 pub fn have_distinct_names(alloc: Global, exports: &[Export]) -> Result<bool, AllocError>
-    ensures { IfOk result (λ distinct. MatchBool distinct (DistinctNames (map export_of exports.now)) (DistinctNames (map export_of exports.now) → ⊥)) }
+    ensures { IfOk result (λ distinct. MatchBool distinct (DistinctNames (map export_of exports.now))
+        (DistinctNames (map export_of exports.now) → ⊥)) }
 {
     let mut names: BTreeSet<&[u8]> = BTreeSet::new(alloc);
     for export in exports {

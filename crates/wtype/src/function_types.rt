@@ -22,7 +22,8 @@ pub fn is_function(decoded: &Module, index: u32) -> bool
 // The index of the type of a function.
 fn type_index(decoded: &Module, index: u32) -> Option<u32>
     requires { ImportsRight (module_of decoded.now) }
-    ensures { slice_get (function_types (module_of decoded.now)) index ≡ option_map (λ t. slice_get (module_of decoded.now).types t) result }
+    ensures { slice_get (function_types (module_of decoded.now)) index
+        ≡ option_map (λ t. slice_get (module_of decoded.now).types t) result }
 {
     let tables = decoded.tables();
     let place = index as usize;
@@ -54,7 +55,8 @@ fn only_gives(found: &FunctionType, gives: Option<ValueType>) -> bool
 /// The type of the function with this index, the imported ones first, if there is one.
 pub fn type_of_function(decoded: &Module, index: u32) -> Option<&FunctionType>
     requires { ImportsRight (module_of decoded.now) }
-    ensures { option_and_then (λ t. t) (slice_get (function_types (module_of decoded.now)) index) ≡ option_map (λ t. signature_of t.now) result }
+    ensures { option_and_then (λ t. t) (slice_get (function_types (module_of decoded.now)) index)
+        ≡ option_map (λ t. signature_of t.now) result }
 {
     match type_index(decoded, index) {
         Some(place) => listed(decoded, place),

@@ -46,7 +46,8 @@ fn is_host_type(found: &FunctionType) -> bool
 
 // What is imported is a function of the host's type.
 fn is_host_function(decoded: &Module, kind: ImportKind) -> bool
-    ensures { MatchBool result (IsImportOf (module_of decoded.now) host_type kind) (IsImportOf (module_of decoded.now) host_type kind → ⊥) }
+    ensures { MatchBool result (IsImportOf (module_of decoded.now) host_type kind)
+        (IsImportOf (module_of decoded.now) host_type kind → ⊥) }
 {
     let ImportKind::Function(index) = kind else {
         return false;
@@ -60,7 +61,8 @@ fn is_host_function(decoded: &Module, kind: ImportKind) -> bool
 
 // It is one of the host's functions.
 fn is_allowed(decoded: &Module, import: &Import) -> bool
-    ensures { MatchBool result (ImportAllowed (module_of decoded.now) (import_of import.now)) (ImportAllowed (module_of decoded.now) (import_of import.now) → ⊥) }
+    ensures { MatchBool result (ImportAllowed (module_of decoded.now) (import_of import.now))
+        (ImportAllowed (module_of decoded.now) (import_of import.now) → ⊥) }
 {
     is_named(import) && is_host_function(decoded, import.kind)
 }

@@ -19,7 +19,8 @@ fn is_right(limits: Limits, range: u64) -> bool
 
 // That is so of each.
 pub fn are_right(all: &[Limits], range: u64) -> bool
-    ensures { MatchBool result (AllByRecursion (LimitsRight range) all.now) (AllByRecursion (LimitsRight range) all.now → ⊥) }
+    ensures { MatchBool result (AllByRecursion (LimitsRight range) all.now)
+        (AllByRecursion (LimitsRight range) all.now → ⊥) }
 {
     for limits in all {
         if !is_right(*limits, range) {
@@ -31,7 +32,8 @@ pub fn are_right(all: &[Limits], range: u64) -> bool
 
 // Each begins with no more than this.
 pub fn are_small(all: &[Limits], most: u32) -> bool
-    ensures { MatchBool result (AllByRecursion (λ l. l.least ≤ most) all.now) (AllByRecursion (λ l. l.least ≤ most) all.now → ⊥) }
+    ensures { MatchBool result (AllByRecursion (λ l. l.least ≤ most) all.now)
+        (AllByRecursion (λ l. l.least ≤ most) all.now → ⊥) }
 {
     for limits in all {
         if limits.least > most {

@@ -19,7 +19,8 @@ const TABLE_RANGE: u64 = 4294967296;
 
 // Each is the index of a type.
 fn are_types(types: &[FunctionType], signatures: &[u32]) -> bool
-    ensures { MatchBool result (AllByRecursion (λ s. s < length types.now) signatures.now) (AllByRecursion (λ s. s < length types.now) signatures.now → ⊥) }
+    ensures { MatchBool result (AllByRecursion (λ s. s < length types.now) signatures.now)
+        (AllByRecursion (λ s. s < length types.now) signatures.now → ⊥) }
 {
     for signature in signatures {
         if *signature as usize >= types.len() {
@@ -60,7 +61,8 @@ fn memories_kept(decoded: &Module) -> bool
 
 // Each global begins with a constant of its type.
 fn globals_kept(decoded: &Module) -> bool
-    ensures { MatchBool result (AllByRecursion GlobalTyped (module_of decoded.now).globals) (AllByRecursion GlobalTyped (module_of decoded.now).globals → ⊥) }
+    ensures { MatchBool result (AllByRecursion GlobalTyped (module_of decoded.now).globals)
+        (AllByRecursion GlobalTyped (module_of decoded.now).globals → ⊥) }
 {
     globals_typed(decoded, decoded.tables().globals.as_slice())
 }
@@ -97,7 +99,8 @@ fn datas_kept(decoded: &Module) -> bool
 // Each export names something, and no two have one name.
 fn exports_kept(alloc: Global, decoded: &Module) -> Result<bool, AllocError>
     requires { ImportsRight (module_of decoded.now) }
-    ensures { IfOk result (λ kept. MatchBool kept (ExportsNamed (module_of decoded.now)) (ExportsNamed (module_of decoded.now) → ⊥)) }
+    ensures { IfOk result (λ kept. MatchBool kept (ExportsNamed (module_of decoded.now))
+        (ExportsNamed (module_of decoded.now) → ⊥)) }
 {
     let exports = decoded.tables().exports.as_slice();
     if are_there(decoded, exports) {
@@ -110,7 +113,8 @@ fn exports_kept(alloc: Global, decoded: &Module) -> Result<bool, AllocError>
 /// All rules but those of bodies.
 pub fn are_kept(alloc: Global, decoded: &Module) -> Result<bool, AllocError>
     requires { ImportsRight (module_of decoded.now) }
-    ensures { IfOk result (λ kept. MatchBool kept (RulesKept (module_of decoded.now)) (RulesKept (module_of decoded.now) → ⊥)) }
+    ensures { IfOk result (λ kept. MatchBool kept (RulesKept (module_of decoded.now))
+        (RulesKept (module_of decoded.now) → ⊥)) }
 {
     let kept = types_there(decoded)
         && tables_kept(decoded)

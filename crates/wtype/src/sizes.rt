@@ -23,7 +23,8 @@ const MOST_GLOBALS: usize = 1024;
 
 /// How many locals the runs have, unless they are more than 1,024.
 pub fn count_locals(runs: &[LocalRun]) -> Option<usize>
-    ensures { MatchOption result (most_slots < length (locals_of runs.now)) (λ n. (n ≡ length (locals_of runs.now)) × (n ≤ most_slots)) }
+    ensures { MatchOption result (most_slots < length (locals_of runs.now)) (λ n. (n ≡ length (locals_of runs.now)) ×
+        (n ≤ most_slots)) }
 {
     let mut count = 0;
     for run in runs {
@@ -38,7 +39,8 @@ pub fn count_locals(runs: &[LocalRun]) -> Option<usize>
 
 // So many parameters, these locals and so many operands are no more than there may be.
 fn fits(parameters: usize, runs: &[LocalRun], greatest: usize) -> bool
-    ensures { MatchBool result (parameters + length (locals_of runs.now) + greatest ≤ most_slots) (parameters + length (locals_of runs.now) + greatest ≤ most_slots → ⊥) }
+    ensures { MatchBool result (parameters + length (locals_of runs.now) + greatest ≤ most_slots)
+        (parameters + length (locals_of runs.now) + greatest ≤ most_slots → ⊥) }
 {
     match count_locals(runs) {
         Some(locals) => {

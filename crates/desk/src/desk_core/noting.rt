@@ -169,7 +169,8 @@ impl Core {
 
     // The row of the node where a pod is placed.
     fn row_under(&self, uid: &Name) -> Option<usize>
-        ensures { IsRowUnder (rows_in self.now.state.cluster.nodes) (fin.get self.now.state.cluster.places uid.now) result }
+        ensures { IsRowUnder (rows_in self.now.state.cluster.nodes) (fin.get self.now.state.cluster.places uid.now)
+            result }
     {
         let place = self.book.place_of(uid)?;
         match self.book.find_row(&place.node) {
