@@ -344,7 +344,8 @@ impl<J: Naming> UnderLock<J> {
         requires first { first.old.caller.number < handed }
         requires second { second.old.caller.number < handed }
         requires handed { handed ≤ MAX_PASSES }
-        ensures { MatchBool result (Met (record { limits = J.limits; handed = handed }) first.old second.old first.new second.new) ((first.new ≡ first.old)
+        ensures { MatchBool result (Met (record { limits = J.limits; handed = handed }) first.old second.old first.new
+            second.new) ((first.new ≡ first.old)
             × (second.new ≡ second.old)) }
     {
         let board = self.writer.published();

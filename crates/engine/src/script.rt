@@ -89,7 +89,8 @@ fn answer_line<J: Naming, T: Wait + Threads + Sync, D: Decider>(
     pending: &mut Vec<u8>,
 ) -> Result<(), RunFault>
     requires { vec_len pending.old < MAX_PENDING }
-    ensures answered { OnOk result (IsAnswered (rules_of D.Kit.answers (D.kits decider.old)) (telling named.now explains) (asked_by line.now) session.old.desk session.new.desk
+    ensures answered { OnOk result (IsAnswered (rules_of D.Kit.answers (D.kits decider.old))
+        (telling named.now explains) (asked_by line.now) session.old.desk session.new.desk
         pending.old.items pending.new.items) }
     ensures kept { OnErr result (pending.new.items ≡ pending.old.items) }
     ensures kits { D.kits decider.new ≡ D.kits decider.old }

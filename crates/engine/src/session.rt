@@ -64,7 +64,8 @@ impl<J: Naming> Session<J> {
         out: &mut Vec<u8>,
     ) -> Result<(), RunFault>
         requires { IsTimely asked }
-        ensures answered { OnOk result ((text : List ℕ) × Answered (rules_of D.Kit.answers (D.kits decider.old)) (telling named.now explains)
+        ensures answered { OnOk result ((text : List ℕ) ×
+            Answered (rules_of D.Kit.answers (D.kits decider.old)) (telling named.now explains)
             self.old.desk asked self.new.desk text × (out.new.items ≡ out.old.items ++ text)) }
         ensures kept { OnErr result (out.new.items ≡ out.old.items) }
         ensures kits { D.kits decider.new ≡ D.kits decider.old }
@@ -103,7 +104,8 @@ impl<J: Naming> Session<J> {
         explains: bool,
         decider: &mut D,
     ) -> Result<(), RunFault>
-        ensures cycled { OnOk result ((text : List ℕ) × Answered (rules_of D.Kit.answers (D.kits decider.old)) (telling named.now explains)
+        ensures cycled { OnOk result ((text : List ℕ) ×
+            Answered (rules_of D.Kit.answers (D.kits decider.old)) (telling named.now explains)
             self.old.desk asked.Cycle self.new.desk text × (self.new.text.items ≡ self.old.text.items ++ text)) }
         ensures kits { D.kits decider.new ≡ D.kits decider.old }
         ensures faults { IfErr result (λ e. e ≡ RunFault.NoMemory) }
@@ -124,7 +126,8 @@ impl<J: Naming> Session<J> {
     ) -> Result<Cycled, RunFault>
         ensures cycled { IfOk result (λ came. IsCycleAlone (rules_of D.Kit.answers (D.kits decider.old)) self.old.desk
             came self.new.desk) }
-        ensures told { OnOk result ((told : List ℕ) × TellsNodes (rules_of D.Kit.answers (D.kits decider.old)) named.now explains self.old.desk told
+        ensures told { OnOk result ((told : List ℕ) × TellsNodes (rules_of D.Kit.answers (D.kits decider.old)) named.now
+            explains self.old.desk told
             × AreLines true told × (self.new.text.items ≡ self.old.text.items ++ told)) }
         ensures kits { D.kits decider.new ≡ D.kits decider.old }
         ensures faults { IfErr result (λ e. e ≡ RunFault.NoMemory) }

@@ -67,12 +67,14 @@ pub fn answer<
         → source.new ≡ source.old }
 
     // A run is one of the script by the plugins that the words configure, with the modules in their files.
-    ensures run { (workers : ℕ) (specs : List SpecSyntax) → asked_by (λ given. map S.text given.items) args ≡ Some (run workers specs)
+    ensures run { (workers : ℕ) (specs : List SpecSyntax) →
+        asked_by (λ given. map S.text given.items) args ≡ Some (run workers specs)
         → IsSiteRun false (AreFromFiles (F.contents files.old) specs) specs (use_of R.remaining R.failure_count source.old source.new)
         (use_of W.written W.failure_count out.old out.new) (use_of E.written E.failure_count err.old err.new) result }
 
     // So is what explains one.
-    ensures explained { (workers : ℕ) (specs : List SpecSyntax) → asked_by (λ given. map S.text given.items) args ≡ Some (explain workers specs)
+    ensures explained { (workers : ℕ) (specs : List SpecSyntax) →
+        asked_by (λ given. map S.text given.items) args ≡ Some (explain workers specs)
         → IsSiteRun true (AreFromFiles (F.contents files.old) specs) specs (use_of R.remaining R.failure_count source.old source.new)
         (use_of W.written W.failure_count out.old out.new) (use_of E.written E.failure_count err.old err.new) result }
 

@@ -38,10 +38,12 @@ pub fn serve<T: Wait + Threads + Copy + Send + Sync + 'static, R: Source, W: Sin
     requires writes { W.failure_count out.old < 10 ^ 18 }
     requires tells { E.failure_count err.old < 10 ^ 18 }
     requires finite { R.bytes_left source.old < 2 ^ 64 }
-    ensures run { IsSiteRun explains (λ given. given ≡ map (λ m. m.items) modules.now) (map syntax_of plan.now.specs.items)
+    ensures run { IsSiteRun explains (λ given. given ≡ map (λ m. m.items) modules.now)
+        (map syntax_of plan.now.specs.items)
         (use_of R.remaining R.failure_count source.old source.new) (use_of W.written W.failure_count out.old out.new)
         (use_of E.written E.failure_count err.old err.new) result }
-    ensures failures { TellsFailures (source.new ≡ source.old) ⊥ (λ _. ⊥) (use_of R.remaining R.failure_count source.old source.new)
+    ensures failures { TellsFailures (source.new ≡ source.old) ⊥ (λ _. ⊥)
+        (use_of R.remaining R.failure_count source.old source.new)
         (use_of W.written W.failure_count out.old out.new) (use_of E.written E.failure_count err.old err.new) result }
 {
     let kits = match site_kits(alloc, plan.specs.as_slice(), modules, plan.workers) {
@@ -109,7 +111,8 @@ pub(crate) fn serve_plan<
     requires writes { W.failure_count out.old < 10 ^ 18 }
     requires tells { E.failure_count err.old < 10 ^ 18 }
     requires finite { R.bytes_left source.old < 2 ^ 64 }
-    ensures run { IsSiteRun explains (AreFromFiles (F.contents files.old) (map syntax_of plan.now.specs.items)) (map syntax_of plan.now.specs.items)
+    ensures run { IsSiteRun explains (AreFromFiles (F.contents files.old) (map syntax_of plan.now.specs.items))
+        (map syntax_of plan.now.specs.items)
         (use_of R.remaining R.failure_count source.old source.new) (use_of W.written W.failure_count out.old out.new)
         (use_of E.written E.failure_count err.old err.new) result }
     ensures failures { TellsFailures (source.new ≡ source.old) (keys ≡ None)

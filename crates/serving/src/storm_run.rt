@@ -41,7 +41,8 @@ pub fn serve_storm<T: Wait + Threads + Sync, R: Source, W: Sink, E: Sink>(
     requires writes { W.failure_count out.old < 10 ^ 18 }
     requires tells { E.failure_count err.old < 10 ^ 18 }
     requires finite { R.bytes_left source.old < 2 ^ 64 }
-    ensures storm { IsSiteStorm (λ given. given ≡ map (λ m. m.items) modules.now) (map syntax_of plan.now.specs.items) plan.now.cycles plan.now.binders
+    ensures storm { IsSiteStorm (λ given. given ≡ map (λ m. m.items) modules.now) (map syntax_of plan.now.specs.items)
+        plan.now.cycles plan.now.binders
         (use_of R.remaining R.failure_count source.old source.new) (use_of W.written W.failure_count out.old out.new)
         (use_of E.written E.failure_count err.old err.new) result }
     ensures failures { TellsFailures ⊤ ⊥ (λ _. ⊥) (use_of R.remaining R.failure_count source.old source.new)
@@ -111,7 +112,8 @@ pub(crate) fn storm_plan<T: Wait + Threads + Sync, F: Files, R: Source, W: Sink,
     requires writes { W.failure_count out.old < 10 ^ 18 }
     requires tells { E.failure_count err.old < 10 ^ 18 }
     requires finite { R.bytes_left source.old < 2 ^ 64 }
-    ensures storm { IsSiteStorm (AreFromFiles (F.contents files.old) (map syntax_of plan.now.specs.items)) (map syntax_of plan.now.specs.items)
+    ensures storm { IsSiteStorm (AreFromFiles (F.contents files.old) (map syntax_of plan.now.specs.items))
+        (map syntax_of plan.now.specs.items)
         plan.now.cycles plan.now.binders (use_of R.remaining R.failure_count source.old source.new)
         (use_of W.written W.failure_count out.old out.new) (use_of E.written E.failure_count err.old err.new) result }
     ensures failures { TellsFailures ⊤ (keys ≡ None)

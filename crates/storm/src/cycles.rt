@@ -28,7 +28,8 @@ fn turn<J: Naming, R: Wait + Threads + Sync, D: Decider>(
     decider: &mut D,
 ) -> Result<bool, NoMemory>
     requires { IsPassOf pass.old desk.now }
-    ensures cycled { IfOk result (λ idle. (came : Came) × IsCycle (rules_of D.Kit.answers (D.kits decider.old)) desk.now pass.old came pass.new
+    ensures cycled { IfOk result (λ idle. (came : Came) ×
+        IsCycle (rules_of D.Kit.answers (D.kits decider.old)) desk.now pass.old came pass.new
         × (IsTrue idle → came ≡ cycled.Idle)) }
     ensures number { pass.new.caller.number ≡ pass.old.caller.number }
     ensures kits { D.kits decider.new ≡ D.kits decider.old }

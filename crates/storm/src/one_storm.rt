@@ -127,7 +127,8 @@ fn storm_to_dump<
     requires new { desk.old ≡ record { limits = limits; handed = 0 } }
     requires timely { All IsTimely steps.now }
     requires some { 0 < length deciders.items }
-    ensures ended { IfOk result (λ done. HasEnded (λ d. rules_of D.Kit.answers (D.kits d)) deciders.items (length binders.items) desk.new steps.now
+    ensures ended { IfOk result (λ done. HasEnded (λ d. rules_of D.Kit.answers (D.kits d)) deciders.items
+        (length binders.items) desk.new steps.now
         done.1 done.2 done.0) }
     ensures faults { IfErr result (λ e. (e ≡ RunFault.NoMemory) ⊎ (e ≡ RunFault.NoPlace)) }
 {
@@ -203,9 +204,11 @@ fn storm_on<
     requires timely { All IsTimely steps.now }
     requires some { 0 < length deciders.items }
     requires writes { W.failure_count sink.old < 10 ^ 18 }
-    ensures storm { IfOk result (λ answer. Storms (λ d. rules_of D.Kit.answers (D.kits d)) deciders.items (length binders.items) steps.now
+    ensures storm { IfOk result (λ answer. Storms (λ d. rules_of D.Kit.answers (D.kits d)) deciders.items
+        (length binders.items) steps.now
         (Appends (W.written sink.old) (W.written sink.new)) answer) }
-    ensures front { result ≡ Err RunFault.Write → (answer : Bool) × Storms (λ d. rules_of D.Kit.answers (D.kits d)) deciders.items (length binders.items)
+    ensures front { result ≡ Err RunFault.Write → (answer : Bool) ×
+        Storms (λ d. rules_of D.Kit.answers (D.kits d)) deciders.items (length binders.items)
         steps.now (AppendsFront (W.written sink.old) (W.written sink.new)) answer }
     ensures quiet { OnErr result (result ≢ Err RunFault.Write → sink.new ≡ sink.old) }
     ensures faults { IfErr result (λ e. (e ≡ RunFault.NoMemory) ⊎ ((e ≡ RunFault.NoPlace) ⊎ (e ≡ RunFault.Write))) }

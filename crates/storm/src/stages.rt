@@ -196,7 +196,8 @@ pub(crate) fn work<
         ensures { Each HasReported reporters.entry.now reporters.exit.now }
     { report_all(desk, rt, jobs, reporters) };
     let mut scheduling = ||
-        requires { IsSync R.row × IsSend J.row × IsSync J.row × IsSend D.row × IsSome sender × (0 < length cyclers.now) × (0 < length feeders.now)
+        requires { IsSync R.row × IsSend J.row × IsSync J.row × IsSend D.row × IsSome sender ×
+            (0 < length cyclers.now) × (0 < length feeders.now)
             × ArePassesOf stage.now.desk.now feeders.now × ArePassesOf stage.now.desk.now cyclers.now × All IsTimely stage.now.steps.now }
         ensures { Each (HasFed stage.entry.now.steps.now) feeders.entry.now feeders.exit.now
             × Each (HasScheduled D.Kit.answers D.kits stage.entry.now.desk.now) cyclers.entry.now cyclers.exit.now

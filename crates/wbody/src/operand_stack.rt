@@ -223,7 +223,10 @@ impl OperandStack {
     // Behind a block of this type, to the block that began at this height: there are just the results.
     pub fn close(&mut self, block_type: BlockType, floor: usize, reached: bool) -> Result<(), Stop>
         requires { floor ≤ self.old.floor }
-        ensures ok { OnOk result (closed block_type (record { operands = reverse (drop floor (below_of self.old)); reached = reached })
+        ensures ok { OnOk result (closed block_type (record {
+          operands = reverse (drop floor (below_of self.old));
+          reached = reached;
+        })
             (stack_of self.old) ≡ Some (stack_of self.new)) }
         ensures err { result ≡ Err Stop.Untyped → fits (stack_of self.old) (results_of block_type) ≡ false }
         ensures floor { OnOk result (self.new.floor ≡ floor) }

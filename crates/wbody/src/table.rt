@@ -72,7 +72,8 @@ pub fn table_effect(
     labels_at: usize,
 ) -> Effect<'static>
     requires { (w : Word) × Shows bytes.now (ops.BrTable count labels_at) w }
-    ensures { (c : Context) (labels : List ℕ) (default : ℕ) → Shows bytes.now (ops.BrTable count labels_at) (table labels default)
+    ensures { (c : Context) (labels : List ℕ) (default : ℕ) →
+        Shows bytes.now (ops.BrTable count labels_at) (table labels default)
         → c.labels ≡ labels_of levels.now scope.now.result → effect_type result ≡ table_type c labels default }
 {
     let (first, next) = read_label(bytes, labels_at);

@@ -149,7 +149,8 @@ pub fn pass_else(stack: &mut OperandStack, levels: &mut SmallVec<Level, 16>) -> 
 
 // It is an `if` without `else` that is to leave a result.
 fn lacks_else(level: Level) -> bool
-    ensures { MatchBool result ((t : TheType) × (level.kind ≡ opened.First) × (level.block_type ≡ blocks.Result t)) (level.kind ≡ opened.First
+    ensures { MatchBool result ((t : TheType) × (level.kind ≡ opened.First) ×
+        (level.block_type ≡ blocks.Result t)) (level.kind ≡ opened.First
         → level.block_type ≡ blocks.Empty) }
 {
     match level.kind {

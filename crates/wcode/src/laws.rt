@@ -36,12 +36,14 @@ pub fn one_body_at()
 
 /// A body that is told with its blocks is spelled.
 pub fn blocks_are_spelled()
-    ensures { (bytes : List ℕ) (room : ℕ) (last : Word) (front : List ℕ) (body : Body) (rest : List ℕ) (blocks : List Block) →
+    ensures { (bytes : List ℕ) (room : ℕ) (last : Word) (front : List ℕ) (body : Body) (rest : List ℕ)
+        (blocks : List Block) →
         SpellsBlocks bytes room last front body rest blocks → SpellsBody room last front body rest }
 {}
 
 /// An expression in bytes stays where it is, and so do its blocks, where more bytes follow.
 pub fn blocks_stay()
-    ensures { (bytes : List ℕ) (begin after : ℕ) (body : Body) (blocks : List Block) (more : List ℕ) → begin ≤ length bytes → after ≤ length bytes →
+    ensures { (bytes : List ℕ) (begin after : ℕ) (body : Body) (blocks : List Block) (more : List ℕ) →
+        begin ≤ length bytes → after ≤ length bytes →
         HasBlocks bytes begin body after blocks → HasBlocks (bytes ++ more) begin body after blocks }
 {}

@@ -11,7 +11,8 @@ use wmach::{Export, Machine, Outcome};
 
 // Whether each element segment lies within the table.
 fn elements_fit(machine: &Machine) -> bool
-    ensures { MatchBool result (All (λ s. ElementsFit s machine.now.store) (module_of machine.now.content).element_segments)
+    ensures { MatchBool result (All (λ s. ElementsFit s machine.now.store)
+        (module_of machine.now.content).element_segments)
         (Any (λ s. ¬ (ElementsFit s machine.now.store)) (module_of machine.now.content).element_segments) }
 {
     for segment in 0..machine.element_segment_count() {
@@ -90,7 +91,8 @@ fn write_data(machine: &mut Machine)
 /// Calls the start function, if there is one, with so much fuel.
 pub fn start(machine: &mut Machine, fuel: u64) -> Result<(), InstanceFault>
     ensures stays { machine.new ≡ record machine.old { store = machine.new.store } }
-    ensures ends { MatchResult result (λ _. Started (module_of machine.old.content) (module_of machine.old.content).start machine.old.store fuel machine.new.store)
+    ensures ends { MatchResult result (λ _. Started (module_of machine.old.content)
+        (module_of machine.old.content).start machine.old.store fuel machine.new.store)
         (StartRefused (module_of machine.old.content) machine.old.store fuel) }
 {
     if !machine.has(Export::Start) {

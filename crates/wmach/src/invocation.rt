@@ -63,7 +63,8 @@ fn result_of(slots: &[u64], export: Export) -> Option<Value>
 fn outcome_of(slots: &[u64], export: Export, fuel: u64, how: Stop) -> Outcome
     requires { (r : Run) × (before : TheStore) × (function : ℕ) × (store : StoreState) ×
         IsCallOf r before export function fuel × Stops r how slots.now store }
-    ensures outcome { (r : Run) (before : TheStore) (function : ℕ) (store : StoreState) → IsCallOf r before export function fuel
+    ensures outcome { (r : Run) (before : TheStore) (function : ℕ) (store : StoreState) →
+        IsCallOf r before export function fuel
         → Stops r how slots.now store → HasOutcome r.setting before function fuel result store.current }
     ensures fits { ResultFits (result_type export) result }
 {

@@ -344,7 +344,8 @@ fn enter<'a>(
     t: &FunctionType,
     rest: &'a Code,
 ) -> Result<Went<'a>, Stop>
-    ensures { (store : machine_store) (locals left : List one_value) → IfOk result (WentAs (defined_enter store locals values.old.items
+    ensures { (store : machine_store) (locals left : List one_value) →
+        IfOk result (WentAs (defined_enter store locals values.old.items
         (function_of function.now) (signature_of t.now) (body_of_code rest.now)) store locals left) }
 {
     let arity = match t.result {

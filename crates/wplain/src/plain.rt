@@ -71,7 +71,8 @@ pub fn reduce_plain<'a>(
     p: Plain,
     rest: &'a Code,
 ) -> Result<Move<'a>, Stop>
-    ensures { IfOk result (λ m. defined_plain (setting_of setting.now) (store_of store.now) locals.old.items values.old.items p
+    ensures { IfOk result (λ m. defined_plain (setting_of setting.now) (store_of store.now) locals.old.items
+        values.old.items p
         (body_of_code rest.now) ≡ moved (store_of store.now) locals.new.items values.new.items m) }
 {
     let program = &setting.program;

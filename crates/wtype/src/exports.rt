@@ -82,7 +82,8 @@ fn is_called(decoded: &Module, export: &Export, wanted: ValueType) -> bool
 // Where there is such an export, it is a function that takes nothing and gives this.
 pub fn is_right(decoded: &Module, export: Option<&Export>, wanted: ValueType) -> bool
     requires { ImportsRight (module_of decoded.now) }
-    ensures { MatchBool result (IfSome (option_map (λ e. export_of e.now) export.entry) (IsFunctionOf (module_of decoded.now) (gives wanted)))
+    ensures { MatchBool result (IfSome (option_map (λ e. export_of e.now) export.entry)
+        (IsFunctionOf (module_of decoded.now) (gives wanted)))
         (IfSome (option_map (λ e. export_of e.now) export.entry) (IsFunctionOf (module_of decoded.now) (gives wanted)) → ⊥) }
 {
     match export {

@@ -29,7 +29,8 @@ pub fn globals_typed(decoded: &Module, globals: &[GlobalVariable]) -> bool
 // Each is the index of a function.
 fn are_functions(decoded: &Module, functions: &[u32]) -> bool
     requires { ImportsRight (module_of decoded.now) }
-    ensures { MatchBool result (AllByRecursion (λ index. index < length (function_types (module_of decoded.now))) functions.now)
+    ensures { MatchBool result (AllByRecursion (λ index. index < length (function_types (module_of decoded.now)))
+        functions.now)
         (AllByRecursion (λ index. index < length (function_types (module_of decoded.now))) functions.now → ⊥) }
 {
     for index in functions {
@@ -56,7 +57,8 @@ fn element_typed(decoded: &Module, segment: &ElementSegment) -> bool
 pub fn elements_typed(decoded: &Module, segments: &[ElementSegment]) -> bool
     requires imports { ImportsRight (module_of decoded.now) }
     requires stand { All (IsElement decoded.now.bytes) segments.now }
-    ensures { MatchBool result (AllByRecursion (λ s. ElementTyped (module_of decoded.now) (element_in decoded.now.bytes s)) segments.now)
+    ensures { MatchBool result (AllByRecursion (λ s. ElementTyped (module_of decoded.now)
+        (element_in decoded.now.bytes s)) segments.now)
         (AllByRecursion (λ s. ElementTyped (module_of decoded.now) (element_in decoded.now.bytes s)) segments.now → ⊥) }
 {
     for segment in segments {
@@ -80,7 +82,8 @@ fn data_typed(decoded: &Module, segment: DataSegment) -> bool
 // That is so of each.
 pub fn datas_typed(decoded: &Module, segments: &[DataSegment]) -> bool
     requires { All (IsData decoded.now.bytes) segments.now }
-    ensures { MatchBool result (AllByRecursion (λ s. DataTyped (module_of decoded.now) (data_in decoded.now.bytes s)) segments.now)
+    ensures { MatchBool result (AllByRecursion (λ s. DataTyped (module_of decoded.now) (data_in decoded.now.bytes s))
+        segments.now)
         (AllByRecursion (λ s. DataTyped (module_of decoded.now) (data_in decoded.now.bytes s)) segments.now → ⊥) }
 {
     for segment in segments {

@@ -32,7 +32,8 @@ fn are_types(types: &[FunctionType], signatures: &[u32]) -> bool
 
 // The function's types are there.
 fn types_there(decoded: &Module) -> bool
-    ensures { MatchBool result (AllByRecursion (λ f. IsSome (slice_get (module_of decoded.now).types f.signature)) (module_of decoded.now).functions)
+    ensures { MatchBool result (AllByRecursion (λ f. IsSome (slice_get (module_of decoded.now).types f.signature))
+        (module_of decoded.now).functions)
         (AllByRecursion (λ f. IsSome (slice_get (module_of decoded.now).types f.signature)) (module_of decoded.now).functions → ⊥) }
 {
     let tables = decoded.tables();
@@ -82,7 +83,8 @@ fn start_kept(decoded: &Module) -> bool
 // The segments of the table.
 fn elements_kept(decoded: &Module) -> bool
     requires { ImportsRight (module_of decoded.now) }
-    ensures { MatchBool result (AllByRecursion (ElementTyped (module_of decoded.now)) (module_of decoded.now).element_segments)
+    ensures { MatchBool result (AllByRecursion (ElementTyped (module_of decoded.now))
+        (module_of decoded.now).element_segments)
         (AllByRecursion (ElementTyped (module_of decoded.now)) (module_of decoded.now).element_segments → ⊥) }
 {
     elements_typed(decoded, decoded.tables().element_segments.as_slice())
@@ -90,7 +92,8 @@ fn elements_kept(decoded: &Module) -> bool
 
 // The segments of the memory.
 fn datas_kept(decoded: &Module) -> bool
-    ensures { MatchBool result (AllByRecursion (DataTyped (module_of decoded.now)) (module_of decoded.now).data_segments)
+    ensures { MatchBool result (AllByRecursion (DataTyped (module_of decoded.now))
+        (module_of decoded.now).data_segments)
         (AllByRecursion (DataTyped (module_of decoded.now)) (module_of decoded.now).data_segments → ⊥) }
 {
     datas_typed(decoded, decoded.tables().data_segments.as_slice())

@@ -73,7 +73,8 @@ fn function_small(decoded: &Module, place: usize, greatest: usize) -> bool
 fn functions_small(decoded: &Module, notes: &[Notes]) -> bool
     requires agree { NotesAgree decoded.now notes.now }
     requires many { length notes.now ≡ vec_len decoded.now.tables.codes }
-    ensures { MatchBool result (AllByRecursion (FunctionSmall (module_of decoded.now)) (module_of decoded.now).functions)
+    ensures { MatchBool result (AllByRecursion (FunctionSmall (module_of decoded.now))
+        (module_of decoded.now).functions)
         (AllByRecursion (FunctionSmall (module_of decoded.now)) (module_of decoded.now).functions → ⊥) }
 {
     'functions: for place in 0..notes.len() {
