@@ -92,7 +92,7 @@ impl Board {
     }
 
     // So much is used of each row's node.
-    #[tactic(auto, unfolding(crate::specs::Board::nodes_after, crate::specs::Board::used_after))]
+    #[tactic(auto, unfolding(crate::specs::inside::Board::nodes_after, crate::specs::inside::Board::used_after))]
     fn write_all(&mut self, all: &Vec<Res>)
         ensures { self.new ≡ record self.old {
           used = used_after self.old.room (Change.AllUsed all.now)
@@ -117,7 +117,7 @@ impl Board {
     }
 
     // A node comes, of which so much is used.
-    #[tactic(auto, unfolding(crate::specs::Board::nodes_after, crate::specs::Board::used_after))]
+    #[tactic(auto, unfolding(crate::specs::inside::Board::nodes_after, crate::specs::inside::Board::used_after))]
     fn take_in(&mut self, at: usize, used: Res, node: &SharedNode) -> Result<(), AllocError>
         ensures nodes { OnOk result (self.new ≡ record self.old {
           nodes = nodes_after self.old.room (Change.Come at used node.now) self.old.nodes;
@@ -134,7 +134,7 @@ impl Board {
     }
 
     // A node goes.
-    #[tactic(auto, unfolding(crate::specs::Board::nodes_after, crate::specs::Board::used_after))]
+    #[tactic(auto, unfolding(crate::specs::inside::Board::nodes_after, crate::specs::inside::Board::used_after))]
     fn leave_out(&mut self, at: usize)
         ensures { self.new ≡ record self.old {
           nodes = nodes_after self.old.room (Change.Gone at) self.old.nodes;
@@ -148,7 +148,7 @@ impl Board {
     }
 
     // Changes the rows. It takes no memory.
-    #[tactic(auto, unfolding(crate::specs::Board::nodes_after, crate::specs::Board::used_after))]
+    #[tactic(auto, unfolding(crate::specs::inside::Board::nodes_after, crate::specs::inside::Board::used_after))]
     fn change(&mut self, change: &Change) -> Result<(), AllocError>
         ensures changed { OnOk result (self.new ≡ record self.old {
           nodes = nodes_after self.old.room change.now self.old.nodes;

@@ -1,5 +1,5 @@
 //! The bodies of functions (WebAssembly Core 1.0, 5.5.13).
-#![tactic(auto, unfolding(crate::specs::Reading::Reads, crate::specs::Codes::ReadsCode))]
+#![tactic(auto, unfolding(crate::specs::inside::Reading::Reads, crate::specs::inside::Codes::ReadsCode))]
 
 ghost use Rattle.std.specs.Prelude.{◌≡◌, ◌≢◌, ℕ, ◌+◌, ◌<◌, ◌≤◌, List, [], length, take, drop, map, IfOk};
 ghost use Rattle.wcode.specs.declared.fault.BinFault.TheVariants.{NoMemory};

@@ -1,5 +1,5 @@
 //! A module from bytes (WebAssembly Core 1.0, 5.5.15).
-#![tactic(auto, unfolding(crate::specs::Reading::Reads, crate::specs::Decoded::ReadsWhole, crate::specs::Decoded::AssemblesTo))]
+#![tactic(auto, unfolding(crate::specs::inside::Reading::Reads, crate::specs::inside::Decoded::ReadsWhole, crate::specs::inside::Decoded::AssemblesTo))]
 
 ghost use Rattle.std.specs.Prelude.{◌≡◌, ◌≢◌, ℕ, ◌<◌, ◌≤◌, List, [], ◌∷◌, ◌++◌, All, length, take, drop, map, find, ◌==◌, Option, Some, None, IfOk, IfErr, OnErr};
 ghost use Rattle.wcode.specs.declared.fault.BinFault.TheVariants.{NoMemory};

@@ -1,5 +1,5 @@
 //! Parts of a module, some of which have places in its bytes, and vectors of them.
-#![tactic(auto, unfolding(crate::specs::Reading::Reads))]
+#![tactic(auto, unfolding(crate::specs::inside::Reading::Reads))]
 
 ghost use Rattle.std.specs.Prelude.{◌≡◌, ◌≢◌, ℕ, ◌+◌, ◌<◌, ◌≤◌, All, List, [], ◌∷◌, ◌++◌, length, take, drop, map, IfOk};
 ghost use Rattle.wcode.specs.declared.fault.BinFault.TheVariants.{NoMemory};

@@ -1,5 +1,5 @@
 //! Things that are spelled in one way only and have no places in the bytes: what larger things are made of.
-#![tactic(auto, unfolding(crate::specs::Reading::Reads))]
+#![tactic(auto, unfolding(crate::specs::inside::Reading::Reads))]
 
 ghost use Rattle.std.specs.Prelude.{◌≡◌, ◌≢◌, ℕ, ◌+◌, ◌-◌, ◌<◌, ◌≤◌, List, [], ◌∷◌, length, take, drop, map, IfOk, IfErr, OnErr};
 ghost use Rattle.wcode.specs.declared.fault.BinFault.TheVariants.{NoMemory};

@@ -1,5 +1,5 @@
 //! Where the sections of a module stand (WebAssembly Core 1.0, 5.5.2).
-#![tactic(auto, unfolding(crate::specs::Reading::Reads, crate::specs::Outline::ReadsStretch))]
+#![tactic(auto, unfolding(crate::specs::inside::Reading::Reads, crate::specs::inside::Outline::ReadsStretch))]
 
 ghost use Rattle.std.specs.Prelude.{◌≡◌, ◌≢◌, ℕ, ◌+◌, ◌-◌, ◌<◌, ◌≤◌, ◌⊎◌, ◌↔◌, List, [], length, take, drop, map, IsTrue, IfOk, IfErr, OnErr};
 ghost use Rattle.wcode.specs.declared.fault.BinFault.TheVariants.{NoMemory};

@@ -1,5 +1,5 @@
 //! Types from bytes (WebAssembly Core 1.0, 5.3).
-#![tactic(auto, unfolding(crate::specs::Reading::Reads))]
+#![tactic(auto, unfolding(crate::specs::inside::Reading::Reads))]
 
 ghost use Rattle.std.specs.Prelude.{◌≡◌, ◌≢◌, ℕ, ◌+◌, ◌<◌, ◌≤◌, Bool, List, [], ◌∷◌, length, take, drop, map, Option, MatchOption};
 ghost use Rattle.wcode.specs.declared.value.ValueType.{ValueType};

@@ -20,7 +20,7 @@ pub const NESTING: u32 = 256;
 ///
 /// The faults are those of `read_op`, and TooDeep at the opcode of a block with more than 255 around it, BadOpcode at
 /// an `else` that no open `if` takes, and NoMemory. Memory is taken in proportion to the bytes that have been read.
-#[tactic(auto, unfolding(crate::specs::Ended::GivesBody))]
+#[tactic(auto, unfolding(crate::specs::inside::Ended::GivesBody))]
 pub fn read_expr(alloc: Global, bytes: &[u8], at: usize) -> Result<(Vec<Instr>, usize), BinFault>
     requires { at ≤ length bytes.now }
     ensures found { IfOk result (λ x. SpellsExpr (drop at bytes.now) (body_of x.0.items) (drop x.1 bytes.now)) }
@@ -53,7 +53,7 @@ enum Item {
 
 // Instructions from `at` on, in which blocks nest as deep as there is room.
 #[cycle(body)]
-#[tactic(auto, unfolding(crate::specs::Ended::GivesBody, crate::specs::Ended::GivesItem))]
+#[tactic(auto, unfolding(crate::specs::inside::Ended::GivesBody, crate::specs::inside::Ended::GivesItem))]
 fn read_body(alloc: Global, bytes: &[u8], at: usize, room: u32) -> Result<Ended, BinFault>
     requires { at ≤ length bytes.now }
     ensures { GivesBody bytes.now room at result }
@@ -82,7 +82,7 @@ fn read_body(alloc: Global, bytes: &[u8], at: usize, room: u32) -> Result<Ended,
 
 // The instruction at `at`, with the bodies in it, or the word that ends a body.
 #[cycle(body)]
-#[tactic(auto, unfolding(crate::specs::Ended::GivesItem))]
+#[tactic(auto, unfolding(crate::specs::inside::Ended::GivesItem))]
 fn read_item(alloc: Global, bytes: &[u8], at: usize, room: u32) -> Result<Item, BinFault>
     requires { at ≤ length bytes.now }
     ensures { GivesItem bytes.now room at result }
@@ -113,7 +113,7 @@ fn read_item(alloc: Global, bytes: &[u8], at: usize, room: u32) -> Result<Item, 
 
 // The body inside the block or loop at `at`, from `next` on, and the place after it.
 #[cycle(body)]
-#[tactic(auto, unfolding(crate::specs::Ended::GivesBody))]
+#[tactic(auto, unfolding(crate::specs::inside::Ended::GivesBody))]
 fn read_nested(
     alloc: Global,
     bytes: &[u8],
@@ -140,7 +140,7 @@ fn read_nested(
 
 // The bodies of the `if` at `at`, from `next` on, and the place after them.
 #[cycle(body)]
-#[tactic(auto, unfolding(crate::specs::Ended::GivesBody))]
+#[tactic(auto, unfolding(crate::specs::inside::Ended::GivesBody))]
 fn read_arms(
     alloc: Global,
     bytes: &[u8],

@@ -49,7 +49,7 @@ pub fn read_label(bytes: &[u8], at: usize) -> (u32, usize)
 
 // What stands behind an opcode of the form, which stands at `at`.
 #[inline]
-#[tactic(auto, unfolding(crate::specs::Shown::Reads))]
+#[tactic(auto, unfolding(crate::specs::inside::Shown::Reads))]
 fn read_form(bytes: &[u8], at: usize, f: Form) -> Result<(Op, usize), OpFault>
     requires { at < length bytes.now }
     ensures { Reads bytes.now f (at + 1) result }
@@ -130,7 +130,7 @@ fn read_block_type(bytes: &[u8], at: usize) -> Result<BlockType, OpFault>
 
 // An instruction that opens a block of the type at `at`.
 #[inline]
-#[tactic(auto, unfolding(crate::specs::Shown::Reads))]
+#[tactic(auto, unfolding(crate::specs::inside::Shown::Reads))]
 fn read_opening(bytes: &[u8], at: usize, opening: Opening) -> Result<(Op, usize), OpFault>
     requires { at ≤ length bytes.now }
     ensures { Reads bytes.now (forms.Opens opening) at result }
@@ -141,7 +141,7 @@ fn read_opening(bytes: &[u8], at: usize, opening: Opening) -> Result<(Op, usize)
 
 // An instruction whose last byte, at `zero`, is 0. Its opcode is at `at`.
 #[inline]
-#[tactic(auto, unfolding(crate::specs::Shown::Reads))]
+#[tactic(auto, unfolding(crate::specs::inside::Shown::Reads))]
 fn read_zero(bytes: &[u8], at: usize, zero: usize, p: Plain) -> Result<(Op, usize), OpFault>
     requires { zero ≤ length bytes.now }
     ensures { Reads bytes.now (forms.ZeroByte p) zero result }
@@ -157,7 +157,7 @@ fn read_zero(bytes: &[u8], at: usize, zero: usize, p: Plain) -> Result<(Op, usiz
 
 // A constant of the type.
 #[inline]
-#[tactic(auto, unfolding(crate::specs::Shown::Reads))]
+#[tactic(auto, unfolding(crate::specs::inside::Shown::Reads))]
 fn read_const(bytes: &[u8], at: usize, t: ValueType) -> Result<(Op, usize), OpFault>
     requires { at ≤ length bytes.now }
     ensures { Reads bytes.now (forms.Const t) at result }
@@ -175,7 +175,7 @@ fn read_const(bytes: &[u8], at: usize, t: ValueType) -> Result<(Op, usize), OpFa
 }
 
 // A list of labels and its default label: only where they stand.
-#[tactic(auto, unfolding(crate::specs::Shown::Reads))]
+#[tactic(auto, unfolding(crate::specs::inside::Shown::Reads))]
 fn read_table(bytes: &[u8], at: usize) -> Result<(Op, usize), OpFault>
     requires { at ≤ length bytes.now }
     ensures { Reads bytes.now forms.BrTable at result }

@@ -19,7 +19,7 @@ use std::alloc::{AllocError, Global};
 /// 5.4.6). Gives their blocks, in the order of the opcodes that open them, and the place after that `end`.
 ///
 /// The faults are those of `read_expr`. Memory is taken for the blocks alone.
-#[tactic(auto, unfolding(crate::specs::Skipped::SkipsBody))]
+#[tactic(auto, unfolding(crate::specs::inside::Skipped::SkipsBody))]
 pub fn skip_expr(alloc: Global, bytes: &[u8], at: usize) -> Result<(Vec<Block>, usize), BinFault>
     requires { at ≤ length bytes.now }
     ensures found { IfOk result (λ x. (body : Body) × HasBlocks bytes.now at body x.1 x.0.items) }
@@ -86,7 +86,7 @@ enum Step {
 
 // Instructions from `at` on, in which blocks nest as deep as there is room.
 #[cycle(skipped)]
-#[tactic(auto, unfolding(crate::specs::Skipped::SkipsBody, crate::specs::Skipped::SkipsItem))]
+#[tactic(auto, unfolding(crate::specs::inside::Skipped::SkipsBody, crate::specs::inside::Skipped::SkipsItem))]
 fn skip_body(
     bytes: &[u8],
     at: usize,
@@ -113,7 +113,7 @@ fn skip_body(
 
 // The instruction at `at`, with the bodies in it, or the word that ends a body.
 #[cycle(skipped)]
-#[tactic(auto, unfolding(crate::specs::Skipped::SkipsItem))]
+#[tactic(auto, unfolding(crate::specs::inside::Skipped::SkipsItem))]
 fn skip_item(bytes: &[u8], at: usize, room: u32, blocks: &mut Vec<Block>) -> Result<Step, BinFault>
     requires { at ≤ length bytes.now }
     ensures { SkipsItem bytes.now room at blocks.old.items blocks.new.items result }
@@ -141,7 +141,7 @@ fn skip_item(bytes: &[u8], at: usize, room: u32, blocks: &mut Vec<Block>) -> Res
 
 // The body inside the block or loop at `at`, from `next` on, and the place after it.
 #[cycle(skipped)]
-#[tactic(auto, unfolding(crate::specs::Skipped::SkipsBody, crate::specs::Skipped::SkipsNested))]
+#[tactic(auto, unfolding(crate::specs::inside::Skipped::SkipsBody, crate::specs::inside::Skipped::SkipsNested))]
 fn skip_nested(
     bytes: &[u8],
     at: usize,
@@ -172,7 +172,7 @@ fn skip_nested(
 
 // The bodies of the `if` at `at`, from `next` on, and the place after them.
 #[cycle(skipped)]
-#[tactic(auto, unfolding(crate::specs::Skipped::SkipsBody, crate::specs::Skipped::SkipsArms))]
+#[tactic(auto, unfolding(crate::specs::inside::Skipped::SkipsBody, crate::specs::inside::Skipped::SkipsArms))]
 fn skip_arms(
     bytes: &[u8],
     at: usize,
