@@ -15,8 +15,8 @@ from record import Record
 LOG = logging.getLogger("second-scheduler")
 # Few enough lines and bytes at once that a pipe takes them all: so no write ever waits.
 LINES, BYTES = 100, 32768
-# For how long an answer may be waited for, in seconds: no cycle is so dear.
-PATIENCE = 15.0
+# For how long an answer may be waited for, in seconds: no cycle is so dear. And for how long before something else is done meanwhile.
+PATIENCE, MEANWHILE = 15.0, 0.02
 
 
 class CoreFault(Exception):
@@ -40,6 +40,7 @@ class Core:
         assert self.child.stdin and self.child.stdout
         self.input, self.output = self.child.stdin.fileno(), self.child.stdout.fileno()
         self.record, self.beat, self.read = record, beat, b""
+        self.meanwhile: Callable[[], None] | None = None
         self.waiting: collections.deque[Told] = collections.deque()
         self.ready = select.poll()
         self.ready.register(self.output, select.POLLIN)
@@ -48,7 +49,10 @@ class Core:
         """Has a line written at the next flush, and its answer handed on."""
         self.waiting.append(Told(line.encode() + b"\n", then, last))
 
-    def flush(self) -> None:
+    def flush(self, meanwhile: Callable[[], None] | None = None) -> None:
+        """Writes what is to be told. `meanwhile` is called again and again while an answer is waited for: what it tells is written behind
+        what was told before."""
+        self.meanwhile = meanwhile
         while self.waiting:
             some, size = [self.waiting.popleft()], 0
             while self.waiting and len(some) < LINES and size + len(self.waiting[0].line) < BYTES:
@@ -101,9 +105,13 @@ class Core:
         pieces, deadline = [self.read], time.monotonic() + PATIENCE
         while True:
             left = deadline - time.monotonic()
-            if left <= 0 or not self.ready.poll(1000 * left):
+            if left <= 0:
                 self.kill()
                 raise CoreFault(f"wsched has said nothing for {PATIENCE:.0f} s, at {told.line.decode()}")
+            if not self.ready.poll(1000 * (min(left, MEANWHILE) if self.meanwhile else left)):
+                if self.meanwhile:
+                    self.meanwhile()
+                continue
             some = os.read(self.output, 65536)
             if not some:
                 raise CoreFault(f"wsched ended with status {self.child.wait()} at {told.line.decode()}")

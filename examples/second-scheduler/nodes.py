@@ -35,6 +35,8 @@ class Nodes:
         # nodes that no line can say, and those for which there is no room
         self.unsaid: dict[str, SeenNode] = {}
         self.aside: dict[str, SeenNode] = {}
+        # the nodes that have changed since cycles were asked for: what is decided of them knows nothing of it
+        self.changed: set[str] = set()
         self.on: collections.defaultdict[str, set[Pod]] = collections.defaultdict(set)
         self.noted: dict[str, tuple[str, ...]] = {}
         self.version, self.has_work = 0, False
@@ -76,6 +78,7 @@ class Nodes:
     def set_node(self, seen: SeenNode) -> None:
         is_new = seen.name not in self.nodes
         self.nodes[seen.name] = seen
+        self.changed.add(seen.name)
         self.waiting.moves += 1
         assert seen.row
         self.open_nodes += is_new
@@ -127,6 +130,7 @@ class Nodes:
 
     def drop_node(self, name: str) -> None:
         del self.nodes[name]
+        self.changed.add(name)
         self.tell("gone", f'"name":{quoted(name)}')
         for pod in self.on.get(name, ()):
             self.untell(pod, is_outside=True)

@@ -21,6 +21,7 @@ from explaining import Explaining
 from health import Health
 from hearing import Inbox, NodeHearing, PodHearing
 from metrics import Metrics
+from pods import Told
 from record import Record
 from telling import Telling
 from verdicts import is_of_rules, said_of_no_node
@@ -81,10 +82,11 @@ class Scheduler:
         began = last = self.last = time.monotonic()
         while self.can_decide() and last - began < SLICE:
             before = self.counts["decided"]
+            self.desk.changed.clear()
             for _ in range(min(self.cycles, UNDER_WAY - self.under_way)):
                 # (what moves behind this line isn't known to this decision)
                 self.core.tell('{"op":"cycle"}', functools.partial(self.decided, self.desk.waiting.moves))
-            self.core.flush()
+            self.core.flush(self.hear_some)
             now = time.monotonic()
             decided = self.counts["decided"] - before
             if decided:
@@ -101,7 +103,8 @@ class Scheduler:
 
     def decided(self, moved: int, answer: str) -> None:
         if answer == "idle":
-            self.desk.has_work = False
+            # (what was heard meanwhile is told next)
+            self.desk.has_work = bool(self.core.waiting)
             return
         turn, self.last = self.last, time.monotonic()
         uid, what, *rest = answer.split(" ")
@@ -112,7 +115,8 @@ class Scheduler:
             self.metrics.attempts.labels(self.given.scheduler, "scheduled").inc()
         else:
             self.metrics.attempts.labels(self.given.scheduler, "unschedulable" if what == "unschedulable" else "error").inc()
-        if pod is None or pod.wait is None:
+        # (one that has changed or went while this was decided is told anew, or no longer)
+        if pod is None or pod.wait is None or pod.told is not Told.WAITING:
             return
         if what == "on":
             node, ticket = rest[0], int(rest[-1])
@@ -122,7 +126,12 @@ class Scheduler:
                 return
             self.under_way += 1
             meant = self.desk.nodes.get(node)
-            self.binders.bind(Bind(pod, node, meant.uid if meant else "", ticket, turn))
+            bind = Bind(pod, node, meant.uid if meant else "", ticket, turn)
+            if node in self.desk.changed:
+                # (it was decided by what the node was before)
+                self.was_bound(bind._replace(is_posted=False))
+            else:
+                self.binders.bind(bind)
         elif what == "unschedulable":
             created = pod.wait.created
             self.desk.failed(pod, moved)
@@ -168,17 +177,19 @@ class Scheduler:
         else:
             self.desk.hear_pod(what)
 
-    def take(self, until: float) -> None:
-        """Takes what is in the inbox, for no longer than a slice, and waits for something until then."""
+    def hear_some(self, until: float = 0.0) -> None:
+        """Takes what is in the inbox, for no longer than two slices, and waits for something until then."""
         end = None
         try:
             while end is None or time.monotonic() < end:
                 self.hear(*self.inbox.get(timeout=max(0.0, until - time.monotonic())))
                 until = 0.0
                 end = end or time.monotonic() + 2 * SLICE
-                self.health.beat()
         except queue.Empty:
             pass
+
+    def take(self, until: float) -> None:
+        self.hear_some(until)
         self.core.flush()
         self.health.beat()
 

@@ -2,11 +2,26 @@
 import json
 import os
 import signal
+import sys
 import time
 
 from trials.site import Site, alive, wait_for
 
 LEASE = "kube-system/wsched"
+# A client whose main loop does nothing for as long as a file is there.
+STUCK = """
+import os, sys, time
+sys.path.insert(0, {folder!r})
+sys.argv = sys.argv[1:]
+import scheduler, second_scheduler
+tick = scheduler.Scheduler.tick
+def stuck(self):
+    while os.path.exists({file!r}):
+        time.sleep(0.1)
+    tick(self)
+scheduler.Scheduler.tick = stuck
+second_scheduler.main()
+"""
 
 
 def holder(site: Site) -> str:
@@ -59,6 +74,29 @@ def hang_alone(site: Site) -> str:
     return f"ended after {time.monotonic() - began:.1f} s with status {one.wait(0)}"
 
 
+def hang_loop(site: Site) -> str:
+    """The main loop does nothing, while watches and the Lease go on: the process ends within 20 s, leaves no child, and the other replica binds."""
+    site.node("a")
+    site.pod("first")
+    file = site.folder / "stuck"
+    code = STUCK.format(folder=str(site.programs.client), file=str(file))
+    one = site.start("--lease", LEASE, name="one", words=[sys.executable, "-c", code, "second_scheduler.py"])
+    wait_for(lambda: site.place("first"), 20, "the first replica binds")
+    site.start("--lease", LEASE, name="other")
+    core, began = one.wsched(), time.monotonic()
+    file.touch()
+    # (it ticks each second)
+    time.sleep(1.5)
+    site.pod("second")
+    wait_for(lambda: not one.runs(), 25, "the replica whose loop does nothing ends")
+    ended = time.monotonic() - began
+    assert one.wait(0) != 0, "it ended with status 0"
+    wait_for(lambda: not alive(core), 1, "its wsched ends with it")
+    assert site.place("second") is None, "it bound a pod meanwhile"
+    wait_for(lambda: site.place("second"), 45, "the other replica binds the pod that waits")
+    return f"ended after {ended:.1f} s with status {one.wait(0)}; bound by the other {time.monotonic() - began:.1f} s after the stop; {site.check()}"
+
+
 def slow_is_no_hang(site: Site) -> str:
     """A wsched that is stopped for 5 s at a time is no hang: the process goes on, and binds."""
     site.node("a")
@@ -76,4 +114,4 @@ def slow_is_no_hang(site: Site) -> str:
     return site.check()
 
 
-TRIALS = [hang, hang_alone, slow_is_no_hang]
+TRIALS = [hang, hang_alone, hang_loop, slow_is_no_hang]

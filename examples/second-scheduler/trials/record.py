@@ -1,15 +1,30 @@
 """The record: what wsched was told, from which `wsched run` gives every decision that was made, however the process ended."""
 import gzip
+import json
 import pathlib
 import re
+import shutil
 import signal
 import subprocess
 import time
 
 from trials.audit import relayed
-from trials.site import REGION, RULE, Site
+from trials.site import REGION, RULE, TOP, Site
 
 PLACE = re.compile(r"(\S+) on (\S+) total \d+ ticket \d+")
+DATA = re.compile(r'<script id="data" type="application/json">(.*?)</script>\s*<script>(.*?)^let steps', re.S | re.M)
+# What examples/report/report.html makes of a run, with each dump of which it says otherwise, and how much it has at the end.
+DRAWN = """
+const { script, output } = JSON.parse(require("fs").readFileSync(0, "utf8")), state = new State();
+let dumps = 0;
+for (const step of paired(script, output)) {
+  state.step(step);
+  dumps += step.dumped.length > 0;
+  const other = contradicted(state, step.dumped);
+  if (other) throw new Error(`line ${step.number}: ${other}`);
+}
+console.log(dumps, state.bound + state.assumed);
+"""
 
 
 def churn(site: Site, turns: int) -> None:
@@ -111,4 +126,42 @@ def record_again(site: Site) -> str:
     return ", ".join(it.name for it in found)
 
 
-TRIALS = [record, record_killed, record_again]
+def record_drawn(site: Site) -> str:
+    """examples/report draws a record, by what `explain` says of it: the page has both as they are, and (by node, where that is there) what it makes
+    of them is what each audit's dump says."""
+    for i in range(4):
+        site.node(f"node-{i}", cpu="4", labels={REGION: "eu-central-1" if i % 2 else "us-east-1"})
+    file = site.folder / "drawn.jsonl.gz"
+    it = site.start("--record", str(file), rule=RULE)
+    site.wait(lambda: len(site.server.watches) >= 2, 20, "it watches")
+    for _ in range(3):
+        churn(site, 3)
+        it.child.send_signal(signal.SIGUSR1)
+        time.sleep(1)
+        for pod in site.store.all("pods"):
+            site.delete_pod(pod["metadata"]["name"])
+    it.end()
+    script = gzip.decompress(file.read_bytes()).decode()
+    output = subprocess.run([site.programs.wsched, "explain", RULE], input=script, capture_output=True, text=True, check=True).stdout
+    return f"{len(places_in(output))} places, {drawn(site, script, output)}"
+
+
+def drawn(site: Site, script: str, output: str) -> str:
+    """Makes the page, and has its own reading of a run say of each dump what it has."""
+    for name, text in (("script", script), ("output", output)):
+        (site.folder / name).write_text(text, encoding="utf-8")
+    made = [str(TOP / "examples/report/make"), str(site.folder / "script"), str(site.folder / "output")]
+    page = subprocess.run(made, capture_output=True, text=True, check=True).stdout
+    found = DATA.search(page)
+    assert found and json.loads(found[1]) == {"script": script, "output": output}, "the page hasn't what it was given"
+    node = shutil.which("node")
+    if not node:
+        return f"a page of {len(page)} bytes; node isn't there"
+    ran = subprocess.run([node, "-e", found[2] + DRAWN], input=found[1], capture_output=True, text=True, check=False)
+    assert ran.returncode == 0, ran.stderr.strip()[-400:]
+    dumps = int(ran.stdout.split()[0])
+    assert dumps >= 3, f"{dumps} dumps"
+    return f"a page of {len(page)} bytes, which has what {dumps} dumps say"
+
+
+TRIALS = [record, record_killed, record_again, record_drawn]

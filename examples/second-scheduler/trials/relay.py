@@ -1,11 +1,13 @@
 #!/usr/bin/python3
-"""Stands before wsched in a trial: hands its lines and answers on, keeps both in files, and loses what it is told to lose.
+"""Stands before wsched in a trial: hands its lines and answers on, keeps both in files, and loses or holds back what it is told to.
 
-    relay.py PROGRAM FOLDER WORD ..     FOLDER/lost has texts, one a line: a line `bound` with one of them is answered `ok`, and lost
+    relay.py PROGRAM FOLDER WORD ..     FOLDER/lost has texts, one a line: a line `bound` with one of them is answered `ok`, and lost;
+                                        FOLDER/slow has seconds: so long is a decision for a node held back
 """
 import pathlib
 import subprocess
 import sys
+import time
 
 
 def main() -> int:
@@ -30,6 +32,8 @@ def main() -> int:
             answer = child.stdout.readline()
             answered.write(answer)
             answered.flush()
+            if b'"op":"cycle"' in line and b" on " in answer and (at / "slow").exists():
+                time.sleep(float((at / "slow").read_text(encoding="ascii")))
             sys.stdout.buffer.write(answer)
             if not answer or answer.startswith(last):
                 break

@@ -168,6 +168,10 @@ class Site:
         """A pod goes at once."""
         self.store.delete("pods", f"default/{name}")
 
+    def delete_node(self, name: str) -> None:
+        """A node goes at once."""
+        self.store.delete("nodes", name)
+
     def place(self, name: str) -> Optional[str]:
         """The node of a pod, None where it waits."""
         place: Optional[str] = self.store.get("pods", f"default/{name}")["spec"].get("nodeName")

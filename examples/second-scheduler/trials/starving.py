@@ -5,10 +5,11 @@ import threading
 import time
 
 from trials.audit import relayed
+from trials.metrics import scraped, value
 from trials.site import REGION, RULE, Site, seconds_of, seconds_of_line, whom
 from trials.store import Thing
 
-WAITING, DEAR, RUNNING, NEW, SMALL, BIG = 9000, 1000, 400, 3, 1200, 300
+WAITING, MANY, DEAR, RUNNING, NEW, SMALL, BIG = 9000, 12000, 1000, 400, 3, 1200, 300
 
 
 def how_many_nodes(site: Site, seconds: float = 0.002) -> int:
@@ -99,6 +100,25 @@ def starving_dear(site: Site) -> str:
     return f"{nodes} nodes; {said}; load {os.getloadavg()[0]:.0f}; {site.check()}"
 
 
+def starving_many(site: Site) -> str:
+    """12,000 pods that fit nowhere, more than wsched's queue takes: each is tried and none refused, new pods are each bound within 30 s, and one that
+    waits outside has its place as soon as there is a node for it."""
+    for i in range(10):
+        site.node(f"node-{i}", cpu="8")
+    for i in range(MANY):
+        site.pod(f"waits-{i}", cpu="100")
+    site.pod("last", cpu="50")
+    site.start(*site.listening(), wsched=relayed(site))
+    site.wait(lambda: len(site.server.watches) >= 2, 90, "all are listed, and both kinds watched")
+    first = first_turns(site, MANY + 1)
+    said = new_ones(site)
+    refused = value(scraped(site), "wsched_refused_for_room_total", kind="queue")
+    assert refused == 0, f"{refused:.0f} were refused for want of room"
+    site.node("big", cpu="60")
+    waited = site.wait(lambda: site.place("last"), 60, "the one that fits on the new node is bound")
+    return f"each had its first turn within {first:.0f} s; {said}; the one that fits on a new node was bound after {waited:.1f} s; {site.check()}"
+
+
 def priorities(site: Site) -> str:
     """1,200 pods of other priorities wait for a full node, behind 300 of higher priority that fit nowhere; five times a place is free: it goes to
     the pod of highest priority of those that fit."""
@@ -125,4 +145,4 @@ def priorities(site: Site) -> str:
     return f"five places went to the five of highest priority of {SMALL:,} that fit; {site.check()}"
 
 
-TRIALS = [starving, starving_dear, priorities]
+TRIALS = [starving, starving_many, starving_dear, priorities]
