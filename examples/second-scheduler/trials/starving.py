@@ -102,7 +102,7 @@ def starving_dear(site: Site) -> str:
 
 def starving_many(site: Site) -> str:
     """12,000 pods that fit nowhere, more than wsched's queue takes: each is tried and none refused, new pods are each bound within 30 s, and one that
-    waits outside has its place as soon as there is a node for it."""
+    waits outside has its place once there is a node for it, when all have had their turn again."""
     for i in range(10):
         site.node(f"node-{i}", cpu="8")
     for i in range(MANY):
@@ -115,8 +115,9 @@ def starving_many(site: Site) -> str:
     refused = value(scraped(site), "wsched_refused_for_room_total", kind="queue")
     assert refused == 0, f"{refused:.0f} were refused for want of room"
     site.node("big", cpu="60")
-    waited = site.wait(lambda: site.place("last"), 60, "the one that fits on the new node is bound")
-    return f"each had its first turn within {first:.0f} s; {said}; the one that fits on a new node was bound after {waited:.1f} s; {site.check()}"
+    # (it was tried last, and those outside have half of the time)
+    waited = site.wait(lambda: site.place("last"), 60 + 4 * first, "the one that fits on the new node is bound")
+    return f"first turns within {first:.0f} s; {said}; one that fits on a new node was bound after {waited:.1f} s; load {os.getloadavg()[0]:.0f}; {site.check()}"
 
 
 def priorities(site: Site) -> str:
