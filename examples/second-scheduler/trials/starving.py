@@ -117,7 +117,8 @@ def starving_many(site: Site) -> str:
     site.node("big", cpu="60")
     # (it was tried last, and those outside have half of the time)
     waited = site.wait(lambda: site.place("last"), 60 + 4 * first, "the one that fits on the new node is bound")
-    return f"first turns within {first:.0f} s; {said}; one that fits on a new node was bound after {waited:.1f} s; load {os.getloadavg()[0]:.0f}; {site.check()}"
+    said = f"first turns within {first:.0f} s; {said}; one that fits on a new node was bound after {waited:.1f} s"
+    return f"{said}; load {os.getloadavg()[0]:.0f}; {site.check()}"
 
 
 def priorities(site: Site) -> str:
