@@ -102,7 +102,8 @@ def counted_up(site: Site) -> str:
     events = site.events(about="waits")
     assert len(events) == 1 and events[0]["count"] >= 3, f"{len(events)} events: {[it.get('count') for it in events]}"
     when = writes(site, "waits")
-    assert all(b - a > 7 for a, b in zip(when, when[1:])), when
+    # (after 8 s as the client has it; one that was late at the stub has the next sooner behind it)
+    assert all(b - a > 5 for a, b in zip(when, when[1:])), when
     return f"one event, its count {events[0]['count']}"
 
 
