@@ -7,7 +7,7 @@ import ssl
 import subprocess
 import threading
 import time
-from typing import Any, Callable, Iterator, Mapping, Optional
+from typing import Any, Callable, Iterator, Mapping, Optional, Sequence
 
 import cluster
 from trials.site import GIB, REGION, RULE, Late
@@ -142,11 +142,11 @@ class Trial:
         self.ears = Ears(site)
         self.site.make_nodes(self.nodes)
 
-    def schedule(self, *more: str, name: str = "wsched", rule: Optional[str] = RULE, **how: Any) -> "subprocess.Popen[bytes]":
-        """Starts a second scheduler, by the account of deploy.yaml."""
+    def schedule(self, *more: str, name: str = "wsched", rule: Optional[str] = RULE, words: Sequence[str] = (), **how: Any) -> "subprocess.Popen[bytes]":
+        """Starts a second scheduler, by the account of deploy.yaml; `words` are its own, if it isn't the client's program."""
         given = self.site.programs
-        words = [given.client / "second_scheduler.py", "--kubeconfig", self.site.folder / "wsched.kubeconfig", "--wsched", given.wsched, *more]
-        return self.site.run(name, *words, *([rule] if rule else []), **how)
+        words = [*(words or [str(given.client / "second_scheduler.py")]), "--kubeconfig", str(self.site.folder / "wsched.kubeconfig")]
+        return self.site.run(name, *words, "--wsched", given.wsched, *more, *([rule] if rule else []), **how)
 
     def end(self, name: str = "wsched") -> None:
         """Ends it, in good order."""

@@ -1,4 +1,4 @@
-"""How many pods are bound a second, by wsched and by kube-scheduler in turn, and the processor time that each takes."""
+"""How many pods are bound a second, by wsched and by kube-scheduler in turn, and the processor time that each takes; of the client also where it goes."""
 import collections
 import functools
 import http.client
@@ -6,6 +6,7 @@ import json
 import os
 import ssl
 import subprocess
+import sys
 import time
 from typing import Callable, NamedTuple
 
@@ -14,6 +15,26 @@ from trials.fleet import Trial, some_nodes, some_pods
 from trials.site import GIB, RULE, children, spent
 
 Start = Callable[[], subprocess.Popen[bytes]]
+# The client, which writes at its end for how many seconds each of its threads has had a processor, and its main thread before it begins.
+BY_THREAD = """
+import json, sys, threading, time
+sys.path.insert(0, {folder!r})
+sys.argv = sys.argv[1:]
+import second_scheduler
+spent, end, begun = {{}}, second_scheduler.end_process, second_scheduler.Scheduler
+def begin(*given):
+    spent["start"] = time.thread_time()
+    return begun(*given)
+def told(status):
+    for it in threading.enumerate():
+        spent[it.name] = time.clock_gettime(time.pthread_getcpuclockid(it.ident))
+    with open({file!r}, "w", encoding="utf-8") as file:
+        json.dump(spent, file)
+    end(status)
+second_scheduler.end_process, second_scheduler.Scheduler = told, begin
+second_scheduler.main()
+"""
+WHAT = {"start": "its start", "MainThread": "the loop", "pod": "pods heard", "node": "nodes heard", "binds": "binds", "events": "events"}
 
 
 class Run(NamedTuple):
@@ -44,21 +65,35 @@ def speed(site: cluster.Cluster, nodes: int = 1000, pods: int = 3000, turns: int
                 ours = who != "kube-scheduler"
                 made = {it: pod | {"selects": {}, "cpu": 100 + pod["cpu"] % 400} for it, pod in some_pods(pods, "s", "wsched" if ours else "default-scheduler")}
                 site.make_pods(made)
-                start: Start = functools.partial(trial.schedule, "--workers", str(workers), rule=RULE if "keep" in who else None)
-                if not ours:
-                    start = site.start_kube_scheduler
-                run = watched(site, pods, start)
+                run = watched(site, pods, starter(trial, who, workers) if ours else site.start_kube_scheduler)
                 site.end("wsched" if ours else "kube-scheduler")
                 site.delete_pods(made)
                 site.empty("namespaces/default/events")
                 found[who].append(run.rate)
-                print(f"{who}: {run}", flush=True)
+                print(f"{who}: {run}{by_thread(site, pods) if ours else ''}", flush=True)
         best = {who: max(rates) for who, rates in found.items()}
         times = best["wsched"] / best["kube-scheduler"], best["wsched with keep_region"] / best["kube-scheduler"]
         print(f"{nodes} nodes, {pods} pods: {times[0]:.1f} times kube-scheduler, with the rule {times[1]:.1f} times")
     finally:
         site.end_all()
     return 0
+
+
+def starter(trial: Trial, who: str, workers: int) -> Start:
+    """Starts the client with what tells of its threads."""
+    code = BY_THREAD.format(folder=str(trial.site.programs.client), file=str(trial.site.folder / "by_thread.json"))
+    own = [sys.executable, "-c", code, "second_scheduler.py"]
+    return functools.partial(trial.schedule, "--workers", str(workers), rule=RULE if "keep" in who else None, words=own)
+
+
+def by_thread(site: cluster.Cluster, pods: int) -> str:
+    """Where the client's own time went, in ms a pod."""
+    took: dict[str, float] = json.loads((site.folder / "by_thread.json").read_text(encoding="utf-8"))
+    took["MainThread"] -= took["start"]
+    sums = dict.fromkeys([*WHAT.values(), "the rest"], 0.0)
+    for name, seconds in took.items():
+        sums[WHAT.get(name, "the rest")] += 1000 * seconds / pods
+    return f"; its threads: {', '.join(f'{what} {ms:.2f}' for what, ms in sums.items())}"
 
 
 def watched(site: cluster.Cluster, count: int, start: Start) -> Run:
