@@ -15,7 +15,7 @@ from affinity import NodeLabels
 from audit import Audit
 from binding import UNDER_WAY, Bind, Binders, Newest
 from claims import ClaimHearing, Claims, VolumeHearing, listed_after
-from core import PATIENCE, Core, command
+from core import MEANWHILE, PATIENCE, Core, command
 from desk import Desk
 from explaining import Explaining
 from health import Health
@@ -86,7 +86,7 @@ class Scheduler:
             for _ in range(min(self.cycles, UNDER_WAY - self.under_way)):
                 # (what moves behind this line isn't known to this decision)
                 self.core.tell('{"op":"cycle"}', functools.partial(self.decided, self.desk.waiting.moves))
-            self.core.flush(self.hear_some)
+            self.core.flush(functools.partial(self.hear_some, 0.0, MEANWHILE))
             now = time.monotonic()
             decided = self.counts["decided"] - before
             if decided:
@@ -177,19 +177,19 @@ class Scheduler:
         else:
             self.desk.hear_pod(what)
 
-    def hear_some(self, until: float = 0.0) -> None:
-        """Takes what is in the inbox, for no longer than two slices, and waits for something until then."""
+    def hear_some(self, until: float, most: float) -> None:
+        """Takes what is in the inbox, for no longer than `most` seconds, and waits for something until then."""
         end = None
         try:
             while end is None or time.monotonic() < end:
                 self.hear(*self.inbox.get(timeout=max(0.0, until - time.monotonic())))
                 until = 0.0
-                end = end or time.monotonic() + 2 * SLICE
+                end = end or time.monotonic() + most
         except queue.Empty:
             pass
 
     def take(self, until: float) -> None:
-        self.hear_some(until)
+        self.hear_some(until, 2 * SLICE)
         self.core.flush()
         self.health.beat()
 
