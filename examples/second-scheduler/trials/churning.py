@@ -27,7 +27,7 @@ def amounts_kept(site: Cluster) -> str:
     site.ask("POST", pods, tenth("half", "512Mi"))
     trial.wait_for(lambda: any(it["involvedObject"]["name"] == "half" for it in site.events()), 30)
     site.ask("POST", pods, tenth("last", "100Mi"))
-    trial.wait_for(lambda: site.places()["last"], 20)
+    trial.wait_for(lambda: site.places().get("last"), 20)
     assert site.places()["half"] is None, "one of 512Mi is on a node where 921.6 of 1024 MiB are in use"
     said = trial.watched(made=9)
     trial.end()
