@@ -32,6 +32,8 @@ RATE, BURST = 100.0, 300.0
 # How many writes may wait, by how many threads those are made that are several requests, on how many connections, and how long a
 # request may take, in seconds.
 ROOM, WRITERS, LINES, PATIENCE = 2000, 4, 8, 10.0
+# The same of what is told of pods that are bound: many may wait, and few are written at once, so that the API server has time for binds.
+MANY, FEW = 20000, 2
 Json = dict[str, Any]
 Key = tuple[str, str]
 
@@ -82,6 +84,7 @@ class Telling:
     def __init__(self, way: Way, scheduler: str, is_silent: bool, metrics: Metrics) -> None:
         self.posts, self.scheduler, self.is_silent, self.metrics = Posts(way, LINES, "events"), scheduler, is_silent, metrics
         self.writers, self.room = concurrent.futures.ThreadPoolExecutor(WRITERS, "event"), threading.Semaphore(ROOM)
+        self.notes, self.many = Posts(way, FEW, "scheduled"), threading.Semaphore(MANY)
         self.things: dict[Key, Said] = {}
         self.timers: list[tuple[float, int, Key, Said]] = []
         # what is due, and whose rules aren't known yet
@@ -215,16 +218,16 @@ class Telling:
         """What is told once, as often as pods are bound: no thread waits for its answer."""
         if self.is_silent:
             return
-        if not self.room.acquire(blocking=False):
+        if not self.many.acquire(blocking=False):
             self.metrics.untold.inc()
             return
         path, body = self.event(about, kind, reason, message)
-        self.posts.send(Request("POST", path, body, JSON, PATIENCE, self.answered))
+        self.notes.send(Request("POST", path, body, JSON, PATIENCE, self.answered))
 
     # Writes, in threads of their own.
 
     def answered(self, answer: Answer) -> None:
-        self.room.release()
+        self.many.release()
         if not answer.is_good:
             self.failed_to_write(answer.fault)
 
@@ -290,7 +293,7 @@ class Telling:
     def end(self, patience: float) -> None:
         """Waits until what is to be written has been, for so many seconds."""
         end = time.monotonic() + patience
-        for _ in range(ROOM):
+        for room in [self.room] * ROOM + [self.many] * MANY:
             # (whoever has all of the room knows that nobody writes any more)
-            if not self.room.acquire(timeout=max(0.0, end - time.monotonic())):
+            if not room.acquire(timeout=max(0.0, end - time.monotonic())):
                 return

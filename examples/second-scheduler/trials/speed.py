@@ -34,7 +34,7 @@ def told(status):
 second_scheduler.end_process, second_scheduler.Scheduler = told, begin
 second_scheduler.main()
 """
-WHAT = {"start": "its start", "MainThread": "the loop", "pod": "pods heard", "node": "nodes heard", "binds": "binds", "events": "events"}
+WHAT = {"start": "its start", "MainThread": "the loop", "pod": "pods heard", "node": "nodes heard", "binds": "binds", "events": "events", "scheduled": "events"}
 
 
 class Run(NamedTuple):
