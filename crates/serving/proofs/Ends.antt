@@ -12,9 +12,9 @@ use Rattle.engine.specs.declared.fault.RunFault.{RunFault}
 use Rattle.engine.specs.declared.fault.RunFault.TheVariants as run_fault
 use Rattle.command.specs.Words.{SpecSyntax}
 use Rattle.command.specs.declared.fault.WordFault.TheVariants as word_fault
-use Rattle.faults.specs.declared.fault.Fault.{Fault}
-use Rattle.faults.specs.declared.fault.Fault.TheVariants.{Words, Misused, Plugin, Unread, Run}
-use Rattle.faults.specs.Fault.{status_of}
+use Rattle.fault_line.specs.declared.fault.Fault.{Fault}
+use Rattle.fault_line.specs.declared.fault.Fault.TheVariants.{Words, Misused, Plugin, Unread, Run}
+use Rattle.fault_line.specs.Fault.{status_of}
 use Rattle.serving.specs.Run.{IsSiteRun, TellsFailures, TellsFault}
 use Rattle.serving.specs.Site.{AreSiteKits, IsToldAs, SiteFaulty, SiteFront, SiteRefused, UnreadPlugin, WhyNoModules, WhyNoPlugin, WhyNoSite, named_of}
 use Rattle.serving.proofs.Quiet.{at_a_line, no_memory_told}

@@ -1,7 +1,6 @@
 pub mod Agreeing
 pub mod Decisions
 pub mod Ends
-pub mod Failures
 pub mod Fronts
 pub mod Kits
 pub mod Quiet
@@ -10,3 +9,4 @@ pub mod Sites
 pub mod SiteOutput
 pub mod SameSite
 pub mod StormEnds
+pub mod Answered

@@ -8,9 +8,9 @@ use Rattle.engine.specs.declared.fault.RunFault.{RunFault}
 use Rattle.engine.specs.declared.fault.RunFault.TheVariants as run_fault
 use Rattle.engine.specs.Telling.{Telling}
 use Rattle.manifest.specs.declared.fault.LineFault.{LineFault}
-use Rattle.faults.specs.Fault.{status_of}
-use Rattle.faults.specs.Message.{message_of, run_text}
-use Rattle.faults.specs.declared.fault.Fault.TheVariants.{Words, Run}
+use Rattle.fault_line.specs.Fault.{status_of}
+use Rattle.fault_line.specs.Message.{message_of, run_text}
+use Rattle.fault_line.specs.declared.fault.Fault.TheVariants.{Words, Run}
 use Rattle.command.specs.declared.fault.WordFault.TheVariants as word_fault
 
 -- the whole output is a beginning of it

@@ -14,8 +14,8 @@ use Rattle.command.specs.declared.asked.Spec.{Spec}
 use Rattle.serving.specs.Verdict.{front_of}
 use Rattle.engine.specs.declared.fault.RunFault.TheVariants as run_fault
 use Rattle.engine.specs.declared.named_rule.NamedRule.{NamedRule}
-use Rattle.faults.specs.declared.fault.Fault.{Fault}
-use Rattle.faults.specs.declared.fault.Fault.TheVariants.{Words, Misused, Plugin, Unread, Run}
+use Rattle.fault_line.specs.declared.fault.Fault.{Fault}
+use Rattle.fault_line.specs.declared.fault.Fault.TheVariants.{Words, Misused, Plugin, Unread, Run}
 use Rattle.serving.specs.Site.{ArePlugins, IsPlugin, ModuleRefused, WhyNoModules, WhyNoPlugin, AreFromFiles, named_of}
 use Rattle.serving.specs.inside.Site.{WhyNoModule}
 

@@ -14,9 +14,9 @@ use Rattle.storm.specs.Cycles.{OneCycle, Cycles}
 use Rattle.std.specs.Io.KnownBytes.{Appends}
 use Rattle.storm.specs.Storm.{IsAudit, IsStormRun, Storms, StormsScript, cycler, desk_for}
 use Rattle.command.specs.Words.{SpecSyntax}
-use Rattle.faults.specs.declared.fault.Fault.{Fault}
-use Rattle.faults.specs.declared.fault.Fault.TheVariants.{Run}
-use Rattle.faults.specs.Fault.{status_of}
+use Rattle.fault_line.specs.declared.fault.Fault.{Fault}
+use Rattle.fault_line.specs.declared.fault.Fault.TheVariants.{Run}
+use Rattle.fault_line.specs.Fault.{status_of}
 use Rattle.serving.specs.Run.{TellsFailures, TellsFault}
 use Rattle.serving.specs.Site.{AreSiteKits, SiteRefused, WhyNoSite}
 use Rattle.serving.specs.Storm.{IsSiteStorm, SiteStorms, StormFaulty}

@@ -1,5 +1,6 @@
+pub mod Answer
+pub mod Check
 pub mod Decision
-pub mod Failures
 pub mod Laws
 pub mod Run
 pub mod Site

@@ -6,9 +6,9 @@ use Rattle.engine.specs.declared.fault.RunFault.TheVariants as run_fault
 use Rattle.command.specs.Words.{SpecSyntax}
 use Rattle.command.specs.Misuse.{misuse_of}
 use Rattle.command.specs.declared.fault.WordFault.{WordFault}
-use Rattle.faults.specs.declared.fault.Fault.{Fault}
-use Rattle.faults.specs.declared.fault.Fault.TheVariants.{Run, Words, Misused, Unread}
-use Rattle.faults.specs.Message.{Tells, message_of}
+use Rattle.fault_line.specs.declared.fault.Fault.{Fault}
+use Rattle.fault_line.specs.declared.fault.Fault.TheVariants.{Run, Words, Misused, Unread}
+use Rattle.fault_line.specs.Message.{Tells, message_of}
 use Rattle.serving.specs.Site.{SiteDone, SiteFaulty, SiteFront, SiteRefused}
 
 -- a fault's line is written to a stream, or a beginning of it where a write failed meanwhile

@@ -15,10 +15,10 @@ use Rattle.engine.specs.Telling.{Telling, telling}
 use Rattle.engine.specs.Output.{first_fault, IsOutput, BeginsOutput, WritesOutput, WritesFront}
 use Rattle.engine.specs.declared.fault.RunFault.TheVariants as run_fault
 use Rattle.command.specs.Words.{SpecSyntax}
-use Rattle.faults.specs.declared.fault.Fault.{Fault}
-use Rattle.faults.specs.declared.fault.Fault.TheVariants.{Plugin, Unread, Run}
-use Rattle.faults.specs.declared.refusal.Refusal.TheVariants.{NotReady}
-use Rattle.faults.specs.Fault.{status_of}
+use Rattle.fault_line.specs.declared.fault.Fault.{Fault}
+use Rattle.fault_line.specs.declared.fault.Fault.TheVariants.{Plugin, Unread, Run}
+use Rattle.fault_line.specs.declared.refusal.Refusal.TheVariants.{NotReady}
+use Rattle.fault_line.specs.Fault.{status_of}
 use Rattle.serving.specs.Verdict.{IsRefusedFor, front_of}
 
 -- the names and weights that plugins are given

@@ -8,8 +8,8 @@ use Rattle.engine.specs.declared.fault.RunFault.TheVariants as run_fault
 use Rattle.storm.specs.Script.{first_storm_fault}
 use Rattle.storm.specs.Storm.{StormsScript}
 use Rattle.command.specs.Words.{SpecSyntax}
-use Rattle.faults.specs.declared.fault.Fault.{Fault}
-use Rattle.faults.specs.declared.fault.Fault.TheVariants.{Run}
+use Rattle.fault_line.specs.declared.fault.Fault.{Fault}
+use Rattle.fault_line.specs.declared.fault.Fault.TheVariants.{Run}
 use Rattle.serving.specs.Run.{TellsFault}
 use Rattle.serving.specs.Site.{AreSiteKits, SiteRefused}
 

@@ -8,9 +8,9 @@ use Rattle.wbody.specs.declared.fault.TypeFault.TheVariants as type_fault
 use Rattle.wtype.specs.Accepted as accepted
 use Rattle.wtype.specs.Refused.{WhyRefused}
 use Rattle.engine.specs.Device.{AppendsFront}
-use Rattle.faults.specs.Refusal.{refusal_text}
-use Rattle.faults.specs.declared.refusal.Refusal.{Refusal}
-use Rattle.faults.specs.declared.refusal.Refusal.TheVariants as refusal
+use Rattle.fault_line.specs.Refusal.{refusal_text}
+use Rattle.fault_line.specs.declared.refusal.Refusal.{Refusal}
+use Rattle.fault_line.specs.declared.refusal.Refusal.TheVariants as refusal
 use Rattle.serving.specs.declared.verdict.Unaccepted.{Unaccepted}
 use Rattle.serving.specs.declared.verdict.Unaccepted.TheVariants as unaccepted
 use Rattle.serving.specs.declared.verdict.Verdict.{Verdict}

@@ -1,16 +1,17 @@
 //! Whether a module is accepted.
-ghost use Rattle.std.specs.Prelude.{◌≡◌, ◌≢◌, ◌⊎◌, ◌^◌, ◌<◌, ◌≤◌, IfSome};
+ghost use Rattle.std.specs.Prelude.{◌≡◌, ◌≢◌, ◌⊎◌, ◌^◌, ◌<◌, ◌≤◌, Some};
 ghost use Rattle.std.specs.Io.KnownBytes.{Appends};
-ghost use Rattle.engine.specs.Device.{AppendsFront};
+ghost use Rattle.engine.specs.Device.{AppendsFront, use_of};
 ghost use Rattle.engine.specs.declared.fault.RunFault.TheVariants as run_fault;
-ghost use Rattle.faults.specs.declared.fault.Fault.TheVariants.{Run};
-ghost use Rattle.faults.specs.Message.{Tells, message_of};
-ghost use Rattle.serving.specs.Verdict.{TellsFront, TellsVerdict, status_for, verdict_line};
+ghost use Rattle.fault_line.specs.declared.fault.Fault.TheVariants.{Run};
+ghost use Rattle.fault_line.specs.Message.{Tells, message_of};
+ghost use Rattle.serving.specs.Check.{IsCheck};
+ghost use Rattle.serving.specs.Verdict.{status_for, verdict_line};
 
 use crate::folder::Files;
 use crate::verdict::{Verdict, line_of, verdict_on};
 use engine::{RunFault, Sink, write_all};
-use faults::{Fault, report};
+use fault_line::{Fault, report};
 use std::alloc::Global;
 use wbin::LONGEST;
 
@@ -20,29 +21,8 @@ use wbin::LONGEST;
 pub fn check_module<W: Sink, E: Sink>(alloc: Global, bytes: &[u8], out: &mut W, err: &mut E) -> u8
     requires writes { W.failure_count out.old < 10 ^ 18 }
     requires tells { E.failure_count err.old < 10 ^ 18 }
-
-    // These are the statuses of a check; each says what was done.
-    ensures status { (result ≡ 0) ⊎ ((result ≡ 1) ⊎ ((result ≡ 3) ⊎ (result ≡ 4))) }
-
-    // The bytes deserve this verdict, the status is the verdict's, its line is written whole, and no
-    // fault is told.
-    ensures told { result ≤ 1 → TellsVerdict (W.written out.old) (W.written out.new) result bytes.now }
-    ensures quiet { result ≤ 1 → err.new ≡ err.old }
-
-    // Memory was wanting, that is told, and nothing is written.
-    ensures room { result ≡ 3 → Tells (E.written err.old) (E.written err.new) (E.failure_count err.old)
-        (E.failure_count err.new) (message_of (Run run_fault.NoMemory)) × (out.new ≡ out.old) }
-
-    // A write failed meanwhile, and that is told.
-    ensures failed { result ≡ 4 → Tells (E.written err.old) (E.written err.new) (E.failure_count err.old)
-        (E.failure_count err.new) (message_of (Run run_fault.Write))
-        × (W.failure_count out.old < W.failure_count out.new) }
-
-    // Nothing but the line that the bytes deserve, or a beginning of it, is written.
-    ensures front { (out.new ≡ out.old) ⊎ TellsFront (W.written out.old) (W.written out.new) bytes.now }
-
-    // And each failure is told: at any other status no write to `out` has failed.
-    ensures failures_told { result ≢ 4 → W.failure_count out.new ≡ W.failure_count out.old }
+    ensures { IsCheck (Some bytes.now) ⊥ (use_of W.written W.failure_count out.old out.new)
+        (use_of E.written E.failure_count err.old err.new) result }
 {
     match verdict_on(alloc, bytes) {
         Ok(verdict) => tell(verdict, out, err),
@@ -83,37 +63,11 @@ pub fn check_file<F: Files, W: Sink, E: Sink>(
     requires reads { F.failure_count files.old < 10 ^ 18 }
     requires writes { W.failure_count out.old < 10 ^ 18 }
     requires tells { E.failure_count err.old < 10 ^ 18 }
+    ensures check { IsCheck (F.contents files.old name.now) (F.failure_count files.old < F.failure_count files.new)
+        (use_of W.written W.failure_count out.old out.new) (use_of E.written E.failure_count err.old err.new) result }
 
-    // These are the statuses of a check; each says what was done.
-    ensures status { (result ≡ 0) ⊎ ((result ≡ 1) ⊎ ((result ≡ 3) ⊎ (result ≡ 4))) }
-
-    // What the file has deserves this verdict, the status is the verdict's, its line is written
-    // whole, and no fault is told.
-    ensures told { result ≤ 1 → IfSome (F.contents files.old name.now)
-        (TellsVerdict (W.written out.old) (W.written out.new) result) }
-    ensures quiet { result ≤ 1 → err.new ≡ err.old }
-
-    // Memory was wanting, that is told, and nothing is written.
-    ensures room { result ≡ 3 → Tells (E.written err.old) (E.written err.new) (E.failure_count err.old)
-        (E.failure_count err.new) (message_of (Run run_fault.NoMemory)) × (out.new ≡ out.old) }
-
-    // The file could not be opened or read, that is told, and nothing is written; or a write failed
-    // meanwhile, and that is told.
-    ensures failed { result ≡ 4 → Tells (E.written err.old) (E.written err.new) (E.failure_count err.old)
-        (E.failure_count err.new) (message_of (Run run_fault.Read))
-        × (F.failure_count files.old < F.failure_count files.new) × (out.new ≡ out.old)
-        ⊎ (Tells (E.written err.old) (E.written err.new) (E.failure_count err.old)
-        (E.failure_count err.new) (message_of (Run run_fault.Write))
-        × (W.failure_count out.old < W.failure_count out.new)) }
-
-    // And each failure is told: at any other status none has failed, to open, to read or to write to
-    // `out`.
-    ensures failures_told { result ≢ 4 → (F.failure_count files.new ≡ F.failure_count files.old)
-        × (W.failure_count out.new ≡ W.failure_count out.old) }
-
-    // Nothing but the line that the module deserves, or a beginning of it, is written.
-    ensures front { (out.new ≡ out.old) ⊎ IfSome (F.contents files.old name.now)
-        (TellsFront (W.written out.old) (W.written out.new)) }
+    // And that is told of a file that failed: at any other status none has.
+    ensures files_told { result ≢ 4 → F.failure_count files.new ≡ F.failure_count files.old }
 {
     match files.read_front(alloc, name, LONGEST + 1) {
         Ok(bytes) => check_module(alloc, bytes.as_slice(), out, err),

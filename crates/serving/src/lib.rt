@@ -25,7 +25,7 @@ mod with_kits;
 
 pub use check::{check_file, check_module};
 pub use device::{Input, Output};
-pub use faults::{Fault, Refusal, report};
+pub use fault_line::{Fault, Refusal, report};
 pub use folder::{Files, Folder};
 pub use laws::{decided_by_calls, one_site_output};
 pub use program::answer;

@@ -3,15 +3,16 @@ ghost use Rattle.std.specs.Prelude.{◌≡◌, ◌≢◌, ◌^◌, ◌<◌, None
 ghost use Rattle.engine.specs.Device.{use_of};
 ghost use Rattle.command.specs.Within.{IsPlan};
 ghost use Rattle.command.specs.Words.{syntax_of};
+ghost use Rattle.serving.specs.Answer.{IsPlannedRun, files_of};
 ghost use Rattle.serving.specs.Run.{IsSiteRun, TellsFailures};
-ghost use Rattle.serving.specs.Site.{AreFromFiles, UnreadPlugin, named_of};
+ghost use Rattle.serving.specs.Site.{named_of};
 
 use crate::folder::Files;
 use crate::site::{modules_in, site_kits};
 use crate::with_kits::run_with_kits;
 use command::{Plan, Spec};
 use engine::{NamedRule, RunFault, Sink, Source};
-use faults::{Fault, report};
+use fault_line::{Fault, report};
 use std::alloc::{AllocError, Global};
 use std::hash::RandomState;
 use std::sync::Wait;
@@ -39,12 +40,11 @@ pub fn serve<T: Wait + Threads + Copy + Send + Sync + 'static, R: Source, W: Sin
     requires tells { E.failure_count err.old < 10 ^ 18 }
     requires finite { R.bytes_left source.old < 2 ^ 64 }
     ensures run { IsSiteRun explains (λ given. given ≡ map (λ m. m.items) modules.now)
-        (map syntax_of plan.now.specs.items)
+        (map syntax_of plan.now.specs.items) (use_of R.remaining R.failure_count source.old source.new)
+        (use_of W.written W.failure_count out.old out.new) (use_of E.written E.failure_count err.old err.new) result }
+    ensures failures { TellsFailures (source.new ≡ source.old) ⊥ (λ _. ⊥)
         (use_of R.remaining R.failure_count source.old source.new) (use_of W.written W.failure_count out.old out.new)
         (use_of E.written E.failure_count err.old err.new) result }
-    ensures failures { TellsFailures (source.new ≡ source.old) ⊥ (λ _. ⊥)
-        (use_of R.remaining R.failure_count source.old source.new)
-        (use_of W.written W.failure_count out.old out.new) (use_of E.written E.failure_count err.old err.new) result }
 {
     let kits = match site_kits(alloc, plan.specs.as_slice(), modules, plan.workers) {
         Ok(kits) => kits,
@@ -111,17 +111,10 @@ pub(crate) fn serve_plan<
     requires writes { W.failure_count out.old < 10 ^ 18 }
     requires tells { E.failure_count err.old < 10 ^ 18 }
     requires finite { R.bytes_left source.old < 2 ^ 64 }
-    ensures run { IsSiteRun explains (AreFromFiles (F.contents files.old) (map syntax_of plan.now.specs.items))
-        (map syntax_of plan.now.specs.items)
+    ensures { IsPlannedRun explains (map syntax_of plan.now.specs.items) (keys ≡ None)
+        (files_of F.contents F.failure_count files.old files.new)
         (use_of R.remaining R.failure_count source.old source.new) (use_of W.written W.failure_count out.old out.new)
         (use_of E.written E.failure_count err.old err.new) result }
-    ensures failures { TellsFailures (source.new ≡ source.old) (keys ≡ None)
-        (UnreadPlugin (map syntax_of plan.now.specs.items) (F.failure_count files.old) (F.failure_count files.new))
-        (use_of R.remaining R.failure_count source.old source.new) (use_of W.written W.failure_count out.old out.new)
-        (use_of E.written E.failure_count err.old err.new) result }
-
-    // At any other status no file has failed.
-    ensures files_told { result ≢ 4 → F.failure_count files.new ≡ F.failure_count files.old }
 {
     let Some(keys) = keys else {
         return report(Fault::Run(RunFault::Read), err);

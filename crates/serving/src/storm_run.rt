@@ -3,8 +3,8 @@ ghost use Rattle.std.specs.Prelude.{◌≡◌, ◌≢◌, ◌∷◌, [], ◌^◌
 ghost use Rattle.engine.specs.Device.{use_of};
 ghost use Rattle.command.specs.Within.{IsStormPlan};
 ghost use Rattle.command.specs.Words.{syntax_of};
+ghost use Rattle.serving.specs.Answer.{IsPlannedStorm, files_of};
 ghost use Rattle.serving.specs.Run.{TellsFailures};
-ghost use Rattle.serving.specs.Site.{AreFromFiles, UnreadPlugin};
 ghost use Rattle.serving.specs.Storm.{IsSiteStorm};
 ghost use Rattle.serving.specs.inside.Storm.{audit_status};
 
@@ -14,7 +14,7 @@ use crate::site_fleet::SiteFleet;
 use crate::stand_in::storm_by;
 use command::StormPlan;
 use engine::{RunFault, Sink, Source};
-use faults::{Fault, report};
+use fault_line::{Fault, report};
 use plugin::KitRules;
 use std::alloc::{AllocError, Global};
 use std::hash::RandomState;
@@ -42,9 +42,8 @@ pub fn serve_storm<T: Wait + Threads + Sync, R: Source, W: Sink, E: Sink>(
     requires tells { E.failure_count err.old < 10 ^ 18 }
     requires finite { R.bytes_left source.old < 2 ^ 64 }
     ensures storm { IsSiteStorm (λ given. given ≡ map (λ m. m.items) modules.now) (map syntax_of plan.now.specs.items)
-        plan.now.cycles plan.now.binders
-        (use_of R.remaining R.failure_count source.old source.new) (use_of W.written W.failure_count out.old out.new)
-        (use_of E.written E.failure_count err.old err.new) result }
+        plan.now.cycles plan.now.binders (use_of R.remaining R.failure_count source.old source.new)
+        (use_of W.written W.failure_count out.old out.new) (use_of E.written E.failure_count err.old err.new) result }
     ensures failures { TellsFailures ⊤ ⊥ (λ _. ⊥) (use_of R.remaining R.failure_count source.old source.new)
         (use_of W.written W.failure_count out.old out.new) (use_of E.written E.failure_count err.old err.new) result }
 {
@@ -112,17 +111,10 @@ pub(crate) fn storm_plan<T: Wait + Threads + Sync, F: Files, R: Source, W: Sink,
     requires writes { W.failure_count out.old < 10 ^ 18 }
     requires tells { E.failure_count err.old < 10 ^ 18 }
     requires finite { R.bytes_left source.old < 2 ^ 64 }
-    ensures storm { IsSiteStorm (AreFromFiles (F.contents files.old) (map syntax_of plan.now.specs.items))
-        (map syntax_of plan.now.specs.items)
-        plan.now.cycles plan.now.binders (use_of R.remaining R.failure_count source.old source.new)
-        (use_of W.written W.failure_count out.old out.new) (use_of E.written E.failure_count err.old err.new) result }
-    ensures failures { TellsFailures ⊤ (keys ≡ None)
-        (UnreadPlugin (map syntax_of plan.now.specs.items) (F.failure_count files.old) (F.failure_count files.new))
+    ensures { IsPlannedStorm plan.now.cycles plan.now.binders (map syntax_of plan.now.specs.items) (keys ≡ None)
+        (files_of F.contents F.failure_count files.old files.new)
         (use_of R.remaining R.failure_count source.old source.new) (use_of W.written W.failure_count out.old out.new)
         (use_of E.written E.failure_count err.old err.new) result }
-
-    // At any other status no file has failed.
-    ensures files_told { result ≢ 4 → F.failure_count files.new ≡ F.failure_count files.old }
 {
     let Some(keys) = keys else {
         return report(Fault::Run(RunFault::Read), err);

@@ -3,10 +3,10 @@ ghost use Rattle.std.specs.Prelude.{◌≡◌, ◌≢◌, ◌⊎◌, IfErr, IfOk
 ghost use Rattle.wbin.specs.Grammar.{Spells};
 ghost use Rattle.wbin.specs.Syntax.{module_of};
 ghost use Rattle.wtype.specs.Accepted as accepted;
-ghost use Rattle.faults.specs.declared.refusal.Refusal.TheVariants.{Undecoded, Untyped};
+ghost use Rattle.fault_line.specs.declared.refusal.Refusal.TheVariants.{Undecoded, Untyped};
 ghost use Rattle.serving.specs.Verdict.{IsUnaccepted, IsVerdictOn, status_for, verdict_line};
 
-use faults::{Message, Refusal, push, push_refusal};
+use fault_line::{Message, Refusal, push, push_refusal};
 use std::alloc::{AllocError, Global};
 use wbin::{Module, decode};
 use wcode::BinFault;

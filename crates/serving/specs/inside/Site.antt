@@ -1,8 +1,8 @@
 -- Why a plugin has no module.
 use Rattle.std.specs.Prelude.{◌≡◌, ◌<◌, ℕ, List}
 use Rattle.engine.specs.declared.fault.RunFault.TheVariants as run_fault
-use Rattle.faults.specs.declared.fault.Fault.{Fault}
-use Rattle.faults.specs.declared.fault.Fault.TheVariants.{Unread, Run}
+use Rattle.fault_line.specs.declared.fault.Fault.{Fault}
+use Rattle.fault_line.specs.declared.fault.Fault.TheVariants.{Unread, Run}
 
 -- Why there is no module of the plugin of this name, where files have failed this often before and by now: memory was wanting, and none has
 -- failed; or its file couldn't be read.

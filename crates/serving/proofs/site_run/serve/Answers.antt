@@ -2,7 +2,7 @@ use Rattle.std.proofs.Common.{◌∙◌, Err, inl, refl, ap, map}
 use Rattle.command.specs.Words.{syntax_of}
 use Rattle.engine.specs.Device.{use_of}
 use Rattle.engine.specs.declared.fault.RunFault.TheVariants.{NoMemory}
-use Rattle.faults.specs.declared.fault.Fault.TheVariants.{Run}
+use Rattle.fault_line.specs.declared.fault.Fault.TheVariants.{Run}
 use Rattle.serving.proofs.Ends.{besides_run, cut_short, no_site, no_site_told, not_begun, nothing_told, served, told}
 use Rattle.serving.proofs.site_run.serve.Goals as goal
 

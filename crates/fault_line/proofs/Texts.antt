@@ -3,9 +3,9 @@ use Rattle.std.proofs.Common.{◌≡◌, ℕ, List, ◌++◌, codes, sym, ap, �
 use Rattle.std.proofs.lemmas.List.{append_assoc}
 use Rattle.wcode.specs.declared.fault.BinFault.{BinFault}
 use Rattle.wbody.specs.declared.fault.TypeFault.{TypeFault}
-use Rattle.faults.specs.Refusal.{bin_text, type_text, refusal_text}
-use Rattle.faults.specs.declared.refusal.Refusal.{Refusal}
-use Rattle.faults.specs.declared.refusal.Refusal.TheVariants.{Undecoded, Untyped}
+use Rattle.fault_line.specs.Refusal.{bin_text, type_text, refusal_text}
+use Rattle.fault_line.specs.declared.refusal.Refusal.{Refusal}
+use Rattle.fault_line.specs.declared.refusal.Refusal.TheVariants.{Undecoded, Untyped}
 
 -- two pieces behind one another are one
 joined : (old mid new piece text whole : List ℕ) → mid ≡ old ++ piece → new ≡ mid ++ text → whole ≡ piece ++ text → new ≡ old ++ whole

@@ -1,6 +1,6 @@
 //! Why a plugin's module is refused, and the words that tell it.
 ghost use Rattle.std.specs.Prelude.{◌≡◌, ◌+◌, ◌≤◌, ◌++◌, length};
-ghost use Rattle.faults.specs.Refusal.{bin_text, where_text, type_text, instance_text, refusal_text};
+ghost use Rattle.fault_line.specs.Refusal.{bin_text, where_text, type_text, instance_text, refusal_text};
 
 use crate::message::{Message, push, push_fault, push_number};
 use thiserror::Error;

@@ -1,10 +1,10 @@
 //! The line by which the program tells a fault.
 ghost use Rattle.std.specs.Prelude.{◌≡◌, ◌+◌, ◌^◌, ◌<◌, ◌≤◌, ◌++◌, codes, length, decimal};
-ghost use Rattle.faults.specs.Fault.{status_of};
-ghost use Rattle.faults.specs.declared.fault.Fault.TheVariants.{Misused, Unread};
-ghost use Rattle.faults.specs.Text.{fault_text};
-ghost use Rattle.faults.specs.Refusal.{refusal_text};
-ghost use Rattle.faults.specs.Message.{Tells, line_fault_text, run_text, part_name, count_letter, misuse_text, usage, text_of, message_of};
+ghost use Rattle.fault_line.specs.Fault.{status_of};
+ghost use Rattle.fault_line.specs.declared.fault.Fault.TheVariants.{Misused, Unread};
+ghost use Rattle.fault_line.specs.Text.{fault_text};
+ghost use Rattle.fault_line.specs.Refusal.{refusal_text};
+ghost use Rattle.fault_line.specs.Message.{Tells, line_fault_text, run_text, part_name, count_letter, misuse_text, usage, text_of, message_of};
 
 use crate::fault::Fault;
 use crate::refusal::{Refusal, push_refusal};

@@ -1,8 +1,8 @@
 -- The faults that end the program, and the exit statuses.
 use Rattle.std.specs.Prelude.{ℕ}
 use Rattle.engine.specs.declared.fault.RunFault.TheVariants.{Line, NoMemory, Read, Write, NoPlace}
-use Rattle.faults.specs.declared.fault.Fault.{Fault}
-use Rattle.faults.specs.declared.fault.Fault.TheVariants.{Words, Misused, Plugin, Unread, Run}
+use Rattle.fault_line.specs.declared.fault.Fault.{Fault}
+use Rattle.fault_line.specs.declared.fault.Fault.TheVariants.{Words, Misused, Plugin, Unread, Run}
 use Rattle.command.specs.declared.fault.WordFault.TheVariants as words
 
 -- the exit status of the program, where a fault ends it

@@ -1,6 +1,6 @@
 //! Why the program ends early, and the exit status by which it tells it.
 ghost use Rattle.std.specs.Prelude.{◌≡◌};
-ghost use Rattle.faults.specs.Fault.{status_of};
+ghost use Rattle.fault_line.specs.Fault.{status_of};
 
 use crate::refusal::Refusal;
 use command::{Misuse, WordFault};

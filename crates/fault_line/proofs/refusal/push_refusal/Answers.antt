@@ -1,5 +1,5 @@
-use Rattle.faults.proofs.Texts.{undecoded_added, untyped_added}
-use Rattle.faults.proofs.refusal.push_refusal.Goals as goal
+use Rattle.fault_line.proofs.Texts.{undecoded_added, untyped_added}
+use Rattle.fault_line.proofs.refusal.push_refusal.Goals as goal
 
 pub returns-in-Undecoded-clause-text : goal.returns-in-Undecoded-clause-text
 returns-in-Undecoded-clause-text c =

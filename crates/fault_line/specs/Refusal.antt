@@ -10,9 +10,9 @@ use Rattle.wmach.specs.Trap as trap
 use Rattle.whost.specs.Refused as instance
 use Rattle.whost.specs.declared.fault.InstanceFault.{InstanceFault}
 use Rattle.whost.specs.declared.fault.InstanceFault.TheVariants as instance_fault
-use Rattle.faults.specs.Text.{fault_text}
-use Rattle.faults.specs.declared.refusal.Refusal.{Refusal}
-use Rattle.faults.specs.declared.refusal.Refusal.TheVariants.{Undecoded, Untyped, NotReady}
+use Rattle.fault_line.specs.Text.{fault_text}
+use Rattle.fault_line.specs.declared.refusal.Refusal.{Refusal}
+use Rattle.fault_line.specs.declared.refusal.Refusal.TheVariants.{Undecoded, Untyped, NotReady}
 
 -- why bytes spell no module: of what can't be read, what is wrong and where it begins
 unfoldable pub bin_text : BinFault → List ℕ

@@ -10,9 +10,9 @@ use Rattle.engine.specs.Fault as run
 use Rattle.engine.specs.declared.fault.RunFault.{RunFault}
 use Rattle.engine.specs.declared.fault.RunFault.TheVariants.{Line, NoMemory, Read, Write, NoPlace}
 use Rattle.command.specs.Fault.{number_of, name_of}
-use Rattle.faults.specs.Text.{fault_text}
-use Rattle.faults.specs.Refusal.{refusal_text}
-use Rattle.faults.specs.declared.fault.Fault.{Fault}
+use Rattle.fault_line.specs.Text.{fault_text}
+use Rattle.fault_line.specs.Refusal.{refusal_text}
+use Rattle.fault_line.specs.declared.fault.Fault.{Fault}
 use Rattle.command.specs.declared.fault.WordFault.TheVariants.{BadWords}
 use Rattle.command.specs.declared.misuse.Misuse.{Misuse}
 use Rattle.command.specs.declared.misuse.Misuse.TheVariants as misuse
@@ -20,7 +20,7 @@ use Rattle.command.specs.declared.misuse.Part.{Part}
 use Rattle.command.specs.declared.count.Count.{Count}
 use Rattle.command.specs.declared.count.Count.TheVariants as count
 use Rattle.command.specs.declared.misuse.Part.TheVariants as part
-use Rattle.faults.specs.declared.fault.Fault.TheVariants.{Words, Misused, Plugin, Unread, Run}
+use Rattle.fault_line.specs.declared.fault.Fault.TheVariants.{Words, Misused, Plugin, Unread, Run}
 
 -- the field in which a fault stands, where there is one
 abbrev pub field_text : Option Field → List ℕ

@@ -1,0 +1,111 @@
+-- What the words ask for is done, or its fault is told, at each end of an answer.
+use Rattle.std.proofs.Common.{◌≡◌, ◌≢◌, ◌⊎◌, ◌∙◌, ◌<◌, ℕ, Bool, List, Option, Some, None, Result, Ok, Err, inl, inr, refl, sym, subst, arith}
+use Rattle.std.specs.Prelude.{IfErr}
+use Rattle.engine.specs.Device.{DeviceUse}
+use Rattle.engine.specs.declared.fault.RunFault.TheVariants as run_fault
+use Rattle.command.specs.Words.{Asked, asked_by, run, explain, check, storm}
+use Rattle.command.specs.declared.fault.WordFault.{WordFault}
+use Rattle.command.specs.declared.fault.WordFault.TheVariants as word_fault
+use Rattle.fault_line.specs.declared.fault.Fault.{Fault}
+use Rattle.fault_line.specs.declared.fault.Fault.TheVariants.{Run, Words}
+use Rattle.fault_line.specs.Fault.{status_of}
+use Rattle.serving.specs.Answer.{FilesUse, IsAnswer, IsDone}
+use Rattle.serving.specs.Check.{IsCheck}
+use Rattle.serving.specs.Run.{TellsFault, told_of}
+use Rattle.serving.proofs.Ends.{not_begun, told}
+use Rattle.serving.proofs.Quiet.{no_memory_told}
+use Rattle.serving.proofs.StormEnds.{storm_not_begun}
+
+module _ (Unkeyed : Type 0) (files : FilesUse) (source out err : DeviceUse) (ended : ℕ) where
+  -- nothing was touched
+  pub record AreUntouched : Type 0 where
+    pub files : files.IsUntouched
+    pub files_failures : files.failures_new ≡ files.failures_old
+    pub source : source.IsUntouched
+    pub source_failures : source.failures_new ≡ source.failures_old
+    pub out : out.IsUntouched
+    pub out_failures : out.failures_new ≡ out.failures_old
+
+  -- memory was wanting for the words: whatever they ask for isn't begun
+  wanting : (asked : Option Asked) (fault : Fault) → ended ≡ 3 → TellsFault err (Words word_fault.NoMemory) → AreUntouched → IsDone asked fault Unkeyed files source out err ended
+  wanting None fault three tells h = record {
+    status = inr three;
+    words = λ two. absurd (omega (arith, two, three));
+    room = λ _. rw no_memory_told at tells;
+    unopened = h.files;
+    unread = h.source;
+    unwritten = h.out;
+  }
+  wanting (Some (run workers specs)) fault three tells h = record {
+    run = not_begun _ _ _ _ _ _ _ (inl three) h.out;
+    failures = told _ _ _ _ _ _ _ (Words word_fault.NoMemory) three tells (h.source_failures, h.out_failures);
+    files_told = λ _. h.files_failures;
+  }
+  wanting (Some (explain workers specs)) fault three tells h = record {
+    run = not_begun _ _ _ _ _ _ _ (inl three) h.out;
+    failures = told _ _ _ _ _ _ _ (Words word_fault.NoMemory) three tells (h.source_failures, h.out_failures);
+    files_told = λ _. h.files_failures;
+  }
+  wanting (Some (check file)) fault three tells h = record {
+    check = record {
+      status = inr (inr (inl three));
+      told = λ low. absurd (omega (arith, low, three));
+      quiet = λ low. absurd (omega (arith, low, three));
+      room = λ _. (rw no_memory_told at tells, h.out);
+      failed = λ four. absurd (omega (arith, four, three));
+      failures_told = λ _. h.out_failures;
+      front = inl h.out;
+    };
+    files_told = λ _. h.files_failures;
+    unread = h.source;
+  }
+  wanting (Some (storm cycles binders flaky specs)) fault three tells h = record {
+    storm = storm_not_begun _ _ _ _ _ _ _ _ (inl three) h.out;
+    failures = told _ _ _ _ _ _ _ (Words word_fault.NoMemory) three tells (h.source_failures, h.out_failures);
+    files_told = λ _. h.files_failures;
+  }
+
+  module _ {V : Type 0} (texts : V → List (List ℕ)) (args : Result V WordFault) where
+    -- the words could be read, and what they ask for is done
+    pub done : (words : V) (asked : Option Asked) → args ≡ Ok words → asked_by texts (Ok {E = WordFault} words) ≡ asked
+        → IsDone asked (told_of texts (Ok words)) Unkeyed files source out err ended → IsAnswer texts args Unkeyed files source out err ended
+    done words asked is asks it = subst (λ a. IsAnswer texts a Unkeyed files source out err ended) (sym is) (record {
+      done = subst (λ a. IsDone a (told_of texts (Ok words)) Unkeyed files source out err ended) (sym asks) it;
+      unread = tt;
+    })
+
+    -- they ask for nothing, which is told
+    pub misused : (words : V) → args ≡ Ok words → asked_by texts (Ok {E = WordFault} words) ≡ None → ended ≡ 2 → TellsFault err (told_of texts (Ok words)) → AreUntouched
+        → IsAnswer texts args Unkeyed files source out err ended
+    misused words is none two tells h = done words None is none (record {
+      status = inl two;
+      words = λ _. tells;
+      room = λ three. absurd (omega (arith, two, three));
+      unopened = h.files;
+      unread = h.source;
+      unwritten = h.out;
+    })
+
+    -- memory was wanting for them
+    pub wanting_words : (words : V) → args ≡ Ok words → ended ≡ 3 → TellsFault err (Words word_fault.NoMemory) → AreUntouched
+        → IsAnswer texts args Unkeyed files source out err ended
+    wanting_words words is three tells h = done words (asked_by texts (Ok {E = WordFault} words)) is refl (wanting _ _ three tells h)
+
+    -- they couldn't be read
+    pub unread : (fault : WordFault) → args ≡ Err fault → ended ≡ status_of (Words fault) → TellsFault err (Words fault) → AreUntouched
+        → IsAnswer texts args Unkeyed files source out err ended
+    unread fault is status tells h = subst (λ a. IsAnswer texts a Unkeyed files source out err ended) (sym is) (record {
+      done = idle fault status tells;
+      unread = (status, tells);
+    })
+      where
+        idle : (fault : WordFault) → ended ≡ status_of (Words fault) → TellsFault err (Words fault) → IsDone None (Words fault) Unkeyed files source out err ended
+        idle word_fault.BadWords two tells = record {
+          status = inl two;
+          words = λ _. tells;
+          room = λ three. absurd (omega (arith, two, three));
+          unopened = h.files;
+          unread = h.source;
+          unwritten = h.out;
+        }
+        idle word_fault.NoMemory three tells = wanting None (Words word_fault.NoMemory) three tells h

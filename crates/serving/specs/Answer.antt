@@ -1,0 +1,70 @@
+-- What the program's words get done, and by which exit status that is told.
+use Rattle.std.specs.Prelude.{◌≡◌, ◌≢◌, ◌⊎◌, ◌<◌, ◌≤◌, ⊤, ℕ, Bool, true, false, List, Option, Some, None, Result, IfErr}
+use Rattle.engine.specs.Device.{DeviceUse}
+use Rattle.engine.specs.declared.fault.RunFault.TheVariants as run_fault
+use Rattle.command.specs.Words.{Asked, SpecSyntax, asked_by, run, explain, check, storm}
+use Rattle.command.specs.declared.fault.WordFault.{WordFault}
+use Rattle.fault_line.specs.declared.fault.Fault.{Fault}
+use Rattle.fault_line.specs.declared.fault.Fault.TheVariants.{Run, Words}
+use Rattle.fault_line.specs.Fault.{status_of}
+use Rattle.serving.specs.Check.{IsCheck}
+use Rattle.serving.specs.Run.{IsSiteRun, TellsFailures, TellsFault, told_of}
+use Rattle.serving.specs.Site.{AreFromFiles, UnreadPlugin}
+use Rattle.serving.specs.Storm.{IsSiteStorm}
+
+-- What a call makes of the files: what each has before it, where that is known, and how many couldn't be opened or read, before and after.
+pub record FilesUse : Type 1 where
+  pub contents : List ℕ → Option (List ℕ)
+  pub failures_old : ℕ
+  pub failures_new : ℕ
+  -- they are as they were
+  pub IsUntouched : Type 0
+
+-- the same, of files that were this before the call and are this after it
+abbrev pub files_of : {F : Type 0} → (contents : F → List ℕ → Option (List ℕ)) → (failures : F → ℕ) → (old new : F) → FilesUse
+files_of contents failures old new = record { contents = contents old; failures_old = failures old; failures_new = failures new; IsUntouched = new ≡ old }
+
+-- A run by the plugins that the words configure, whose modules stand in their files, which explains its cycles or not, ended with this
+-- status. `Unkeyed` says that there are no keys: then nothing is begun.
+pub record IsPlannedRun (explains : Bool) (specs : List SpecSyntax) (Unkeyed : Type 0) (files : FilesUse) (source out err : DeviceUse) (ended : ℕ) : Type 0 where
+  pub run : IsSiteRun explains (AreFromFiles files.contents specs) specs source out err ended
+  -- without a place nothing is read; a file that failed is told with the plugin whose file it is
+  pub failures : TellsFailures source.IsUntouched Unkeyed (UnreadPlugin specs files.failures_old files.failures_new) source out err ended
+  -- and at any other status no file has failed
+  pub files_told : ended ≢ 4 → files.failures_new ≡ files.failures_old
+
+-- the same of a storm, which has read its script before there is a place
+pub record IsPlannedStorm (cycles binders : ℕ) (specs : List SpecSyntax) (Unkeyed : Type 0) (files : FilesUse) (source out err : DeviceUse) (ended : ℕ) : Type 0 where
+  pub storm : IsSiteStorm (AreFromFiles files.contents specs) specs cycles binders source out err ended
+  pub failures : TellsFailures ⊤ Unkeyed (UnreadPlugin specs files.failures_old files.failures_new) source out err ended
+  pub files_told : ended ≢ 4 → files.failures_new ≡ files.failures_old
+
+-- a check of the module in this file ended with this status, and the source is as it was
+pub record IsFileCheck (file : List ℕ) (files : FilesUse) (source out err : DeviceUse) (ended : ℕ) : Type 0 where
+  pub check : IsCheck (files.contents file) (files.failures_old < files.failures_new) out err ended
+  pub files_told : ended ≢ 4 → files.failures_new ≡ files.failures_old
+  pub unread : source.IsUntouched
+
+-- nothing was asked for: this fault is told, or that memory was wanting, and nothing is read or written
+pub record IsIdle (fault : Fault) (files : FilesUse) (source out err : DeviceUse) (ended : ℕ) : Type 0 where
+  pub status : (ended ≡ 2) ⊎ (ended ≡ 3)
+  pub words : ended ≡ 2 → TellsFault err fault
+  pub room : ended ≡ 3 → TellsFault err (Run run_fault.NoMemory)
+  pub unopened : files.IsUntouched
+  pub unread : source.IsUntouched
+  pub unwritten : out.IsUntouched
+
+-- What was asked for is done. `fault` is what is told of words that ask for nothing.
+abbrev pub IsDone : Option Asked → (fault : Fault) → (Unkeyed : Type 0) → FilesUse → (source out err : DeviceUse) → (ended : ℕ) → Type 0
+IsDone None fault Unkeyed files source out err ended = IsIdle fault files source out err ended
+IsDone (Some (run workers specs)) fault Unkeyed files source out err ended = IsPlannedRun false specs Unkeyed files source out err ended
+IsDone (Some (explain workers specs)) fault Unkeyed files source out err ended = IsPlannedRun true specs Unkeyed files source out err ended
+IsDone (Some (check file)) fault Unkeyed files source out err ended = IsFileCheck file files source out err ended
+IsDone (Some (storm cycles binders flaky specs)) fault Unkeyed files source out err ended = IsPlannedStorm cycles binders specs Unkeyed files source out err ended
+
+-- The program's words, which could perhaps not be read, were answered with this status.
+pub record IsAnswer {V : Type 0} (texts : V → List (List ℕ)) (args : Result V WordFault) (Unkeyed : Type 0) (files : FilesUse) (source out err : DeviceUse) (ended : ℕ) : Type 0 where
+  -- what they ask for is done
+  pub done : IsDone (asked_by texts args) (told_of texts args) Unkeyed files source out err ended
+  -- words that couldn't be read are told, with the status of that fault
+  pub unread : IfErr args (λ fault. (ended ≡ status_of (Words fault)) × TellsFault err (Words fault))
