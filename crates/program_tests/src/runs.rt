@@ -15,15 +15,14 @@ use std::thread::Threads;
 const KITS: usize = 64;
 
 /// Five nodes, a pod, and a cycle.
-const SCRIPT: &[u8] =
-    b"{\"op\":\"node\",\"v\":1,\"name\":\"a\",\"cpu\":\"4\",\"mem\":\"8Gi\",\"pods\":110}
-{\"op\":\"node\",\"v\":2,\"name\":\"b\",\"cpu\":\"4\",\"mem\":\"8Gi\",\"pods\":110}
-{\"op\":\"node\",\"v\":3,\"name\":\"c\",\"cpu\":\"4\",\"mem\":\"8Gi\",\"pods\":110}
-{\"op\":\"node\",\"v\":4,\"name\":\"d\",\"cpu\":\"4\",\"mem\":\"8Gi\",\"pods\":110}
-{\"op\":\"node\",\"v\":5,\"name\":\"e\",\"cpu\":\"4\",\"mem\":\"8Gi\",\"pods\":110}
-{\"op\":\"pod\",\"v\":6,\"uid\":\"p1\",\"containers\":[[\"100m\",\"64Mi\"]]}
-{\"op\":\"cycle\"}
-";
+const SCRIPT: &[u8] = br#"{"op":"node","v":1,"name":"a","cpu":"4","mem":"8Gi","pods":110}
+{"op":"node","v":2,"name":"b","cpu":"4","mem":"8Gi","pods":110}
+{"op":"node","v":3,"name":"c","cpu":"4","mem":"8Gi","pods":110}
+{"op":"node","v":4,"name":"d","cpu":"4","mem":"8Gi","pods":110}
+{"op":"node","v":5,"name":"e","cpu":"4","mem":"8Gi","pods":110}
+{"op":"pod","v":6,"uid":"p1","containers":[["100m","64Mi"]]}
+{"op":"cycle"}
+"#;
 
 const OUTPUT: &[u8] = b"ok\nok\nok\nok\nok\nok\np1 error plugin rule node a exhausted\n";
 

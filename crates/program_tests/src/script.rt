@@ -326,7 +326,11 @@ fn every_answer_is_written_before_the_next_read(rt: HostRuntime) {
 }
 
 // A dump, as many as one read gives, and how long an answer is.
-const DUMPS: &[(usize, &[u8])] = &[(4_681, b"{\"op\":\"dump\"}\n")];
+const DUMPS: &[(usize, &[u8])] = &[(
+    4_681,
+    br#"{"op":"dump"}
+"#,
+)];
 
 const DUMPED: usize = b"places bound 0 assumed 0
 queue active 0 backoff 0 unschedulable 0 inflight 0

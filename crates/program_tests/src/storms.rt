@@ -175,10 +175,9 @@ fn gate_by(alloc: Global, begun: &Arc<AtomicU64, Global>) -> Option<Arc<Pair>> {
 }
 
 /// A node with room for both pods.
-const TWO: &[u8] =
-    b"{\"op\":\"node\",\"v\":1,\"name\":\"a\",\"cpu\":\"4\",\"mem\":\"8Gi\",\"pods\":110}
-{\"op\":\"pod\",\"v\":2,\"uid\":\"p1\",\"containers\":[[\"100m\",\"64Mi\"]]}
-{\"op\":\"pod\",\"v\":3,\"uid\":\"p2\",\"containers\":[[\"100m\",\"64Mi\"]]}";
+const TWO: &[u8] = br#"{"op":"node","v":1,"name":"a","cpu":"4","mem":"8Gi","pods":110}
+{"op":"pod","v":2,"uid":"p1","containers":[["100m","64Mi"]]}
+{"op":"pod","v":3,"uid":"p2","containers":[["100m","64Mi"]]}"#;
 
 const BOTH_PLACED: &[u8] = b"node a cpu 200/4000 mem 134217728/8589934592 pods 2/110
 places bound 0 assumed 2
@@ -188,16 +187,16 @@ audit ok
 ";
 
 /// The node, a thousand moments, and then both pods: when they come, whoever makes cycles has found none before.
-const NODE: &[u8] =
-    b"{\"op\":\"node\",\"v\":1,\"name\":\"a\",\"cpu\":\"4\",\"mem\":\"8Gi\",\"pods\":110}\n";
+const NODE: &[u8] = br#"{"op":"node","v":1,"name":"a","cpu":"4","mem":"8Gi","pods":110}
+"#;
 
-const PODS: &[u8] = b"{\"op\":\"pod\",\"v\":2,\"uid\":\"p1\",\"containers\":[[\"100m\",\"64Mi\"]]}
-{\"op\":\"pod\",\"v\":3,\"uid\":\"p2\",\"containers\":[[\"100m\",\"64Mi\"]]}";
+const PODS: &[u8] = br#"{"op":"pod","v":2,"uid":"p1","containers":[["100m","64Mi"]]}
+{"op":"pod","v":3,"uid":"p2","containers":[["100m","64Mi"]]}"#;
 
 fn behind_a_thousand_lines(alloc: Global) -> Result<Vec<u8>, AllocError> {
     let mut script = Vec::from_slice(alloc, NODE)?;
     for moment in 1..1_001u32 {
-        script.extend_from_slice(b"{\"op\":\"tick\",\"at\":")?;
+        script.extend_from_slice(br#"{"op":"tick","at":"#)?;
         script.extend_from_slice(Buffer::new().format(moment).as_bytes())?;
         script.extend_from_slice(b"}\n")?;
     }

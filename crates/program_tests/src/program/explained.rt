@@ -4,17 +4,16 @@ use super::{Answered, Stored, explains, first_other, removes_files, writes_files
 use std::hash::RandomState;
 
 // A node for each of the built-in filters, told out of the order of their names, and one that passes; a pod, and two cycles.
-const EACH_FILTER: &[u8] =
-    b"{\"op\":\"node\",\"v\":1,\"name\":\"f\",\"cpu\":\"4\",\"mem\":\"8Gi\",\"pods\":0}
-{\"op\":\"node\",\"v\":2,\"name\":\"e\",\"cpu\":\"4\",\"mem\":\"1Mi\",\"pods\":110}
-{\"op\":\"node\",\"v\":3,\"name\":\"d\",\"cpu\":\"50m\",\"mem\":\"8Gi\",\"pods\":110}
-{\"op\":\"node\",\"v\":4,\"name\":\"c\",\"cpu\":\"4\",\"mem\":\"8Gi\",\"pods\":110,\"taints\":[[\"k\",\"\",\"NoSchedule\"]]}
-{\"op\":\"node\",\"v\":5,\"name\":\"b\",\"cpu\":\"4\",\"mem\":\"8Gi\",\"pods\":110,\"unschedulable\":true}
-{\"op\":\"node\",\"v\":6,\"name\":\"a\",\"cpu\":\"4\",\"mem\":\"8Gi\",\"pods\":110}
-{\"op\":\"pod\",\"v\":7,\"uid\":\"p1\",\"containers\":[[\"100m\",\"64Mi\"]]}
-{\"op\":\"cycle\"}
-{\"op\":\"cycle\"}
-";
+const EACH_FILTER: &[u8] = br#"{"op":"node","v":1,"name":"f","cpu":"4","mem":"8Gi","pods":0}
+{"op":"node","v":2,"name":"e","cpu":"4","mem":"1Mi","pods":110}
+{"op":"node","v":3,"name":"d","cpu":"50m","mem":"8Gi","pods":110}
+{"op":"node","v":4,"name":"c","cpu":"4","mem":"8Gi","pods":110,"taints":[["k","","NoSchedule"]]}
+{"op":"node","v":5,"name":"b","cpu":"4","mem":"8Gi","pods":110,"unschedulable":true}
+{"op":"node","v":6,"name":"a","cpu":"4","mem":"8Gi","pods":110}
+{"op":"pod","v":7,"uid":"p1","containers":[["100m","64Mi"]]}
+{"op":"cycle"}
+{"op":"cycle"}
+"#;
 
 const EACH_FILTER_EXPLAINED: &str = "ok
 ok
@@ -35,18 +34,17 @@ idle
 
 // Nodes of which pods use some, all or more than there is; one that has too little of everything; one with two taints that keep off, of
 // which the first is tolerated, behind one that doesn't; and a pod.
-const TOO_LITTLE: &[u8] =
-    b"{\"op\":\"node\",\"v\":1,\"name\":\"a\",\"cpu\":\"2\",\"mem\":\"8Gi\",\"pods\":110}
-{\"op\":\"node\",\"v\":2,\"name\":\"b\",\"cpu\":\"4\",\"mem\":\"1Gi\",\"pods\":110}
-{\"op\":\"node\",\"v\":3,\"name\":\"c\",\"cpu\":\"4\",\"mem\":\"8Gi\",\"pods\":1}
-{\"op\":\"node\",\"v\":4,\"name\":\"d\",\"cpu\":\"1\",\"mem\":\"512Mi\",\"pods\":0}
-{\"op\":\"node\",\"v\":5,\"name\":\"e\",\"cpu\":\"4\",\"mem\":\"8Gi\",\"pods\":110,\"taints\":[[\"s\",\"\",\"PreferNoSchedule\"],[\"k\",\"v\",\"NoSchedule\"],[\"k\",\"w\",\"NoExecute\"]]}
-{\"op\":\"bound\",\"v\":6,\"uid\":\"b1\",\"node\":\"a\",\"cpu\":\"1500m\",\"mem\":\"1Gi\"}
-{\"op\":\"bound\",\"v\":7,\"uid\":\"b2\",\"node\":\"b\",\"cpu\":\"1\",\"mem\":\"2Gi\"}
-{\"op\":\"bound\",\"v\":8,\"uid\":\"b3\",\"node\":\"c\",\"cpu\":\"1\",\"mem\":\"1Gi\"}
-{\"op\":\"pod\",\"v\":9,\"uid\":\"p1\",\"containers\":[[\"1500m\",\"1Gi\"]],\"tolerations\":[[\"k\",\"Equal\",\"v\",\"NoSchedule\"]]}
-{\"op\":\"cycle\"}
-";
+const TOO_LITTLE: &[u8] = br#"{"op":"node","v":1,"name":"a","cpu":"2","mem":"8Gi","pods":110}
+{"op":"node","v":2,"name":"b","cpu":"4","mem":"1Gi","pods":110}
+{"op":"node","v":3,"name":"c","cpu":"4","mem":"8Gi","pods":1}
+{"op":"node","v":4,"name":"d","cpu":"1","mem":"512Mi","pods":0}
+{"op":"node","v":5,"name":"e","cpu":"4","mem":"8Gi","pods":110,"taints":[["s","","PreferNoSchedule"],["k","v","NoSchedule"],["k","w","NoExecute"]]}
+{"op":"bound","v":6,"uid":"b1","node":"a","cpu":"1500m","mem":"1Gi"}
+{"op":"bound","v":7,"uid":"b2","node":"b","cpu":"1","mem":"2Gi"}
+{"op":"bound","v":8,"uid":"b3","node":"c","cpu":"1","mem":"1Gi"}
+{"op":"pod","v":9,"uid":"p1","containers":[["1500m","1Gi"]],"tolerations":[["k","Equal","v","NoSchedule"]]}
+{"op":"cycle"}
+"#;
 
 const TOO_LITTLE_EXPLAINED: &str = "ok
 ok
@@ -67,18 +65,17 @@ p1 unschedulable marked 0 taint 1 cpu 2 memory 1 pods 1 plugin 0 final 0
 
 // Two nodes, one of which has a taint that is to be avoided: it comes to a hundred less.
 const AVOIDED: &[u8] =
-    b"{\"op\":\"node\",\"v\":1,\"name\":\"a\",\"cpu\":\"4\",\"mem\":\"8Gi\",\"pods\":110,\"taints\":[[\"k\",\"\",\"PreferNoSchedule\"]]}
-{\"op\":\"node\",\"v\":2,\"name\":\"b\",\"cpu\":\"4\",\"mem\":\"8Gi\",\"pods\":110}
-{\"op\":\"pod\",\"v\":3,\"uid\":\"p1\",\"containers\":[[\"100m\",\"64Mi\"]]}
-{\"op\":\"cycle\"}
-";
+    br#"{"op":"node","v":1,"name":"a","cpu":"4","mem":"8Gi","pods":110,"taints":[["k","","PreferNoSchedule"]]}
+{"op":"node","v":2,"name":"b","cpu":"4","mem":"8Gi","pods":110}
+{"op":"pod","v":3,"uid":"p1","containers":[["100m","64Mi"]]}
+{"op":"cycle"}
+"#;
 
-const TWO: &[u8] =
-    b"{\"op\":\"node\",\"v\":1,\"name\":\"a\",\"cpu\":\"4\",\"mem\":\"8Gi\",\"pods\":110}
-{\"op\":\"node\",\"v\":2,\"name\":\"b\",\"cpu\":\"50m\",\"mem\":\"8Gi\",\"pods\":110}
-{\"op\":\"pod\",\"v\":3,\"uid\":\"p1\",\"containers\":[[\"100m\",\"64Mi\"]]}
-{\"op\":\"cycle\"}
-";
+const TWO: &[u8] = br#"{"op":"node","v":1,"name":"a","cpu":"4","mem":"8Gi","pods":110}
+{"op":"node","v":2,"name":"b","cpu":"50m","mem":"8Gi","pods":110}
+{"op":"pod","v":3,"uid":"p1","containers":[["100m","64Mi"]]}
+{"op":"cycle"}
+"#;
 
 const ASKED: Stored = &[
     ("explained_passes.wasm", PASSES),
@@ -116,7 +113,9 @@ const EXPLAINED: &[Answered] = &[
     (
         "no node",
         &[],
-        b"{\"op\":\"pod\",\"v\":1,\"uid\":\"p1\",\"containers\":[[\"1\",\"1\"]]}\n{\"op\":\"cycle\"}\n",
+        br#"{"op":"pod","v":1,"uid":"p1","containers":[["1","1"]]}
+{"op":"cycle"}
+"#,
         "ok\np1 unschedulable marked 0 taint 0 cpu 0 memory 0 pods 0 plugin 0 final 0\n",
     ),
     (

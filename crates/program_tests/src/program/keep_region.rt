@@ -7,24 +7,24 @@ const KEEP_REGION: &[u8] =
     b"\0asm\x01\0\0\0\x01\x0B\x02`\x02\x7F\x7F\x01\x7F`\0\x01\x7F\x02\x1A\x02\x05sched\x03pod\0\0\x05sched\x04node\0\0\x03\x02\x01\x01\x04\x05\x01p\x01\x01\x01\x05\x04\x01\x01\x01\x01\x06\x08\x01\x7F\x01A\xC0\xA8\x01\x0B\x07\x13\x02\x06memory\x02\0\x06filter\0\x02\x0A\xDE\x04\x01\xDB\x04\x01\x08\x7FA\xBF\x88\x80\x80\0A\x80\xC0\0\x10\x80\x80\x80\x80\0\x1AA\0!\0\x02@\x02@A\0-\0\xBF\x88\x80\x80\0A\x01G\x0D\0\x02@A\0-\0\xC1\x88\x80\x80\0A\xD6\x88\x80\x80\0j\"\x01-\0\0\"\x02E\x0D\0 \x01A\x01j!\x03\x02@\x03@ \x03A\x01j\"\x04 \x03-\0\0\"\x05j!\x06A\x80\x88\x80\x80\0!\x07\x02@\x02@ \x05E\x0D\0 \x05A\x80\x88\x80\x80\0j!\x07A\0!\x01\x03@ \x04 \x01j-\0\0 \x01A\x80\x88\x80\x80\0j-\0\0G\x0D\x02 \x05 \x01A\x01j\"\x01G\x0D\0\x0B\x0B \x07-\0\0E\x0D\x02\x0B \x06 \x06-\0\0jA\x01j!\x03 \x02A\x7Fj\"\x02\x0D\0\x0C\x02\x0B\x0B\x02@\x02@\x02@ \x06-\0\0\"\x04\x0D\0A\xA9\x88\x80\x80\0!\x06\x0C\x01\x0B \x04A\xA9\x88\x80\x80\0j!\x06 \x03 \x05jA\x02j!\x05A\0!\x01\x03@ \x05 \x01j-\0\0 \x01A\xA9\x88\x80\x80\0j-\0\0G\x0D\x02 \x04 \x01A\x01j\"\x01G\x0D\0\x0B\x0B \x06-\0\0\x0D\x01A\xBF\xC8\x80\x80\0A\x80\xC0\0\x10\x81\x80\x80\x80\0\x1AA\0-\0\xBF\xC8\x80\x80\0A\x01G\x0D\x02A\0-\0\xC1\xC8\x80\x80\0A\xEB\xC8\x80\x80\0j\"\x01-\0\0\"\x02E\x0D\x03 \x01A\x01j!\x03\x02@\x03@ \x03A\x01j\"\x04 \x03-\0\0\"\x05j!\x06A\x8B\x88\x80\x80\0!\x07\x02@\x02@ \x05E\x0D\0 \x05A\x8B\x88\x80\x80\0j!\x07A\0!\x01\x03@ \x04 \x01j-\0\0 \x01A\x8B\x88\x80\x80\0j-\0\0G\x0D\x02 \x05 \x01A\x01j\"\x01G\x0D\0\x0B\x0B \x07-\0\0E\x0D\x02\x0B \x06 \x06-\0\0jA\x01j!\x03 \x02A\x7Fj\"\x02\x0D\0\x0C\x05\x0B\x0B\x02@\x02@ \x06-\0\0\"\x04\x0D\0A\xB2\x88\x80\x80\0!\x06\x0C\x01\x0B \x04A\xB2\x88\x80\x80\0j!\x06 \x03 \x05jA\x02j!\x05A\0!\x01\x03@ \x05 \x01j-\0\0 \x01A\xB2\x88\x80\x80\0j-\0\0G\x0D\x05 \x04 \x01A\x01j\"\x01G\x0D\0\x0B\x0B \x06-\0\0\x0D\x03\x0BA\0!\0\x0B \0\x0F\x0B\0\0\x0BA\x03\x0B\x0BF\x01\0A\x80\x08\x0B?data-class\0topology.kubernetes.io/region\0personal\0eu-central-1\0";
 
 const SCRIPT: &[u8] =
-    b"{\"op\":\"node\",\"v\":1,\"name\":\"de-1\",\"cpu\":\"4\",\"mem\":\"16Gi\",\"pods\":110,\"labels\":[[\"topology.kubernetes.io/region\",\"eu-central-1\"]]}
-{\"op\":\"node\",\"v\":2,\"name\":\"de-2\",\"cpu\":\"4\",\"mem\":\"16Gi\",\"pods\":110,\"labels\":[[\"topology.kubernetes.io/region\",\"eu-central-1\"]]}
-{\"op\":\"node\",\"v\":3,\"name\":\"lab-1\",\"cpu\":\"8\",\"mem\":\"32Gi\",\"pods\":110}
-{\"op\":\"node\",\"v\":4,\"name\":\"us-1\",\"cpu\":\"8\",\"mem\":\"32Gi\",\"pods\":110,\"labels\":[[\"topology.kubernetes.io/region\",\"us-east-1\"]]}
-{\"op\":\"bound\",\"v\":5,\"uid\":\"db-0\",\"node\":\"de-1\",\"cpu\":\"3\",\"mem\":\"8Gi\"}
-{\"op\":\"pod\",\"v\":6,\"uid\":\"crm-0\",\"containers\":[[\"1\",\"2Gi\"]],\"labels\":[[\"data-class\",\"personal\"]]}
-{\"op\":\"pod\",\"v\":7,\"uid\":\"crm-1\",\"containers\":[[\"3500m\",\"2Gi\"]],\"labels\":[[\"app\",\"crm\"],[\"data-class\",\"personal\"]]}
-{\"op\":\"pod\",\"v\":8,\"uid\":\"web-0\",\"containers\":[[\"1\",\"2Gi\"]],\"labels\":[[\"data-class\",\"public\"]]}
-{\"op\":\"cycle\"}
-{\"op\":\"cycle\"}
-{\"op\":\"cycle\"}
-{\"op\":\"deleted\",\"v\":9,\"uid\":\"db-0\"}
-{\"op\":\"cycle\"}
-{\"op\":\"tick\",\"at\":1000}
-{\"op\":\"cycle\"}
-{\"op\":\"dump\"}
-{\"op\":\"dump\"
-";
+    br#"{"op":"node","v":1,"name":"de-1","cpu":"4","mem":"16Gi","pods":110,"labels":[["topology.kubernetes.io/region","eu-central-1"]]}
+{"op":"node","v":2,"name":"de-2","cpu":"4","mem":"16Gi","pods":110,"labels":[["topology.kubernetes.io/region","eu-central-1"]]}
+{"op":"node","v":3,"name":"lab-1","cpu":"8","mem":"32Gi","pods":110}
+{"op":"node","v":4,"name":"us-1","cpu":"8","mem":"32Gi","pods":110,"labels":[["topology.kubernetes.io/region","us-east-1"]]}
+{"op":"bound","v":5,"uid":"db-0","node":"de-1","cpu":"3","mem":"8Gi"}
+{"op":"pod","v":6,"uid":"crm-0","containers":[["1","2Gi"]],"labels":[["data-class","personal"]]}
+{"op":"pod","v":7,"uid":"crm-1","containers":[["3500m","2Gi"]],"labels":[["app","crm"],["data-class","personal"]]}
+{"op":"pod","v":8,"uid":"web-0","containers":[["1","2Gi"]],"labels":[["data-class","public"]]}
+{"op":"cycle"}
+{"op":"cycle"}
+{"op":"cycle"}
+{"op":"deleted","v":9,"uid":"db-0"}
+{"op":"cycle"}
+{"op":"tick","at":1000}
+{"op":"cycle"}
+{"op":"dump"}
+{"op":"dump"
+"#;
 
 const OUTPUT: &str = "ok
 ok

@@ -10,38 +10,36 @@ use std::thread::Threads;
 
 // Lines of a round, in which numbers go in place of some characters (`number_for`). At first there are 8
 // nodes, one a round.
-const NODE: &str =
-    "{\"op\":\"node\",\"v\":$,\"name\":\"n#\",\"cpu\":\"8\",\"mem\":\"8Gi\",\"pods\":20}
-";
+const NODE: &str = r#"{"op":"node","v":$,"name":"n#","cpu":"8","mem":"8Gi","pods":20}
+"#;
 
 // In each round one pod waits for a place, one has its place told, and two that had theirs go.
-const ROUND: &str =
-    "{\"op\":\"pod\",\"v\":$1,\"uid\":\"p1$\",\"priority\":$,\"containers\":[[\"%00m\",\"%00Mi\"]]}
-{\"op\":\"cycle\"}
-{\"op\":\"tick\",\"at\":$00}
-{\"op\":\"bound\",\"v\":$2,\"uid\":\"p2$\",\"node\":\"n#\",\"cpu\":\"200m\",\"mem\":\"64Mi\"}
-{\"op\":\"deleted\",\"v\":$3,\"uid\":\"p2~\"}
-{\"op\":\"deleted\",\"v\":$4,\"uid\":\"p1~\"}
-";
+const ROUND: &str = r#"{"op":"pod","v":$1,"uid":"p1$","priority":$,"containers":[["%00m","%00Mi"]]}
+{"op":"cycle"}
+{"op":"tick","at":$00}
+{"op":"bound","v":$2,"uid":"p2$","node":"n#","cpu":"200m","mem":"64Mi"}
+{"op":"deleted","v":$3,"uid":"p2~"}
+{"op":"deleted","v":$4,"uid":"p1~"}
+"#;
 
 // In some a pod could not be bound and goes, one comes that fits nowhere, and a node changes.
 const FORGET: &str =
-    "{\"op\":\"node\",\"v\":$5,\"name\":\"n#\",\"cpu\":\"1%\",\"mem\":\"8Gi\",\"pods\":20,\"taints\":[[\"s\",\"\",\"PreferNoSchedule\"]]}
-{\"op\":\"forget\",\"uid\":\"p1$\",\"ticket\":&}
-{\"op\":\"deleted\",\"v\":$6,\"uid\":\"p1$\"}
-{\"op\":\"pod\",\"v\":$7,\"uid\":\"p3$\",\"priority\":-1,\"containers\":[[\"20\",\"1Gi\"]]}
-{\"op\":\"cycle\"}
-{\"op\":\"cycle\"}
-";
+    r#"{"op":"node","v":$5,"name":"n#","cpu":"1%","mem":"8Gi","pods":20,"taints":[["s","","PreferNoSchedule"]]}
+{"op":"forget","uid":"p1$","ticket":&}
+{"op":"deleted","v":$6,"uid":"p1$"}
+{"op":"pod","v":$7,"uid":"p3$","priority":-1,"containers":[["20","1Gi"]]}
+{"op":"cycle"}
+{"op":"cycle"}
+"#;
 
 // In some a pod was bound, and a node goes and comes back.
-const DONE: &str = "{\"op\":\"done\",\"uid\":\"p1$\",\"ticket\":&}
-{\"op\":\"forget\",\"uid\":\"p1$\",\"ticket\":&}
-{\"op\":\"gone\",\"v\":$5,\"name\":\"n#\"}
-{\"op\":\"dump\"}
-{\"op\":\"node\",\"v\":$6,\"name\":\"n#\",\"cpu\":\"8\",\"mem\":\"8Gi\",\"pods\":18}
-{\"op\":\"cycle\"}
-";
+const DONE: &str = r#"{"op":"done","uid":"p1$","ticket":&}
+{"op":"forget","uid":"p1$","ticket":&}
+{"op":"gone","v":$5,"name":"n#"}
+{"op":"dump"}
+{"op":"node","v":$6,"name":"n#","cpu":"8","mem":"8Gi","pods":18}
+{"op":"cycle"}
+"#;
 
 // The state in the end, as a model of the rules in another language has it.
 const LAST: &str = "node n17 cpu 1900/14000 mem 994050048/8589934592 pods 8/20
@@ -93,7 +91,12 @@ fn long_script(alloc: Global) -> Result<Vec<u8>, AllocError> {
     for round in 0..280 {
         push_round(&mut script, round)?;
     }
-    push_lines(&mut script, "{\"op\":\"dump\"}\n", 0)?;
+    push_lines(
+        &mut script,
+        r#"{"op":"dump"}
+"#,
+        0,
+    )?;
     Ok(script)
 }
 

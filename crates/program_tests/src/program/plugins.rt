@@ -13,38 +13,34 @@ use std::sync::Wait;
 use std::thread::Threads;
 
 // A node, a pod, and a cycle.
-const PLACED: &[u8] =
-    b"{\"op\":\"node\",\"v\":1,\"name\":\"a\",\"cpu\":\"4\",\"mem\":\"8Gi\",\"pods\":110}
-{\"op\":\"pod\",\"v\":2,\"uid\":\"p1\",\"containers\":[[\"100m\",\"64Mi\"]]}
-{\"op\":\"cycle\"}
-";
+const PLACED: &[u8] = br#"{"op":"node","v":1,"name":"a","cpu":"4","mem":"8Gi","pods":110}
+{"op":"pod","v":2,"uid":"p1","containers":[["100m","64Mi"]]}
+{"op":"cycle"}
+"#;
 
 // The same with a second node.
-const PLACED_ON_TWO: &[u8] =
-    b"{\"op\":\"node\",\"v\":1,\"name\":\"a\",\"cpu\":\"4\",\"mem\":\"8Gi\",\"pods\":110}
-{\"op\":\"node\",\"v\":2,\"name\":\"b\",\"cpu\":\"4\",\"mem\":\"8Gi\",\"pods\":110}
-{\"op\":\"pod\",\"v\":3,\"uid\":\"p1\",\"containers\":[[\"100m\",\"64Mi\"]]}
-{\"op\":\"cycle\"}
-";
+const PLACED_ON_TWO: &[u8] = br#"{"op":"node","v":1,"name":"a","cpu":"4","mem":"8Gi","pods":110}
+{"op":"node","v":2,"name":"b","cpu":"4","mem":"8Gi","pods":110}
+{"op":"pod","v":3,"uid":"p1","containers":[["100m","64Mi"]]}
+{"op":"cycle"}
+"#;
 
 // The same with a second pod, and a cycle for it.
-const PLACED_TWICE: &[u8] =
-    b"{\"op\":\"node\",\"v\":1,\"name\":\"a\",\"cpu\":\"4\",\"mem\":\"8Gi\",\"pods\":110}
-{\"op\":\"node\",\"v\":2,\"name\":\"b\",\"cpu\":\"4\",\"mem\":\"8Gi\",\"pods\":110}
-{\"op\":\"pod\",\"v\":3,\"uid\":\"p1\",\"containers\":[[\"100m\",\"64Mi\"]]}
-{\"op\":\"pod\",\"v\":4,\"uid\":\"p2\",\"containers\":[[\"100m\",\"64Mi\"]]}
-{\"op\":\"cycle\"}
-{\"op\":\"cycle\"}
-";
+const PLACED_TWICE: &[u8] = br#"{"op":"node","v":1,"name":"a","cpu":"4","mem":"8Gi","pods":110}
+{"op":"node","v":2,"name":"b","cpu":"4","mem":"8Gi","pods":110}
+{"op":"pod","v":3,"uid":"p1","containers":[["100m","64Mi"]]}
+{"op":"pod","v":4,"uid":"p2","containers":[["100m","64Mi"]]}
+{"op":"cycle"}
+{"op":"cycle"}
+"#;
 
 // The first again, and a second cycle for its pod once it may be tried again.
-const TRIED_TWICE: &[u8] =
-    b"{\"op\":\"node\",\"v\":1,\"name\":\"a\",\"cpu\":\"4\",\"mem\":\"8Gi\",\"pods\":110}
-{\"op\":\"pod\",\"v\":2,\"uid\":\"p1\",\"containers\":[[\"100m\",\"64Mi\"]]}
-{\"op\":\"cycle\"}
-{\"op\":\"tick\",\"at\":10000}
-{\"op\":\"cycle\"}
-";
+const TRIED_TWICE: &[u8] = br#"{"op":"node","v":1,"name":"a","cpu":"4","mem":"8Gi","pods":110}
+{"op":"pod","v":2,"uid":"p1","containers":[["100m","64Mi"]]}
+{"op":"cycle"}
+{"op":"tick","at":10000}
+{"op":"cycle"}
+"#;
 
 // The files of the plugins that are asked.
 const ASKED: Stored = &[
@@ -300,7 +296,7 @@ fn first_other_fault<R: Files + Wait + Threads + Copy + Send + Sync + 'static>(
     for (at, (plugins, status, err)) in rows.iter().enumerate() {
         let given = Given {
             plugins,
-            script: b"{\"op\":\"dump\"",
+            script: br#"{"op":"dump""#,
             ..RUN
         };
         if !ends(rt, alloc, keys, given, (*status, "", err)) {

@@ -6,11 +6,10 @@ use std::hash::RandomState;
 use std::sync::Wait;
 use std::thread::Threads;
 
-const FIRST_RUN: &[u8] =
-    b"{\"op\":\"node\",\"v\":1,\"name\":\"a\",\"cpu\":\"4\",\"mem\":\"8Gi\",\"pods\":110}
-{\"op\":\"bound\",\"v\":2,\"uid\":\"p0\",\"node\":\"a\",\"cpu\":\"500m\",\"mem\":\"1Gi\"}
-{\"op\":\"dump\"}
-";
+const FIRST_RUN: &[u8] = br#"{"op":"node","v":1,"name":"a","cpu":"4","mem":"8Gi","pods":110}
+{"op":"bound","v":2,"uid":"p0","node":"a","cpu":"500m","mem":"1Gi"}
+{"op":"dump"}
+"#;
 
 const FIRST_OUTPUT: &str = "ok
 ok
@@ -25,11 +24,10 @@ queue active 0 backoff 0 unschedulable 0 inflight 0
 clock 0 version 0
 ";
 
-const NO_NODE: &[u8] =
-    b"{\"op\":\"bound\",\"v\":2,\"uid\":\"p0\",\"node\":\"x\",\"cpu\":\"1\",\"mem\":\"1k\"}
-{\"op\":\"node\",\"v\":3,\"name\":\"a\",\"cpu\":\"4\",\"mem\":\"8Gi\",\"pods\":110}
-{\"op\":\"dump\"}
-";
+const NO_NODE: &[u8] = br#"{"op":"bound","v":2,"uid":"p0","node":"x","cpu":"1","mem":"1k"}
+{"op":"node","v":3,"name":"a","cpu":"4","mem":"8Gi","pods":110}
+{"op":"dump"}
+"#;
 
 const NO_NODE_OUTPUT: &str = "ok
 ok
@@ -39,23 +37,23 @@ queue active 0 backoff 0 unschedulable 0 inflight 0
 clock 0 version 3
 ";
 
-const THIRD_FAULTY: &[u8] =
-    b"{\"op\":\"node\",\"v\":1,\"name\":\"a\",\"cpu\":\"4\",\"mem\":\"8Gi\",\"pods\":110}
-{\"op\":\"node\",\"v\":1,\"name\":\"a\",\"cpu\":\"4\",\"mem\":\"8Gi\",\"pods\":110}
-{\"op\":\"node\",\"v\":2,\"name\":\"b\",\"cpu\":4,\"mem\":\"8Gi\",\"pods\":110}
-{\"op\":\"dump\"}
-";
+const THIRD_FAULTY: &[u8] = br#"{"op":"node","v":1,"name":"a","cpu":"4","mem":"8Gi","pods":110}
+{"op":"node","v":1,"name":"a","cpu":"4","mem":"8Gi","pods":110}
+{"op":"node","v":2,"name":"b","cpu":4,"mem":"8Gi","pods":110}
+{"op":"dump"}
+"#;
 
-const FIFTH_FAULTY: &[u8] =
-    b"\n{\"op\":\"node\",\"v\":1,\"name\":\"a\",\"cpu\":\"4\",\"mem\":\"8Gi\",\"pods\":110}\n\n
-{\"op\":\"bound\",\"v\":2,\"uid\":\"p0\",\"node\":\"a\",\"cpu\":\"1\",\"mem\":\"1.5Gi\"}";
+const FIFTH_FAULTY: &[u8] = br#"
+{"op":"node","v":1,"name":"a","cpu":"4","mem":"8Gi","pods":110}
 
-const TWO_NODES: &[u8] =
-    b"{\"op\":\"node\",\"v\":1,\"name\":\"a\",\"cpu\":\"4\",\"mem\":\"8Gi\",\"pods\":110}
-{\"op\":\"node\",\"v\":2,\"name\":\"a.b\",\"cpu\":\"4\",\"mem\":\"8Gi\",\"pods\":110}
-{\"op\":\"pod\",\"v\":3,\"uid\":\"p1\",\"containers\":[[\"100m\",\"64Mi\"]]}
-{\"op\":\"cycle\"}
-";
+
+{"op":"bound","v":2,"uid":"p0","node":"a","cpu":"1","mem":"1.5Gi"}"#;
+
+const TWO_NODES: &[u8] = br#"{"op":"node","v":1,"name":"a","cpu":"4","mem":"8Gi","pods":110}
+{"op":"node","v":2,"name":"a.b","cpu":"4","mem":"8Gi","pods":110}
+{"op":"pod","v":3,"uid":"p1","containers":[["100m","64Mi"]]}
+{"op":"cycle"}
+"#;
 
 const TWO_NODES_OUTPUT: &str = "ok
 ok
@@ -63,12 +61,11 @@ ok
 p1 on a total 198 ticket 1
 ";
 
-const OVERFULL: &[u8] =
-    b"{\"op\":\"node\",\"v\":1,\"name\":\"a\",\"cpu\":\"1\",\"mem\":\"8Gi\",\"pods\":110}
-{\"op\":\"bound\",\"v\":2,\"uid\":\"p0\",\"node\":\"a\",\"cpu\":\"1200m\",\"mem\":\"0\"}
-{\"op\":\"pod\",\"v\":3,\"uid\":\"z\",\"containers\":[[\"0\",\"0\"]]}
-{\"op\":\"cycle\"}
-";
+const OVERFULL: &[u8] = br#"{"op":"node","v":1,"name":"a","cpu":"1","mem":"8Gi","pods":110}
+{"op":"bound","v":2,"uid":"p0","node":"a","cpu":"1200m","mem":"0"}
+{"op":"pod","v":3,"uid":"z","containers":[["0","0"]]}
+{"op":"cycle"}
+"#;
 
 const OVERFULL_OUTPUT: &str = "ok
 ok
@@ -76,12 +73,11 @@ ok
 z on a total 150 ticket 1
 ";
 
-const OVERFULL_MORE: &[u8] =
-    b"{\"op\":\"node\",\"v\":1,\"name\":\"a\",\"cpu\":\"1\",\"mem\":\"8Gi\",\"pods\":110}
-{\"op\":\"bound\",\"v\":2,\"uid\":\"p0\",\"node\":\"a\",\"cpu\":\"1200m\",\"mem\":\"0\"}
-{\"op\":\"pod\",\"v\":3,\"uid\":\"z\",\"containers\":[[\"1m\",\"0\"]]}
-{\"op\":\"cycle\"}
-";
+const OVERFULL_MORE: &[u8] = br#"{"op":"node","v":1,"name":"a","cpu":"1","mem":"8Gi","pods":110}
+{"op":"bound","v":2,"uid":"p0","node":"a","cpu":"1200m","mem":"0"}
+{"op":"pod","v":3,"uid":"z","containers":[["1m","0"]]}
+{"op":"cycle"}
+"#;
 
 const OVERFULL_MORE_OUTPUT: &str = "ok
 ok
@@ -90,10 +86,10 @@ z unschedulable marked 0 taint 0 cpu 1 memory 0 pods 0 plugin 0 final 0
 ";
 
 const TAINTED: &[u8] =
-    b"{\"op\":\"node\",\"v\":1,\"name\":\"a\",\"cpu\":\"4\",\"mem\":\"8Gi\",\"pods\":110,\"taints\":[[\"k\",\"v\",\"NoExecute\"],[\"s\",\"\",\"PreferNoSchedule\"]]}
-{\"op\":\"pod\",\"v\":2,\"uid\":\"p1\",\"containers\":[[\"100m\",\"64Mi\"]]}
-{\"op\":\"cycle\"}
-";
+    br#"{"op":"node","v":1,"name":"a","cpu":"4","mem":"8Gi","pods":110,"taints":[["k","v","NoExecute"],["s","","PreferNoSchedule"]]}
+{"op":"pod","v":2,"uid":"p1","containers":[["100m","64Mi"]]}
+{"op":"cycle"}
+"#;
 
 const TAINTED_OUTPUT: &str = "ok
 ok
@@ -101,10 +97,10 @@ p1 unschedulable marked 0 taint 1 cpu 0 memory 0 pods 0 plugin 0 final 0
 ";
 
 const TOLERATED: &[u8] =
-    b"{\"op\":\"node\",\"v\":1,\"name\":\"a\",\"cpu\":\"4\",\"mem\":\"8Gi\",\"pods\":110,\"taints\":[[\"k\",\"v\",\"NoExecute\"],[\"s\",\"\",\"PreferNoSchedule\"]]}
-{\"op\":\"pod\",\"v\":2,\"uid\":\"p1\",\"containers\":[[\"100m\",\"64Mi\"]],\"tolerations\":[[\"\",\"Exists\",\"\",\"NoExecute\"]]}
-{\"op\":\"cycle\"}
-";
+    br#"{"op":"node","v":1,"name":"a","cpu":"4","mem":"8Gi","pods":110,"taints":[["k","v","NoExecute"],["s","","PreferNoSchedule"]]}
+{"op":"pod","v":2,"uid":"p1","containers":[["100m","64Mi"]],"tolerations":[["","Exists","","NoExecute"]]}
+{"op":"cycle"}
+"#;
 
 const TOLERATED_OUTPUT: &str = "ok
 ok
@@ -112,27 +108,26 @@ p1 on a total 98 ticket 1
 ";
 
 const ALL_TOLERATED: &[u8] =
-    b"{\"op\":\"node\",\"v\":1,\"name\":\"a\",\"cpu\":\"4\",\"mem\":\"8Gi\",\"pods\":110,\"taints\":[[\"k\",\"v\",\"NoExecute\"],[\"s\",\"\",\"PreferNoSchedule\"]]}
-{\"op\":\"pod\",\"v\":2,\"uid\":\"p1\",\"containers\":[[\"100m\",\"64Mi\"]],\"tolerations\":[[\"\",\"Exists\",\"\",\"\"]]}
-{\"op\":\"cycle\"}
-";
+    br#"{"op":"node","v":1,"name":"a","cpu":"4","mem":"8Gi","pods":110,"taints":[["k","v","NoExecute"],["s","","PreferNoSchedule"]]}
+{"op":"pod","v":2,"uid":"p1","containers":[["100m","64Mi"]],"tolerations":[["","Exists","",""]]}
+{"op":"cycle"}
+"#;
 
 const ALL_TOLERATED_OUTPUT: &str = "ok
 ok
 p1 on a total 198 ticket 1
 ";
 
-const CONFIRMED: &[u8] =
-    b"{\"op\":\"node\",\"v\":1,\"name\":\"a\",\"cpu\":\"4\",\"mem\":\"8Gi\",\"pods\":110}
-{\"op\":\"pod\",\"v\":2,\"uid\":\"p1\",\"containers\":[[\"100m\",\"64Mi\"]]}
-{\"op\":\"cycle\"}
-{\"op\":\"bound\",\"v\":3,\"uid\":\"p1\",\"node\":\"a\",\"cpu\":\"100m\",\"mem\":\"64Mi\"}
-{\"op\":\"done\",\"uid\":\"p1\",\"ticket\":1}
-{\"op\":\"forget\",\"uid\":\"p1\",\"ticket\":1}
-{\"op\":\"forget\",\"uid\":\"p1\",\"ticket\":1}
-{\"op\":\"bound\",\"v\":3,\"uid\":\"p1\",\"node\":\"a\",\"cpu\":\"100m\",\"mem\":\"64Mi\"}
-{\"op\":\"dump\"}
-";
+const CONFIRMED: &[u8] = br#"{"op":"node","v":1,"name":"a","cpu":"4","mem":"8Gi","pods":110}
+{"op":"pod","v":2,"uid":"p1","containers":[["100m","64Mi"]]}
+{"op":"cycle"}
+{"op":"bound","v":3,"uid":"p1","node":"a","cpu":"100m","mem":"64Mi"}
+{"op":"done","uid":"p1","ticket":1}
+{"op":"forget","uid":"p1","ticket":1}
+{"op":"forget","uid":"p1","ticket":1}
+{"op":"bound","v":3,"uid":"p1","node":"a","cpu":"100m","mem":"64Mi"}
+{"op":"dump"}
+"#;
 
 const CONFIRMED_OUTPUT: &str = "ok
 ok
@@ -148,18 +143,17 @@ queue active 0 backoff 0 unschedulable 0 inflight 0
 clock 0 version 3
 ";
 
-const FORGOTTEN: &[u8] =
-    b"{\"op\":\"node\",\"v\":1,\"name\":\"a\",\"cpu\":\"4\",\"mem\":\"8Gi\",\"pods\":110}
-{\"op\":\"pod\",\"v\":2,\"uid\":\"p1\",\"containers\":[[\"100m\",\"64Mi\"]]}
-{\"op\":\"cycle\"}
-{\"op\":\"forget\",\"uid\":\"p1\",\"ticket\":1}
-{\"op\":\"tick\",\"at\":999}
-{\"op\":\"cycle\"}
-{\"op\":\"tick\",\"at\":1000}
-{\"op\":\"cycle\"}
-{\"op\":\"forget\",\"uid\":\"p1\",\"ticket\":1}
-{\"op\":\"tick\",\"at\":5}
-";
+const FORGOTTEN: &[u8] = br#"{"op":"node","v":1,"name":"a","cpu":"4","mem":"8Gi","pods":110}
+{"op":"pod","v":2,"uid":"p1","containers":[["100m","64Mi"]]}
+{"op":"cycle"}
+{"op":"forget","uid":"p1","ticket":1}
+{"op":"tick","at":999}
+{"op":"cycle"}
+{"op":"tick","at":1000}
+{"op":"cycle"}
+{"op":"forget","uid":"p1","ticket":1}
+{"op":"tick","at":5}
+"#;
 
 const FORGOTTEN_OUTPUT: &str = "ok
 ok
@@ -173,15 +167,14 @@ refused 7 StaleTicket
 refused 9 ClockBack
 ";
 
-const WOKEN: &[u8] =
-    b"{\"op\":\"node\",\"v\":1,\"name\":\"a\",\"cpu\":\"1\",\"mem\":\"8Gi\",\"pods\":110}
-{\"op\":\"pod\",\"v\":2,\"uid\":\"p1\",\"containers\":[[\"2\",\"0\"]]}
-{\"op\":\"cycle\"}
-{\"op\":\"node\",\"v\":3,\"name\":\"b\",\"cpu\":\"4\",\"mem\":\"8Gi\",\"pods\":110}
-{\"op\":\"cycle\"}
-{\"op\":\"tick\",\"at\":1000}
-{\"op\":\"cycle\"}
-";
+const WOKEN: &[u8] = br#"{"op":"node","v":1,"name":"a","cpu":"1","mem":"8Gi","pods":110}
+{"op":"pod","v":2,"uid":"p1","containers":[["2","0"]]}
+{"op":"cycle"}
+{"op":"node","v":3,"name":"b","cpu":"4","mem":"8Gi","pods":110}
+{"op":"cycle"}
+{"op":"tick","at":1000}
+{"op":"cycle"}
+"#;
 
 const WOKEN_OUTPUT: &str = "ok
 ok
@@ -192,19 +185,18 @@ ok
 p1 on b total 175 ticket 1
 ";
 
-const EXPIRED: &[u8] =
-    b"{\"op\":\"node\",\"v\":1,\"name\":\"a\",\"cpu\":\"4\",\"mem\":\"8Gi\",\"pods\":110}
-{\"op\":\"pod\",\"v\":2,\"uid\":\"p1\",\"containers\":[[\"100m\",\"64Mi\"]]}
-{\"op\":\"cycle\"}
-{\"op\":\"done\",\"uid\":\"p1\",\"ticket\":1}
-{\"op\":\"tick\",\"at\":29999}
-{\"op\":\"dump\"}
-{\"op\":\"tick\",\"at\":30000}
-{\"op\":\"cycle\"}
-{\"op\":\"tick\",\"at\":31000}
-{\"op\":\"cycle\"}
-{\"op\":\"forget\",\"uid\":\"p1\",\"ticket\":1}
-";
+const EXPIRED: &[u8] = br#"{"op":"node","v":1,"name":"a","cpu":"4","mem":"8Gi","pods":110}
+{"op":"pod","v":2,"uid":"p1","containers":[["100m","64Mi"]]}
+{"op":"cycle"}
+{"op":"done","uid":"p1","ticket":1}
+{"op":"tick","at":29999}
+{"op":"dump"}
+{"op":"tick","at":30000}
+{"op":"cycle"}
+{"op":"tick","at":31000}
+{"op":"cycle"}
+{"op":"forget","uid":"p1","ticket":1}
+"#;
 
 const EXPIRED_OUTPUT: &str = "ok
 ok
@@ -223,21 +215,20 @@ refused 7 StaleTicket
 ";
 
 // The tick that takes away the place of p1 is a move, which wakes p2, while p1 backs off for a second.
-const ROOM_FREED: &[u8] =
-    b"{\"op\":\"node\",\"v\":1,\"name\":\"a\",\"cpu\":\"1\",\"mem\":\"8Gi\",\"pods\":110}
-{\"op\":\"pod\",\"v\":2,\"uid\":\"p1\",\"containers\":[[\"600m\",\"0\"]]}
-{\"op\":\"pod\",\"v\":3,\"uid\":\"p2\",\"containers\":[[\"600m\",\"0\"]]}
-{\"op\":\"cycle\"}
-{\"op\":\"cycle\"}
-{\"op\":\"done\",\"uid\":\"p1\",\"ticket\":1}
-{\"op\":\"tick\",\"at\":29999}
-{\"op\":\"cycle\"}
-{\"op\":\"tick\",\"at\":30000}
-{\"op\":\"cycle\"}
-{\"op\":\"cycle\"}
-{\"op\":\"tick\",\"at\":31000}
-{\"op\":\"cycle\"}
-";
+const ROOM_FREED: &[u8] = br#"{"op":"node","v":1,"name":"a","cpu":"1","mem":"8Gi","pods":110}
+{"op":"pod","v":2,"uid":"p1","containers":[["600m","0"]]}
+{"op":"pod","v":3,"uid":"p2","containers":[["600m","0"]]}
+{"op":"cycle"}
+{"op":"cycle"}
+{"op":"done","uid":"p1","ticket":1}
+{"op":"tick","at":29999}
+{"op":"cycle"}
+{"op":"tick","at":30000}
+{"op":"cycle"}
+{"op":"cycle"}
+{"op":"tick","at":31000}
+{"op":"cycle"}
+"#;
 
 const ROOM_FREED_OUTPUT: &str = "ok
 ok
@@ -254,17 +245,16 @@ ok
 p1 unschedulable marked 0 taint 0 cpu 1 memory 0 pods 0 plugin 0 final 0
 ";
 
-const UNFINISHED: &[u8] =
-    b"{\"op\":\"node\",\"v\":1,\"name\":\"a\",\"cpu\":\"4\",\"mem\":\"8Gi\",\"pods\":110}
-{\"op\":\"pod\",\"v\":2,\"uid\":\"p1\",\"containers\":[[\"100m\",\"64Mi\"]]}
-{\"op\":\"cycle\"}
-{\"op\":\"tick\",\"at\":29999}
-{\"op\":\"tick\",\"at\":30000}
-{\"op\":\"dump\"}
-{\"op\":\"cycle\"}
-{\"op\":\"tick\",\"at\":31000}
-{\"op\":\"cycle\"}
-";
+const UNFINISHED: &[u8] = br#"{"op":"node","v":1,"name":"a","cpu":"4","mem":"8Gi","pods":110}
+{"op":"pod","v":2,"uid":"p1","containers":[["100m","64Mi"]]}
+{"op":"cycle"}
+{"op":"tick","at":29999}
+{"op":"tick","at":30000}
+{"op":"dump"}
+{"op":"cycle"}
+{"op":"tick","at":31000}
+{"op":"cycle"}
+"#;
 
 const UNFINISHED_OUTPUT: &str = "ok
 ok
@@ -288,7 +278,7 @@ const ANSWERED: &[Answered] = &[
     (
         "a dump of nothing",
         &[],
-        b"{\"op\":\"dump\"}",
+        br#"{"op":"dump"}"#,
         NOTHING_OUTPUT,
     ),
     (
@@ -383,15 +373,17 @@ fn scripts_are_answered_alike_by_any_number_of_workers(rt: HostRuntime) {
 
 // Scripts with a faulty line, the output, and what is told behind it.
 const FAULTY: &[(&[u8], &str, &str)] = &[
-    (b"{\"op\":\"dump\"", "", "wsched: line 1: 1 NotJson\n"),
+    (br#"{"op":"dump""#, "", "wsched: line 1: 1 NotJson\n"),
     (b"\r\n", "", "wsched: line 1: 1 NotJson\n"),
     (
-        b"{\"op\":\"tock\"}\n",
+        br#"{"op":"tock"}
+"#,
         "",
         "wsched: line 1: 2 BadField op\n",
     ),
     (
-        b"{\"op\":\"tick\",\"at\":-1}\n",
+        br#"{"op":"tick","at":-1}
+"#,
         "",
         "wsched: line 1: 4 OverLimit at\n",
     ),

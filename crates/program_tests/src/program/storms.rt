@@ -11,12 +11,11 @@ use std::sync::Wait;
 use std::thread::Threads;
 
 // A node, and three pods for which it has room.
-const THREE: &[u8] =
-    b"{\"op\":\"node\",\"v\":1,\"name\":\"a\",\"cpu\":\"4\",\"mem\":\"8Gi\",\"pods\":110}
-{\"op\":\"pod\",\"v\":2,\"uid\":\"p1\",\"containers\":[[\"100m\",\"64Mi\"]]}
-{\"op\":\"pod\",\"v\":3,\"uid\":\"p2\",\"containers\":[[\"100m\",\"64Mi\"]]}
-{\"op\":\"pod\",\"v\":4,\"uid\":\"p3\",\"containers\":[[\"100m\",\"64Mi\"]]}
-";
+const THREE: &[u8] = br#"{"op":"node","v":1,"name":"a","cpu":"4","mem":"8Gi","pods":110}
+{"op":"pod","v":2,"uid":"p1","containers":[["100m","64Mi"]]}
+{"op":"pod","v":3,"uid":"p2","containers":[["100m","64Mi"]]}
+{"op":"pod","v":4,"uid":"p3","containers":[["100m","64Mi"]]}
+"#;
 
 // All three have their place.
 const ALL_PLACED: &str = "node a cpu 300/4000 mem 201326592/8589934592 pods 3/110
@@ -35,12 +34,11 @@ audit ok
 ";
 
 // Two pods that are bound elsewhere leave no room for a third, and the watch tells more on the node than fits.
-const NO_ROOM: &[u8] =
-    b"{\"op\":\"node\",\"v\":1,\"name\":\"a\",\"cpu\":\"1\",\"mem\":\"8Gi\",\"pods\":110}
-{\"op\":\"bound\",\"v\":2,\"uid\":\"f1\",\"node\":\"a\",\"cpu\":\"800m\",\"mem\":\"0\"}
-{\"op\":\"pod\",\"v\":3,\"uid\":\"p1\",\"containers\":[[\"300m\",\"0\"]]}
-{\"op\":\"bound\",\"v\":4,\"uid\":\"f2\",\"node\":\"a\",\"cpu\":\"900m\",\"mem\":\"0\"}
-";
+const NO_ROOM: &[u8] = br#"{"op":"node","v":1,"name":"a","cpu":"1","mem":"8Gi","pods":110}
+{"op":"bound","v":2,"uid":"f1","node":"a","cpu":"800m","mem":"0"}
+{"op":"pod","v":3,"uid":"p1","containers":[["300m","0"]]}
+{"op":"bound","v":4,"uid":"f2","node":"a","cpu":"900m","mem":"0"}
+"#;
 
 const OVERFULL: &str = "node a cpu 1700/1000 mem 0/8589934592 pods 2/110
 places bound 2 assumed 0
@@ -150,14 +148,17 @@ const FILES: Stored = &[("broken.wasm", BROKEN)];
 const NOT_BEGUN: &[Row] = &[
     (
         Given {
-            script: b"{\"op\":\"tick\",\"at\":1}\n\n{\"op\":\"cycle\"}\n",
+            script: br#"{"op":"tick","at":1}
+
+{"op":"cycle"}
+"#,
             ..STORM
         },
         (1, "", "wsched: line 3: 2 BadField op\n"),
     ),
     (
         Given {
-            script: b"{\"op\":\"done\",\"uid\":\"p1\",\"ticket\":1}",
+            script: br#"{"op":"done","uid":"p1","ticket":1}"#,
             ..STORM
         },
         (1, "", "wsched: line 1: 2 BadField op\n"),
@@ -234,18 +235,16 @@ fn a_storm_that_fails_writes_nothing(rt: HostRuntime) {
 }
 
 // Lines in which a pod's number goes in place of a `$`, and so do later moments.
-const POD_AND_TICK: &[u8] =
-    b"{\"op\":\"pod\",\"v\":$,\"uid\":\"p$\",\"containers\":[[\"100m\",\"64Mi\"]]}
-{\"op\":\"tick\",\"at\":$000}
-";
+const POD_AND_TICK: &[u8] = br#"{"op":"pod","v":$,"uid":"p$","containers":[["100m","64Mi"]]}
+{"op":"tick","at":$000}
+"#;
 
-const POD: &[u8] = b"{\"op\":\"pod\",\"v\":$,\"uid\":\"p$\",\"containers\":[[\"100m\",\"64Mi\"]]}
-";
+const POD: &[u8] = br#"{"op":"pod","v":$,"uid":"p$","containers":[["100m","64Mi"]]}
+"#;
 
-const NODES: &[u8] =
-    b"{\"op\":\"node\",\"v\":1,\"name\":\"a\",\"cpu\":\"4\",\"mem\":\"8Gi\",\"pods\":110}
-{\"op\":\"node\",\"v\":2,\"name\":\"b\",\"cpu\":\"2\",\"mem\":\"8Gi\",\"pods\":10}
-";
+const NODES: &[u8] = br#"{"op":"node","v":1,"name":"a","cpu":"4","mem":"8Gi","pods":110}
+{"op":"node","v":2,"name":"b","cpu":"2","mem":"8Gi","pods":10}
+"#;
 
 fn push_lines(script: &mut Vec<u8>, lines: &[u8], number: u32) -> Result<(), AllocError> {
     for byte in lines {
@@ -411,21 +410,18 @@ fn each_flaky_binder_fails_its_every_third_bind(rt: HostRuntime) {
     assert_eq!(rt; thirds_of_many(&rt, rt.alloc(), keys), 10);
 }
 
-const MOMENT: &[u8] = b"{\"op\":\"tick\",\"at\":$}
-";
+const MOMENT: &[u8] = br#"{"op":"tick","at":$}
+"#;
 
-const SMALL: &[u8] =
-    b"{\"op\":\"node\",\"v\":1,\"name\":\"a\",\"cpu\":\"4\",\"mem\":\"8Gi\",\"pods\":110}
-";
+const SMALL: &[u8] = br#"{"op":"node","v":1,"name":"a","cpu":"4","mem":"8Gi","pods":110}
+"#;
 
-const TWO_PODS: &[u8] =
-    b"{\"op\":\"pod\",\"v\":2,\"uid\":\"p1\",\"containers\":[[\"100m\",\"64Mi\"]]}
-{\"op\":\"pod\",\"v\":3,\"uid\":\"p2\",\"containers\":[[\"100m\",\"64Mi\"]]}
-";
+const TWO_PODS: &[u8] = br#"{"op":"pod","v":2,"uid":"p1","containers":[["100m","64Mi"]]}
+{"op":"pod","v":3,"uid":"p2","containers":[["100m","64Mi"]]}
+"#;
 
-const LARGE: &[u8] =
-    b"{\"op\":\"node\",\"v\":4,\"name\":\"b\",\"cpu\":\"64\",\"mem\":\"128Gi\",\"pods\":110}
-";
+const LARGE: &[u8] = br#"{"op":"node","v":4,"name":"b","cpu":"64","mem":"128Gi","pods":110}
+"#;
 
 // The small node is as nothing is placed there.
 const SMALL_UNUSED: &[u8] = b"node a cpu 0/4000 ";
