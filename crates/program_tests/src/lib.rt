@@ -5,6 +5,15 @@
 //! A table is a constant of a few dozen rows that a function of its own gives out: what loops over it is then not proved in the midst
 //! of the table's parts. What owns a kit or what a run wrote gives a number, a name or a small enum of it, and tests assert on these.
 //! Where keys or memory are wanting, the answer is one that no test takes.
+//!
+//! Which module tests which crate (a module can't have the name of a library that its crate stands on):
+//!
+//! - `manifest`: `lines`
+//! - `engine`: `script`; `runs` by as many kits as there may be
+//! - `storm`: `storms`, `two_pools`
+//! - `command` and `fault_line`: `words`
+//! - `serving`, by words, files and streams: `program`
+//! - `texts` puts texts together for all of these
 #![tactic(auto)]
 
 #[cfg(test)]

@@ -5,6 +5,15 @@
 //! A table is a constant of a few dozen rows that a function of its own gives out: what loops over it is then not proved in the midst
 //! of the table's parts. What owns a module, a store, an instance or a kit gives a number, a fault or a small enum of it, and tests
 //! assert on these.
+//!
+//! Which module tests which crate (a module can't have the name of a library that its crate stands on):
+//!
+//! - `leb`: `leb128`; `wcode`: `instructions`
+//! - `wbin`: `modules`; `wbody`: `bodies`; `wtype`: `acceptance`
+//! - `wnum`: `operations`; `wmem`: `memory`; `wstore`: `store`
+//! - `wmach`: `comparison`, beside `wplain`
+//! - `whost`: `instances`, `at_image`, `records`; `plugin`: `kits`
+//! - `small_modules` makes the modules of all of these
 #![tactic(auto)]
 
 #[cfg(test)]
