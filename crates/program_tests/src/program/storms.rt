@@ -433,18 +433,18 @@ fn push_moments(script: &mut Vec<u8>, first: u32, end: u32) -> Result<(), AllocE
     Ok(())
 }
 
-// A small node, and 2,000 moments before two pods, so that whoever makes cycles has found none before they come; then as many
+// A small node, and 20,000 moments before two pods, so that whoever makes cycles has found none before they come; then as many
 // moments again before a large node, on which they are placed once it is there.
 fn two_pods_amid_moments(alloc: Global) -> Result<Vec<u8>, AllocError> {
     let mut script = Vec::from_slice(alloc, SMALL)?;
-    push_moments(&mut script, 1, 2_001)?;
+    push_moments(&mut script, 1, 20_001)?;
     script.extend_from_slice(TWO_PODS)?;
-    push_moments(&mut script, 2_001, 4_001)?;
+    push_moments(&mut script, 20_001, 40_001)?;
     script.extend_from_slice(LARGE)?;
     Ok(script)
 }
 
-// The first of ten storms in which a pod is placed before all is told.
+// The first of twenty storms in which a pod is placed before all is told. On a busy machine one in forty places none so early.
 fn first_beside<R: Files + Wait + Threads + Copy + Send + Sync + 'static>(
     rt: &R,
     alloc: Global,
@@ -457,7 +457,7 @@ fn first_beside<R: Files + Wait + Threads + Copy + Send + Sync + 'static>(
         most: 65_536,
         ..RUN
     };
-    for storm in 0..10u32 {
+    for storm in 0..20u32 {
         match run_program(rt, alloc, keys, given) {
             Ok(ended) if ended.status == 0 && !ended.out.as_slice().starts_with(SMALL_UNUSED) => {
                 return Some(storm);
