@@ -9,8 +9,8 @@ ghost use Rattle.engine.specs.Answers.{limits};
 ghost use Rattle.engine.specs.Device.{use_of, AppendsFront};
 ghost use Rattle.storm.specs.Made.{newcomer};
 ghost use Rattle.storm.specs.inside.Crew.{ArePassesOf, enlisted};
-ghost use Rattle.storm.specs.inside.Ending.{IsWorked, HasEnded};
-ghost use Rattle.storm.specs.Storm.{Storms, IsStormRun, storm_text};
+ghost use Rattle.storm.specs.inside.Ending.{IsWorked, HasEnded, IsStormOf};
+ghost use Rattle.storm.specs.Storm.{IsStormRun, storm_text};
 
 use crate::bell::{Bell, FEEDERS};
 use crate::clerk::take_dump;
@@ -204,16 +204,8 @@ fn storm_on<
     requires timely { All IsTimely steps.now }
     requires some { 0 < length deciders.items }
     requires writes { W.failure_count sink.old < 10 ^ 18 }
-    ensures storm { IfOk result (λ answer. Storms (λ d. rules_of D.Kit.answers (D.kits d)) deciders.items
-        (length binders.items) steps.now
-        (Appends (W.written sink.old) (W.written sink.new)) answer) }
-    ensures front { result ≡ Err RunFault.Write → (answer : Bool) ×
-        Storms (λ d. rules_of D.Kit.answers (D.kits d)) deciders.items (length binders.items)
-        steps.now (AppendsFront (W.written sink.old) (W.written sink.new)) answer }
-    ensures quiet { OnErr result (result ≢ Err RunFault.Write → sink.new ≡ sink.old) }
-    ensures faults { IfErr result (λ e. (e ≡ RunFault.NoMemory) ⊎ ((e ≡ RunFault.NoPlace) ⊎ (e ≡ RunFault.Write))) }
-    ensures write { result ≡ Err RunFault.Write → W.failure_count sink.old < W.failure_count sink.new }
-    ensures write_told { result ≢ Err RunFault.Write → W.failure_count sink.new ≡ W.failure_count sink.old }
+    ensures { IsStormOf (λ d. rules_of D.Kit.answers (D.kits d)) deciders.items (length binders.items) steps.now
+        (use_of W.written W.failure_count sink.old sink.new) result }
 {
     let mut desk = Desk::<J>::new(blank, alloc, keys, greatest)?;
     match storm_to_dump(rt, alloc, &mut desk, steps, deciders, binders) {

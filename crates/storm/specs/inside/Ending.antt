@@ -1,6 +1,10 @@
 -- What is known of a storm when all have ended.
-use Rattle.std.specs.Prelude.{◌≡◌, ℕ, false, List, length, slice_index_or}
+use Rattle.std.specs.Prelude.{◌≡◌, ◌≢◌, ◌⊎◌, ◌<◌, ℕ, Bool, false, List, length, slice_index_or, Result, Err, IfOk, IfErr, OnErr}
 use Rattle.std.specs.List.{All}
+use Rattle.std.specs.Io.KnownBytes.{Appends}
+use Rattle.engine.specs.Device.{DeviceUse, AppendsFront}
+use Rattle.engine.specs.declared.fault.RunFault.{RunFault}
+use Rattle.engine.specs.declared.fault.RunFault.TheVariants.{NoMemory, NoPlace, Write}
 use Rattle.desk.specs.declared.step.Step.{Step}
 use Rattle.desk.specs.declared.step.Counts.{Counts}
 use Rattle.desk.specs.Shared.{Pass, Desk, IsPassOf}
@@ -10,7 +14,7 @@ use Rattle.storm.specs.declared.worker.Worker.{Worker}
 use Rattle.storm.specs.Made.{BeginsWith}
 use Rattle.storm.specs.inside.Crew.{Each, HasFed, IsDumped}
 use Rattle.storm.specs.inside.Stages.{HasReported, HasScheduled, IsIdle}
-use Rattle.storm.specs.Storm.{IsStorm, desk_for}
+use Rattle.storm.specs.Storm.{IsStorm, Storms, desk_for}
 
 -- Workers that were so did what they are to do, memory was wanting to none of them, and a pass met them all and took the dump.
 pub record IsWorked {J D B Kit : Type 0} (answers : Kit → RuleSet) (kits : D → List Kit) (desk : Desk) (fed : List Step) (clerk : Pass) (feeders : List (Worker J (Unit {0})))
@@ -33,3 +37,12 @@ pub record HasEnded {D : Type 0} (rules : D → RuleSet) (deciders : List D) (bi
   pub storm : IsStorm rules deciders desk fed rows counts
   pub of : IsPassOf clerk desk
   pub knows : BeginsWith clerk.seen storm.looked
+
+-- A storm of these steps on a desk of its own wrote to this sink, and came to this.
+pub record IsStormOf {D : Type 0} (rules : D → RuleSet) (deciders : List D) (binders : ℕ) (fed : List Step) (sink : DeviceUse) (result : Result Bool RunFault) : Type 0 where
+  pub storm : IfOk result (Storms rules deciders binders fed (Appends sink.old sink.new))
+  pub front : result ≡ Err Write → (answer : Bool) × Storms rules deciders binders fed (AppendsFront sink.old sink.new) answer
+  pub quiet : OnErr result (result ≢ Err Write → sink.IsUntouched)
+  pub faults : IfErr result (λ e. (e ≡ NoMemory) ⊎ ((e ≡ NoPlace) ⊎ (e ≡ Write)))
+  pub write : result ≡ Err Write → sink.failures_old < sink.failures_new
+  pub write_told : result ≢ Err Write → sink.failures_new ≡ sink.failures_old
