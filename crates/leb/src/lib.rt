@@ -119,8 +119,7 @@ fn read(bytes: &[u8], at: usize, bits: u32, signed: bool) -> Result<Spelled, Leb
         (drop x.next bytes.now)) }
     ensures range { IfOk result (λ x. InRange (sign_of signed) bits (value_of x)) }
     ensures end { IfOk result (λ x. x.next ≤ length bytes.now) }
-    ensures none { OnErr result ((v : ℤ) (rest : List ℕ) → Spells (sign_of signed) bits (drop at bytes.now) v rest →
-        ⊥) }
+    ensures none { OnErr result ((v : ℤ) (rest : _) → Spells (sign_of signed) bits (drop at bytes.now) v rest → ⊥) }
     ensures truncated { IsErrOf result LebFault.Truncated ↔ IsTruncated bits (drop at bytes.now) }
     ensures too_long { IsErrOf result LebFault.TooLong ↔ IsTooLong bits (drop at bytes.now) }
     ensures bad_last_byte { IsErrOf result LebFault.BadLastByte ↔ HasBadLastByte (sign_of signed) bits
