@@ -23,3 +23,6 @@ pub mod NotedPass
 pub mod NotedTables
 pub mod NearBlocks
 pub mod TrailLists
+pub mod KindForms
+pub mod PlainWords
+pub mod StepWords

@@ -7,3 +7,5 @@ pub mod Standing
 pub mod Steps
 pub mod Near
 pub mod Trail
+pub mod Kinds
+pub mod Words

@@ -261,6 +261,88 @@ impl OperandStack {
     }
 }
 
+// What the most common instructions do.
+impl OperandStack {
+    ghost use Rattle.wbody.specs.Typing.{takes_gives, drops};
+    ghost use Rattle.wbody.specs.inside.OperandStack.{stack_of, SameBlock};
+
+    // Takes one operand of this type, and gives one of that.
+    #[inline(always)]
+    pub fn change_one(&mut self, t: ValueType, gives: ValueType) -> Result<(), Stop>
+        ensures ok { OnOk result (pass_type (takes_gives (t ∷ []) (gives ∷ [])) (stack_of self.old) ≡ Some (stack_of self.new)) }
+        ensures err { result ≡ Err Stop.Untyped → pass_type (takes_gives (t ∷ []) (gives ∷ [])) (stack_of self.old) ≡ None }
+        ensures same { OnOk result (SameBlock self.old self.new) }
+        ensures greatest { OnOk result (self.new.greatest ≡ max self.old.greatest (vec_len self.new.items)) }
+    {
+        self.take(t)?;
+        self.give(Some(gives))?;
+        Ok(())
+    }
+
+    // Takes two operands of this type, and gives one of that.
+    #[inline(always)]
+    pub fn change_two(&mut self, t: ValueType, gives: ValueType) -> Result<(), Stop>
+        ensures ok { OnOk result (pass_type (takes_gives (t ∷ t ∷ []) (gives ∷ [])) (stack_of self.old) ≡ Some (stack_of self.new)) }
+        ensures err { result ≡ Err Stop.Untyped → pass_type (takes_gives (t ∷ t ∷ []) (gives ∷ [])) (stack_of self.old) ≡ None }
+        ensures same { OnOk result (SameBlock self.old self.new) }
+        ensures greatest { OnOk result (self.new.greatest ≡ max self.old.greatest (vec_len self.new.items)) }
+    {
+        self.take(t)?;
+        self.take(t)?;
+        self.give(Some(gives))?;
+        Ok(())
+    }
+
+    // Takes one operand of this type.
+    #[inline(always)]
+    pub fn take_one(&mut self, t: ValueType) -> Result<(), Stop>
+        ensures ok { OnOk result (pass_type (takes_gives (t ∷ []) []) (stack_of self.old) ≡ Some (stack_of self.new)) }
+        ensures err { result ≡ Err Stop.Untyped → pass_type (takes_gives (t ∷ []) []) (stack_of self.old) ≡ None }
+        ensures same { OnOk result (SameBlock self.old self.new) }
+        ensures greatest { OnOk result (self.new.greatest ≡ max self.old.greatest (vec_len self.new.items)) }
+    {
+        self.take(t)?;
+        Ok(())
+    }
+
+    // Takes an operand of the first type, and below it one of the second.
+    #[inline(always)]
+    pub fn take_two(&mut self, above: ValueType, below: ValueType) -> Result<(), Stop>
+        ensures ok { OnOk result (pass_type (takes_gives (above ∷ below ∷ []) []) (stack_of self.old) ≡ Some (stack_of self.new)) }
+        ensures err { result ≡ Err Stop.Untyped → pass_type (takes_gives (above ∷ below ∷ []) []) (stack_of self.old) ≡ None }
+        ensures same { OnOk result (SameBlock self.old self.new) }
+        ensures greatest { OnOk result (self.new.greatest ≡ max self.old.greatest (vec_len self.new.items)) }
+    {
+        self.take(above)?;
+        self.take(below)?;
+        Ok(())
+    }
+
+    // Gives an operand of this type.
+    #[inline(always)]
+    pub fn put(&mut self, t: ValueType) -> Result<(), Stop>
+        ensures ok { OnOk result (pass_type (takes_gives [] (t ∷ [])) (stack_of self.old) ≡ Some (stack_of self.new)) }
+        ensures err { result ≡ Err Stop.Untyped → ⊥ }
+        ensures same { OnOk result (SameBlock self.old self.new) }
+        ensures greatest { OnOk result (self.new.greatest ≡ max self.old.greatest (vec_len self.new.items)) }
+    {
+        self.give(Some(t))?;
+        Ok(())
+    }
+
+    // Takes one operand of any type.
+    #[inline(always)]
+    pub fn drop_one(&mut self) -> Result<(), Stop>
+        ensures ok { OnOk result (pass_type drops (stack_of self.old) ≡ Some (stack_of self.new)) }
+        ensures err { result ≡ Err Stop.Untyped → pass_type drops (stack_of self.old) ≡ None }
+        ensures same { OnOk result (SameBlock self.old self.new) }
+        ensures greatest { OnOk result (self.new.greatest ≡ max self.old.greatest (vec_len self.new.items)) }
+    {
+        self.take_any()?;
+        Ok(())
+    }
+}
+
 // What an instruction does to the operands.
 #[derive(Clone, Copy)]
 pub enum Effect<'a> {

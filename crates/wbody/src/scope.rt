@@ -1,6 +1,6 @@
 //! What the instructions of a body can refer to.
 
-ghost use Rattle.std.specs.Prelude.{◌≡◌, ℕ, ◌+◌, ◌^◌, ◌<◌, ◌≤◌, [], ◌∷◌, ◌++◌, map, option_map, option_and_then, slice_get, length, nat_le, Some, None, IfOk};
+ghost use Rattle.std.specs.Prelude.{◌≡◌, ◌&&◌, ℕ, ◌+◌, ◌^◌, ◌<◌, ◌≤◌, [], ◌∷◌, ◌++◌, map, option_map, option_and_then, slice_get, length, nat_le, Some, None, IfOk};
 ghost use Rattle.wcode.specs.Operators.{load_bytes, store_bytes};
 ghost use Rattle.wbin.specs.Syntax.{signature_of, locals_of};
 ghost use Rattle.wbody.specs.Context.{Context, at_most_one, results_of};
@@ -75,13 +75,22 @@ pub fn is_aligned_to(arg: MemArg, bytes: usize) -> bool
 }
 
 // A number of 32 bits is one, and one of 64 bits too; for the proof alone.
-fn in_word(number: u32)
+pub fn in_word(number: u32)
     ensures { number < 2 ^ 32 }
 {}
 
-fn in_long(number: u64)
+pub fn in_long(number: u64)
     ensures { number < 2 ^ 64 }
 {}
+
+// The memory is there, and the alignment isn't greater than the access.
+#[inline(always)]
+pub fn may_access(scope: &Scope<'_>, arg: MemArg, bytes: usize) -> bool
+    requires { bytes ≤ 8 }
+    ensures { result ≡ (scope.now.has_memory && is_aligned arg bytes) }
+{
+    scope.has_memory && is_aligned_to(arg, bytes)
+}
 
 // A constant.
 pub fn constant(value: Value) -> Effect<'static>

@@ -7,7 +7,7 @@ use Rattle.wbody.specs.inside.Standing.{inner_context}
 use Rattle.wbody.proofs.Inside.{scope_inside, base_labels}
 use Rattle.wbody.proofs.LevelLists.{on_ok_3}
 use Rattle.wbody.proofs.Steps.{plain_step, plain_stop}
-use Rattle.wbody.proofs.NotedMoves.{effect_moves}
+use Rattle.wbody.proofs.NotedPass.{plain_moves}
 use Rattle.wbody.proofs.words.pass_plain.Goals as goal
 
 pub returns-clause-ok : goal.returns-clause-ok
@@ -33,4 +33,4 @@ returns-clause-moves c =
     let a = c.apply.ensures in
     let s = c.args.stack.now in
     on_ok_3 c.apply.result a.ok a.same a.greatest (λ ok same greatest.
-    (refl, same.floor, record { made = c.effect_of.result; is = effect_moves s c.apply.new.self (effect_type c.effect_of.result) ok same; type = c.effect_of.ensures }))
+    (refl, same.floor, plain_moves c.args.scope.now c.args.levels.now c.args.plain s c.apply.new.self c.effect_of.result ok same c.effect_of.ensures))
