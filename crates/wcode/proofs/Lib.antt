@@ -12,3 +12,4 @@ pub mod Longer
 pub mod Passing
 pub mod KnownWords
 mod SeveralBytes
+pub mod ShortWords

@@ -2,3 +2,4 @@ pub mod Shown
 pub mod Ended
 pub mod Fault
 pub mod Skipped
+pub mod Short

@@ -6,6 +6,7 @@
 //!   tree (`Instr`).
 //! - `opcode` has the table of all opcodes: what each stands for, and what follows it (`Form`).
 //! - `reading` reads one instruction from any bytes, or tells why none stands there: `fault`.
+//! - `short` passes an instruction without others inside it, where its numbers are short.
 //! - `expression` reads all up to an `end` as a tree. `skipping` passes it without one, and gives where its blocks go on: `blocks`.
 //! - `known` reads instructions of which it is known that they stand there, and which they are, without a test; `several_bytes` has
 //!   their longer numbers.
@@ -22,6 +23,7 @@ mod opcode;
 mod operator;
 mod reading;
 mod several_bytes;
+mod short;
 mod skipping;
 mod value;
 

@@ -12,6 +12,7 @@ use crate::expression::{NESTING, bad_opcode, too_deep};
 use crate::fault::BinFault;
 use crate::instruction::{Op, Plain};
 use crate::reading::read_op;
+use crate::short::pass_short;
 use crate::value::Value;
 use std::alloc::{AllocError, Global};
 
@@ -118,6 +119,9 @@ fn skip_item(bytes: &[u8], at: usize, room: u32, blocks: &mut Vec<Block>) -> Res
     requires { at ≤ length bytes.now }
     ensures { SkipsItem bytes.now room at blocks.old.items blocks.new.items result }
 {
+    if let Some(next) = pass_short(bytes, at) {
+        return Ok(Step::Passes(next));
+    }
     let (op, next) = read_op(bytes, at)?;
     match op {
         Op::Plain(_) => Ok(Step::Passes(next)),

@@ -3,7 +3,8 @@ use Rattle.std.proofs.lemmas.List.{append-nil}
 use Rattle.std.proofs.lemmas.Result.{err_from_is_err_and}
 use Rattle.wcode.specs.declared.blocks.Block.{Block}
 use Rattle.wcode.specs.Syntax.{done, plain, block, loop, if_else, br_table}
-use Rattle.wcode.specs.Grammar.{end}
+use Rattle.wcode.specs.declared.instruction.Op.TheVariants as ops
+use Rattle.wcode.specs.Grammar.{one, end}
 use Rattle.wcode.specs.inside.Ended.{closing}
 use Rattle.wcode.specs.Blocks.{SpellsBlocks}
 use Rattle.wcode.specs.inside.Skipped.{SkipsBody, SkipsItem, SkipsNested, SkipsArms}
@@ -137,6 +138,19 @@ skip_body-returns-in-Ends t c =
     let g = rw a.is at c.in_ok-next.ensures in
     let h = c.items.invariant in
     (g.0, h.made done, h.inside, g.2 ∙ h.grown, passed_ends c.args.bytes.now c.args.room c.args.at c.args.blocks.now.items c.items.place c.items.blocks.items a.by_else a.next h g.1)
+
+pub skip_item-returns-in-Some : goal.skip_item-returns-in-Some
+unfolding SkipsItem
+skip_item-returns-in-Some t c =
+    let a = c.in-Some in
+    let x = a.ensures in (
+      x.1,
+      x.0,
+      plain x.2,
+      [],
+      sym (append-nil c.args.blocks.now.items),
+      plain_passes c.args.bytes.now c.args.room c.args.at a.next (ops.Plain x.2) x.2 refl (one x.2, refl, x.3),
+    )
 
 pub skip_item-returns-in-Plain : goal.skip_item-returns-in-Plain
 unfolding SkipsItem
