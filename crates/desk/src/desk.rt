@@ -58,8 +58,27 @@ impl<J: Naming> Desk<J> {
         requires limits { limits ≡ J.limits }
         ensures { IfOk result (λ desk. desk ≡ record { limits = limits; handed = 0 }) }
     {
+        Desk::for_passes(blank, alloc, keys, limits, MAX_PASSES)
+    }
+
+    /// The same for one to `MAX_PASSES` passes, with a reader's place for each and no more: a call that is published goes
+    /// through all readers' places, whether they were handed out or not.
+    ///
+    /// Errors: `NoMemory`.
+    pub fn for_passes(
+        blank: Blank,
+        alloc: Global,
+        keys: RandomState,
+        limits: Limits,
+        passes: usize,
+    ) -> Result<Self, NoMemory>
+        requires named { blank.seen.book ≡ J.book }
+        requires limits { limits ≡ J.limits }
+        ensures { IfOk result (λ desk. desk ≡ record { limits = limits; handed = 0 }) }
+    {
         let (head, nothing) = blank.named::<J>();
-        let held = UnderLock::new(alloc, keys, limits, &nothing)?;
+        let readers = passes.max(1).min(MAX_PASSES);
+        let held = UnderLock::new(alloc, keys, limits, &nothing, readers)?;
         Ok(Desk {
             head,
             nothing,

@@ -15,7 +15,7 @@ use crate::board_rule::{BoardRule, Sees};
 use crate::change::Change;
 use crate::desk_core::Core;
 use crate::history::{Head, Naming, Prefix};
-use crate::limits::{MAX_CALLS, MAX_PASSES};
+use crate::limits::MAX_CALLS;
 use crate::next_call::NextCall;
 use crate::pass::Pass;
 use crate::step::{Reply, Step};
@@ -139,31 +139,35 @@ fn new_writer<J: Naming>(
     alloc: Global,
     limits: Limits,
     nothing: &Prefix,
+    readers: usize,
 ) -> Result<Writer<Board, Order, (), BoardRule<J>>, NoMemory>
     requires limits { limits ≡ J.limits }
+    requires readers { (0 < readers) × (readers ≤ MAX_PASSES) }
     requires nothing { nothing.now ≡ record { book = J.book; list = [] } }
     ensures shown { IfOk result (λ writer. writer.desk.shown.value ≡ board_of (first_held J.book J.limits)) }
     ensures idle { IfOk result (λ writer. drop writer.behind writer.log.items ≡ []) }
 {
     let first = Board::new(alloc, limits, nothing)?;
     let second = Board::new(alloc, limits, nothing)?;
-    let writer = Writer::new(alloc, first, second, MAX_PASSES)?;
+    let writer = Writer::new(alloc, first, second, readers)?;
     Ok(writer)
 }
 
 impl<J: Naming> UnderLock<J> {
-    /// A desk on which nothing was done, with room for as much as the limits say.
+    /// A desk on which nothing was done, with room for as much as the limits say, and for so many readers.
     pub(crate) fn new(
         alloc: Global,
         keys: RandomState,
         limits: Limits,
         nothing: &Prefix,
+        readers: usize,
     ) -> Result<Self, NoMemory>
         requires limits { limits ≡ J.limits }
+        requires readers { (0 < readers) × (readers ≤ MAX_PASSES) }
         requires nothing { nothing.now ≡ record { book = J.book; list = [] } }
     {
         let core = new_core(alloc, keys, limits)?;
-        let writer = new_writer::<J>(alloc, limits, nothing)?;
+        let writer = new_writer::<J>(alloc, limits, nothing, readers)?;
         let mut made = UnderLock {
             core,
             prefix: nothing.again(),

@@ -57,7 +57,7 @@ impl<J: Naming> LoneDesk<J> {
         ensures opening { IfOk result (λ desk. desk ≡ machine.opening limits) }
         ensures faults { IfErr result (λ e. (e ≡ RunFault.NoMemory) ⊎ (e ≡ RunFault.NoPlace)) }
     {
-        let mut desk = Desk::<J>::new(blank, alloc, keys, limits)?;
+        let mut desk = Desk::<J>::for_passes(blank, alloc, keys, limits, 1)?;
         match desk.pass() {
             Ok(pass) => Ok(LoneDesk { desk, pass }),
             Err(_) => {
