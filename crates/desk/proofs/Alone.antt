@@ -1,8 +1,8 @@
 -- The only pass of a desk has made all calls of its history.
-use Rattle.std.proofs.Common.{◌≡◌, ℕ, true, false, eqb, List, [], ◌∷◌, ◌++◌, refl, sym, ap, subst, ◌∙◌, arith}
+use Rattle.std.proofs.Common.{◌≡◌, ◌≤◌, ℕ, true, false, eqb, List, [], ◌∷◌, ◌++◌, refl, sym, ap, subst, ◌∙◌, arith}
 use Rattle.desk.specs.Machine.{State, opening, reply, after, snapshot}
 use Rattle.desk.specs.inside.Caller.{Core}
-use Rattle.desk.specs.History.{Call, AreAnswered, AreHanded, AreOthers, Legal, state_after, call}
+use Rattle.desk.specs.History.{Call, AreAnswered, AreHanded, AreOthers, IsHistory, state_after, call}
 use Rattle.desk.specs.inside.History.{Leaves}
 use Rattle.desk.specs.Shared.{Pass, Desk, IsPassOf, IsAhead}
 use Rattle.desk.specs.Alone.{state_seen, AnswersAlone, LooksAlone}
@@ -49,6 +49,11 @@ answers_alone desk p p' e answer one member applied =
       ap (state_after s) ends ∙ state_more s p.seen c ∙ ap (λ n. after (state_seen desk p) n e) number,
     )
 
+-- calls of few passes are calls of more
+handed_among : (n m : ℕ) (l : List Call) → n ≤ m → AreHanded n l → AreHanded m l
+handed_among n m [] le all = tt
+handed_among n m (c ∷ l) le all = (omega (arith, le, all.0), handed_among n m l le all.1)
+
 -- calls keep the limits
 limits_kept : (s : State) (l : List Call) → limits_of (state_after s l) ≡ limits_of s
 limits_kept s [] = refl
@@ -58,10 +63,13 @@ pub looks_alone : LooksAlone
 looks_alone desk p p' rows one member looked =
     let stay : p'.seen ≡ p.seen = stays desk p p'.seen one member looked.ahead in
     let s = opening desk.limits in
-    let d : Core = record { state = state_after s p'.seen; handed = desk.handed } in
+    let d : Core = record { state = state_after s p'.seen } in
     let kept : d.state.cluster.limits ≡ desk.limits = limits_kept s p'.seen in
     let leaves : Leaves p'.seen d = record {
-      legal = subst (λ limits. Legal limits desk.handed p'.seen) (sym kept) looked.ahead.legal;
+      legal = record {
+        history = subst (λ limits. IsHistory limits p'.seen) (sym kept) looked.ahead.legal.history;
+        handed = handed_among desk.handed 64 p'.seen (omega (arith, one)) looked.ahead.legal.handed;
+      };
       state = ap (λ limits. state_after (opening limits) p'.seen) (sym kept);
     } in (
       looked.shows ∙ sym (snapshot_told d p'.seen leaves) ∙ ap (λ l. snapshot (state_after s l).cluster) stay,

@@ -86,11 +86,10 @@ zeros (suc n) zero = refl
 zeros (suc n) (suc k) = zeros n k
 
 -- what a state says of each pass's calls is how many the history has
-pub leaves_counts : (l : List Call) (d : Core) → Leaves l d → d.handed ≡ 64 → (k : ℕ) → slice_index d.state.calls k ≡ calls_of k l
-leaves_counts l d left all k =
+pub leaves_counts : (l : List Call) (d : Core) → Leaves l d → (k : ℕ) → slice_index d.state.calls k ≡ calls_of k l
+leaves_counts l d left k =
     let first = opening d.state.cluster.limits in
-    let handed : AreHanded 64 l = subst (λ n. AreHanded n l) all left.legal.handed in
-    ap (λ (s : State). slice_index s.calls k) left.state ∙ all_counted first l refl handed k ∙ add_zeros (slice_index first.calls k) (calls_of k l) (zeros 64 k)
+    ap (λ (s : State). slice_index s.calls k) left.state ∙ all_counted first l refl left.legal.handed k ∙ add_zeros (slice_index first.calls k) (calls_of k l) (zeros 64 k)
   where
     add_zeros : (m n : ℕ) → m ≡ 0 → m + n ≡ n
     add_zeros m n e = omega (arith, e)

@@ -138,21 +138,21 @@ module _ (l : List Call) (d : Core) (p : Caller) (e : Step) (answer : Reply) whe
   more = l ++ call p e answer ∷ []
 
   -- a legal history and an answered call are legal
-  pub legal_more : Leaves l d → p.number < d.handed → HasCallsOf p l → answer ≡ reply d.state p.number e → Legal d.state.cluster.limits d.handed (l ++ call p e answer ∷ [])
+  pub legal_more : Leaves l d → p.number < 64 → HasCallsOf p l → answer ≡ reply d.state p.number e → Legal d.state.cluster.limits 64 (l ++ call p e answer ∷ [])
   legal_more left handed calls told = record {
     history = record {
       answered = answered_more _ l (call p e answer) left.legal.history.answered (told ∙ ap (λ s. reply s p.number e) left.state);
       numbered = numbered_more l (call p e answer) left.legal.history.numbered (ap (λ n. n + 1) (sym calls));
     };
-    handed = handed_more d.handed l (call p e answer) left.legal.handed handed;
+    handed = handed_more 64 l (call p e answer) left.legal.handed handed;
   }
 
   -- and leave the desk after the call
-  pub leaves_more : Leaves l d → p.number < d.handed → HasCallsOf p l → answer ≡ reply d.state p.number e → Leaves (l ++ call p e answer ∷ []) (with_state d (after d.state p.number e))
+  pub leaves_more : Leaves l d → p.number < 64 → HasCallsOf p l → answer ≡ reply d.state p.number e → Leaves (l ++ call p e answer ∷ []) (with_state d (after d.state p.number e))
   leaves_more left handed calls told =
       let limits : limits_of (after d.state p.number e) ≡ limits_of d.state = limits_after d.state p.number e in
       record {
-        legal = subst (λ n. Legal n d.handed (l ++ call p e answer ∷ [])) (sym limits) (legal_more left handed calls told);
+        legal = subst (λ n. Legal n 64 (l ++ call p e answer ∷ [])) (sym limits) (legal_more left handed calls told);
         state = ap (λ t. after t p.number e) left.state ∙ sym (state_more (opening d.state.cluster.limits) l (call p e answer)) ∙ ap (λ n. state_after (opening n) (l ++ call p e answer ∷ [])) (sym limits);
       }
 

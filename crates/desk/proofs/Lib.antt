@@ -11,7 +11,6 @@ pub mod Calm
 pub mod Tickets
 pub mod Standing
 pub mod Counting
-pub mod Saying
 pub mod CallCounts
 pub mod Beginnings
 pub mod Adding

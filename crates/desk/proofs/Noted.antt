@@ -30,7 +30,7 @@ use Rattle.desk.specs.declared.step.Reply.TheVariants as replies
 use Rattle.desk.specs.declared.subject.Subject.{Subject}
 use Rattle.desk.specs.declared.subject.Subject.TheVariants as subject
 use Rattle.desk.specs.Machine.{State, Outcome, both, unless, after, reply, told, of_node, of_pod, moved, moved_if_placed, entry_at, pass_number, refusal_to_fail, refusal_to_tick, ticked_to}
-use Rattle.desk.specs.inside.BareReply.{bare_reply, is_refused}
+use Rattle.desk.specs.inside.Done.{is_refused}
 use Rattle.desk.specs.inside.NodeCalls.{tells_of_node}
 use Rattle.book.proofs.SumLemmas.{remove_absent}
 use Rattle.desk.proofs.Steps.{absent, read_insert, read_remove}
@@ -197,11 +197,11 @@ module _ (s : State) (part : ClusterStep) (queue : QueueState) where
   abbrev done : Outcome
   done = record { state = record s { cluster = book_step.effect s.cluster part; queue = queue }; reply = told (book_step.answer s.cluster part) }
 
-  refused_same : (o : Option Refusal) → is_refused (bare_reply done.reply) ≡ false → is_refused (bare_reply (unless o s done).reply) ≡ true → (unless o s done).state ≡ s
+  refused_same : (o : Option Refusal) → is_refused done.reply ≡ false → is_refused ((unless o s done).reply) ≡ true → (unless o s done).state ≡ s
   refused_same None good bad = absurd (cc)
   refused_same (Some why) good bad = refl
 
-  taken_done : (o : Option Refusal) → is_refused (bare_reply (unless o s done).reply) ≡ false → o ≡ None
+  taken_done : (o : Option Refusal) → is_refused ((unless o s done).reply) ≡ false → o ≡ None
   taken_done None good = refl
   taken_done (Some why) good = absurd (cc)
 
@@ -254,27 +254,27 @@ is_gone_step c (Tick now) name is = absurd is
 is_gone_step c Count name is = absurd (cc)
 
 -- a step that tells of a node and is refused changes nothing
-pub set_refused : (s : State) (pass : ℕ) (version : Version) (node : Node) → is_refused (bare_reply (reply s pass (Event (NodeSet version node)))) ≡ true
+pub set_refused : (s : State) (pass : ℕ) (version : Version) (node : Node) → is_refused (reply s pass (Event (NodeSet version node))) ≡ true
     → (after s pass (Event (NodeSet version node))).cluster ≡ s.cluster
 set_refused s pass version node bad =
     let part = of_node s (NodeSet version node) in
     ap (λ (t : State). t.cluster) (refused_same s part (moved s s.queue) (book_step.refusal s.cluster part) refl bad)
 
-pub gone_refused : (s : State) (pass : ℕ) (version : Version) (name : Name) → is_refused (bare_reply (reply s pass (Event (NodeGone version name)))) ≡ true
+pub gone_refused : (s : State) (pass : ℕ) (version : Version) (name : Name) → is_refused (reply s pass (Event (NodeGone version name))) ≡ true
     → (after s pass (Event (NodeGone version name))).cluster ≡ s.cluster
 gone_refused s pass version name bad =
     let part = of_node s (NodeGone version name) in
     ap (λ (t : State). t.cluster) (refused_same s part s.queue (book_step.refusal s.cluster part) refl bad)
 
 -- one that is taken has its effect
-pub set_taken : (s : State) (pass : ℕ) (version : Version) (node : Node) → is_refused (bare_reply (reply s pass (Event (NodeSet version node)))) ≡ false
+pub set_taken : (s : State) (pass : ℕ) (version : Version) (node : Node) → is_refused (reply s pass (Event (NodeSet version node))) ≡ false
     → (book_step.refusal s.cluster (of_node s (NodeSet version node)) ≡ None) × ((after s pass (Event (NodeSet version node))).cluster ≡ record s.cluster { version = version.0; nodes = fin.insert s.cluster.nodes node.name node })
 set_taken s pass version node good =
     let part = of_node s (NodeSet version node) in
     let none = taken_done s part (moved s s.queue) (book_step.refusal s.cluster part) good in
     (none, effect_done s part (moved s s.queue) (book_step.refusal s.cluster part) none)
 
-pub gone_taken : (s : State) (pass : ℕ) (version : Version) (name : Name) → is_refused (bare_reply (reply s pass (Event (NodeGone version name)))) ≡ false
+pub gone_taken : (s : State) (pass : ℕ) (version : Version) (name : Name) → is_refused (reply s pass (Event (NodeGone version name))) ≡ false
     → (book_step.refusal s.cluster (of_node s (NodeGone version name)) ≡ None) × ((after s pass (Event (NodeGone version name))).cluster ≡ record s.cluster { version = version.0; nodes = fin.remove s.cluster.nodes name })
 gone_taken s pass version name good =
     let part = of_node s (NodeGone version name) in
@@ -301,14 +301,14 @@ module _ (s : State) (pass : ℕ) (e : Step) (listed : named (rows_in s.cluster.
     abbrev set : (version : Version) × (e ≡ Event (NodeSet version node))
     set = is_set s.cluster e node is
 
-    pub set_refused_change : is_refused (bare_reply (reply s pass e)) ≡ true → IsChange s.cluster change.Nothing (after s pass e).cluster
+    pub set_refused_change : is_refused (reply s pass e) ≡ true → IsChange s.cluster change.Nothing (after s pass e).cluster
     set_refused_change bad =
-        let same : (after s pass e).cluster ≡ s.cluster = ap (λ (f : Step). (after s pass f).cluster) set.1 ∙ set_refused s pass set.0 node (ap (λ (f : Step). is_refused (bare_reply (reply s pass f))) (sym set.1) ∙ bad) in
+        let same : (after s pass e).cluster ≡ s.cluster = ap (λ (f : Step). (after s pass f).cluster) set.1 ∙ set_refused s pass set.0 node (ap (λ (f : Step). is_refused (reply s pass f)) (sym set.1) ∙ bad) in
         subst (IsChange s.cluster change.Nothing) (sym same) (no_change s.cluster s.cluster refl refl)
 
-    module _ (good : is_refused (bare_reply (reply s pass e)) ≡ false) where
+    module _ (good : is_refused (reply s pass e) ≡ false) where
       abbrev taken : (book_step.refusal s.cluster (of_node s (NodeSet set.0 node)) ≡ None) × ((after s pass (Event (NodeSet set.0 node))).cluster ≡ record s.cluster { version = set.0.0; nodes = fin.insert s.cluster.nodes node.name node })
-      taken = set_taken s pass set.0 node (ap (λ (f : Step). is_refused (bare_reply (reply s pass f))) (sym set.1) ∙ good)
+      taken = set_taken s pass set.0 node (ap (λ (f : Step). is_refused (reply s pass f)) (sym set.1) ∙ good)
 
       effect : (after s pass e).cluster ≡ record s.cluster { version = set.0.0; nodes = fin.insert s.cluster.nodes node.name node }
       effect = ap (λ (f : Step). (after s pass f).cluster) set.1 ∙ taken.1
@@ -328,14 +328,14 @@ module _ (s : State) (pass : ℕ) (e : Step) (listed : named (rows_in s.cluster.
     abbrev gone : (version : Version) × (e ≡ Event (NodeGone version name))
     gone = is_gone_step s.cluster e name is
 
-    pub gone_refused_change : is_refused (bare_reply (reply s pass e)) ≡ true → IsChange s.cluster change.Nothing (after s pass e).cluster
+    pub gone_refused_change : is_refused (reply s pass e) ≡ true → IsChange s.cluster change.Nothing (after s pass e).cluster
     gone_refused_change bad =
-        let same : (after s pass e).cluster ≡ s.cluster = ap (λ (f : Step). (after s pass f).cluster) gone.1 ∙ gone_refused s pass gone.0 name (ap (λ (f : Step). is_refused (bare_reply (reply s pass f))) (sym gone.1) ∙ bad) in
+        let same : (after s pass e).cluster ≡ s.cluster = ap (λ (f : Step). (after s pass f).cluster) gone.1 ∙ gone_refused s pass gone.0 name (ap (λ (f : Step). is_refused (reply s pass f)) (sym gone.1) ∙ bad) in
         subst (IsChange s.cluster change.Nothing) (sym same) (no_change s.cluster s.cluster refl refl)
 
-    module _ (good : is_refused (bare_reply (reply s pass e)) ≡ false) where
+    module _ (good : is_refused (reply s pass e) ≡ false) where
       abbrev left : (book_step.refusal s.cluster (of_node s (NodeGone gone.0 name)) ≡ None) × ((after s pass (Event (NodeGone gone.0 name))).cluster ≡ record s.cluster { version = gone.0.0; nodes = fin.remove s.cluster.nodes name })
-      left = gone_taken s pass gone.0 name (ap (λ (f : Step). is_refused (bare_reply (reply s pass f))) (sym gone.1) ∙ good)
+      left = gone_taken s pass gone.0 name (ap (λ (f : Step). is_refused (reply s pass f)) (sym gone.1) ∙ good)
 
       lost : (after s pass e).cluster ≡ record s.cluster { version = gone.0.0; nodes = fin.remove s.cluster.nodes name }
       lost = ap (λ (f : Step). (after s pass f).cluster) gone.1 ∙ left.1

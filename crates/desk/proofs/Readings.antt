@@ -278,4 +278,4 @@ module _ (limits : Limits) (passes : ℕ) (l : List Call) (legal : Legal limits 
 pub snapshot_told : (d : Core) (l : List Call) → Leaves l d → snapshot d.state.cluster ≡ snap l
 snapshot_told d l left =
     ap (λ (t : State). snapshot t.cluster) left.state
-    ∙ (λ i. shows (nodes_told d.state.cluster.limits d.handed l left.legal i) (places_told d.state.cluster.limits d.handed l left.legal i))
+    ∙ (λ i. shows (nodes_told d.state.cluster.limits 64 l left.legal i) (places_told d.state.cluster.limits 64 l left.legal i))

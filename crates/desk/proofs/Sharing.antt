@@ -41,7 +41,7 @@ goes_on p seen l begins before own =
 module _ (book : Book) (limits : Limits) (x : Held) (stands : Stands book limits x) where
   -- the counts of the published desk are those of its history
   counts : (k : ℕ) → slice_index x.desk.state.calls k ≡ calls_of k x.prefix.list
-  counts = leaves_counts x.prefix.list x.desk stands.leaves stands.handed_are
+  counts = leaves_counts x.prefix.list x.desk stands.leaves
 
   -- a pass whose history begins the published one, and which counts its calls alike, may go on to it, where no pass has a
   -- call that wasn't handed out
@@ -52,7 +52,7 @@ module _ (book : Book) (limits : Limits) (x : Held) (stands : Stands book limits
       record {
         legal = record {
           history = subst (λ n. Rattle.desk.specs.History.IsHistory n x.prefix.list) stands.limits_are stands.leaves.legal.history;
-          handed = handed_fewer x.desk.handed handed x.prefix.list stands.leaves.legal.handed (λ (k : ℕ) (le : handed ≤ k). sym (counts k) ∙ none k le);
+          handed = handed_fewer 64 handed x.prefix.list stands.leaves.legal.handed (λ (k : ℕ) (le : handed ≤ k). sym (counts k) ∙ none k le);
         };
         goes_on = goes_on p.caller p.seen x.prefix.list begins before own;
         own = own;
@@ -73,11 +73,9 @@ module _ (book : Book) (limits : Limits) (x : Held) (stands : Stands book limits
     -- one call more stands
     pub stands_more : pass < 64 → calls_of pass x.prefix.list ≡ calls → Stands book limits (held_after x pass e (with_call x.prefix (next_call x.desk.state pass (calls + 1) e)))
     stands_more lt own =
-        let handed : pass < x.desk.handed = omega (arith, lt, stands.handed_are) in
         record {
-          leaves = leaves_more x.prefix.list x.desk (record { number = pass; calls = calls }) e (reply x.desk.state pass e) stands.leaves handed own refl;
+          leaves = leaves_more x.prefix.list x.desk (record { number = pass; calls = calls }) e (reply x.desk.state pass e) stands.leaves lt own refl;
           limits_are = limits_after x.desk.state pass e ∙ stands.limits_are;
-          handed_are = stands.handed_are;
           book_is = stands.book_is;
         }
 
@@ -86,7 +84,7 @@ module _ (book : Book) (limits : Limits) (x : Held) (stands : Stands book limits
         → IsApplied (record { limits = limits; handed = handed }) p e (reply x.desk.state pass e) (record { caller = record { number = pass; calls = calls + 1 }; seen = x.prefix.list ++ next_call x.desk.state pass (calls + 1) e ∷ [] })
     applied_more handed p is lt few ahead =
         let own : calls_of pass x.prefix.list ≡ calls = ap (λ (q : Caller). calls_of q.number x.prefix.list) (sym is) ∙ ahead.own ∙ ap (λ (q : Caller). q.calls) is in
-        let all : pass < x.desk.handed = omega (arith, lt, few, stands.handed_are) in
+        let all : pass < 64 = omega (arith, lt, few) in
         let whole = legal_more x.prefix.list x.desk (record { number = pass; calls = calls }) e (reply x.desk.state pass e) stands.leaves all own refl in
         record {
           until = x.prefix.list;
@@ -107,7 +105,6 @@ stands_first book limits = record {
   book_is = refl;
   leaves = record { legal = record { history = record { answered = tt; numbered = λ (pass : ℕ). refl }; handed = tt }; state = refl };
   limits_are = refl;
-  handed_are = refl;
 }
 
 -- ---- a call
@@ -119,7 +116,7 @@ module _ (book : Book) (limits : Limits) (x : Held) (stands : Stands book limits
 
   -- the desk counts the pass's calls as the pass does
   pub counted_alike : slice_index x.desk.state.calls p.number ≡ p.calls
-  counted_alike = leaves_counts x.prefix.list x.desk stands.leaves stands.handed_are p.number ∙ own
+  counted_alike = leaves_counts x.prefix.list x.desk stands.leaves p.number ∙ own
 
 -- ---- what is published
 

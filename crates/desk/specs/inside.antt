@@ -6,5 +6,4 @@ pub mod Codes
 pub mod SharedCodes
 pub mod BoardCodes
 pub mod NodeCalls
-pub mod BareReply
 pub mod Done

@@ -1,14 +1,12 @@
 //! The state of a desk, and each step on it. It has one owner: what passes share it by is a lock, and a board for looks.
-ghost use Rattle.std.specs.Prelude.{◌≡◌, ◌≤◌, ◌<◌, ◌+◌, ℕ, map, IfOk, IfSome, IsErr, MatchResult, slice_index};
+ghost use Rattle.std.specs.Prelude.{◌≡◌, ◌≤◌, ◌<◌, ◌+◌, ℕ, map, IfOk, IfSome, IsErr, IsSome, MatchResult, slice_index};
 ghost use Rattle.std.specs.Bool.{IsTrue};
-ghost use Rattle.desk.specs.inside.BareReply.{bare_reply};
 ghost use Rattle.book.specs.Expiry.{any_expired, without_expired};
 ghost use Rattle.desk.specs.Machine.{after_expiry};
 ghost use Rattle.desk.specs.declared.limits.TheConstants.{MAX_CALLS};
 
 mod noting;
 
-use crate::bare_reply::BareReply;
 use crate::limits::MAX_PASSES;
 use crate::step::{Counts, Reply, Step};
 use book::{Book, ClusterStep, Entry, Limits, NoMemory, Refusal};
@@ -18,8 +16,7 @@ use std::alloc::Global;
 use std::hash::RandomState;
 use std::marker::Model;
 
-/// Book, queue and clock, how many calls of each pass were answered, and of how many passes calls are taken. Each step is done
-/// or refused here.
+/// Book, queue and clock, and how many calls of each pass were answered. Each step is done or refused here.
 #[derive(Drop)]
 pub struct Core {
     alloc: Global,
@@ -27,7 +24,6 @@ pub struct Core {
     queue: Queue,
     clock: Moment,
     calls: [u64; MAX_PASSES],
-    handed: usize,
 }
 
 impl Model for Core {
@@ -43,22 +39,21 @@ impl Model for Core {
     ghost use Rattle.quant.specs.declared.limits.TheConstants.{LATEST_MOMENT};
     ghost use Rattle.desk.specs.declared.limits.TheConstants.{MAX_PASSES};
 
-    ghost view = { λ d. record { state = record { cluster = d.book; queue = d.queue; clock = d.clock; calls = d.calls }; handed = d.handed } };
+    ghost view = { λ d. record { state = record { cluster = d.book; queue = d.queue; clock = d.clock; calls = d.calls } } };
 
-    ghost invariant = { λ d. (length d.calls ≡ MAX_PASSES) × (d.handed ≤ MAX_PASSES) × (d.clock.0 ≤ LATEST_MOMENT) };
+    ghost invariant = { λ d. (length d.calls ≡ MAX_PASSES) × (d.clock.0 ≤ LATEST_MOMENT) };
 }
 
 impl Core {
     ghost use Rattle.desk.specs.Caller.{IsTimely};
-    ghost use Rattle.desk.specs.inside.Caller.{new_core, with_state, hands_out};
+    ghost use Rattle.desk.specs.inside.Caller.{new_core, with_state, handed_by};
     ghost use Rattle.desk.specs.Machine.{both, of_node, moved, step, entry_for, counts, reply, after, snapshot};
     ghost use Rattle.desk.specs.Machine as machine;
     ghost use Rattle.desk.specs.inside.Done.{IsTold, IsTaken, IsDone, IsSaid};
-    ghost use Rattle.desk.specs.inside.BareReply.{bare_reply, handed_by};
     ghost use Rattle.queue.specs.Queue.{has_entry, after_remove};
     ghost use Rattle.queue.specs.Queue as queue;
 
-    /// No nodes and no pods; calls are taken of all passes. Names are looked up under the keys, so that nobody can choose names
+    /// No nodes and no pods. Names are looked up under the keys, so that nobody can choose names
     /// that are slow to look up.
     ///
     /// Errors: `NoMemory`.
@@ -73,7 +68,6 @@ impl Core {
             queue,
             clock: Moment(0),
             calls: [0; MAX_PASSES],
-            handed: MAX_PASSES,
         })
     }
 
@@ -284,7 +278,7 @@ impl Core {
     // One more owner of the pod that a step hands out, if it hands one out.
     pub(crate) fn pod_for(&self, step: &Step) -> Result<Option<SharedPod>, NoMemory>
         ensures pod { IfOk result (λ pod. pod ≡ handed_by self.now.state step.now) }
-        ensures no_memory { IsErr result → IsTrue (hands_out self.now.state step.now) }
+        ensures no_memory { IsErr result → IsSome (handed_by self.now.state step.now) }
     {
         if !matches!(step, Step::Pop) {
             return Ok(None);
@@ -295,14 +289,16 @@ impl Core {
         }
     }
 
-    // The pod that goes first is the pass's now.
+    // The pod that goes first is the pass's now, if there is one: this one.
     #[tactic(auto, unfolding(queue::specs::Queue::after_pop))]
-    fn pop(&mut self, pass: usize) -> BareReply
+    fn pop(&mut self, pass: usize, first: Option<SharedPod>) -> Reply
+        requires { first ≡ handed_by self.old.state Step.Pop }
         ensures { IsSaid self.old pass Step.Pop result self.new }
     {
-        match self.queue.pop(PassNumber(pass as u64)) {
-            Some(_) => BareReply::Popped,
-            None => BareReply::Idle,
+        let _ = self.queue.pop(PassNumber(pass as u64));
+        match first {
+            Some(pod) => Reply::Popped(pod),
+            None => Reply::Idle,
         }
     }
 
@@ -324,20 +320,22 @@ impl Core {
         }
     }
 
-    // Does a step for a pass, or refuses it, and says so. It takes no memory and hands nothing out. No call is counted.
-    fn do_step(&mut self, pass: usize, step: Step) -> BareReply
-        requires { IsTimely step }
+    // Does a step for a pass, or refuses it, and says so. It takes no memory, and hands out the pod that goes first, if the step
+    // hands one out. No call is counted.
+    fn do_step(&mut self, pass: usize, step: Step, first: Option<SharedPod>) -> Reply
+        requires timely { IsTimely step }
+        requires first { first ≡ handed_by self.old.state step }
         ensures { IsSaid self.old pass step result self.new }
     {
         match step {
-            Step::Pop => self.pop(pass),
+            Step::Pop => self.pop(pass, first),
             Step::Event(event) => said(self.take_event(event)),
             Step::Assume { uid, node } => said(self.assume(pass, uid, node)),
             Step::BindDone { uid, ticket } => said(self.finish_bind(uid, ticket)),
             Step::Forget { uid, ticket } => said(self.forget(uid, ticket)),
             Step::Fail { uid, how } => said(self.fail(pass, uid, how)),
             Step::Tick(now) => said(self.tick(now)),
-            Step::Count => BareReply::Counts(self.counts()),
+            Step::Count => Reply::Counts(self.counts()),
         }
     }
 
@@ -366,18 +364,20 @@ impl Core {
         book
     }
 
-    // Does a step for a pass, or refuses it, says so, and counts the call. It takes no memory and hands nothing out.
-    pub(crate) fn take_call(&mut self, pass: usize, step: Step) -> BareReply
-        requires handed { pass < self.old.handed }
+    // Does a step for a pass, or refuses it, says so, and counts the call. It takes no memory, and hands out the pod that goes
+    // first, if the step hands one out.
+    pub(crate) fn take_call(&mut self, pass: usize, step: Step, first: Option<SharedPod>) -> Reply
+        requires handed { pass < MAX_PASSES }
         requires fits { slice_index self.old.state.calls pass < MAX_CALLS }
         requires timely { IsTimely step }
-        ensures said { result ≡ bare_reply (reply self.old.state pass step) }
+        requires first { first ≡ handed_by self.old.state step }
+        ensures said { result ≡ reply self.old.state pass step }
         ensures after { self.new ≡ with_state self.old (after self.old.state pass step) }
         ensures counted { slice_index self.new.state.calls pass ≡ slice_index self.old.state.calls pass + 1 }
     {
         // A pass's number is within its desk's counts.
         let _ = &self.calls;
-        let said = self.do_step(pass, step);
+        let said = self.do_step(pass, step, first);
         self.calls[pass] += 1;
         said
     }
@@ -400,11 +400,11 @@ fn expire_all(book: &mut Book, queue: &mut Queue, now: Moment) -> bool
 }
 
 // What there is to say of a step that was done or refused.
-fn said(done: Result<Reply, Refusal>) -> BareReply
-    ensures { MatchResult done (λ reply. result ≡ bare_reply reply) (λ why. result ≡ BareReply.Refused why) }
+fn said(done: Result<Reply, Refusal>) -> Reply
+    ensures { MatchResult done (λ reply. result ≡ reply) (λ why. result ≡ Reply.Refused why) }
 {
     match done {
-        Ok(reply) => BareReply::of(&reply),
-        Err(why) => BareReply::Refused(why),
+        Ok(reply) => reply,
+        Err(why) => Reply::Refused(why),
     }
 }

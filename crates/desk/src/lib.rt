@@ -10,12 +10,11 @@
 //! - The history exists in the proofs alone: `Prefix` is a beginning of it that was seen, `Head` the word that threads share,
 //!   its length. `HistoryRule` says how it grows: by one `NextCall` at a time. `Naming` tells one desk from another, and `Blank`
 //!   is a history before it has a name.
-//! - `Step`, `Reply` and `Counts` are what is asked and answered; `BareReply` is an answer without the pod that it hands out.
+//! - `Step`, `Reply` and `Counts` are what is asked and answered.
 //!   `Snapshot` is what a look shows.
 //! - What holds of every history are the laws.
 #![tactic(auto)]
 
-mod bare_reply;
 mod board;
 mod board_rule;
 mod change;

@@ -162,3 +162,14 @@ pub enum Reply {
     /// The step was refused, and changed nothing but the caller's count of calls.
     Refused(Refusal),
 }
+
+impl Reply {
+    ghost use Rattle.desk.specs.inside.Done.{is_refused};
+
+    // Whether the step was refused.
+    pub(crate) fn is_refused(&self) -> bool
+        ensures { result ≡ is_refused self.now }
+    {
+        matches!(self, Reply::Refused(_))
+    }
+}

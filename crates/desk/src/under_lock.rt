@@ -2,14 +2,12 @@
 ghost use Rattle.std.specs.Prelude.{◌≡◌, ◌+◌, ◌<◌, ◌≤◌, ◌++◌, ◌∷◌, [], fold, drop, slice_index, IfOk, OnErr, IsErr, MatchBool};
 ghost use Rattle.desk.specs.inside.Board.{IsBoard, IsSubject, board_after, board_of};
 ghost use Rattle.desk.specs.Caller.{IsTimely};
-ghost use Rattle.desk.specs.inside.Caller.{new_core};
-ghost use Rattle.desk.specs.inside.BareReply.{bare_reply, handed_by};
+ghost use Rattle.desk.specs.inside.Caller.{new_core, handed_by};
 ghost use Rattle.desk.specs.Machine.{reply};
 ghost use Rattle.desk.specs.Shared.{IsAhead, IsApplied, Met, Closed};
 ghost use Rattle.desk.specs.inside.Shared.{Stands, first_held, held_after, prefix_after};
 ghost use Rattle.desk.specs.declared.limits.TheConstants.{MAX_PASSES, MAX_CALLS};
 
-use crate::bare_reply::BareReply;
 use crate::board::{Board, Order};
 use crate::board_rule::{BoardRule, Sees};
 use crate::change::Change;
@@ -272,15 +270,17 @@ impl<J: Naming> UnderLock<J> {
         step: Step,
         prefix: Prefix,
         subject: Subject,
-    ) -> (Self, BareReply)
-        requires number { pass.now.caller.number < self.desk.handed }
+        first: Option<SharedPod>,
+    ) -> (Self, Reply)
+        requires number { pass.now.caller.number < MAX_PASSES }
         requires fits { pass.now.caller.calls < MAX_CALLS }
         requires calls { slice_index self.desk.state.calls pass.now.caller.number ≡ pass.now.caller.calls }
         requires timely { IsTimely step }
         requires subject { IsSubject self.desk.state.cluster step subject }
+        requires first { first ≡ handed_by self.desk.state step }
         requires stands { Stands J.book J.limits (held_after self pass.now.caller.number step prefix) }
         ensures held { result.0 ≡ held_after self pass.now.caller.number step prefix }
-        ensures said { result.1 ≡ bare_reply (reply self.desk.state pass.now.caller.number step) }
+        ensures said { result.1 ≡ reply self.desk.state pass.now.caller.number step }
     {
         let UnderLock {
             core,
@@ -289,7 +289,7 @@ impl<J: Naming> UnderLock<J> {
             has_room,
         } = self;
         let mut core = core;
-        let (said, change) = core.take_noted(pass.number(), step, subject);
+        let (said, change) = core.take_noted(pass.number(), step, subject, first);
         let order = Order {
             change,
             pass: pass.number(),
@@ -336,9 +336,9 @@ impl<J: Naming> UnderLock<J> {
                 },
             ) => {
                 let seen = prefix.again();
-                let (held, said) = held.take_call(rt, pass, step, prefix, subject);
+                let (held, said) = held.take_call(rt, pass, step, prefix, subject, pod);
                 pass.count(seen);
-                (held, Ok(said.with(pod)))
+                (held, Ok(said))
             }
         }
     }

@@ -1,20 +1,19 @@
--- A desk with one owner, and which passes it has handed out.
-use Rattle.std.specs.Prelude.{◌≡◌, ℕ, ◌≤◌, List, slice_index, Bool, false, is_some}
+-- A desk with one owner.
+use Rattle.std.specs.Prelude.{◌≡◌, ℕ, ◌≤◌, List, slice_index, Option, None, option_map}
+use Rattle.quant.specs.declared.objects.Pod.{Pod}
 use Rattle.queue.specs.Queue.{next_of}
 use Rattle.book.specs.declared.limits.Limits.{Limits}
-use Rattle.desk.specs.declared.limits.TheConstants.{MAX_PASSES}
 use Rattle.desk.specs.declared.step.Step.{Step}
 use Rattle.desk.specs.declared.step.Step.TheVariants.{Pop}
 use Rattle.desk.specs.Machine.{State, opening}
 
--- a desk with one owner: its state, and how many passes it takes calls of
+-- a desk with one owner: its state
 pub record Core : Type 0 where
   pub state : State
-  pub handed : ℕ
 
--- one that takes calls of all passes, and has answered none
+-- one that has answered no call
 abbrev pub new_core : Limits → Core
-new_core limits = record { state = opening limits; handed = MAX_PASSES }
+new_core limits = record { state = opening limits }
 
 -- one with another state
 abbrev pub with_state : Core → State → Core
@@ -24,7 +23,7 @@ with_state desk s = record desk { state = s }
 abbrev pub HasNoCalls : ℕ → List ℕ → Type 0
 HasNoCalls handed calls = (pass : ℕ) → handed ≤ pass → slice_index calls pass ≡ 0
 
--- a step that hands a pod out, of which the desk then is one owner more
-abbrev pub hands_out : State → Step → Bool
-hands_out s Pop = is_some (next_of s.queue)
-hands_out s e = false
+-- the pod that a step hands out, of which the desk then is one owner more
+abbrev pub handed_by : State → Step → Option Pod
+handed_by s Pop = option_map (λ item. item.1.pod) (next_of s.queue)
+handed_by s e = None

@@ -32,6 +32,6 @@ state_code =
     (λ p. record { cluster = p.0; queue = p.1.0; clock = p.1.1.0; calls = p.1.1.1 })
     (λ _. refl)
 
--- and a desk as its state and its passes
+-- and a desk as its state
 abbrev pub core_code : Coded Core
-core_code = code_by (State × ℕ) (coded× state_code coded_ℕ) (λ d. (d.state, d.handed)) (λ p. record { state = p.0; handed = p.1 }) (λ _. refl)
+core_code = code_by State state_code (λ d. d.state) (λ s. record { state = s }) (λ _. refl)

@@ -2,7 +2,6 @@
 use Rattle.std.specs.Prelude.{◌≡◌, ℕ, ◌+◌, ◌==◌, true, List, [], ◌∷◌, ◌++◌, length, MatchBool}
 use Rattle.logbook.specs.Pages.{Cell, Step as WordStep, View, Book, Named}
 use Rattle.book.specs.declared.limits.Limits.{Limits}
-use Rattle.desk.specs.declared.limits.TheConstants.{MAX_PASSES}
 use Rattle.desk.specs.declared.step.Step.{Step}
 use Rattle.desk.specs.declared.step.Step.TheVariants.{Count}
 use Rattle.desk.specs.declared.step.Reply.TheVariants as replies
@@ -55,7 +54,6 @@ pub record Stands (book : Book) (limits : Limits) (x : Held) : Type 0 where
   pub leaves : Leaves x.prefix.list x.desk
   pub book_is : x.prefix.book ≡ book
   pub limits_are : x.desk.state.cluster.limits ≡ limits
-  pub handed_are : x.desk.handed ≡ MAX_PASSES
 
 -- what is held of a desk on which nothing was done
 abbrev pub first_held : Book → Limits → Held

@@ -4,21 +4,19 @@ ghost use Rattle.std.specs.Option.{option_map};
 ghost use Rattle.std.specs.FinMap as fin;
 ghost use Rattle.book.specs.Rows.{rows_in};
 ghost use Rattle.book.specs.Used.{nothing};
-ghost use Rattle.desk.specs.inside.BareReply.{bare_reply};
 ghost use Rattle.desk.specs.inside.Board.{IsSubject, IsChange, IsRowUnder, total_in, used_in};
 ghost use Rattle.book.specs.Cluster.{Cluster};
 ghost use Rattle.desk.specs.Caller.{IsTimely};
-ghost use Rattle.desk.specs.inside.Caller.{with_state};
+ghost use Rattle.desk.specs.inside.Caller.{with_state, handed_by};
 ghost use Rattle.desk.specs.Machine.{reply, after};
-ghost use Rattle.desk.specs.declared.limits.TheConstants.{MAX_CALLS};
+ghost use Rattle.desk.specs.declared.limits.TheConstants.{MAX_CALLS, MAX_PASSES};
 
 use super::Core;
-use crate::bare_reply::BareReply;
 use crate::change::{Change, Total};
-use crate::step::Step;
+use crate::step::{Reply, Step};
 use crate::subject::Subject;
 use book::NoMemory;
-use quant::{Event, Moment, Name, Res, SharedNode};
+use quant::{Event, Moment, Name, Res, SharedNode, SharedPod};
 
 impl Core {
     /// Whose rows a step may change.
@@ -50,57 +48,72 @@ impl Core {
     }
 
     /// Does a step for a pass, or refuses it, says so, and counts the call; with what it changed of the rows of nodes. It takes no
-    /// memory and hands nothing out.
+    /// memory, and hands out the pod that goes first, if the step hands one out.
     pub(crate) fn take_noted(
         &mut self,
         pass: usize,
         step: Step,
         subject: Subject,
-    ) -> (BareReply, Change)
-        requires handed { pass < self.old.handed }
+        first: Option<SharedPod>,
+    ) -> (Reply, Change)
+        requires handed { pass < MAX_PASSES }
         requires fits { slice_index self.old.state.calls pass < MAX_CALLS }
         requires timely { IsTimely step }
+        requires first { first ≡ handed_by self.old.state step }
         requires subject { IsSubject self.old.state.cluster step subject }
-        ensures said { result.0 ≡ bare_reply (reply self.old.state pass step) }
+        ensures said { result.0 ≡ reply self.old.state pass step }
         ensures after { self.new ≡ with_state self.old (after self.old.state pass step) }
         ensures changed { IsChange self.old.state.cluster result.1 self.new.state.cluster }
     {
         match subject {
-            Subject::Nothing => self.take_of_nobody(pass, step),
-            Subject::Pod(uid) => self.take_of_pod(pass, step, &uid),
-            Subject::Set(node) => self.take_of_node(pass, step, node),
-            Subject::Gone(name) => self.take_of_gone(pass, step, &name),
-            Subject::All(used) => self.take_of_all(pass, step, used),
+            Subject::Nothing => self.take_of_nobody(pass, step, first),
+            Subject::Pod(uid) => self.take_of_pod(pass, step, first, &uid),
+            Subject::Set(node) => self.take_of_node(pass, step, first, node),
+            Subject::Gone(name) => self.take_of_gone(pass, step, first, &name),
+            Subject::All(used) => self.take_of_all(pass, step, first, used),
         }
     }
 
     // A step that changes no row.
-    fn take_of_nobody(&mut self, pass: usize, step: Step) -> (BareReply, Change)
-        requires handed { pass < self.old.handed }
+    fn take_of_nobody(
+        &mut self,
+        pass: usize,
+        step: Step,
+        first: Option<SharedPod>,
+    ) -> (Reply, Change)
+        requires handed { pass < MAX_PASSES }
         requires fits { slice_index self.old.state.calls pass < MAX_CALLS }
         requires timely { IsTimely step }
+        requires first { first ≡ handed_by self.old.state step }
         requires subject { IsSubject self.old.state.cluster step Subject.Nothing }
-        ensures said { result.0 ≡ bare_reply (reply self.old.state pass step) }
+        ensures said { result.0 ≡ reply self.old.state pass step }
         ensures after { self.new ≡ with_state self.old (after self.old.state pass step) }
         ensures changed { IsChange self.old.state.cluster result.1 self.new.state.cluster }
     {
-        (self.take_call(pass, step), Change::Nothing)
+        (self.take_call(pass, step, first), Change::Nothing)
     }
 
     // A step that may move a pod.
-    fn take_of_pod(&mut self, pass: usize, step: Step, uid: &Name) -> (BareReply, Change)
-        requires handed { pass < self.old.handed }
+    fn take_of_pod(
+        &mut self,
+        pass: usize,
+        step: Step,
+        first: Option<SharedPod>,
+        uid: &Name,
+    ) -> (Reply, Change)
+        requires handed { pass < MAX_PASSES }
         requires fits { slice_index self.old.state.calls pass < MAX_CALLS }
         requires timely { IsTimely step }
+        requires first { first ≡ handed_by self.old.state step }
         requires subject { IsSubject self.old.state.cluster step (Subject.Pod uid.now) }
-        ensures said { result.0 ≡ bare_reply (reply self.old.state pass step) }
+        ensures said { result.0 ≡ reply self.old.state pass step }
         ensures after { self.new ≡ with_state self.old (after self.old.state pass step) }
         ensures changed { IsChange self.old.state.cluster result.1 self.new.state.cluster }
     {
         // The rows are those of the nodes, by name.
         let _ = self.book.rows();
         let before = self.row_under(uid);
-        let said = self.take_call(pass, step);
+        let said = self.take_call(pass, step, first);
         let now = self.row_under(uid);
         (
             said,
@@ -109,17 +122,24 @@ impl Core {
     }
 
     // A step that tells of a node.
-    fn take_of_node(&mut self, pass: usize, step: Step, node: SharedNode) -> (BareReply, Change)
-        requires handed { pass < self.old.handed }
+    fn take_of_node(
+        &mut self,
+        pass: usize,
+        step: Step,
+        first: Option<SharedPod>,
+        node: SharedNode,
+    ) -> (Reply, Change)
+        requires handed { pass < MAX_PASSES }
         requires fits { slice_index self.old.state.calls pass < MAX_CALLS }
         requires timely { IsTimely step }
+        requires first { first ≡ handed_by self.old.state step }
         requires subject { IsSubject self.old.state.cluster step (Subject.Set node) }
-        ensures said { result.0 ≡ bare_reply (reply self.old.state pass step) }
+        ensures said { result.0 ≡ reply self.old.state pass step }
         ensures after { self.new ≡ with_state self.old (after self.old.state pass step) }
         ensures changed { IsChange self.old.state.cluster result.1 self.new.state.cluster }
     {
         let found = self.book.find_row(&node.name);
-        let said = self.take_call(pass, step);
+        let said = self.take_call(pass, step, first);
         if said.is_refused() {
             return (said, Change::Nothing);
         }
@@ -130,17 +150,24 @@ impl Core {
     }
 
     // A step that tells that a node is gone.
-    fn take_of_gone(&mut self, pass: usize, step: Step, name: &Name) -> (BareReply, Change)
-        requires handed { pass < self.old.handed }
+    fn take_of_gone(
+        &mut self,
+        pass: usize,
+        step: Step,
+        first: Option<SharedPod>,
+        name: &Name,
+    ) -> (Reply, Change)
+        requires handed { pass < MAX_PASSES }
         requires fits { slice_index self.old.state.calls pass < MAX_CALLS }
         requires timely { IsTimely step }
+        requires first { first ≡ handed_by self.old.state step }
         requires subject { IsSubject self.old.state.cluster step (Subject.Gone name.now) }
-        ensures said { result.0 ≡ bare_reply (reply self.old.state pass step) }
+        ensures said { result.0 ≡ reply self.old.state pass step }
         ensures after { self.new ≡ with_state self.old (after self.old.state pass step) }
         ensures changed { IsChange self.old.state.cluster result.1 self.new.state.cluster }
     {
         let found = self.book.find_row(name);
-        let said = self.take_call(pass, step);
+        let said = self.take_call(pass, step, first);
         if said.is_refused() {
             return (said, Change::Nothing);
         }
@@ -152,16 +179,23 @@ impl Core {
     }
 
     // A step by which places expire.
-    fn take_of_all(&mut self, pass: usize, step: Step, used: Vec<Res>) -> (BareReply, Change)
-        requires handed { pass < self.old.handed }
+    fn take_of_all(
+        &mut self,
+        pass: usize,
+        step: Step,
+        first: Option<SharedPod>,
+        used: Vec<Res>,
+    ) -> (Reply, Change)
+        requires handed { pass < MAX_PASSES }
         requires fits { slice_index self.old.state.calls pass < MAX_CALLS }
         requires timely { IsTimely step }
+        requires first { first ≡ handed_by self.old.state step }
         requires subject { IsSubject self.old.state.cluster step (Subject.All used) }
-        ensures said { result.0 ≡ bare_reply (reply self.old.state pass step) }
+        ensures said { result.0 ≡ reply self.old.state pass step }
         ensures after { self.new ≡ with_state self.old (after self.old.state pass step) }
         ensures changed { IsChange self.old.state.cluster result.1 self.new.state.cluster }
     {
-        let said = self.take_call(pass, step);
+        let said = self.take_call(pass, step, first);
         let mut used = used;
         used.extend_from_slice(self.book.used_of_rows()).unwrap();
         (said, Change::AllUsed(used))

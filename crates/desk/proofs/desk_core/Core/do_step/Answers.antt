@@ -2,21 +2,19 @@ use Rattle.std.proofs.Common.{◌≡◌, ℕ, Result, Ok, Err, MatchResult, sym,
 use Rattle.book.specs.declared.refusal.Refusal.{Refusal}
 use Rattle.desk.specs.declared.step.Step.{Step}
 use Rattle.desk.specs.declared.step.Reply.{Reply}
-use Rattle.desk.specs.declared.bare_reply.BareReply.{BareReply}
-use Rattle.desk.specs.declared.bare_reply.BareReply.TheVariants as said
+use Rattle.desk.specs.declared.step.Reply.TheVariants.{Refused}
 use Rattle.desk.specs.inside.Caller.{Core}
 use Rattle.desk.specs.Machine.{Outcome, step}
-use Rattle.desk.specs.inside.BareReply.{bare_reply}
 use Rattle.desk.specs.inside.Done.{IsDone, IsSaid}
 use Rattle.desk.proofs.desk_core.Core.do_step.Goals as goal
 
 -- what was done or refused is said so
-done_said : (old : Core) (pass : ℕ) (e : Step) (done : Result Reply Refusal) (new : Core) (r : BareReply)
-    → IsDone old (step old.state pass e) done new → MatchResult done (λ reply. r ≡ bare_reply reply) (λ why. r ≡ said.Refused why)
+done_said : (old : Core) (pass : ℕ) (e : Step) (done : Result Reply Refusal) (new : Core) (r : Reply)
+    → IsDone old (step old.state pass e) done new → MatchResult done (λ reply. r ≡ reply) (λ why. r ≡ Refused why)
     → IsSaid old pass e r new
-done_said old pass e (Ok reply) new r is told = (told ∙ ap (λ (o : Outcome). bare_reply o.reply) (sym is.0), ap (λ (o : Outcome). o.state) is.0, is.1)
+done_said old pass e (Ok reply) new r is told = (told ∙ ap (λ (o : Outcome). o.reply) (sym is.0), ap (λ (o : Outcome). o.state) is.0, is.1)
 done_said old pass e (Err why) new r is told = (
-  told ∙ ap (λ (o : Outcome). bare_reply o.reply) (sym is.0),
+  told ∙ ap (λ (o : Outcome). o.reply) (sym is.0),
   ap (λ (o : Outcome). o.state) is.0 ∙ ap (λ (n : Core). n.state) (sym is.1),
   is.1 ∙ ap (λ (n : Core). record old { state = n.state }) (sym is.1),
 )

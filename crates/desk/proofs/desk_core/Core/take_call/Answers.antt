@@ -16,7 +16,5 @@ pub returns-clause-counted : goal.returns-clause-counted
 returns-clause-counted c =
     let s = c.args.self.now.state in
     let same : c.self-2.inside.calls ≡ s.calls = ap (λ (d : Core). d.state.calls) c.self-2.view_is ∙ sym (ap (λ t. t.calls) c.do_step-said.ensures.1) ∙ calls_kept s c.args.pass c.args.step in
-    let few : c.self.inside.handed ≤ 64 = c.self.invariant.1 in
-    let handed : c.self.inside.handed ≡ c.args.self.now.handed = ap (λ (d : Core). d.handed) c.self.view_is in
-    let within : c.args.pass < length c.self-2.inside.calls = omega (arith, few, handed, c.requires.handed, c.self-2.told) in
+    let within : c.args.pass < length c.self-2.inside.calls = omega (arith, c.requires.handed, c.self-2.told) in
     get_or-set_same c.self-2.inside.calls c.args.pass _ 0 within ∙ ap (λ calls. slice_index calls c.args.pass + 1) same

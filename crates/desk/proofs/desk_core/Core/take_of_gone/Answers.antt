@@ -3,7 +3,7 @@ use Rattle.std.specs.FinMap.{entries}
 use Rattle.book.specs.Cluster.{Cluster}
 use Rattle.book.specs.Rows.{named, rows_in, IsRowOf, IsGapFor}
 use Rattle.desk.specs.inside.Board.{IsChange}
-use Rattle.desk.specs.inside.BareReply.{is_refused}
+use Rattle.desk.specs.inside.Done.{is_refused}
 use Rattle.desk.specs.inside.Caller.{Core}
 use Rattle.desk.specs.declared.change.Change.TheVariants.{Nothing, Gone}
 use Rattle.desk.proofs.Noted.{gone_refused_change, gone_taken_change, gone_there}

@@ -5,7 +5,7 @@ use Rattle.book.specs.Cluster.{Cluster}
 use Rattle.book.specs.Rows.{named, rows_in, IsRowOf, IsGapFor}
 use Rattle.book.specs.Used.{used}
 use Rattle.desk.specs.inside.Board.{IsChange}
-use Rattle.desk.specs.inside.BareReply.{is_refused}
+use Rattle.desk.specs.inside.Done.{is_refused}
 use Rattle.desk.specs.inside.Caller.{Core}
 use Rattle.desk.specs.declared.change.Change.TheVariants.{Nothing, Set, Come}
 use Rattle.desk.proofs.Noted.{set_refused_change, set_taken_change, come_taken_change}

@@ -1,11 +1,10 @@
 use Rattle.std.proofs.Common.{◌≡◌, ◌+◌, ◌++◌, ◌∷◌, [], sym, ap, ◌∙◌, refl, subst, slice_index}
 use Rattle.desk.specs.Machine.{reply}
 use Rattle.desk.specs.History.{HasCallsOf}
-use Rattle.desk.specs.inside.BareReply.{bare_reply, reply_with}
+use Rattle.desk.specs.inside.Caller.{handed_by}
 use Rattle.desk.specs.Shared.{IsApplied}
 use Rattle.desk.specs.inside.Shared.{Prefix, Held, Stands, held_after, next_call}
 use Rattle.desk.proofs.Histories.{calls_made}
-use Rattle.desk.proofs.Saying.{said_whole}
 use Rattle.desk.proofs.Sharing.{stands_after, counted_alike, applied_more}
 use Rattle.desk.proofs.under_lock.UnderLock.apply.Goals as goal
 
@@ -16,6 +15,12 @@ take_call-held-requires-clause-calls g c =
     let ok = c.in-Ok.ensures in
     ap (λ (y : Held). slice_index y.desk.state.calls p.number) ok.same
     ∙ counted_alike g.J.Naming.book g.J.Naming.limits c.args.self ok.stands c.args.handed p c.args.step c.requires.of c.requires.handed ok.ahead.own
+
+-- the pod that goes first is the one that the desk hands out
+pub take_call-held-requires-clause-first : goal.take_call-held-requires-clause-first
+take_call-held-requires-clause-first g c =
+    let ok = c.in-Ok.ensures in
+    ok.pod ∙ ap (λ (y : Held). handed_by y.desk.state c.args.step) (sym ok.same)
 
 -- what is held after the call stands
 pub take_call-held-requires-clause-stands : goal.take_call-held-requires-clause-stands
@@ -47,9 +52,8 @@ returns-in-Ok-clause-applied g c =
     let ok = c.in-Ok.ensures in
     let answer = reply x.desk.state p.number e in
     let prefix = c.again-seen.ensures ∙ ok.prefix in
-    let said = c.take_call-held.ensures.said ∙ ap (λ (y : Held). bare_reply (reply y.desk.state p.number e)) ok.same in
-    let told : c.with.result ≡ answer = c.with.ensures ∙ (λ i. reply_with (said i) (ok.pod i)) ∙ said_whole x.desk.state p.number e in
+    let told : c.take_call-held.result.1 ≡ answer = c.take_call-held.ensures.said ∙ ap (λ (y : Held). reply y.desk.state p.number e) ok.same in
     let now : c.count.new.self ≡ record { caller = record { number = p.number; calls = p.calls + 1 }; seen = x.prefix.list ++ next_call x.desk.state p.number (p.calls + 1) e ∷ [] } = c.count.ensures ∙ ap (λ (k : Prefix). record { caller = record p { calls = p.calls + 1 }; seen = k.list }) prefix in
-    subst (IsApplied (record { limits = limits; handed = c.args.handed }) c.args.pass.now e c.with.result) (sym now)
+    subst (IsApplied (record { limits = limits; handed = c.args.handed }) c.args.pass.now e c.take_call-held.result.1) (sym now)
     (subst (λ r. IsApplied (record { limits = limits; handed = c.args.handed }) c.args.pass.now e r (record { caller = record { number = p.number; calls = p.calls + 1 }; seen = x.prefix.list ++ next_call x.desk.state p.number (p.calls + 1) e ∷ [] })) (sym told)
     (applied_more book limits x ok.stands p.number p.calls e c.args.handed c.args.pass.now refl c.requires.of c.requires.handed ok.ahead))
