@@ -3,7 +3,7 @@ use Rattle.std.proofs.Common.{◌≡◌, ◌⊎◌, ◌∙◌, ◌+◌, ◌<◌,
 use Rattle.engine.specs.Telling.{Telling}
 use Rattle.manifest.specs.declared.fault.LineFault.{LineFault}
 use Rattle.rules.specs.RuleSet.{RuleSet}
-use Rattle.engine.specs.declared.asked.Asked.{Asked}
+use Rattle.manifest.specs.declared.command.Command.{Command}
 use Rattle.engine.specs.declared.fault.RunFault.{RunFault}
 use Rattle.engine.specs.declared.fault.RunFault.TheVariants.{Line, NoMemory, Read, Write, NoPlace}
 use Rattle.engine.specs.Device.{DeviceUse, CountsFailure}
@@ -99,7 +99,7 @@ module _ {T : Type 0} (rules : RuleSet) (telling : Telling) (source sink : Devic
   at_end (Err e) done front was as_before counts what reads = write_failed (Err e) e refl what reads (counts ∙ ap (λ n. n + 1) as_before) front
 
   -- a line is faulty, or memory was wanting for it
-  pub at_line : (e : RunFault) (number : ℕ) (says : Result (Option Asked) LineFault) → IsLineFault number says e → source.failures_new ≡ source.failures_old → sink.failures_new ≡ sink.failures_old
+  pub at_line : (e : RunFault) (number : ℕ) (says : Result (Option Command) LineFault) → IsLineFault number says e → source.failures_new ≡ source.failures_old → sink.failures_new ≡ sink.failures_old
       → Front rules telling source sink → ((fault : LineFault) → says ≡ Err fault → UpTo rules telling source sink number fault) → IsRun {T = T} rules telling source sink (Err e)
   at_line (Line n f) number says is reads writes front up_to = record {
     done = tt;

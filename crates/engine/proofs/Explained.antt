@@ -1,12 +1,12 @@
 -- What explains a script's cycles is its output, with lines put in.
-use Rattle.std.proofs.Common.{◌≡◌, ℕ, true, false, List, [], ◌∷◌, ◌++◌, refl, sym, ap, subst, ◌∙◌, append_assoc}
+use Rattle.std.proofs.Common.{◌≡◌, ℕ, true, false, List, [], ◌∷◌, ◌++◌, Option, Some, None, refl, sym, ap, subst, ◌∙◌, append_assoc}
 use Rattle.std.proofs.lemmas.List.Elements.{All-nil, All-cons}
 use Rattle.rules.specs.RuleSet.{RuleSet}
+use Rattle.desk.specs.declared.step.Step.{Step}
 use Rattle.desk.specs.Machine.{State}
 use Rattle.engine.specs.declared.named_rule.NamedRule.{NamedRule}
-use Rattle.engine.specs.declared.asked.Asked.{Asked}
-use Rattle.engine.specs.declared.asked.Asked.TheVariants as asked
-use Rattle.engine.specs.Answers.{opening, Answered, AllAnswered}
+use Rattle.manifest.specs.declared.command.Command.{Command}
+use Rattle.engine.specs.Answers.{opening, step_of, AnsweredBy, AllAnswered}
 use Rattle.engine.specs.Indented.{AreLines, without_indented}
 use Rattle.engine.specs.Lines.{lines_of}
 use Rattle.engine.specs.Output.{asked_in, IsOutput}
@@ -18,18 +18,18 @@ use Rattle.engine.proofs.Indented.{left_in, left_out, no_lines, without-none}
 -- ---- what is asked
 
 -- the answer to what is asked, and what is put in before it
-pub record Part (rules : RuleSet) (named : List NamedRule) (s : State) (a : Asked) (s' : State) (text : List ℕ) : Type 0 where
+pub record Part (rules : RuleSet) (named : List NamedRule) (s : State) (a : Option Step) (s' : State) (text : List ℕ) : Type 0 where
   pub told : List ℕ
   pub plain : List ℕ
   pub is : text ≡ told ++ plain
-  pub answered : Answered rules (telling named false) s a s' plain
+  pub answered : AnsweredBy rules (telling named false) s a s' plain
   pub indented : AreLines true told
   pub others : AreLines false plain
 
-part_of : (rules : RuleSet) (named : List NamedRule) (s : State) (a : Asked) (s' : State) (text : List ℕ) → Answered rules (telling named true) s a s' text → Part rules named s a s' text
-part_of rules named s (asked.Step step) s' text answered =
+part_of : (rules : RuleSet) (named : List NamedRule) (s : State) (a : Option Step) (s' : State) (text : List ℕ) → AnsweredBy rules (telling named true) s a s' text → Part rules named s a s' text
+part_of rules named s (Some step) s' text answered =
     record { told = []; plain = text; is = refl; answered = answered; indented = no_lines true; others = answered.2 }
-part_of rules named s asked.Cycle s' text (came, cycle, (told, are, indented, others, is)) = record {
+part_of rules named s None s' text (came, cycle, (told, are, indented, others, is)) = record {
   told = told;
   plain = cycle_line named came;
   is = is;
@@ -39,13 +39,13 @@ part_of rules named s asked.Cycle s' text (came, cycle, (told, are, indented, ot
 }
 
 -- the same of all that is asked
-pub record Parts (rules : RuleSet) (named : List NamedRule) (s : State) (l : List Asked) (s' : State) (text : List ℕ) : Type 0 where
+pub record Parts (rules : RuleSet) (named : List NamedRule) (s : State) (l : List Command) (s' : State) (text : List ℕ) : Type 0 where
   pub plain : List ℕ
   pub answered : AllAnswered rules (telling named false) s l s' plain
   pub with_lines : IsWithLines plain text
   pub without : without_indented text ≡ plain
 
-parts_of : (rules : RuleSet) (named : List NamedRule) (s : State) (l : List Asked) (s' : State) (text : List ℕ) → AllAnswered rules (telling named true) s l s' text → Parts rules named s l s' text
+parts_of : (rules : RuleSet) (named : List NamedRule) (s : State) (l : List Command) (s' : State) (text : List ℕ) → AllAnswered rules (telling named true) s l s' text → Parts rules named s l s' text
 parts_of rules named s [] s' text answered = record {
   plain = [];
   answered = (answered.0, refl);
@@ -53,7 +53,7 @@ parts_of rules named s [] s' text answered = record {
   without = ap without_indented answered.1 ∙ without-none;
 }
 parts_of rules named s (first ∷ later) s' text (between, answer, rest, now, then, is) =
-    let one = part_of rules named s first between answer now in
+    let one = part_of rules named s (step_of first) between answer now in
     let others = parts_of rules named between later s' rest then in
     let lines = others.with_lines in
     record {

@@ -3,7 +3,7 @@ use Rattle.std.proofs.Common.{◌≡◌, ℕ, ◌⊎◌, inl, inr, List, [], ◌
 use Rattle.std.proofs.lemmas.List.{append_assoc}
 use Rattle.engine.specs.Telling.{Telling}
 use Rattle.rules.specs.RuleSet.{RuleSet, SayOneThing}
-use Rattle.engine.specs.declared.asked.Asked.{Asked}
+use Rattle.manifest.specs.declared.command.Command.{Command}
 use Rattle.engine.specs.Answers.{State, opening, limits, AllAnswered}
 use Rattle.engine.specs.Laws.{Begins, FrontsBeginOutput, FrontsAgree}
 use Rattle.engine.proofs.OneOutput.{Agree, all_one}
@@ -31,7 +31,7 @@ one_goes_on (x ∷ a) (y ∷ b) r s e =
 
 module _ (rules : RuleSet) (telling : Telling) where
   -- what is asked first is answered, and then what is asked later
-  parts : (s : State) (l later : List Asked) (end : State) (text : List ℕ) → AllAnswered rules telling s (l ++ later) end text
+  parts : (s : State) (l later : List Command) (end : State) (text : List ℕ) → AllAnswered rules telling s (l ++ later) end text
       → (between : State) × (front rest : List ℕ) × AllAnswered rules telling s l between front × (text ≡ front ++ rest)
   parts s [] later end text all = (s, [], text, (refl, refl), refl)
   parts s (a ∷ l) later end text (between, answer, rest, now, then, is) =
@@ -39,7 +39,7 @@ module _ (rules : RuleSet) (telling : Telling) where
       (on.0, answer ++ on.1, on.2, (between, answer, on.1, now, on.3, refl), is ∙ (ap (λ t. answer ++ t) on.4 ∙ sym (append_assoc answer on.1 on.2)))
 
   -- the answers to more begin with those to less
-  more_answers : (l later : List Asked) (one other : State) (text text' : List ℕ) → SayOneThing rules
+  more_answers : (l later : List Command) (one other : State) (text text' : List ℕ) → SayOneThing rules
       → AllAnswered rules telling opening l one text → AllAnswered rules telling opening (l ++ later) other text' → Begins text text'
   more_answers l later one other text text' once less more =
       let on = parts opening l later other text' more in

@@ -2,6 +2,7 @@ pub mod Cycles
 pub mod Either
 pub mod Ends
 pub mod Explained
+pub mod Filled
 pub mod Fronts
 pub mod Indented
 pub mod Known

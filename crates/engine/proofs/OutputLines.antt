@@ -37,7 +37,6 @@ use Rattle.engine.specs.declared.named_rule.NamedRule.{NamedRule}
 use Rattle.engine.specs.Telling.{want_text, effect_name, taint_text, reason_text, code_of, part_text, parts_text, total_text, verdict_text, verdict_line}
 use Rattle.desk.specs.Machine as machine
 use Rattle.desk.specs.declared.step.Step.{Step}
-use Rattle.desk.specs.declared.step.Step.TheVariants as steps
 use Rattle.engine.specs.Answers.{State, look_lines, reply_lines, snapshot_lines, text_of}
 use Rattle.engine.proofs.Indented.{IsLine-by, IsLine-both, IsLine-decimal, IsLine-signed, IsLine-name, IsLine-text, is_flush, name_is_flush, not_true, one_line, more_lines, no_lines, stands_in_line}
 
@@ -191,20 +190,9 @@ pub text_lines : (s : State) (step : Step) → AreLines false (look_lines s step
 unfolding text_of
 text_lines s step look = more_lines false (look_lines s step) (reply_lines (machine.reply s 0 step)) look (replied_lines (machine.reply s 0 step))
 
--- what is shown where the desk's numbers are asked for
-pub counted_lines : (s : State) (step : Step) → step ≡ steps.Count → AreLines false (snapshot_lines (machine.snapshot s.cluster)) → AreLines false (look_lines s step)
-counted_lines s step is lines = subst (λ (one : Step). AreLines false (look_lines s one)) (sym is) lines
-
--- and nothing otherwise
-pub uncounted_lines : (s : State) (step : Step) → (step ≡ steps.Count → ⊥) → AreLines false (look_lines s step)
-uncounted_lines s steps.Count isnt = absurd (isnt refl)
-uncounted_lines s (steps.Event event) isnt = no_lines false
-uncounted_lines s steps.Pop isnt = no_lines false
-uncounted_lines s (steps.Assume uid node) isnt = no_lines false
-uncounted_lines s (steps.BindDone uid ticket) isnt = no_lines false
-uncounted_lines s (steps.Forget uid ticket) isnt = no_lines false
-uncounted_lines s (steps.Fail uid how) isnt = no_lines false
-uncounted_lines s (steps.Tick now) isnt = no_lines false
+-- nothing is shown in front
+pub plain_lines : (s : State) (step : Step) → look_lines s step ≡ [] → AreLines false (text_of s step)
+plain_lines s step plain = text_lines s step (subst (AreLines false) (sym plain) (no_lines false))
 
 pub node_lines : (node : Node) (used : Res) → IsTrue (is_name node.name) → AreLines false (node_line node used)
 unfolding node_line

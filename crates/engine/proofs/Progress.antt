@@ -7,7 +7,7 @@ use Rattle.std.specs.Io.KnownBytes.{Appends, Consumes, IsAtEnd, prepend_known}
 use Rattle.manifest.specs.declared.fault.LineFault.{LineFault}
 use Rattle.engine.specs.Telling.{Telling}
 use Rattle.rules.specs.RuleSet.{RuleSet}
-use Rattle.engine.specs.declared.asked.Asked.{Asked}
+use Rattle.manifest.specs.declared.command.Command.{Command}
 use Rattle.manifest.specs.Line.{meaning}
 use Rattle.engine.specs.Device.{AppendsFront}
 use Rattle.engine.specs.inside.Device.{WritesSome}
@@ -44,7 +44,7 @@ asked_by-kept text = ⊎_elim
 -- ---- what is answered
 
 -- one more is answered
-all_answered_more : (rules : RuleSet) (telling : Telling) (s between s' : State) (done : List Asked) (asked : Asked) (text more : List ℕ) → AllAnswered rules telling s done between text → Answered rules telling between asked s' more → AllAnswered rules telling s (done ++ asked ∷ []) s' (text ++ more)
+all_answered_more : (rules : RuleSet) (telling : Telling) (s between s' : State) (done : List Command) (asked : Command) (text more : List ℕ) → AllAnswered rules telling s done between text → Answered rules telling between asked s' more → AllAnswered rules telling s (done ++ asked ∷ []) s' (text ++ more)
 all_answered_more rules telling s between s' [] asked text more so_far next = (
   s',
   more,
@@ -68,7 +68,7 @@ all_answered_more rules telling s between s' (first ∷ done) asked text more so
 -- Of a known script this rest is left, `old` was written before the run and `now` by now, and so on.
 pub record IsAt (rules : RuleSet) (telling : Telling) (script rest : List ℕ) (old now : Option (List ℕ)) (pending : List ℕ) (state : State) (number : ℕ) (text : List ℕ) : Type 0 where
   pub writes : Appends old now text
-  pub done : List Asked
+  pub done : List Command
   pub cut : asked_in (lines_of script) ≡ done ++ asked_in (lines_of rest)
   pub answered : AllAnswered rules telling opening done state (text ++ pending)
   pub faults : fault_from number (lines_of rest) ≡ first_fault script
@@ -170,22 +170,22 @@ module _ (rules : RuleSet) (telling : Telling) where
 -- ---- one line more
 
 -- what the line asks for is what is kept of it asks for
-says-whole : (line text : List ℕ) (says : Result (Option Asked) LineFault) → line ≡ kept text → asked_by line ≡ says → asked_by text ≡ says
+says-whole : (line text : List ℕ) (says : Result (Option Command) LineFault) → line ≡ kept text → asked_by line ≡ says → asked_by text ≡ says
 says-whole line text says stored told = sym (asked_by-kept text) ∙ ap asked_by (sym stored) ∙ told
 
 -- what is left asks for what its first line does, and then what the later lines do
-asked-first : (rest later line text : List ℕ) (says : Result (Option Asked) LineFault) → line ≡ kept text → lines_of rest ≡ text ∷ lines_of later → asked_by line ≡ says → asked_in (lines_of rest) ≡ asked_then says (asked_in (lines_of later))
+asked-first : (rest later line text : List ℕ) (says : Result (Option Command) LineFault) → line ≡ kept text → lines_of rest ≡ text ∷ lines_of later → asked_by line ≡ says → asked_in (lines_of rest) ≡ asked_then says (asked_in (lines_of later))
 asked-first rest later line text says stored cut told =
     ap asked_in cut ∙ ap (λ r. asked_then r (asked_in (lines_of later))) (says-whole line text says stored told)
 
 -- the first fault of what is left is that of its first line, or else of the later ones
-fault-first : (number : ℕ) (rest later line text : List ℕ) (says : Result (Option Asked) LineFault) → line ≡ kept text → lines_of rest ≡ text ∷ lines_of later → asked_by line ≡ says → fault_from number (lines_of rest) ≡ fault_or number says (fault_from (number + 1) (lines_of later))
+fault-first : (number : ℕ) (rest later line text : List ℕ) (says : Result (Option Command) LineFault) → line ≡ kept text → lines_of rest ≡ text ∷ lines_of later → asked_by line ≡ says → fault_from number (lines_of rest) ≡ fault_or number says (fault_from (number + 1) (lines_of later))
 fault-first number rest later line text says stored cut told =
     ap (fault_from number) cut ∙ ap (λ r. fault_or number r (fault_from (number + 1) (lines_of later))) (says-whole line text says stored told)
 
 module _ (rules : RuleSet) (telling : Telling) where
   -- the answer to a line waits
-  pub IsRunning-asked : (script rest later old now : Option (List ℕ)) (pending new line text : List ℕ) (state next : State) (number : ℕ) (asked : Asked) → TakesLine rest later line → asked_by line ≡ Ok (Some asked) → Answered rules telling state asked next text → new ≡ pending ++ text → IsRunning rules telling script rest old now pending state number → IsRunning rules telling script later old now new next (number + 1)
+  pub IsRunning-asked : (script rest later old now : Option (List ℕ)) (pending new line text : List ℕ) (state next : State) (number : ℕ) (asked : Command) → TakesLine rest later line → asked_by line ≡ Ok (Some asked) → Answered rules telling state asked next text → new ≡ pending ++ text → IsRunning rules telling script rest old now pending state number → IsRunning rules telling script later old now new next (number + 1)
   IsRunning-asked None rest later old now pending new line text state next number asked took says answered waits so_far = tt
   IsRunning-asked (Some script) None later old now pending new line text state next number asked took says answered waits so_far = absurd so_far
   IsRunning-asked (Some script) (Some rest) None old now pending new line text state next number asked took says answered waits so_far = absurd took
@@ -221,7 +221,7 @@ module _ (rules : RuleSet) (telling : Telling) where
   )
 
   -- a line is answered
-  pub IsRunning-answered : (script rest later old now : Option (List ℕ)) (pending new line : List ℕ) (state next : State) (number : ℕ) (says : Result (Option Asked) LineFault) → asked_by line ≡ says → TakesLine rest later line → IsAnswered rules telling says state next pending new → IsRunning rules telling script rest old now pending state number → IsRunning rules telling script later old now new next (number + 1)
+  pub IsRunning-answered : (script rest later old now : Option (List ℕ)) (pending new line : List ℕ) (state next : State) (number : ℕ) (says : Result (Option Command) LineFault) → asked_by line ≡ says → TakesLine rest later line → IsAnswered rules telling says state next pending new → IsRunning rules telling script rest old now pending state number → IsRunning rules telling script later old now new next (number + 1)
   IsRunning-answered script rest later old now pending new line state next number (Ok None) says took done so_far =
       rw (done.0, done.1) (IsRunning-empty script rest later old now pending line state number took says so_far)
   IsRunning-answered script rest later old now pending new line state next number (Ok (Some asked)) says took done so_far =

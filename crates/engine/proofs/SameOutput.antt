@@ -1,7 +1,8 @@
 -- Kits that judge alike have the same output.
-use Rattle.std.proofs.Common.{ℕ, Bool, true, false, List, [], ◌∷◌, refl, arith}
+use Rattle.std.proofs.Common.{ℕ, Bool, true, false, List, [], ◌∷◌, Option, Some, None, refl, arith}
 use Rattle.engine.specs.Telling.{Telling, Explains, TellsNodes}
 use Rattle.quant.specs.declared.objects.Pod.{Pod}
+use Rattle.desk.specs.declared.step.Step.{Step}
 use Rattle.desk.specs.declared.step.Step.TheVariants.{Pop}
 use Rattle.desk.specs.declared.step.Reply.{Reply}
 use Rattle.desk.specs.declared.step.Reply.TheVariants as replies
@@ -13,12 +14,11 @@ use Rattle.choose.specs.declared.decision.Decision.{Decision}
 use Rattle.choose.specs.declared.decision.Verdict.{Verdict}
 use Rattle.choose.specs.Verdict.{HasVerdict}
 use Rattle.choose.specs.Choice.{AreVerdicts, Choice}
-use Rattle.engine.specs.declared.asked.Asked.{Asked}
-use Rattle.engine.specs.declared.asked.Asked.TheVariants as asked
+use Rattle.manifest.specs.declared.command.Command.{Command}
 use Rattle.engine.specs.declared.named_rule.NamedRule.{NamedRule}
 use Rattle.engine.specs.declared.one_cycle.Cycled.{Cycled}
 use Rattle.engine.specs.CycleAlone.{AfterPopAlone}
-use Rattle.engine.specs.Answers.{opening, Answered, AllAnswered}
+use Rattle.engine.specs.Answers.{opening, step_of, AnsweredBy, AllAnswered}
 use Rattle.engine.specs.Lines.{lines_of}
 use Rattle.engine.specs.Output.{asked_in}
 use Rattle.engine.specs.Laws.{SameOutput}
@@ -59,16 +59,16 @@ module _ (rules other : RuleSet) (alike : (pod : Pod) (shown : Shown) (verdict :
   tells named false s text told = told
 
   -- the answer to what is asked
-  answered : (telling : Telling) (s : State) (a : Asked) (s' : State) (text : List ℕ) → Answered rules telling s a s' text → Answered other telling s a s' text
-  answered telling s (asked.Step step) s' text told = told
-  answered telling s asked.Cycle s' text (came, cycle, (told, are, indented, others, is)) =
+  answered : (telling : Telling) (s : State) (a : Option Step) (s' : State) (text : List ℕ) → AnsweredBy rules telling s a s' text → AnsweredBy other telling s a s' text
+  answered telling s (Some step) s' text told = told
+  answered telling s None s' text (came, cycle, (told, are, indented, others, is)) =
       (came, record { is = after_pop (machine.after s 0 Pop) (reply s 0 Pop) came s' cycle.is }, (told, tells telling.named telling.explains s told are, indented, others, is))
 
   -- and to all that is asked
-  pub all_answered : (telling : Telling) (s : State) (l : List Asked) (s' : State) (text : List ℕ) → AllAnswered rules telling s l s' text → AllAnswered other telling s l s' text
+  pub all_answered : (telling : Telling) (s : State) (l : List Command) (s' : State) (text : List ℕ) → AllAnswered rules telling s l s' text → AllAnswered other telling s l s' text
   all_answered telling s [] s' text told = told
   all_answered telling s (first ∷ later) s' text (between, answer, rest, now, then, is) =
-      (between, answer, rest, answered telling s first between answer now, all_answered telling between later s' rest then, is)
+      (between, answer, rest, answered telling s (step_of first) between answer now, all_answered telling between later s' rest then, is)
 
 -- the output by a kit is the output by one that judges alike
 pub same_output : {Kit : Type 0} (answers : Kit → RuleSet) (one other : Kit) → SameOutput answers one other

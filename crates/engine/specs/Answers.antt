@@ -1,5 +1,5 @@
 -- What is answered to the lines of a script, by the machine of a desk that has one pass.
-use Rattle.std.specs.Prelude.{◌≡◌, ℕ, true, false, List, [], ◌∷◌, ◌++◌}
+use Rattle.std.specs.Prelude.{◌≡◌, ℕ, true, false, List, [], ◌∷◌, ◌++◌, Option, Some, None}
 use Rattle.std.specs.List.{flat_map}
 use Rattle.std.proofs.Common.{lit≤}
 use Rattle.quant.specs.declared.limits.TheConstants.{MAX_NODES, MAX_PLACED, MAX_QUEUED}
@@ -13,8 +13,6 @@ use Rattle.desk.specs.Shown.{Shown}
 use Rattle.manifest.specs.declared.command.Command.{Command}
 use Rattle.manifest.specs.declared.command.Command.TheVariants as commands
 use Rattle.rules.specs.RuleSet.{RuleSet}
-use Rattle.engine.specs.declared.asked.Asked.{Asked}
-use Rattle.engine.specs.declared.asked.Asked.TheVariants as asked
 use Rattle.engine.specs.declared.one_cycle.Cycled.{Cycled}
 use Rattle.engine.specs.CycleAlone.{IsCycleAlone}
 use Rattle.engine.specs.Indented.{AreLines}
@@ -33,14 +31,14 @@ limits = record { nodes = MAX_NODES; placed = MAX_PLACED; queued = MAX_QUEUED; f
 abbrev pub opening : State
 opening = machine.opening limits
 
--- what a command asks for; a dump is a look, and then its numbers
-abbrev pub served : Command → Asked
-served (commands.Event event) = asked.Step (steps.Event event)
-served (commands.Tick now) = asked.Step (steps.Tick now)
-served commands.Cycle = asked.Cycle
-served (commands.BindDone uid ticket) = asked.Step (steps.BindDone uid ticket)
-served (commands.Forget uid ticket) = asked.Step (steps.Forget uid ticket)
-served commands.Dump = asked.Step steps.Count
+-- the step that a command asks for; a dump is a look, and then this step. A cycle is more than a step
+abbrev pub step_of : Command → Option Step
+step_of (commands.Event event) = Some (steps.Event event)
+step_of (commands.Tick now) = Some (steps.Tick now)
+step_of commands.Cycle = None
+step_of (commands.BindDone uid ticket) = Some (steps.BindDone uid ticket)
+step_of (commands.Forget uid ticket) = Some (steps.Forget uid ticket)
+step_of commands.Dump = Some steps.Count
 
 -- the state after a step, which is by pass 0; a look changes nothing
 unfoldable pub after : State → Step → State
@@ -68,17 +66,21 @@ look_lines state _ = []
 unfoldable pub text_of : State → Step → List ℕ
 text_of state step = look_lines state step ++ reply_lines (machine.reply state 0 step)
 
--- What a line asks for is done and answered: a cycle with what is told of the nodes, and with what it came to. What is told of nodes is
--- whole lines that begin with two spaces, and the rest is whole lines of which none does.
-abbrev pub Answered : RuleSet → (telling : Telling) → State → Asked → State → List ℕ → Type 0
-Answered rules telling s (asked.Step step) s' text = (s' ≡ after s step) × (text ≡ text_of s step) × AreLines false text
-Answered rules telling s asked.Cycle s' text =
+-- This step is done and answered; or, where there is none, a cycle, with what is told of the nodes, and with what it came to. What is told
+-- of nodes is whole lines that begin with two spaces, and the rest is whole lines of which none does.
+abbrev pub AnsweredBy : RuleSet → (telling : Telling) → State → Option Step → State → List ℕ → Type 0
+AnsweredBy rules telling s (Some step) s' text = (s' ≡ after s step) × (text ≡ text_of s step) × AreLines false text
+AnsweredBy rules telling s None s' text =
     (came : Cycled) × IsCycleAlone rules s came s'
     × ((told : List ℕ) × TellsNodes rules telling.named telling.explains s told × AreLines true told × AreLines false (cycle_line telling.named came)
     × (text ≡ told ++ cycle_line telling.named came))
 
+-- what a command asks for is done and answered
+abbrev pub Answered : RuleSet → (telling : Telling) → State → Command → State → List ℕ → Type 0
+Answered rules telling s command s' text = AnsweredBy rules telling s (step_of command) s' text
+
 -- this is done and answered, and then what is asked later
-abbrev pub AllAnswered : RuleSet → (telling : Telling) → State → List Asked → State → List ℕ → Type 0
+abbrev pub AllAnswered : RuleSet → (telling : Telling) → State → List Command → State → List ℕ → Type 0
 AllAnswered rules telling s [] s' text = (s' ≡ s) × (text ≡ [])
 AllAnswered rules telling s (first ∷ later) s' text =
     (between : State) × (answer rest : List ℕ) × Answered rules telling s first between answer × AllAnswered rules telling between later s' rest × (text ≡ answer ++ rest)

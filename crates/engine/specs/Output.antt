@@ -3,30 +3,30 @@ use Rattle.std.specs.Prelude.{◌≡◌, ℕ, ◌+◌, ◌==◌, List, [], ◌�
 use Rattle.manifest.specs.declared.fault.LineFault.{LineFault}
 use Rattle.engine.specs.Telling.{Telling}
 use Rattle.rules.specs.RuleSet.{RuleSet}
-use Rattle.engine.specs.declared.asked.Asked.{Asked}
+use Rattle.manifest.specs.declared.command.Command.{Command}
 use Rattle.manifest.specs.Line.{meaning}
 use Rattle.manifest.specs.Reading.{◌>>=◌}
 use Rattle.engine.specs.Lines.{lines_of}
-use Rattle.engine.specs.Answers.{State, opening, served, AllAnswered}
+use Rattle.engine.specs.Answers.{State, opening, AllAnswered}
 use Rattle.std.specs.Io.KnownBytes.{Appends}
 
 -- what a line asks for: nothing, where it is empty
-unfoldable pub asked_by : List ℕ → Result (Option Asked) LineFault
-asked_by line = if length line == 0 then Ok None else (meaning line >>= λ command. Ok (Some (served command)))
+unfoldable pub asked_by : List ℕ → Result (Option Command) LineFault
+asked_by line = if length line == 0 then Ok None else (meaning line >>= λ command. Ok (Some command))
 
 -- what a line asks for, and then what the later ones do; a fault ends it
-abbrev pub asked_then : Result (Option Asked) LineFault → List Asked → List Asked
+abbrev pub asked_then : Result (Option Command) LineFault → List Command → List Command
 asked_then (Ok None) later = later
 asked_then (Ok (Some asked)) later = asked ∷ later
 asked_then (Err fault) later = []
 
 -- what the lines ask for, up to the first faulty one
-abbrev pub asked_in : List (List ℕ) → List Asked
+abbrev pub asked_in : List (List ℕ) → List Command
 asked_in [] = []
 asked_in (line ∷ lines) = asked_then (asked_by line) (asked_in lines)
 
 -- this line and its fault, where it has one
-abbrev pub fault_or : ℕ → Result (Option Asked) LineFault → Option (ℕ × LineFault) → Option (ℕ × LineFault)
+abbrev pub fault_or : ℕ → Result (Option Command) LineFault → Option (ℕ × LineFault) → Option (ℕ × LineFault)
 fault_or number (Ok asked) later = later
 fault_or number (Err fault) later = Some (number, fault)
 
@@ -46,8 +46,8 @@ pub record IsOutput (rules : RuleSet) (telling : Telling) (script text : List �
 
 -- a beginning of the output: it begins the answers to the first lines, which may be all
 pub record BeginsOutput (rules : RuleSet) (telling : Telling) (script front : List ℕ) : Type 0 where
-  pub asked : List Asked
-  pub later : List Asked
+  pub asked : List Command
+  pub later : List Command
   pub cut : asked_in (lines_of script) ≡ asked ++ later
   pub end : State
   pub text : List ℕ

@@ -1,4 +1,3 @@
-pub mod Answers
 pub mod Cycle
 pub mod Device
 pub mod Lines

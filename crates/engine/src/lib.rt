@@ -14,7 +14,6 @@
 //! Output is written before more input is read, and before 64 KiB of it wait.
 #![tactic(auto)]
 
-mod asked;
 mod device;
 mod fault;
 mod laws;

@@ -3,6 +3,7 @@ ghost use Rattle.std.specs.Prelude.{◌≡◌, ◌≢◌, ◌^◌, ◌<◌, Err,
 ghost use Rattle.std.specs.Io.KnownBytes.{Appends};
 ghost use Rattle.engine.specs.Device.{AppendsFront, CountsFailure, use_of};
 ghost use Rattle.engine.specs.inside.Device.{WritesSome};
+ghost use Rattle.manifest.specs.Line.{IsTimely};
 ghost use Rattle.manifest.specs.Reading.{Answers};
 ghost use Rattle.choose.specs.Kits.{rules_of};
 ghost use Rattle.engine.specs.Output.{asked_by};
@@ -10,9 +11,7 @@ ghost use Rattle.engine.specs.inside.Output.{IsAnswered, IsLineFault};
 ghost use Rattle.engine.specs.Run.{IsRun};
 ghost use Rattle.engine.specs.Telling.{telling};
 ghost use Rattle.engine.specs.Answers.{opening, limits};
-ghost use Rattle.engine.specs.inside.Answers.{IsTimely};
 
-use crate::asked::{Asked, asked_for};
 use crate::device::{Sink, Source, write_all};
 use crate::fault::RunFault;
 use crate::lines::LineReader;
@@ -20,7 +19,7 @@ use crate::named_rule::NamedRule;
 use crate::session::Session;
 use choose::Decider;
 use desk::{Blank, Limits, Naming};
-use manifest::{LineFault, read_line};
+use manifest::{Command, LineFault, read_line};
 use std::alloc::Global;
 use std::hash::RandomState;
 use std::marker::Brand;
@@ -64,7 +63,7 @@ fn flush_if<W: Sink>(sink: &mut W, pending: &mut Vec<u8>, due: bool) -> Result<(
 
 // What a line asks for: nothing, where it is empty.
 #[tactic(auto, unfolding(crate::specs::Output::asked_by))]
-fn asked_in(alloc: Global, line: &[u8]) -> Result<Option<Asked>, LineFault>
+fn asked_in(alloc: Global, line: &[u8]) -> Result<Option<Command>, LineFault>
     ensures asked { Answers result (asked_by line.now) }
     ensures timely { IfOk result (λ asked. IfSome asked IsTimely) }
 {
@@ -72,7 +71,7 @@ fn asked_in(alloc: Global, line: &[u8]) -> Result<Option<Asked>, LineFault>
         return Ok(None);
     }
     let command = read_line(alloc, line)?;
-    Ok(Some(asked_for(command)))
+    Ok(Some(command))
 }
 
 // Does what a line asks for, and adds the answer to what waits, so that no more waits than the most

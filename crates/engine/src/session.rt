@@ -1,16 +1,15 @@
 //! What a script's commands are done on.
-ghost use Rattle.std.specs.Prelude.{◌≡◌, ◌++◌, ◌⊎◌, ℕ, List, true, false, OnOk, OnErr, IfOk, IfErr};
+ghost use Rattle.std.specs.Prelude.{◌≡◌, ◌++◌, ◌⊎◌, ℕ, List, [], true, false, OnOk, OnErr, IfOk, IfErr};
+ghost use Rattle.manifest.specs.Line as line;
+ghost use Rattle.manifest.specs.declared.command.Command.TheVariants as commands;
 ghost use Rattle.desk.specs.Caller as caller;
 ghost use Rattle.desk.specs.Machine as machine;
-ghost use Rattle.engine.specs.Answers.{after, text_of, opening, limits, reply_lines, snapshot_lines, Answered};
-ghost use Rattle.engine.specs.inside.Answers.{IsTimely};
+ghost use Rattle.engine.specs.Answers.{after, text_of, opening, limits, look_lines, reply_lines, snapshot_lines, Answered};
 ghost use Rattle.choose.specs.Kits.{rules_of};
 ghost use Rattle.engine.specs.CycleAlone.{IsCycleAlone};
 ghost use Rattle.engine.specs.Indented.{AreLines};
 ghost use Rattle.engine.specs.Telling.{TellsNodes, telling};
-ghost use Rattle.engine.specs.declared.asked.Asked.TheVariants as asked;
 
-use crate::asked::Asked;
 use crate::fault::RunFault;
 use crate::lone_desk::LoneDesk;
 use crate::named_rule::NamedRule;
@@ -19,6 +18,7 @@ use crate::text::{push_clock, push_cycled, push_node, push_places, push_queue, p
 use crate::verdicts::push_verdicts;
 use choose::Decider;
 use desk::{Blank, Counts, Limits, Naming, Reply, Snapshot, Step};
+use manifest::Command;
 use std::alloc::{AllocError, Global};
 use std::hash::RandomState;
 use std::sync::Wait;
@@ -52,7 +52,7 @@ impl<J: Naming> Session<J> {
         })
     }
 
-    // Does what is asked for, and adds the answer to the output. The decider's rules have these names and weights, in their order, and
+    // Does what a command asks for, and adds the answer to the output. The decider's rules have these names and weights, in their order, and
     // what was decided of each node is told too where a cycle is to be explained.
     pub(crate) fn answer<R: Wait + Threads + Sync, D: Decider>(
         &mut self,
@@ -60,38 +60,73 @@ impl<J: Naming> Session<J> {
         named: &[NamedRule],
         explains: bool,
         decider: &mut D,
-        asked: Asked,
+        command: Command,
         out: &mut Vec<u8>,
     ) -> Result<(), RunFault>
-        requires { IsTimely asked }
+        requires { line.IsTimely command }
         ensures answered { OnOk result ((text : List ℕ) ×
             Answered (rules_of D.Kit.answers (D.kits decider.old)) (telling named.now explains)
-            self.old.desk asked self.new.desk text × (out.new.items ≡ out.old.items ++ text)) }
+            self.old.desk command self.new.desk text × (out.new.items ≡ out.old.items ++ text)) }
         ensures kept { OnErr result (out.new.items ≡ out.old.items) }
         ensures kits { D.kits decider.new ≡ D.kits decider.old }
         ensures faults { IfErr result (λ e. e ≡ RunFault.NoMemory) }
     {
         self.text.clear();
-        match asked {
-            Asked::Step(step) => self.step(rt, step)?,
-            Asked::Cycle => self.cycle(rt, named, explains, decider)?,
-        }
+        self.fill(rt, named, explains, decider, command)?;
         add(out, &self.text)
     }
 
-    // Takes a step, and adds the lines that answer it to the text, with those of the nodes in front where the desk's numbers are asked for.
+    // Does what a command asks for, and adds the answer to the text.
+    fn fill<R: Wait + Threads + Sync, D: Decider>(
+        &mut self,
+        rt: &R,
+        named: &[NamedRule],
+        explains: bool,
+        decider: &mut D,
+        command: Command,
+    ) -> Result<(), RunFault>
+        requires { line.IsTimely command }
+        ensures answered { OnOk result ((text : List ℕ) ×
+            Answered (rules_of D.Kit.answers (D.kits decider.old)) (telling named.now explains)
+            self.old.desk command self.new.desk text × (self.new.text.items ≡ self.old.text.items ++ text)) }
+        ensures kits { D.kits decider.new ≡ D.kits decider.old }
+        ensures faults { IfErr result (λ e. e ≡ RunFault.NoMemory) }
+    {
+        match command {
+            Command::Event(event) => self.step(rt, Step::Event(event)),
+            Command::Tick(now) => self.step(rt, Step::Tick(now)),
+            Command::Cycle => self.cycle(rt, named, explains, decider),
+            Command::BindDone { uid, ticket } => self.step(rt, Step::BindDone { uid, ticket }),
+            Command::Forget { uid, ticket } => self.step(rt, Step::Forget { uid, ticket }),
+            Command::Dump => self.dump(rt),
+        }
+    }
+
+    // Takes a step before which no nodes are shown, and adds the lines that answer it to the text.
     #[tactic(auto, unfolding(crate::specs::Answers::after, crate::specs::Answers::text_of))]
     fn step<R: Wait>(&mut self, rt: &R, step: Step) -> Result<(), RunFault>
-        requires { caller.IsTimely step }
+        requires timely { caller.IsTimely step }
+        requires plain { look_lines self.old.desk step ≡ [] }
         ensures state { OnOk result (self.new.desk ≡ after self.old.desk step) }
         ensures text { OnOk result (self.new.text.items ≡ self.old.text.items ++ text_of self.old.desk step) }
         ensures lines { OnOk result (AreLines false (text_of self.old.desk step)) }
         ensures faults { IfErr result (λ e. e ≡ RunFault.NoMemory) }
     {
-        if let Step::Count = step {
-            self.show()?;
-        }
         let reply = self.desk.apply(rt, step)?;
+        push_reply(&mut self.text, reply)?;
+        Ok(())
+    }
+
+    // Adds the lines of the nodes to the text, and those of the desk's numbers.
+    #[tactic(auto, unfolding(crate::specs::Answers::after, crate::specs::Answers::text_of))]
+    fn dump<R: Wait>(&mut self, rt: &R) -> Result<(), RunFault>
+        ensures state { OnOk result (self.new.desk ≡ after self.old.desk Step.Count) }
+        ensures text { OnOk result (self.new.text.items ≡ self.old.text.items ++ text_of self.old.desk Step.Count) }
+        ensures lines { OnOk result (AreLines false (text_of self.old.desk Step.Count)) }
+        ensures faults { IfErr result (λ e. e ≡ RunFault.NoMemory) }
+    {
+        self.show()?;
+        let reply = self.desk.apply(rt, Step::Count)?;
         push_reply(&mut self.text, reply)?;
         Ok(())
     }
@@ -106,7 +141,7 @@ impl<J: Naming> Session<J> {
     ) -> Result<(), RunFault>
         ensures cycled { OnOk result ((text : List ℕ) ×
             Answered (rules_of D.Kit.answers (D.kits decider.old)) (telling named.now explains)
-            self.old.desk asked.Cycle self.new.desk text × (self.new.text.items ≡ self.old.text.items ++ text)) }
+            self.old.desk commands.Cycle self.new.desk text × (self.new.text.items ≡ self.old.text.items ++ text)) }
         ensures kits { D.kits decider.new ≡ D.kits decider.old }
         ensures faults { IfErr result (λ e. e ≡ RunFault.NoMemory) }
     {

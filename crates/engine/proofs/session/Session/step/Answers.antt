@@ -1,9 +1,15 @@
-use Rattle.engine.proofs.OutputLines.{counted_lines, text_lines, uncounted_lines}
-use Rattle.engine.proofs.session.Session.step.Goals.{in-Count+in_ok-show, in_default}
+use Rattle.std.proofs.Common.{◌≡◌, ◌++◌, ◌∙◌, ap, sym}
+use Rattle.desk.specs.Machine as machine
+use Rattle.engine.specs.Answers.{text_of, reply_lines}
+use Rattle.engine.proofs.OutputLines.{plain_lines}
 use Rattle.engine.proofs.session.Session.step.Goals as goal
 
+pub returns-clause-text : goal.returns-clause-text
+unfolding text_of
+returns-clause-text g c =
+    let lines = reply_lines (machine.reply c.args.self.now.desk 0 c.args.step) in
+    c.in_ok-push_reply.ensures ∙ ap (λ r. c.args.self.now.text.items ++ reply_lines r) c.in_ok-reply.ensures.reply
+    ∙ ap (λ t. c.args.self.now.text.items ++ (t ++ lines)) (sym c.requires.plain)
+
 pub returns-clause-lines : goal.returns-clause-lines
-returns-clause-lines g c = text_lines c.args.self.now.desk c.args.step (elim c.match-step.branch [
-  | in-Count+in_ok-show w ↦ counted_lines c.args.self.now.desk c.args.step w.in-Count.is w.in_ok-show.ensures.lines
-  | in_default w ↦ uncounted_lines c.args.self.now.desk c.args.step w.in_default.not-Count
-])
+returns-clause-lines g c = plain_lines c.args.self.now.desk c.args.step c.requires.plain
