@@ -9,7 +9,8 @@ use Rattle.manifest.specs.declared.command.Command.{Command}
 use Rattle.engine.specs.Answers.{opening, step_of, AnsweredBy, AllAnswered}
 use Rattle.engine.specs.Indented.{AreLines, without_indented}
 use Rattle.engine.specs.Lines.{lines_of}
-use Rattle.engine.specs.Output.{asked_in, IsOutput}
+use Rattle.engine.specs.Script.{asked_in}
+use Rattle.engine.specs.Output.{taken, IsOutput}
 use Rattle.engine.specs.Text.{cycle_line}
 use Rattle.engine.specs.Telling.{telling}
 use Rattle.engine.specs.Laws.{ExplainedOutput, IsWithLines, PlainOutput}
@@ -75,11 +76,11 @@ parts_of rules named s (first ∷ later) s' text (between, answer, rest, now, th
 -- the output that explains is the output, with lines put in
 pub explained_output : (rules : RuleSet) → ExplainedOutput rules
 explained_output rules named script text output =
-    let parts = parts_of rules named opening (asked_in (lines_of script)) output.end text output.answered in
+    let parts = parts_of rules named opening (asked_in taken (lines_of script)) output.end text output.answered in
     (parts.plain, record { end = output.end; answered = parts.answered }, parts.with_lines)
 
 -- and without these lines it is the output
 pub plain_output : (rules : RuleSet) → PlainOutput rules
 plain_output rules named script text output =
-    let parts = parts_of rules named opening (asked_in (lines_of script)) output.end text output.answered in
+    let parts = parts_of rules named opening (asked_in taken (lines_of script)) output.end text output.answered in
     subst (λ t. IsOutput rules (telling named false) script t) (sym parts.without) (record { end = output.end; answered = parts.answered })

@@ -23,7 +23,8 @@ use Rattle.engine.specs.CycleAlone.{AfterAssumeAlone, EndsAlone, IsDecidedAlone,
 use Rattle.engine.specs.Answers.{after, opening, limits, step_of, AnsweredBy, AllAnswered}
 use Rattle.engine.specs.Text.{cycle_line}
 use Rattle.engine.specs.Lines.{lines_of}
-use Rattle.engine.specs.Output.{asked_in}
+use Rattle.engine.specs.Script.{asked_in}
+use Rattle.engine.specs.Output.{taken}
 use Rattle.engine.specs.Laws.{OneOutput}
 use Rattle.engine.proofs.OwnNames.{StandByName, kept, at_opening, shown_apart}
 
@@ -144,4 +145,4 @@ all_one rules telling s (first ∷ later) one other text text' once own (between
 -- a script has one output
 pub one_output : (rules : RuleSet) → SayOneThing rules → OneOutput rules
 one_output rules once telling script one other a b =
-    (all_one rules telling opening (asked_in (lines_of script)) a.end b.end one other once (at_opening limits) a.answered b.answered).1
+    (all_one rules telling opening (asked_in taken (lines_of script)) a.end b.end one other once (at_opening limits) a.answered b.answered).1

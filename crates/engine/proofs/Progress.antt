@@ -13,7 +13,8 @@ use Rattle.engine.specs.Device.{AppendsFront}
 use Rattle.engine.specs.inside.Device.{WritesSome}
 use Rattle.engine.specs.Lines.{lines_of, kept, TakesLine}
 use Rattle.engine.specs.Answers.{State, opening, Answered, AllAnswered}
-use Rattle.engine.specs.Output.{asked_by, asked_then, asked_in, fault_or, fault_from, first_fault, WritesOutput, WritesFront}
+use Rattle.engine.specs.Script.{asked_by, asked_then, asked_in, fault_or, fault_from}
+use Rattle.engine.specs.Output.{taken, first_fault, WritesOutput, WritesFront}
 use Rattle.engine.specs.inside.Output.{IsAnswered}
 use Rattle.engine.proofs.Taking.{lines_of-nil}
 
@@ -31,15 +32,29 @@ meaning-kept text = ⊎_elim
     (cases_lt 65537 (length text))
 
 -- and asks for what the line asks for
-pub asked_by-kept : (text : List ℕ) → asked_by (kept text) ≡ asked_by text
+pub asked_by-kept : {A : Type 0} (taken : Command → Result A LineFault) (text : List ℕ) → asked_by taken (kept text) ≡ asked_by taken text
 unfolding asked_by
-asked_by-kept text = ⊎_elim
+asked_by-kept taken text = ⊎_elim
     (λ long.
     let some_kept : eqb (length (kept text)) 0 ≡ false = ne_eqb (length (kept text)) 0 (λ none. omega (arith, length-take 65537 text)) in
     let some : eqb (length text) 0 ≡ false = ne_eqb (length text) 0 (λ none. omega arith) in
     rw (some_kept, some, meaning-kept text) refl)
-    (λ short. ap asked_by (take_all 65537 text short))
+    (λ short. ap (asked_by taken) (take_all 65537 text short))
     (cases_lt 65537 (length text))
+
+-- what the line asks for is what is kept of it asks for
+says-whole : {A : Type 0} (taken : Command → Result A LineFault) (line text : List ℕ) (says : Result (Option A) LineFault) → line ≡ kept text → asked_by taken line ≡ says → asked_by taken text ≡ says
+says-whole taken line text says stored told = sym (asked_by-kept taken text) ∙ ap (asked_by taken) (sym stored) ∙ told
+
+-- what is left asks for what its first line does, and then what the later lines do
+pub asked-first : {A : Type 0} (taken : Command → Result A LineFault) (rest later line text : List ℕ) (says : Result (Option A) LineFault) → line ≡ kept text → lines_of rest ≡ text ∷ lines_of later → asked_by taken line ≡ says → asked_in taken (lines_of rest) ≡ asked_then says (asked_in taken (lines_of later))
+asked-first taken rest later line text says stored cut told =
+    ap (asked_in taken) cut ∙ ap (λ r. asked_then r (asked_in taken (lines_of later))) (says-whole taken line text says stored told)
+
+-- the first fault of what is left is that of its first line, or else of the later ones
+pub fault-first : {A : Type 0} (taken : Command → Result A LineFault) (number : ℕ) (rest later line text : List ℕ) (says : Result (Option A) LineFault) → line ≡ kept text → lines_of rest ≡ text ∷ lines_of later → asked_by taken line ≡ says → fault_from taken number (lines_of rest) ≡ fault_or number says (fault_from taken (number + 1) (lines_of later))
+fault-first taken number rest later line text says stored cut told =
+    ap (fault_from taken number) cut ∙ ap (λ r. fault_or number r (fault_from taken (number + 1) (lines_of later))) (says-whole taken line text says stored told)
 
 -- ---- what is answered
 
@@ -69,9 +84,9 @@ all_answered_more rules telling s between s' (first ∷ done) asked text more so
 pub record IsAt (rules : RuleSet) (telling : Telling) (script rest : List ℕ) (old now : Option (List ℕ)) (pending : List ℕ) (state : State) (number : ℕ) (text : List ℕ) : Type 0 where
   pub writes : Appends old now text
   pub done : List Command
-  pub cut : asked_in (lines_of script) ≡ done ++ asked_in (lines_of rest)
+  pub cut : asked_in taken (lines_of script) ≡ done ++ asked_in taken (lines_of rest)
   pub answered : AllAnswered rules telling opening done state (text ++ pending)
-  pub faults : fault_from number (lines_of rest) ≡ first_fault script
+  pub faults : fault_from taken number (lines_of rest) ≡ first_fault script
 
 abbrev pub IsRunning : RuleSet → Telling → Option (List ℕ) → Option (List ℕ) → Option (List ℕ) → Option (List ℕ) → List ℕ → State → ℕ → Type 0
 IsRunning rules telling None rest old now pending state number = Unit {0}
@@ -84,7 +99,7 @@ module _ (rules : RuleSet) (telling : Telling) where
   nothing-written None known = tt
   nothing-written (Some text) known = (
     [],
-    record { asked = []; later = asked_in (lines_of text); cut = refl; end = opening; text = []; answered = (refl, refl); rest = []; begins = refl },
+    record { asked = []; later = asked_in taken (lines_of text); cut = refl; end = opening; text = []; answered = (refl, refl); rest = []; begins = refl },
     Appends-nil known,
   )
 
@@ -137,7 +152,7 @@ module _ (rules : RuleSet) (telling : Telling) where
     so_far.0 ++ wrote.0,
     record {
       asked = so_far.1.done;
-      later = asked_in (lines_of rest);
+      later = asked_in taken (lines_of rest);
       cut = so_far.1.cut;
       end = state;
       text = so_far.0 ++ pending;
@@ -156,7 +171,7 @@ module _ (rules : RuleSet) (telling : Telling) where
     so_far.0,
     record {
       asked = so_far.1.done;
-      later = asked_in (lines_of rest);
+      later = asked_in taken (lines_of rest);
       cut = so_far.1.cut;
       end = state;
       text = so_far.0 ++ pending;
@@ -169,30 +184,16 @@ module _ (rules : RuleSet) (telling : Telling) where
 
 -- ---- one line more
 
--- what the line asks for is what is kept of it asks for
-says-whole : (line text : List ℕ) (says : Result (Option Command) LineFault) → line ≡ kept text → asked_by line ≡ says → asked_by text ≡ says
-says-whole line text says stored told = sym (asked_by-kept text) ∙ ap asked_by (sym stored) ∙ told
-
--- what is left asks for what its first line does, and then what the later lines do
-asked-first : (rest later line text : List ℕ) (says : Result (Option Command) LineFault) → line ≡ kept text → lines_of rest ≡ text ∷ lines_of later → asked_by line ≡ says → asked_in (lines_of rest) ≡ asked_then says (asked_in (lines_of later))
-asked-first rest later line text says stored cut told =
-    ap asked_in cut ∙ ap (λ r. asked_then r (asked_in (lines_of later))) (says-whole line text says stored told)
-
--- the first fault of what is left is that of its first line, or else of the later ones
-fault-first : (number : ℕ) (rest later line text : List ℕ) (says : Result (Option Command) LineFault) → line ≡ kept text → lines_of rest ≡ text ∷ lines_of later → asked_by line ≡ says → fault_from number (lines_of rest) ≡ fault_or number says (fault_from (number + 1) (lines_of later))
-fault-first number rest later line text says stored cut told =
-    ap (fault_from number) cut ∙ ap (λ r. fault_or number r (fault_from (number + 1) (lines_of later))) (says-whole line text says stored told)
-
 module _ (rules : RuleSet) (telling : Telling) where
   -- the answer to a line waits
-  pub IsRunning-asked : (script rest later old now : Option (List ℕ)) (pending new line text : List ℕ) (state next : State) (number : ℕ) (asked : Command) → TakesLine rest later line → asked_by line ≡ Ok (Some asked) → Answered rules telling state asked next text → new ≡ pending ++ text → IsRunning rules telling script rest old now pending state number → IsRunning rules telling script later old now new next (number + 1)
+  pub IsRunning-asked : (script rest later old now : Option (List ℕ)) (pending new line text : List ℕ) (state next : State) (number : ℕ) (asked : Command) → TakesLine rest later line → asked_by taken line ≡ Ok (Some asked) → Answered rules telling state asked next text → new ≡ pending ++ text → IsRunning rules telling script rest old now pending state number → IsRunning rules telling script later old now new next (number + 1)
   IsRunning-asked None rest later old now pending new line text state next number asked took says answered waits so_far = tt
   IsRunning-asked (Some script) None later old now pending new line text state next number asked took says answered waits so_far = absurd so_far
   IsRunning-asked (Some script) (Some rest) None old now pending new line text state next number asked took says answered waits so_far = absurd took
   IsRunning-asked (Some script) (Some rest) (Some later) old now pending new line text state next number asked took says answered waits so_far =
       let done = so_far.1.done in
-      let left = asked_in (lines_of later) in
-      let first : asked_in (lines_of rest) ≡ asked ∷ left = asked-first rest later line took.0 (Ok (Some asked)) took.1 took.2 says in
+      let left = asked_in taken (lines_of later) in
+      let first : asked_in taken (lines_of rest) ≡ asked ∷ left = asked-first taken rest later line took.0 (Ok (Some asked)) took.1 took.2 says in
       let same : (so_far.0 ++ pending) ++ text ≡ so_far.0 ++ new = append_assoc so_far.0 pending text ∙ ap (λ t. so_far.0 ++ t) (sym waits) in (
         so_far.0,
         record {
@@ -200,12 +201,12 @@ module _ (rules : RuleSet) (telling : Telling) where
           done = done ++ asked ∷ [];
           cut = so_far.1.cut ∙ ap (λ t. done ++ t) first ∙ sym (append_assoc done (asked ∷ []) left);
           answered = subst (AllAnswered rules telling opening (done ++ asked ∷ []) next) same (all_answered_more rules telling opening state next done asked (so_far.0 ++ pending) text so_far.1.answered answered);
-          faults = sym (fault-first number rest later line took.0 (Ok (Some asked)) took.1 took.2 says) ∙ so_far.1.faults;
+          faults = sym (fault-first taken number rest later line took.0 (Ok (Some asked)) took.1 took.2 says) ∙ so_far.1.faults;
         },
       )
 
   -- an empty line is passed over and counted
-  pub IsRunning-empty : (script rest later old now : Option (List ℕ)) (pending line : List ℕ) (state : State) (number : ℕ) → TakesLine rest later line → asked_by line ≡ Ok None → IsRunning rules telling script rest old now pending state number → IsRunning rules telling script later old now pending state (number + 1)
+  pub IsRunning-empty : (script rest later old now : Option (List ℕ)) (pending line : List ℕ) (state : State) (number : ℕ) → TakesLine rest later line → asked_by taken line ≡ Ok None → IsRunning rules telling script rest old now pending state number → IsRunning rules telling script later old now pending state (number + 1)
   IsRunning-empty None rest later old now pending line state number took says so_far = tt
   IsRunning-empty (Some script) None later old now pending line state number took says so_far = absurd so_far
   IsRunning-empty (Some script) (Some rest) None old now pending line state number took says so_far = absurd took
@@ -214,14 +215,14 @@ module _ (rules : RuleSet) (telling : Telling) where
     record {
       writes = so_far.1.writes;
       done = so_far.1.done;
-      cut = so_far.1.cut ∙ ap (λ t. so_far.1.done ++ t) (asked-first rest later line took.0 (Ok None) took.1 took.2 says);
+      cut = so_far.1.cut ∙ ap (λ t. so_far.1.done ++ t) (asked-first taken rest later line took.0 (Ok None) took.1 took.2 says);
       answered = so_far.1.answered;
-      faults = sym (fault-first number rest later line took.0 (Ok None) took.1 took.2 says) ∙ so_far.1.faults;
+      faults = sym (fault-first taken number rest later line took.0 (Ok None) took.1 took.2 says) ∙ so_far.1.faults;
     },
   )
 
   -- a line is answered
-  pub IsRunning-answered : (script rest later old now : Option (List ℕ)) (pending new line : List ℕ) (state next : State) (number : ℕ) (says : Result (Option Command) LineFault) → asked_by line ≡ says → TakesLine rest later line → IsAnswered rules telling says state next pending new → IsRunning rules telling script rest old now pending state number → IsRunning rules telling script later old now new next (number + 1)
+  pub IsRunning-answered : (script rest later old now : Option (List ℕ)) (pending new line : List ℕ) (state next : State) (number : ℕ) (says : Result (Option Command) LineFault) → asked_by taken line ≡ says → TakesLine rest later line → IsAnswered rules telling says state next pending new → IsRunning rules telling script rest old now pending state number → IsRunning rules telling script later old now new next (number + 1)
   IsRunning-answered script rest later old now pending new line state next number (Ok None) says took done so_far =
       rw (done.0, done.1) (IsRunning-empty script rest later old now pending line state number took says so_far)
   IsRunning-answered script rest later old now pending new line state next number (Ok (Some asked)) says took done so_far =
@@ -231,10 +232,10 @@ module _ (rules : RuleSet) (telling : Telling) where
   -- ---- the end
 
   -- what was asked is all that the script asks, where nothing is left
-  all_written : (script rest : List ℕ) (old now : Option (List ℕ)) (state : State) (number : ℕ) → asked_in (lines_of rest) ≡ [] → (so_far : (text : List ℕ) × IsAt rules telling script rest old now [] state number text) → WritesOutput rules telling script old now
+  all_written : (script rest : List ℕ) (old now : Option (List ℕ)) (state : State) (number : ℕ) → asked_in taken (lines_of rest) ≡ [] → (so_far : (text : List ℕ) × IsAt rules telling script rest old now [] state number text) → WritesOutput rules telling script old now
   all_written script rest old now state number none so_far =
       let done = so_far.1.done in
-      let all : done ≡ asked_in (lines_of script) = sym (so_far.1.cut ∙ ap (λ t. done ++ t) none ∙ append-nil done) in (
+      let all : done ≡ asked_in taken (lines_of script) = sym (so_far.1.cut ∙ ap (λ t. done ++ t) none ∙ append-nil done) in (
         so_far.0,
         record {
           end = state;
@@ -248,13 +249,13 @@ module _ (rules : RuleSet) (telling : Telling) where
   EndsAtFault script old now number fault = IfSome script (λ text. (first_fault text ≡ Some (number, fault)) × WritesOutput rules telling text old now)
 
   -- a faulty line ends the output
-  pub fault-flushed : (script rest later old now : Option (List ℕ)) (line : List ℕ) (state : State) (number : ℕ) (fault : LineFault) → TakesLine rest later line → asked_by line ≡ Err fault → IsRunning rules telling script rest old now [] state number → EndsAtFault script old now number fault
+  pub fault-flushed : (script rest later old now : Option (List ℕ)) (line : List ℕ) (state : State) (number : ℕ) (fault : LineFault) → TakesLine rest later line → asked_by taken line ≡ Err fault → IsRunning rules telling script rest old now [] state number → EndsAtFault script old now number fault
   fault-flushed None rest later old now line state number fault took says so_far = tt
   fault-flushed (Some script) None later old now line state number fault took says so_far = absurd so_far
   fault-flushed (Some script) (Some rest) None old now line state number fault took says so_far = absurd took
   fault-flushed (Some script) (Some rest) (Some later) old now line state number fault took says so_far =
-      let none : asked_in (lines_of rest) ≡ [] = asked-first rest later line took.0 (Err fault) took.1 took.2 says in
-      (sym so_far.1.faults ∙ fault-first number rest later line took.0 (Err fault) took.1 took.2 says, all_written script rest old now state number none so_far)
+      let none : asked_in taken (lines_of rest) ≡ [] = asked-first taken rest later line took.0 (Err fault) took.1 took.2 says in
+      (sym so_far.1.faults ∙ fault-first taken number rest later line took.0 (Err fault) took.1 took.2 says, all_written script rest old now state number none so_far)
 
   -- all of the script is read, and answered
   pub end-flushed : (script rest left old now : Option (List ℕ)) (reader : List ℕ) (state : State) (number : ℕ) → (reader ≡ []) × IsAtEnd left × Consumes rest (prepend_known reader left) [] → IsRunning rules telling script rest old now [] state number → IfSome script (λ text. (first_fault text ≡ None) × WritesOutput rules telling text old now × (left ≡ Some []))
@@ -264,4 +265,4 @@ module _ (rules : RuleSet) (telling : Telling) where
   end-flushed (Some script) (Some rest) (Some left) old now reader state number ended so_far =
       let no_byte : rest ≡ [] = ended.2 ∙ ap (λ t. t ++ left) ended.0 ∙ ended.1 in
       let none : lines_of rest ≡ [] = ap lines_of no_byte ∙ lines_of-nil in
-      (sym so_far.1.faults ∙ ap (fault_from number) none, all_written script rest old now state number (ap asked_in none) so_far, ap Some ended.1)
+      (sym so_far.1.faults ∙ ap (fault_from taken number) none, all_written script rest old now state number (ap (asked_in taken) none) so_far, ap Some ended.1)

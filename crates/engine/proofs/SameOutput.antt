@@ -20,7 +20,8 @@ use Rattle.engine.specs.declared.one_cycle.Cycled.{Cycled}
 use Rattle.engine.specs.CycleAlone.{AfterPopAlone}
 use Rattle.engine.specs.Answers.{opening, step_of, AnsweredBy, AllAnswered}
 use Rattle.engine.specs.Lines.{lines_of}
-use Rattle.engine.specs.Output.{asked_in}
+use Rattle.engine.specs.Script.{asked_in}
+use Rattle.engine.specs.Output.{taken}
 use Rattle.engine.specs.Laws.{SameOutput}
 
 -- Each of these that is so by some rules is so by others that have all their verdicts.
@@ -74,5 +75,5 @@ module _ (rules other : RuleSet) (alike : (pod : Pod) (shown : Shown) (verdict :
 pub same_output : {Kit : Type 0} (answers : Kit → RuleSet) (one other : Kit) → SameOutput answers one other
 same_output answers one other telling script text alike output = record {
   end = output.end;
-  answered = all_answered (answers one) (answers other) (λ pod shown verdict. alike one other pod shown verdict (0, omega arith, refl) (1, omega arith, refl)) telling opening (asked_in (lines_of script)) output.end text output.answered;
+  answered = all_answered (answers one) (answers other) (λ pod shown verdict. alike one other pod shown verdict (0, omega arith, refl) (1, omega arith, refl)) telling opening (asked_in taken (lines_of script)) output.end text output.answered;
 }

@@ -8,6 +8,7 @@ pub mod Laws
 pub mod Lines
 pub mod Output
 pub mod Run
+pub mod Script
 pub mod Telling
 pub mod Text
 pub mod inside

@@ -6,7 +6,8 @@ ghost use Rattle.engine.specs.inside.Device.{WritesSome};
 ghost use Rattle.manifest.specs.Line.{IsTimely};
 ghost use Rattle.manifest.specs.Reading.{Answers};
 ghost use Rattle.choose.specs.Kits.{rules_of};
-ghost use Rattle.engine.specs.Output.{asked_by};
+ghost use Rattle.engine.specs.Script.{asked_by};
+ghost use Rattle.engine.specs.Output.{taken};
 ghost use Rattle.engine.specs.inside.Output.{IsAnswered, IsLineFault};
 ghost use Rattle.engine.specs.Run.{IsRun};
 ghost use Rattle.engine.specs.Telling.{telling};
@@ -62,9 +63,9 @@ fn flush_if<W: Sink>(sink: &mut W, pending: &mut Vec<u8>, due: bool) -> Result<(
 }
 
 // What a line asks for: nothing, where it is empty.
-#[tactic(auto, unfolding(crate::specs::Output::asked_by))]
+#[tactic(auto, unfolding(crate::specs::Script::asked_by))]
 fn asked_in(alloc: Global, line: &[u8]) -> Result<Option<Command>, LineFault>
-    ensures asked { Answers result (asked_by line.now) }
+    ensures asked { Answers result (asked_by taken line.now) }
     ensures timely { IfOk result (λ asked. IfSome asked IsTimely) }
 {
     if line.is_empty() {
@@ -89,11 +90,11 @@ fn answer_line<J: Naming, T: Wait + Threads + Sync, D: Decider>(
 ) -> Result<(), RunFault>
     requires { vec_len pending.old < MAX_PENDING }
     ensures answered { OnOk result (IsAnswered (rules_of D.Kit.answers (D.kits decider.old))
-        (telling named.now explains) (asked_by line.now) session.old.desk session.new.desk
+        (telling named.now explains) (asked_by taken line.now) session.old.desk session.new.desk
         pending.old.items pending.new.items) }
     ensures kept { OnErr result (pending.new.items ≡ pending.old.items) }
     ensures kits { D.kits decider.new ≡ D.kits decider.old }
-    ensures faults { IfErr result (IsLineFault number (asked_by line.now)) }
+    ensures faults { IfErr result (IsLineFault number (asked_by taken line.now)) }
 {
     match asked_in(alloc, line) {
         Ok(None) => Ok(()),

@@ -3,7 +3,8 @@ use Rattle.std.proofs.Common.{◌≡◌, List, [], ℕ, Option, sym, refl, arith
 use Rattle.rules.specs.RuleSet.{RuleSet}
 use Rattle.std.proofs.lemmas.List.{append-nil}
 use Rattle.engine.specs.Lines.{lines_of}
-use Rattle.engine.specs.Output.{asked_in, WritesOutput, WritesFront}
+use Rattle.engine.specs.Script.{asked_in}
+use Rattle.engine.specs.Output.{taken, WritesOutput, WritesFront}
 use Rattle.engine.specs.declared.fault.RunFault.{RunFault}
 use Rattle.engine.specs.declared.fault.RunFault.TheVariants as run_fault
 use Rattle.engine.specs.Telling.{Telling}
@@ -18,9 +19,9 @@ pub output_front : (rules : RuleSet) (telling : Telling) (script : List ℕ) (ol
 output_front rules telling script old new (text, output, writes) = (
   text,
   record {
-    asked = asked_in (lines_of script);
+    asked = asked_in taken (lines_of script);
     later = [];
-    cut = sym (append-nil (asked_in (lines_of script)));
+    cut = sym (append-nil (asked_in taken (lines_of script)));
     end = output.end;
     text = text;
     answered = output.answered;

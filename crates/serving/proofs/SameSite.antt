@@ -18,7 +18,8 @@ use Rattle.plugin.specs.Verdict.{filter_said, score_said}
 use Rattle.plugin.specs.Plugins.{Configured}
 use Rattle.plugin.specs.Kit.{Ready, Ends, Says, IsKitOf, IsReadyOf, records_of, rules_of}
 use Rattle.plugin.specs.inside.OneAnswer.{one_answer}
-use Rattle.engine.specs.Output.{IsOutput, BeginsOutput, asked_in}
+use Rattle.engine.specs.Script.{asked_in}
+use Rattle.engine.specs.Output.{taken, IsOutput, BeginsOutput}
 use Rattle.engine.specs.Lines.{lines_of}
 use Rattle.engine.specs.Answers.{opening}
 use Rattle.engine.proofs.OneOutput.{one_output}
@@ -137,7 +138,7 @@ module _ (one_module : OneModule) (one_image : OneImage) where
       → IsOutput (rules_of one) (told_by explains specs) script text → IsOutput (rules_of other) (told_by explains specs) script text
   output_alike explains specs modules script text one other a b output = record {
     end = output.end;
-    answered = all_answered (rules_of one) (rules_of other) (verdict_by (rules_of one) (rules_of other) (site_alike specs modules one other a b)) (told_by explains specs) opening (asked_in (lines_of script)) output.end text output.answered;
+    answered = all_answered (rules_of one) (rules_of other) (verdict_by (rules_of one) (rules_of other) (site_alike specs modules one other a b)) (told_by explains specs) opening (asked_in taken (lines_of script)) output.end text output.answered;
   }
 
   front_alike : (explains : Bool) (specs : List SpecSyntax) (modules : List (List ℕ)) (script front : List ℕ) (one other : List Ready) → IsSiteKit specs modules one → IsSiteKit specs modules other

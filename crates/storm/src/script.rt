@@ -5,7 +5,8 @@ ghost use Rattle.desk.specs.Caller as caller;
 ghost use Rattle.manifest.specs.Line as line;
 ghost use Rattle.manifest.specs.Reading.{Answers};
 ghost use Rattle.manifest.specs.declared.fault.LineFault.{LineFault as Fault};
-ghost use Rattle.storm.specs.Script.{watched, step_by, script_steps, first_storm_fault};
+ghost use Rattle.engine.specs.Script.{asked_by};
+ghost use Rattle.storm.specs.Script.{watched, script_steps, first_storm_fault};
 
 use desk::Step;
 use engine::{LineReader, RunFault, Source};
@@ -29,9 +30,9 @@ fn step_for(command: Command) -> Result<Step, LineFault>
 }
 
 // The step that a line asks for: none, where it is empty.
-#[tactic(auto, unfolding(crate::specs::Script::step_by))]
+#[tactic(auto, unfolding(engine::specs::Script::asked_by))]
 fn step_in(alloc: Global, line: &[u8]) -> Result<Option<Step>, LineFault>
-    ensures asked { Answers result (step_by line.now) }
+    ensures asked { Answers result (asked_by watched line.now) }
     ensures timely { IfOk result (λ step. IfSome step caller.IsTimely) }
 {
     if line.is_empty() {

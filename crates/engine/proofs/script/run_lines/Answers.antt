@@ -1,6 +1,7 @@
 use Rattle.std.proofs.Common.{◌≡◌, ◌+◌, true, false, Ok, Err, length, refl, ap, sym, ◌∙◌, arith, rules}
 use Rattle.std.proofs.lemmas.Result.{err_from_is_err_and, on_ok_weaker, on_err_weaker}
-use Rattle.engine.specs.Output.{asked_by}
+use Rattle.engine.specs.Script.{asked_by}
+use Rattle.engine.specs.Output.{taken}
 use Rattle.engine.proofs.Ends.{no_memory, write_failed, unread, at_end, at_line}
 use Rattle.engine.proofs.Progress.{nothing-written, IsRunning-begin, IsRunning-partly, IsRunning-flushed, IsRunning-answered, front-now, front-flushed, fault-flushed, end-flushed}
 use Rattle.engine.proofs.script.run_lines.Goals as goal
@@ -61,7 +62,7 @@ returns-in-Err-clause-run g c =
     let wrote = rw c.in-Err.ensures.kept at c.in_ok-flush.ensures.written in
     let yes : c.in_ok-next_line.field-0 ≡ true = search rules in
     let took = c.in_ok-next_line.ensures.found (ap Ok yes) in
-    let says = ap asked_by (sym c.deref-in-lines.ensures.value) in
+    let says = ap (asked_by taken) (sym c.deref-in-lines.ensures.value) in
     at_line _ _ _ _ c.in-Err.fault (c.lines.number + 1) _ c.in-Err.ensures.faults (c.in_ok-next_line.ensures.kept (λ eq. cc) ∙ c.lines.invariant.2)
     (c.in_ok-flush.ensures.failed ∙ c.in_ok-flush_if.ensures.failed ∙ c.lines.invariant.3)
     (front-now _ _ _ _ _ _ _ _ _ (IsRunning-flushed _ _ _ _ _ _ _ _ _ _ wrote so_far))
@@ -72,7 +73,7 @@ lines-preserved g c =
     let so_far = IsRunning-partly _ _ _ _ _ _ _ _ _ _ _ c.in_ok-flush_if.ensures.written c.lines.invariant.0 in
     let yes : c.in_ok-next_line.field-0 ≡ true = search rules in
     let took = c.in_ok-next_line.ensures.found (ap Ok yes) in
-    let says = ap asked_by (sym c.deref-in-lines.ensures.value) in
+    let says = ap (asked_by taken) (sym c.deref-in-lines.ensures.value) in
     let answered = rw c.lines.invariant.1 at c.in_default.ensures.answered in (
       IsRunning-answered _ _ _ _ _ _ _ _ _ _ _ _ _ _ says took answered so_far,
       search rules,

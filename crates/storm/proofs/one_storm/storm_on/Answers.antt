@@ -47,11 +47,11 @@ returns-in_err-tell-in-Ok g c =
     record {
       storm = search rules;
       front = written_before c.from_residual-in_err-tell-in-Ok.result (Err c.in_err-tell-in-Ok.field-0.0) c.in_err-tell-in-Ok.field-0.0 is refl
-      (λ failed. (
-        c.in_ok-is_right-in-Ok.is_right,
-        storms (λ d. rules_of g.D.Kit.Rules.answers (g.D.Decider.kits d)) c.args.deciders.items (length c.args.binders.items) _ c.args.steps.now _ _ _ _ _ _
-            (AppendsFront (g.W.Sink.written c.args.sink.now) (g.W.Sink.written c.tell.new.sink)) c.in-Ok.ensures.ended c.close-book.ensures c.in_ok-is_right-in-Ok.ensures (c.in_err-tell-in-Ok.ensures.front failed),
-      ));
+          (λ failed. (
+            c.in_ok-is_right-in-Ok.is_right,
+            storms (λ d. rules_of g.D.Kit.Rules.answers (g.D.Decider.kits d)) c.args.deciders.items (length c.args.binders.items) _ c.args.steps.now _ _ _ _ _ _
+                (AppendsFront (g.W.Sink.written c.args.sink.now) (g.W.Sink.written c.tell.new.sink)) c.in-Ok.ensures.ended c.close-book.ensures c.in_ok-is_right-in-Ok.ensures (c.in_err-tell-in-Ok.ensures.front failed),
+          ));
       quiet = passed_on_err c.from_residual-in_err-tell-in-Ok.result (Err c.in_err-tell-in-Ok.field-0.0) c.in_err-tell-in-Ok.field-0.0 is refl c.in_err-tell-in-Ok.ensures.quiet;
       faults = search rules;
       write = search rules;
@@ -62,7 +62,7 @@ returns-in_err-tell-in-Ok g c =
 pub returns-in_ok-tell-in-Ok : goal.returns-in_ok-tell-in-Ok
 returns-in_ok-tell-in-Ok g c = record {
   storm = storms (λ d. rules_of g.D.Kit.Rules.answers (g.D.Decider.kits d)) c.args.deciders.items (length c.args.binders.items) _ c.args.steps.now _ _ _ _ _ _
-  (Appends (g.W.Sink.written c.args.sink.now) (g.W.Sink.written c.tell.new.sink)) c.in-Ok.ensures.ended c.close-book.ensures c.in_ok-is_right-in-Ok.ensures c.in_ok-tell-in-Ok.ensures.wrote;
+      (Appends (g.W.Sink.written c.args.sink.now) (g.W.Sink.written c.tell.new.sink)) c.in-Ok.ensures.ended c.close-book.ensures c.in_ok-is_right-in-Ok.ensures c.in_ok-tell-in-Ok.ensures.wrote;
   front = search rules;
   quiet = search rules;
   faults = search rules;

@@ -2,7 +2,8 @@ use Rattle.std.proofs.Common.{◌≡◌, ◌+◌, true, false, Ok, Err, Option, 
 use Rattle.std.proofs.lemmas.List.Elements.{All-nil, All-same, All-push}
 use Rattle.desk.specs.declared.step.Step.{Step}
 use Rattle.desk.specs.Caller.{IsTimely}
-use Rattle.storm.specs.Script.{step_by}
+use Rattle.engine.specs.Script.{asked_by}
+use Rattle.storm.specs.Script.{watched}
 use Rattle.storm.proofs.Reading.{reading-begin, reading-empty, reading-more, reading-fault, reading-end}
 use Rattle.storm.proofs.script.read_script.Goals as goal
 
@@ -25,7 +26,7 @@ pub lines-preserved-in-Ok-None : goal.lines-preserved-in-Ok-None
 lines-preserved-in-Ok-None g c =
     let yes : c.in_ok-next_line.field-0 ≡ true = search rules in
     let took = c.in_ok-next_line.ensures.found (ap Ok yes) in
-    let says = ap step_by (sym c.deref.ensures.value) ∙ c.in-Ok-None.ensures.asked ∙ ap Ok c.in-Ok-None.field-0-is in (
+    let says = ap (asked_by watched) (sym c.deref.ensures.value) ∙ c.in-Ok-None.ensures.asked ∙ ap Ok c.in-Ok-None.field-0-is in (
       reading-empty _ _ _ _ _ _ took says c.lines.invariant.0,
       c.lines.invariant.1,
       search rules,
@@ -37,7 +38,7 @@ pub lines-preserved : goal.lines-preserved
 lines-preserved g c =
     let yes : c.in_ok-next_line.field-0 ≡ true = search rules in
     let took = c.in_ok-next_line.ensures.found (ap Ok yes) in
-    let says = ap step_by (sym c.deref.ensures.value) ∙ c.in-Ok-Some.ensures.asked ∙ ap Ok c.in-Ok-Some.field-0-is in (
+    let says = ap (asked_by watched) (sym c.deref.ensures.value) ∙ c.in-Ok-Some.ensures.asked ∙ ap Ok c.in-Ok-Some.field-0-is in (
       reading-more _ _ _ _ _ _ _ _ took says c.in_ok-add-in-Ok-Some.ensures.added c.lines.invariant.0,
       All-same IsTimely _ _ c.in_ok-add-in-Ok-Some.ensures.added (All-push IsTimely _ _ c.lines.invariant.1 (subst (λ (o : Option Step). IfSome o IsTimely) c.in-Ok-Some.field-0-is c.in-Ok-Some.ensures.timely)),
       search rules,
@@ -48,8 +49,8 @@ pub returns-in-Err : goal.returns-in-Err
 returns-in-Err g c =
     let yes : c.in_ok-next_line.field-0 ≡ true = search rules in
     let took = c.in_ok-next_line.ensures.found (ap Ok yes) in
-    let told : step_by c.deref.result.now ≡ Err c.in-Err.fault = search rules in
-    let says = ap step_by (sym c.deref.ensures.value) ∙ told in
+    let told : asked_by watched c.deref.result.now ≡ Err c.in-Err.fault = search rules in
+    let says = ap (asked_by watched) (sym c.deref.ensures.value) ∙ told in
     record {
       read = tt;
       timely = tt;
