@@ -18,7 +18,7 @@ use Rattle.quant.specs.Name.{is_before}
 use Rattle.quant.specs.Request.{greatest_by}
 use Rattle.choose.specs.declared.best.Worth.{Worth}
 use Rattle.choose.specs.declared.best.Found.{Found}
-use Rattle.choose.specs.Finding.{name_at}
+use Rattle.desk.specs.Order.{name_at}
 use Rattle.choose.specs.inside.Finding.{node_at, nobody, worth_of, goes_before, after_one_more, StandsFirst}
 
 less : (o : Ordering) → is_lt o ≡ true → o ≡ Less

@@ -6,3 +6,4 @@ pub mod Deciding
 pub mod OneVerdict
 pub mod Uncounted
 pub mod OneDecision
+pub mod OnePass

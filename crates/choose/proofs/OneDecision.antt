@@ -19,7 +19,7 @@ use Rattle.choose.specs.declared.decision.Decision.{Decision}
 use Rattle.choose.specs.declared.decision.Decision.TheVariants as decision
 use Rattle.choose.specs.Choice.{Judged, judged, errs, most_of, total_of, NoneErrs, LeastErring, IsFirst, IsChoice, Choice}
 use Rattle.quant.specs.Name.{is_before}
-use Rattle.choose.specs.Finding.{name_at}
+use Rattle.desk.specs.Order.{name_at}
 use Rattle.choose.specs.inside.Finding.{nobody}
 use Rattle.choose.specs.Laws.{HaveOwnNames}
 use Rattle.choose.proofs.First.{judged_length, judged_name}

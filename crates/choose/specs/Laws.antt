@@ -11,7 +11,7 @@ use Rattle.choose.specs.declared.decision.Decision.{Decision}
 use Rattle.choose.specs.declared.decision.Decision.TheVariants as decision
 use Rattle.choose.specs.Verdict.{HasVerdict, reason_of}
 use Rattle.choose.specs.Choice.{Judged, judged, same_reason, IsChoice, AreVerdicts, Choice}
-use Rattle.choose.specs.Finding.{name_at}
+use Rattle.desk.specs.Order.{name_at}
 
 -- There is one verdict on a node, whatever the other nodes are.
 abbrev pub OneVerdict : RuleSet → Type 0

@@ -1,6 +1,5 @@
 pub mod Verdict
 pub mod Choice
-pub mod Finding
 pub mod Laws
 pub mod Kits
 pub mod inside

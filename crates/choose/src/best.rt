@@ -5,7 +5,7 @@ ghost use Rattle.quant.specs.Request.{greatest_by};
 ghost use Rattle.desk.specs.Shown.{shown};
 ghost use Rattle.choose.specs.Choice.{judged, count_of, total};
 ghost use Rattle.quant.specs.Name.{is_before};
-ghost use Rattle.choose.specs.Finding.{name_at};
+ghost use Rattle.desk.specs.Order.{name_at};
 ghost use Rattle.choose.specs.inside.Finding.{worth_of, IsBounded, goes_before, after_one_more, StandsFirst};
 
 use crate::decision::Verdict;

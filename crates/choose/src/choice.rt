@@ -2,7 +2,7 @@
 ghost use Rattle.std.specs.Prelude.{◌≡◌, ◌<◌, length, map, IfOk};
 ghost use Rattle.desk.specs.Shown.{shown};
 ghost use Rattle.choose.specs.Choice.{judged, IsChoice, Choice};
-ghost use Rattle.choose.specs.Finding.{name_at};
+ghost use Rattle.desk.specs.Order.{name_at};
 ghost use Rattle.choose.specs.inside.Finding.{StandsFirst};
 
 use crate::best::{Found, Worth, first_of, most_taints};
@@ -51,7 +51,7 @@ fn error_at(rows: &[Row], verdicts: &[Verdict], found: Found) -> Decision
 }
 
 // The name of the node at a place.
-fn name_of(rows: &[Row], at: usize) -> Name
+pub(crate) fn name_of(rows: &[Row], at: usize) -> Name
     requires { at < length rows.now }
     ensures { result ≡ name_at (map shown rows.now) at }
 {

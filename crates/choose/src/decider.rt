@@ -37,6 +37,22 @@ pub trait Decider {
             (last self.new)) }
         ensures kits { kits self.new ≡ kits self.old };
 
+    /// Where a pod goes, as `decide` says it. Which verdicts it was decided by isn't told then, so that none need be written.
+    ///
+    /// Errors: as those of `decide`.
+    fn choose<R: Threads + Wait + Sync>(
+        &mut self,
+        rt: &R,
+        snapshot: Snapshot,
+        pod: &SharedPod,
+    ) -> Result<Decision, NoMemory>
+        requires { IsSync R.row }
+        ensures chosen { IfOk result (Choice (rules_of Self.Kit.answers (kits self.old)) snapshot pod.now) }
+        ensures kits { kits self.new ≡ kits self.old }
+    {
+        self.decide(rt, snapshot, pod)
+    }
+
     /// The verdicts of its last decision, in the order of the nodes.
     fn verdicts(&self) -> &[Verdict]
         ensures { result.now ≡ last self.now };

@@ -19,7 +19,7 @@ use taints::{Rejection, prefer_count, rejected_by};
 /// The first of the built-in filters that rejects a node: its mark, its taints, its CPU, its memory and its number of pods. A
 /// plain node isn't looked into.
 #[tactic(auto, using(crate::proofs::Plain::keeps_none_off), unfolding(crate::specs::Verdict::built_in))]
-fn built_in(row: &Row, pod: &Pod) -> Option<Reason>
+pub(crate) fn built_in(row: &Row, pod: &Pod) -> Option<Reason>
     ensures { result ≡ built_in (shown row.now) pod.now }
 {
     if !row.is_plain() {
@@ -62,7 +62,7 @@ fn passing(row: &Row, pod: &Pod, added: Added) -> Verdict
 }
 
 // The verdict on a node where there is no rule. It need be shown to none.
-fn built_in_verdict(row: &Row, pod: &Pod) -> Verdict
+pub(crate) fn built_in_verdict(row: &Row, pod: &Pod) -> Verdict
     ensures { IsBuiltIn pod.now (shown row.now) result }
 {
     match built_in(row, pod) {

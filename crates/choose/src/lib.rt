@@ -8,10 +8,12 @@
 //! - `judging`: the verdicts on nodes, by the built-in filters and scores, and by the rules of a site: `asking`.
 //! - `choice`: the decision by the verdicts of all nodes. `best` has the node that goes first, and `counts` how many are rejected for
 //!   which reason.
+//! - `alone`: the choice where there is no rule, without verdicts.
 //! - `decider`: what promises this choice, whoever shares the work.
 //! - `laws`: what holds of every choice.
 #![tactic(auto)]
 
+mod alone;
 mod asking;
 mod best;
 mod choice;
@@ -22,6 +24,7 @@ mod judging;
 mod laws;
 mod one_of;
 
+pub use alone::choose_alone;
 pub use best::{most_taints, total};
 pub use choice::{choose, decide};
 pub use decider::Decider;

@@ -35,6 +35,18 @@ impl<A: Decider + Drop, B: Decider<Kit = A::Kit> + Drop> Decider for OneOf<A, B>
         }
     }
 
+    fn choose<R: Threads + Wait + Sync>(
+        &mut self,
+        rt: &R,
+        snapshot: Snapshot,
+        pod: &SharedPod,
+    ) -> Result<Decision, NoMemory> {
+        match self {
+            OneOf::First(one) => one.choose(rt, snapshot, pod),
+            OneOf::Second(one) => one.choose(rt, snapshot, pod),
+        }
+    }
+
     fn verdicts(&self) -> &[Verdict] {
         match self {
             OneOf::First(one) => one.verdicts(),

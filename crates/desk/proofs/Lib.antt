@@ -17,5 +17,6 @@ pub mod Adding
 pub mod Sharing
 pub mod Alone
 pub mod NodesStay
+pub mod Order
 pub mod Changes
 pub mod Noted

@@ -1,5 +1,6 @@
 pub mod Plain
 pub mod Shown
+pub mod Order
 pub mod Machine
 pub mod Caller
 pub mod History

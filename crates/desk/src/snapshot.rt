@@ -34,12 +34,15 @@ impl Model for Snapshot {
     ghost use Rattle.desk.specs.inside.Codes.{shown_code};
     ghost use Rattle.std.specs.Coded.{coded_list};
     ghost use Rattle.std.specs.Arc.{arc_value};
+    ghost use Rattle.desk.specs.Order.{AreInOrder};
 
     ghost Value = { List Shown };
 
     ghost coded = { coded_list shown_code };
 
     ghost view = { λ s. map shown (arc_value s.rows).items };
+
+    ghost invariant = { λ s. AreInOrder (map shown (arc_value s.rows).items) };
 }
 
 impl Row {
@@ -80,8 +83,10 @@ impl Snapshot {
     ghost use Rattle.std.specs.Prelude.{map};
     ghost use Rattle.std.specs.Arc.{arc_value};
     ghost use Rattle.desk.specs.Shown.{shown};
+    ghost use Rattle.desk.specs.Order.{AreInOrder};
 
     pub(crate) fn new(rows: Arc<Vec<Row>>) -> Self
+        requires { AreInOrder (map shown (arc_value rows).items) }
         ensures { result ≡ map shown (arc_value rows).items }
     {
         Snapshot { rows }
@@ -92,5 +97,12 @@ impl Snapshot {
         ensures { map shown result.now ≡ self.now }
     {
         &self.rows
+    }
+
+    /// The rows stand in the order of their nodes' names, and no two nodes have one name. It does nothing: its contract is the law.
+    pub fn stands_in_order(&self)
+        ensures { AreInOrder self.now }
+    {
+        let _rows = &self.rows;
     }
 }

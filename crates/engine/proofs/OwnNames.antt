@@ -23,7 +23,7 @@ use Rattle.desk.specs.History.{is_accepted, row_in}
 use Rattle.desk.proofs.Calm.{each_found}
 use Rattle.desk.proofs.Rows.{shown_of, shown_all}
 use Rattle.desk.proofs.Steps.{one_of}
-use Rattle.choose.specs.Finding.{name_at}
+use Rattle.desk.specs.Order.{name_at}
 use Rattle.choose.specs.Laws.{HaveOwnNames}
 
 -- each node stands under its own name

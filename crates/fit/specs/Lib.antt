@@ -1,3 +1,4 @@
 pub mod Fit
 pub mod Score
 pub mod Examples
+pub mod inside

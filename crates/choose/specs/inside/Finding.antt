@@ -14,7 +14,7 @@ use Rattle.choose.specs.Verdict.{built_in, passing}
 use Rattle.choose.specs.inside.Verdict.{nothing_added}
 use Rattle.choose.specs.Choice.{Judged, errs, count_of, total_of, is_for, IsFirst}
 use Rattle.quant.specs.Name.{is_before}
-use Rattle.choose.specs.Finding.{name_at}
+use Rattle.desk.specs.Order.{name_at}
 
 -- the verdict on a node where there is no rule: the first built-in filter that rejects it, else it passes with nothing added
 abbrev pub IsBuiltIn : Pod → Shown → Verdict → Type 0

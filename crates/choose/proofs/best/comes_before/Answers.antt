@@ -1,6 +1,6 @@
 use Rattle.std.proofs.Common.{◌≡◌, map, rules}
 use Rattle.desk.specs.Shown.{shown}
-use Rattle.choose.specs.Finding.{name_at}
+use Rattle.desk.specs.Order.{name_at}
 use Rattle.choose.proofs.First.{shown_name}
 use Rattle.choose.proofs.best.comes_before.Goals as goal
 

@@ -1,4 +1,4 @@
-use Rattle.std.proofs.Common.{◌≡◌, map, refl, ap, sym, ◌∙◌}
+use Rattle.std.proofs.Common.{◌≡◌, map, refl, ap, sym, subst, ◌∙◌}
 use Rattle.std.specs.Arc.{arc_value}
 use Rattle.std.specs.Global.{Vec}
 use Rattle.desk.specs.declared.snapshot.Row.{Row}
@@ -9,9 +9,17 @@ use Rattle.desk.specs.inside.NodeCalls.{nodes_in}
 use Rattle.desk.specs.Shared.{Pass}
 use Rattle.desk.specs.inside.Shared.{Prefix}
 use Rattle.desk.specs.Shown.{shown}
+use Rattle.desk.specs.Order.{AreInOrder}
 use Rattle.desk.proofs.NodesStay.{nodes_shown, nodes_published, used_long}
 use Rattle.desk.proofs.Sharing.{looked_on_board}
+use Rattle.desk.proofs.Order.{shown_in_order}
 use Rattle.desk.proofs.pass.Pass.look_at.Goals as goal
+
+-- what is published is shown in the order of the nodes' names
+pub new-shown-requires : goal.new-shown-requires
+new-shown-requires g c =
+    subst AreInOrder (sym (ap (λ (v : Vec Row). map shown v.items) c.in_ok-clone.ensures.cases ∙ c.in_ok-rows.ensures))
+    (shown_in_order g.J.Naming.book g.J.Naming.limits c.args.board.now c.requires.stands)
 
 -- the published history's snapshot is shown, and has then been seen
 pub returns-clause-looked : goal.returns-clause-looked
