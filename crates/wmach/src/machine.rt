@@ -136,7 +136,7 @@ impl Machine {
         self.store.keep();
     }
 
-    /// Brings the image back. It copies pages of 4,096 bytes of the memory that were written since the image was kept, and
+    /// Brings the image back. It copies stretches of 256 bytes of the memory that were written since the image was kept, and
     /// globals or table where one of them was.
     pub fn reset(&mut self)
         ensures { self.new ≡ record self.old { store = self.old.image } }

@@ -18,7 +18,7 @@ pub const MAX_PAGES: u32 = 32;
 /// A linear memory, with an image that it can be brought back to.
 ///
 /// The bytes and the image have room for the whole cap from the start. They are written as pages come into use, so that the
-/// system gives memory for those alone, and are zero past what is in use. Pages of 4,096 bytes that were written since the
+/// system gives memory for those alone, and are zero past what is in use. Stretches of 256 bytes that were written since the
 /// image was kept are noted: to bring the image back copies those alone.
 #[derive(Drop)]
 pub struct Memory {
@@ -155,7 +155,7 @@ impl Memory {
         self.image_len = self.len;
     }
 
-    /// Brings the image back, its size too. It copies only pages of 4,096 bytes that were written since the image was
+    /// Brings the image back, its size too. It copies only stretches of 256 bytes that were written since the image was
     /// kept.
     pub fn reset(&mut self)
         ensures { self.new ≡ record self.old { bytes = self.old.image } }
@@ -164,7 +164,7 @@ impl Memory {
         self.len = self.image_len;
     }
 
-    /// How many pages of 4,096 bytes were written since the image was kept or brought back. A page that isn't among them
+    /// How many stretches of 256 bytes were written since the image was kept or brought back. One that isn't among them
     /// is the image's, and zero past the image's end.
     pub fn touched(&self) -> usize
         ensures { TouchesAtMost self.now result }

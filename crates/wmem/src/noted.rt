@@ -5,7 +5,7 @@ ghost use Rattle.wmem.specs.inside.Noted.{is_set, no_pages, with_pages};
 use std::alloc::{AllocError, Global};
 use std::marker::Model;
 
-/// The pages that are noted. These are small pages, for noting alone: 4,096 bytes each.
+/// The pages that are noted. These are small pages, for noting alone: 256 bytes each.
 ///
 /// A flag a page answers whether it is noted, and a list of them lets a reset go to those alone. Room for more pages is taken
 /// when it is made.

@@ -12,10 +12,10 @@ use std::alloc::{AllocError, Global};
 use std::marker::Model;
 
 /// How many bytes are noted together.
-pub(crate) const STRETCH: usize = 4_096;
+pub(crate) const STRETCH: usize = 256;
 
 /// Two buffers of one length: the bytes, which are written, and the image, which they can be brought
-/// back to. Each page of 4,096 bytes that a write touches is noted, and one that isn't noted is alike
+/// back to. Each stretch of 256 bytes that a write touches is noted, and one that isn't noted is alike
 /// in both; so both ways of making them alike copy the noted pages alone.
 ///
 /// Room for all pages is taken when it is made, but the system gives memory as it is written for the first time: so zeros are
@@ -53,7 +53,7 @@ fn last_page(at: usize, width: Width) -> usize
 impl Tracked {
     /// No pages, with room for so many.
     pub(crate) fn new(alloc: Global, room: usize) -> Result<Tracked, AllocError>
-        requires { room ≤ 512 }
+        requires { room ≤ 8192 }
         ensures bytes { IfOk result (λ tracked. tracked.bytes ≡ []) }
         ensures image { IfOk result (λ tracked. tracked.image ≡ []) }
         ensures room { IfOk result (λ tracked. tracked.noted.room ≡ room) }
@@ -165,9 +165,9 @@ fn make_alike(to: &mut [u8], from: &[u8], noted: &mut NotedPages)
 
 // Copies the page that begins at a place.
 fn copy_page(to: &mut [u8], from: &[u8], at: usize)
-    requires room { at + 4096 ≤ length to.old }
-    requires given { at + 4096 ≤ length from.now }
-    ensures { to.new ≡ with_bytes to.old at (take 4096 (drop at from.now)) }
+    requires room { at + 256 ≤ length to.old }
+    requires given { at + 256 ≤ length from.now }
+    ensures { to.new ≡ with_bytes to.old at (take 256 (drop at from.now)) }
 {
     buffer::copy_at(to, at, &from[at..at + STRETCH]);
 }

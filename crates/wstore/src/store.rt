@@ -264,7 +264,7 @@ impl Store {
         self.table.keep();
     }
 
-    /// Brings the image back. It copies pages of 4,096 bytes of the memory that were written since the image was kept, and
+    /// Brings the image back. It copies stretches of 256 bytes of the memory that were written since the image was kept, and
     /// globals or table where one of them was.
     pub fn reset(&mut self)
         ensures { self.new ≡ record self.old { current = self.old.image } }

@@ -6,7 +6,7 @@ use Rattle.wmem.specs.inside.Noted.{Noted, noted_code}
 
 -- how many bytes are noted together
 abbrev pub stretch : ℕ
-stretch = 4096
+stretch = 256
 
 -- the bytes that are written, the bytes to go back to, and which pages were written since
 pub record TrackedBytes : Type 0 where

@@ -4,5 +4,5 @@ use Rattle.wmem.proofs.tracked.copy_page.Goals as goal
 
 pub returns : goal.returns
 returns c =
-    let count : (c.args.at + 4096) - c.args.at ≡ 4096 = omega arith in
+    let count : (c.args.at + 256) - c.args.at ≡ 256 = omega arith in
     c.copy_at.ensures ∙ ap (λ (n : ℕ). with_bytes c.args.to.now c.args.at (take n (drop c.args.at c.args.from.now))) count

@@ -18,10 +18,10 @@ invariant_of-self c =
     let seen = length-bytes memory sound in
     let pages : c.size-pages.result ≡ memory.len / 65536 = rw (← c.self.view_is, seen) at c.size-pages.ensures.pages in
     let more : ℕ = c.args.delta * 65536 in
-    let longer = ap length c.extend.ensures.bytes ∙ length-longer memory.tracked.bytes (stretch * ((memory.len + more) / 4096) - length memory.tracked.bytes) in
+    let longer = ap length c.extend.ensures.bytes ∙ length-longer memory.tracked.bytes (stretch * ((memory.len + more) / 256) - length memory.tracked.bytes) in
     let opened : memory.len + more ≤ length c.extend.new.self.bytes = omega (arith, longer, sound.whole_pages) in
     grow_sound (record memory { tracked = c.extend.new.self }) more
-    (extend_sound memory c.extend.new.self ((memory.len + more) / 4096) sound c.extend.ensures.bytes c.extend.ensures.image c.extend.ensures.room)
+    (extend_sound memory c.extend.new.self ((memory.len + more) / 256) sound c.extend.ensures.bytes c.extend.ensures.image c.extend.ensures.room)
     (omega arith) (omega (arith, sound.whole_pages)) opened
 
 pub returns : goal.returns
@@ -32,10 +32,10 @@ returns c =
     let pages : c.size-pages.result ≡ memory.len / 65536 = rw (← c.self.view_is, seen) at c.size-pages.ensures.pages in
     let more : ℕ = c.args.delta * 65536 in
     let turned : more ≡ 65536 * c.args.delta = omega arith in
-    let longer = ap length c.extend.ensures.bytes ∙ length-longer memory.tracked.bytes (stretch * ((memory.len + more) / 4096) - length memory.tracked.bytes) in
+    let longer = ap length c.extend.ensures.bytes ∙ length-longer memory.tracked.bytes (stretch * ((memory.len + more) / 256) - length memory.tracked.bytes) in
     let opened : memory.len + more ≤ length c.extend.new.self.bytes = omega (arith, longer, sound.whole_pages) in
-    let same = extend_view memory c.extend.new.self ((memory.len + more) / 4096) sound c.extend.ensures.bytes c.extend.ensures.image in
-    let later = extend_sound memory c.extend.new.self ((memory.len + more) / 4096) sound c.extend.ensures.bytes c.extend.ensures.image c.extend.ensures.room in
+    let same = extend_view memory c.extend.new.self ((memory.len + more) / 256) sound c.extend.ensures.bytes c.extend.ensures.image in
+    let later = extend_sound memory c.extend.new.self ((memory.len + more) / 256) sound c.extend.ensures.bytes c.extend.ensures.image c.extend.ensures.room in
     rw (← c.self.view_is) (
       rw seen (omega arith),
       rw seen pages,

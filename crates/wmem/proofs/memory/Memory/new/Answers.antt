@@ -10,19 +10,19 @@ extend-requires c = omega (arith, c.in_ok-tracked.ensures.room, c.requires.withi
 
 pub invariant_of-result : goal.invariant_of-result
 invariant_of-result c =
-    let count : 4096 * (c.args.min * 65536 / 4096) ≡ 65536 * c.args.min = omega arith in
+    let count : 256 * (c.args.min * 65536 / 256) ≡ 65536 * c.args.min = omega arith in
     let room : stretch * c.extend.new.self.noted.room ≡ 65536 * c.args.cap = omega (arith, c.extend.ensures.room, c.in_ok-tracked.ensures.room) in
     new_sound _ c.args.min c.requires.within c.requires.limited
-    (c.extend.ensures.bytes ∙ extended_from_none c.in_ok-tracked.tracked.bytes (c.args.min * 65536 / 4096) c.in_ok-tracked.ensures.bytes ∙ ap zeros count)
-    (c.extend.ensures.image ∙ extended_from_none c.in_ok-tracked.tracked.image (c.args.min * 65536 / 4096) c.in_ok-tracked.ensures.image ∙ ap zeros count)
+    (c.extend.ensures.bytes ∙ extended_from_none c.in_ok-tracked.tracked.bytes (c.args.min * 65536 / 256) c.in_ok-tracked.ensures.bytes ∙ ap zeros count)
+    (c.extend.ensures.image ∙ extended_from_none c.in_ok-tracked.tracked.image (c.args.min * 65536 / 256) c.in_ok-tracked.ensures.image ∙ ap zeros count)
     room (omega arith) (omega arith)
 
 pub returns : goal.returns
 returns c =
-    let count : 4096 * (c.args.min * 65536 / 4096) ≡ 65536 * c.args.min = omega arith in
+    let count : 256 * (c.args.min * 65536 / 256) ≡ 65536 * c.args.min = omega arith in
     new_view
     (record { tracked = c.extend.new.self; len = c.args.min * 65536; image_len = c.args.min * 65536; cap = c.args.cap })
     c.args.min
-    (c.extend.ensures.bytes ∙ extended_from_none c.in_ok-tracked.tracked.bytes (c.args.min * 65536 / 4096) c.in_ok-tracked.ensures.bytes ∙ ap zeros count)
-    (c.extend.ensures.image ∙ extended_from_none c.in_ok-tracked.tracked.image (c.args.min * 65536 / 4096) c.in_ok-tracked.ensures.image ∙ ap zeros count)
+    (c.extend.ensures.bytes ∙ extended_from_none c.in_ok-tracked.tracked.bytes (c.args.min * 65536 / 256) c.in_ok-tracked.ensures.bytes ∙ ap zeros count)
+    (c.extend.ensures.image ∙ extended_from_none c.in_ok-tracked.tracked.image (c.args.min * 65536 / 256) c.in_ok-tracked.ensures.image ∙ ap zeros count)
     (omega arith) (omega arith)
