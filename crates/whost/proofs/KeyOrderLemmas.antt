@@ -33,6 +33,36 @@ pub one_more : (labels : List Label) (place : ℕ) → place < length labels
     → in_key_order (drop place labels) ≡ put_in_order (label_at labels place) (in_key_order (drop (place + 1) labels))
 one_more labels place h = rw (drop-cons labels place (record { key = []; value = [] }) h, add-one) refl
 
+-- in front of a label whose key doesn't come before its own, a label is in order
+put_front : (label first : Label) (rest : List Label) → is_before first.key label.key ≡ false → put_in_order label (first ∷ rest) ≡ label ∷ first ∷ rest
+put_front label first rest behind = rw behind refl
+
+-- where the labels behind a place are in order as they stand, and the first of them doesn't come before that at the place, those
+-- from the place on are
+pub one_in_front : (labels : List Label) (place : ℕ) → place + 1 < length labels
+    → is_before (label_at labels (place + 1)).key (label_at labels place).key ≡ false
+    → in_key_order (drop (place + 1) labels) ≡ drop (place + 1) labels → in_key_order (drop place labels) ≡ drop place labels
+one_in_front labels place h behind later =
+    let none : Label = record { key = []; value = [] } in
+    let inside : place < length labels = omega arith in
+    let first : Label = label_at labels place in
+    let rest : List Label = drop (suc (place + 1)) labels in
+    let from_there : drop (place + 1) labels ≡ label_at labels (place + 1) ∷ rest = drop-cons labels (place + 1) none h in
+    let from_here : drop place labels ≡ first ∷ drop (place + 1) labels = rw (drop-cons labels place none inside, add-one) refl in
+    one_more labels place inside
+    ∙ ap (λ (ls : List Label). put_in_order first ls) (later ∙ from_there)
+    ∙ put_front first (label_at labels (place + 1)) rest behind
+    ∙ ap (λ (ls : List Label). first ∷ ls) (sym from_there)
+    ∙ sym from_here
+
+-- what is left behind all labels but one is in order
+pub last_in_order : (labels : List Label) (n : ℕ) → length labels ≤ n + 1 → in_key_order (drop n labels) ≡ drop n labels
+last_in_order [] zero h = refl
+last_in_order [] (suc n) h = refl
+last_in_order (label ∷ []) zero h = refl
+last_in_order (label ∷ next ∷ rest) zero h = absurd (omega (arith, h))
+last_in_order (label ∷ rest) (suc n) h = last_in_order rest n (omega (arith, h))
+
 -- how many pass in front, of the labels at some places
 prefix_mapped : {X : Type 0} (f : X → Label) (p : Label → Bool) (order : List X) → prefix_len p (map f order) ≡ prefix_len (λ q. p (f q)) order
 prefix_mapped f p [] = refl

@@ -3,7 +3,7 @@ use Rattle.std.proofs.Common.{◌≡◌, ℕ, ◌+◌, ◌≤◌, List, [], ◌�
 use Rattle.std.specs.List.{flat_map}
 use Rattle.std.proofs.lemmas.List.Concat.{length-flat_map}
 use Rattle.std.proofs.lemmas.List.Folds.{flat_map-map}
-use Rattle.std.proofs.lemmas.List.{take_all}
+use Rattle.std.proofs.lemmas.List.{append_assoc, take_all}
 use Rattle.std.proofs.lemmas.List.Sums.{sum_by-cons}
 use Rattle.std.proofs.lemmas.List.Sorted.{sum_by-IsPermutation}
 use Rattle.quant.specs.declared.objects.Label.{Label}
@@ -36,6 +36,13 @@ pub at_all_places : (labels : List Label) (order : List ℕ) (n : ℕ) → lengt
     → flat_map (λ place. label_field (label_at labels place)) (take n order) ≡ flat_map label_field (in_key_order labels)
 at_all_places labels order n h e =
     rw (take_all n order h) (sym (flat_map-map label_field (label_at labels) order) ∙ ap (λ (ls : List Label). flat_map label_field ls) e)
+
+-- the labels in order, behind their count
+pub with_count : (before : List ℕ) (labels : List Label) (counted after : List ℕ) → counted ≡ before ++ length labels ∷ []
+    → after ≡ counted ++ flat_map label_field (in_key_order labels) → after ≡ before ++ labels_field labels
+with_count before labels counted after count is =
+    let fields : List ℕ = flat_map label_field (in_key_order labels) in
+    is ∙ ap (λ (bytes : List ℕ). bytes ++ fields) count ∙ append_assoc before (length labels ∷ []) fields
 
 -- a taint's bytes, and those of taints
 taint_length : (taint : Taint) → length (taint_field taint) ≡ 3 + length taint.key + length taint.value

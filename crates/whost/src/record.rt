@@ -1,10 +1,11 @@
 //! The buffer that a record is written into, field after field.
 ghost use Rattle.std.specs.Prelude.{◌≡◌, ◌+◌, ◌*◌, ◌<◌, ◌≤◌, [], ◌∷◌, ◌++◌, drop, length};
-ghost use Rattle.std.specs.List.{AllByRecursion};
+ghost use Rattle.std.specs.List.{AllByRecursion, flat_map};
+ghost use Rattle.whost.specs.KeyOrder.{in_key_order};
 ghost use Rattle.std.specs.Int.{cast_unsigned, w32};
 ghost use Rattle.whost.specs.Record.{number_field, text_field, mark_field, amounts_field, label_field, labels_field, labels_size, effect_code as defined_effect, operator_code as defined_operator, taint_field, taints_field, taints_size, toleration_field, tolerations_field, tolerations_size};
 
-use crate::key_order::key_order;
+use crate::key_order::{are_in_order, key_order};
 use arrayvec::ArrayVec;
 use byteorder::{ByteOrder, LittleEndian};
 use quant::{Effect, Label, Operator, Res, Taint, Toleration};
@@ -193,6 +194,42 @@ impl Record {
         ensures most { length self.new ≤ length self.old + 4097 }
     {
         self.put_byte(labels.len() as u8);
+        self.put_in_order(labels);
+    }
+
+    // Writes labels in rising order of their keys' bytes, without their count.
+    fn put_in_order(&mut self, labels: &[Label])
+        requires few { length labels.now ≤ 32 }
+        requires room { length self.old + 4096 ≤ 8192 }
+        ensures fields { self.new ≡ self.old ++ flat_map label_field (in_key_order labels.now) }
+        ensures most { length self.new ≤ length self.old + 4096 }
+    {
+        if are_in_order(labels) {
+            self.put_each(labels);
+        } else {
+            self.put_by_places(labels);
+        }
+    }
+
+    // Writes labels as they stand.
+    fn put_each(&mut self, labels: &[Label])
+        requires few { length labels.now ≤ 32 }
+        requires room { length self.old + 4096 ≤ 8192 }
+        ensures fields { self.new ≡ self.old ++ flat_map label_field labels.now }
+        ensures most { length self.new ≤ length self.old + 4096 }
+    {
+        for label in labels {
+            self.put_label(label);
+        }
+    }
+
+    // The same of labels that stand in any order.
+    fn put_by_places(&mut self, labels: &[Label])
+        requires few { length labels.now ≤ 32 }
+        requires room { length self.old + 4096 ≤ 8192 }
+        ensures fields { self.new ≡ self.old ++ flat_map label_field (in_key_order labels.now) }
+        ensures most { length self.new ≤ length self.old + 4096 }
+    {
         for place in key_order(labels).as_slice() {
             self.put_label(&labels[usize::from(*place)]);
         }
