@@ -1,15 +1,21 @@
 -- How an instance is made, and its calls, from what its machine does.
-use Rattle.std.proofs.Common.{◌≡◌, ◌≢◌, ℕ, List, Option, Some, refl, sym, ap, ◌∙◌, subst}
+use Rattle.std.proofs.Common.{◌≡◌, ◌≢◌, ℕ, zero, suc, true, false, List, Option, Some, None, refl, sym, ap, ◌∙◌, subst, inl, inr}
+use Rattle.std.specs.Prelude.{◌⊎◌}
 use Rattle.wbin.specs.Syntax.{ModuleParts, ModuleSyntax, module_of}
 use Rattle.wstore.specs.Store.{first_store}
 use Rattle.wmach.specs.declared.export.Export.{Export}
 use Rattle.wmach.specs.declared.export.Export.TheVariants.{Filter, Score, Start}
 use Rattle.wmach.specs.declared.outcome.Outcome.{Outcome}
+use Rattle.wmach.specs.declared.outcome.Outcome.TheVariants.{Trap}
+use Rattle.wmach.specs.declared.outcome.Trap.TheVariants.{NoRecord}
 use Rattle.wmach.specs.Call.{MachineState, Calls, first_machine, records_for, called_function, OneOutcome}
 use Rattle.wmach.specs.Configuration.{Store, Setting}
 use Rattle.wmach.specs.Outcome.{HasOutcome}
 use Rattle.whost.specs.declared.records.Records.{Records}
+use Rattle.whost.specs.declared.records.Versions.{Versions}
 use Rattle.whost.specs.Handed.{record_of}
+use Rattle.whost.specs.inside.Sight.{pod_alone, handed, wants_record}
+use Rattle.whost.proofs.Unasked.{ends_alike}
 use Rattle.whost.specs.declared.fault.InstanceFault.{InstanceFault}
 use Rattle.whost.specs.declared.fault.InstanceFault.TheVariants.{DataOutOfBounds, ElementOutOfBounds, StartTrap, StartExhausted, NoMemory}
 use Rattle.whost.specs.Image.{InBounds, with_segments, Started, IsImage}
@@ -30,6 +36,30 @@ call_from_image before at_image after export records fuel outcome by_name is cal
       function = c.function;
       function_is = c.function_is;
       ends = subst (λ (given : ℕ → Option (List ℕ)). HasOutcome (record { module_syntax = module_of before.content; records = given }) before.image c.function fuel outcome after.store) (given_its_own export (record_of records) by_name) c.ends;
+    }
+
+-- a pod's records are among those of the pod and any node
+among : (records : Records) (node : Versions) (import : ℕ) → (pod_alone records import ≡ None) ⊎ (pod_alone records import ≡ record_of (record records { node = node }) import)
+among records node zero = inr refl
+among records node (suc zero) = inl refl
+among records node (suc (suc zero)) = inr refl
+among records node (suc (suc (suc n))) = inl refl
+
+not_cut_off : (how : Outcome) → wants_record how ≡ false → (cost : ℕ) → ¬ (how ≡ Trap NoRecord cost)
+not_cut_off how whole cost e = let cut : wants_record how ≡ true = ap wants_record e in cc
+
+-- and a call that is shown no node, and isn't cut off for want of one
+pub call_without_node : (before at_image after : MachineState) (export : Export) (records : Records) (fuel : ℕ) (how : Outcome) → export ≢ Start
+    → at_image ≡ record before { store = before.image } → wants_record how ≡ false → Calls at_image export (handed false records) fuel how after
+    → (node : Versions) → CallsFromImage before export (record records { node = node }) fuel how after
+call_without_node before at_image after export records fuel how by_name is whole calls node =
+    let c = subst (λ m. Calls m export (pod_alone records) fuel how after) is calls in
+    let alone = subst (λ (given : ℕ → Option (List ℕ)). HasOutcome (record { module_syntax = module_of before.content; records = given }) before.image c.function fuel how after.store) (given_its_own export (pod_alone records) by_name) c.ends in
+    record {
+      function = c.function;
+      function_is = c.function_is;
+      ends = ends_alike (module_of before.content) (pod_alone records) (record_of (record records { node = node })) (among records node)
+          before.image c.function fuel how after.store (not_cut_off how whole) alone;
     }
 
 -- what a start function's end says of the whole

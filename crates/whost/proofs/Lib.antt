@@ -2,5 +2,6 @@ pub mod KeyOrderLemmas
 pub mod RecordLemmas
 pub mod FieldLemmas
 pub mod SegmentLemmas
+pub mod Unasked
 pub mod InstanceLemmas
 pub mod ImageLemmas

@@ -1,5 +1,5 @@
 //! An instance: a module that is ready to be called.
-ghost use Rattle.std.specs.Prelude.{◌≡◌, ◌≢◌, ◌≤◌, ◌↔◌, IfErr, IfOk, IsSome, IsTrue};
+ghost use Rattle.std.specs.Prelude.{◌≡◌, ◌≢◌, ◌≤◌, ◌↔◌, IfErr, IfOk, IfSome, IsSome, IsTrue};
 ghost use Rattle.std.specs.Arc.{arc_value};
 ghost use Rattle.wbin.specs.Syntax.{module_of};
 ghost use Rattle.wstore.specs.Fits.{StoreFits};
@@ -8,14 +8,17 @@ ghost use Rattle.wmach.specs.Outcome.{cost_of};
 ghost use Rattle.whost.specs.Image.{IsImage};
 ghost use Rattle.whost.specs.Refused.{WhyRefused};
 ghost use Rattle.whost.specs.Calls.{CallsFromImage};
+ghost use Rattle.whost.specs.declared.records.Versions.{Versions};
+ghost use Rattle.whost.specs.inside.Sight.{wants_record};
 
 use crate::fault::InstanceFault;
 use crate::instantiation::{start, test_bounds, write_segments};
 use crate::records::Records;
+use crate::sight::Sight;
 use std::alloc::Global;
 use std::marker::Model;
 use std::sync::Arc;
-use wmach::{Export, Machine, Outcome};
+use wmach::{Export, Machine, Outcome, Trap};
 use wtype::Checked;
 
 /// An accepted module with its segments written and its start function run. What its store was then is the image, from which
@@ -34,6 +37,13 @@ impl Model for Instance {
     ghost coded = { Prim.hlevel codes };
 
     ghost view = { λ instance. instance.machine };
+}
+
+// Whether a call was cut off for want of a record.
+fn wants_record(outcome: Outcome) -> bool
+    ensures { result ≡ wants_record outcome }
+{
+    matches!(outcome, Outcome::Trap(Trap::NoRecord, _))
 }
 
 impl Instance {
@@ -77,7 +87,38 @@ impl Instance {
     {
         wmach::cost_within_fuel();
         self.reset();
-        self.machine.invoke(export, records, fuel)
+        let sight = Sight {
+            records,
+            shows_node: true,
+        };
+        self.machine.invoke(export, &sight, fuel)
+    }
+
+    /// Calls it likewise, but shows it no node: where it asks for one, there is no outcome. Else the outcome is that of its calls
+    /// with this pod and each node.
+    pub fn call_without_node(
+        &mut self,
+        records: &Records,
+        export: Export,
+        fuel: u64,
+    ) -> Option<Outcome>
+        requires there { IsSome (called_function (module_of self.old.content) export) }
+        requires by_name { export ≢ Export.Start }
+        ensures calls { IfSome result (λ outcome. (node : Versions) →
+            CallsFromImage self.old export (record records.now { node = node }) fuel outcome self.new) }
+        ensures result { IfSome result (ResultFits (result_type export)) }
+        ensures stays { self.new ≡ record self.old { store = self.new.store } }
+    {
+        self.machine.reset();
+        let sight = Sight {
+            records,
+            shows_node: false,
+        };
+        let outcome = self.machine.invoke(export, &sight, fuel);
+        if wants_record(outcome) {
+            return None;
+        }
+        Some(outcome)
     }
 
     /// Makes the store the image again.

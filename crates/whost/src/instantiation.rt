@@ -7,6 +7,7 @@ ghost use Rattle.whost.specs.Refused.{BoundsRefused, StartRefused};
 
 use crate::fault::InstanceFault;
 use crate::records::Records;
+use crate::sight::Sight;
 use wmach::{Export, Machine, Outcome};
 
 // Whether each element segment lies within the table.
@@ -98,9 +99,11 @@ pub fn start(machine: &mut Machine, fuel: u64) -> Result<(), InstanceFault>
     if !machine.has(Export::Start) {
         return Ok(());
     }
-    // The machine hands a start function no record, whatever its host has. That the host is of one type in all calls lets the
-    // compiler make one machine: with two, each verdict took nine times as long.
-    match machine.invoke(Export::Start, &Records::new(), fuel) {
+    let sight = Sight {
+        records: &Records::new(),
+        shows_node: false,
+    };
+    match machine.invoke(Export::Start, &sight, fuel) {
         Outcome::Value(_, _) => Ok(()),
         Outcome::Trap(trap, _) => Err(InstanceFault::StartTrap(trap)),
         Outcome::Exhausted(_) => Err(InstanceFault::StartExhausted),

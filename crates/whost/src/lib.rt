@@ -14,6 +14,7 @@ mod laws;
 mod record;
 mod records;
 mod rows;
+mod sight;
 
 pub use fault::InstanceFault;
 pub use instance::Instance;

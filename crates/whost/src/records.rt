@@ -74,6 +74,13 @@ impl Records {
         &self.pod.first
     }
 
+    /// The pod's record of version 2.
+    pub fn pod2(&self) -> &Record
+        ensures { result.now ≡ self.now.pod.second }
+    {
+        &self.pod.second
+    }
+
     /// The node's record of version 1.
     pub fn node(&self) -> &Record
         ensures { result.now ≡ self.now.node.first }
