@@ -22,6 +22,12 @@ use std::thread::Threads;
 // Up to so many nodes without a site's rules are judged by the caller alone; a worker must first be woken.
 const FEW_NODES: usize = 8_192;
 
+// Up to so much work, in units of fuel, is likewise done by the caller alone where there are rules: about a millisecond.
+const LITTLE_WORK: u64 = 300_000;
+
+// What the rules are to a node beside their fuel: that it is shown to them, and their calls.
+const WORK_A_NODE: u64 = 100;
+
 /// A kit that stays with the caller, and others with a worker each, which stay until the pool ends.
 #[derive(Drop)]
 pub struct Pool<J: Site, K: Rules + Drop, G: Drop> {
@@ -32,6 +38,8 @@ pub struct Pool<J: Site, K: Rules + Drop, G: Drop> {
     history: History<J>,
     // The room for the verdicts of a decision, which stays between two decisions.
     verdicts: Vec<Verdict>,
+    // What the rules' calls cost for a node in the last decision, in units of fuel, once there was one.
+    cost: Option<u64>,
 }
 
 impl<J: Site, K: Rules + Drop, G: Drop> Model for Pool<J, K, G> {
@@ -87,13 +95,15 @@ impl<J: Site, K: Rules + Drop, G: Gate + Drop> Pool<J, K, G> {
             helpers,
             history: blank.named(),
             verdicts: Vec::new(alloc),
+            cost: None,
         })
     }
 
     /// Where a pod goes, by a look at the nodes: the choice that each of the kits would make alone.
     ///
     /// The nodes are cut into as many pieces as there are kits. The first is judged here, and each other one that has a node by
-    /// a worker. A piece that doesn't come back is judged here too. Where there is too little to do, all is done here.
+    /// a worker. A piece that doesn't come back is judged here too. Where there is too little to do, by what the decision before
+    /// this cost, all is done here.
     ///
     /// Errors: `NoMemory` where there is none for what the workers share, or where the look has more nodes than any before and
     /// there is none for a verdict each. Nothing is decided then, nor sent, and the pool can be used again.
@@ -109,8 +119,32 @@ impl<J: Site, K: Rules + Drop, G: Gate + Drop> Pool<J, K, G> {
         ensures kits { self.new.kits ≡ self.old.kits }
     {
         let nodes = snapshot.rows().len();
-        self.verdicts.resize(nodes, UNJUDGED)?;
-        if self.helpers.is_empty() || self.home.count() == 0 && nodes <= FEW_NODES {
+        let is_shared = self.is_worth_waking(nodes);
+        let here = if is_shared {
+            nodes / (self.helpers.len() + 1)
+        } else {
+            nodes
+        };
+        let before = self.home.spent();
+        let decided = self.decide_by(rt, snapshot, pod, is_shared);
+        self.note_cost(before, here);
+        decided
+    }
+
+    // The same, with the workers or without them.
+    fn decide_by<R: Wait>(
+        &mut self,
+        rt: &R,
+        snapshot: Snapshot,
+        pod: &SharedPod,
+        is_shared: bool,
+    ) -> Result<Decision, NoMemory>
+        ensures chosen { IfOk result (Choice (rules_of K.answers self.old.kits) snapshot pod.now) }
+        ensures judged { OnOk result (AreVerdicts (rules_of K.answers self.old.kits) pod.now snapshot self.new.verdicts) }
+        ensures kits { self.new.kits ≡ self.old.kits }
+    {
+        self.verdicts.resize(snapshot.rows().len(), UNJUDGED)?;
+        if self.helpers.is_empty() || !is_shared {
             return Ok(choose_here(
                 &snapshot,
                 pod,
@@ -150,6 +184,28 @@ impl<J: Site, K: Rules + Drop, G: Gate + Drop> Pool<J, K, G> {
         ))
     }
 
+    // Whether so many nodes are so much work that it is done sooner with the workers: they must be woken first, and waited for.
+    fn is_worth_waking(&self, nodes: usize) -> bool {
+        if self.home.count() == 0 {
+            return nodes > FEW_NODES;
+        }
+        match self.cost {
+            None => true,
+            Some(cost) => {
+                (nodes as u64).saturating_mul(cost.saturating_add(WORK_A_NODE)) > LITTLE_WORK
+            }
+        }
+    }
+
+    // Notes what a decision cost for each of so many nodes that were judged here, by what had been spent before it.
+    fn note_cost(&mut self, before: u64, nodes: usize)
+        ensures { self.new ≡ self.old }
+    {
+        if nodes > 0 {
+            self.cost = Some(self.home.spent().wrapping_sub(before) / nodes as u64);
+        }
+    }
+
     /// The verdicts of the last decision, in the order of the nodes.
     pub fn verdicts(&self) -> &[Verdict]
         ensures { result.now ≡ self.now.verdicts }
@@ -166,6 +222,7 @@ impl<J: Site, K: Rules + Drop, G: Gate + Drop> Pool<J, K, G> {
             helpers,
             history: _,
             verdicts: _,
+            cost: _,
         } = self;
         for helper in helpers {
             helper.end(rt);

@@ -3,3 +3,4 @@ pub mod LawLemmas
 pub mod EntryLemmas
 pub mod MakingLemmas
 pub mod CallLemmas
+pub mod SaidLemmas

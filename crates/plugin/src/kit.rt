@@ -5,6 +5,7 @@ ghost use Rattle.plugin.specs.Plugins.{IsWeight};
 ghost use Rattle.rules.specs.Verdict.{IsWithin};
 ghost use Rattle.plugin.specs.Kit.{IsKitOf, ready_parts, IsAtImage, FilterSays, ScoreSays, OnlyItsStore};
 ghost use Rattle.plugin.specs.Refused.{WhyNoKit};
+ghost use Rattle.whost.specs.declared.records.Versions.{Versions};
 
 use crate::fault::KitFault;
 use crate::member::Member;
@@ -71,6 +72,26 @@ impl Kit {
         self.members[place].weight()
     }
 
+    /// How much fuel its calls have used so far, from 2^64 on from 0 again.
+    pub(crate) fn spent(&self) -> u64 {
+        let mut spent = 0u64;
+        for member in &self.members {
+            spent = spent.wrapping_add(member.spent());
+        }
+        spent
+    }
+
+    /// What the filter of the plugin at a place says of this pod and all nodes, where it doesn't ask for the node, and where that is
+    /// known or is found out now.
+    pub(crate) fn filter_of_all(&mut self, place: usize, records: &Records) -> Option<FilterVerdict>
+        requires { place < length self.old }
+        ensures says { IfSome (slice_get self.old place) (λ i. IfSome result (λ said. (node : Versions) →
+            FilterSays i.ready (record records.now { node = node }) said)) }
+        ensures others { OnlyItsStore place self.old self.new }
+    {
+        self.members[place].filter_of_all(records)
+    }
+
     /// Asks the filter of the plugin at a place, from its image. A plugin without one lets the node pass. No other instance
     /// changes, and of this one only the store, also where the call is cut off.
     pub fn filter(&mut self, place: usize, records: &Records) -> FilterVerdict
@@ -79,6 +100,18 @@ impl Kit {
         ensures others { OnlyItsStore place self.old self.new }
     {
         self.members[place].filter(records)
+    }
+
+    /// What the score of the plugin at a place says of this pod and all nodes, where it doesn't ask for the node, and where that is
+    /// known or is found out now.
+    pub(crate) fn score_of_all(&mut self, place: usize, records: &Records) -> Option<ScoreVerdict>
+        requires { place < length self.old }
+        ensures says { IfSome (slice_get self.old place) (λ i. IfSome result (λ said. (node : Versions) →
+            ScoreSays i.ready (record records.now { node = node }) said)) }
+        ensures within { IfSome result IsWithin }
+        ensures others { OnlyItsStore place self.old self.new }
+    {
+        self.members[place].score_of_all(records)
     }
 
     /// Asks the score of the plugin at a place, from its image. A plugin without one gives 0. No other instance changes, and of

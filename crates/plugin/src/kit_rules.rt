@@ -3,10 +3,10 @@ ghost use Rattle.std.specs.Prelude.{◌≡◌};
 ghost use Rattle.plugin.specs.Kit.{ready_parts};
 
 use crate::kit::Kit;
+use crate::shown::Shown;
 use quant::{Pod, Res, SharedNode};
 use rules::{FilterVerdict, Rules, ScoreVerdict};
 use std::marker::Model;
-use whost::Records;
 
 /// A kit, seen as a set of rules.
 ///
@@ -44,8 +44,8 @@ impl Rules for KitRules {
     ghost use Rattle.plugin.specs.Kit.{rules_of};
     ghost use Rattle.plugin.specs.inside.OneAnswer.{one_answer};
 
-    /// The records by which the plugins are told. Each is kilobytes large and is written in place.
-    type Notes = Records;
+    /// The records by which the plugins are told.
+    type Notes = Shown;
 
     ghost answers = { rules_of };
 
@@ -61,22 +61,24 @@ impl Rules for KitRules {
         self.kit.weight(place)
     }
 
-    fn show_pod(&mut self, pod: &Pod) -> Records {
-        let mut records = Records::new();
-        records.show_pod(pod);
-        records
+    fn show_pod(&mut self, pod: &Pod) -> Shown {
+        Shown::of_pod(pod)
     }
 
-    fn show_node(&mut self, records: &mut Records, node: &SharedNode, used: &Res) {
-        records.show_node(node, used);
+    fn show_node(&mut self, shown: &mut Shown, node: &SharedNode, used: &Res) {
+        shown.show_node(node, used);
     }
 
-    fn filter(&mut self, place: usize, records: &mut Records) -> FilterVerdict {
-        self.kit.filter(place, records)
+    fn filter(&mut self, place: usize, shown: &mut Shown) -> FilterVerdict {
+        shown.ask_filter(&mut self.kit, place)
     }
 
-    fn score(&mut self, place: usize, records: &mut Records) -> ScoreVerdict {
-        self.kit.score(place, records)
+    fn score(&mut self, place: usize, shown: &mut Shown) -> ScoreVerdict {
+        shown.ask_score(&mut self.kit, place)
+    }
+
+    fn spent(&self) -> u64 {
+        self.kit.spent()
     }
 
     ghost say_one_thing = { one_answer };

@@ -11,6 +11,8 @@ mod kit_rules;
 mod laws;
 mod member;
 mod plugins;
+mod said;
+mod shown;
 mod verdict;
 
 pub use fault::{AddFault, KitFault};

@@ -1,13 +1,15 @@
 //! A plugin of a kit: its instance, and how it is asked.
-ghost use Rattle.std.specs.Prelude.{◌≡◌, IfErr, IfOk};
+ghost use Rattle.std.specs.Prelude.{◌≡◌, IfErr, IfOk, IfSome};
 ghost use Rattle.std.specs.Arc.{arc_value};
 ghost use Rattle.wbin.specs.Syntax.{module_of};
 ghost use Rattle.whost.specs.Image.{IsImage};
+ghost use Rattle.whost.specs.declared.records.Versions.{Versions};
 ghost use Rattle.whost.specs.Refused.{WhyRefused};
 ghost use Rattle.rules.specs.Verdict.{IsWithin};
 ghost use Rattle.plugin.specs.Kit.{FilterSays, ScoreSays, IsAtImage};
 
-use crate::verdict::{filter_verdict, score_verdict};
+use crate::said::Said;
+use crate::verdict::{filter_verdict, fuel_used, score_verdict};
 use rules::{FilterVerdict, ScoreVerdict};
 use std::alloc::Global;
 use std::marker::Model;
@@ -16,12 +18,17 @@ use whost::{Instance, InstanceFault, Records};
 use wmach::Export;
 use wtype::Checked;
 
-/// An instance of a plugin's module, how much the plugin's score counts, and the fuel of each of its calls.
+/// An instance of a plugin's module, how much the plugin's score counts, the fuel of each of its calls, and how much these have
+/// used so far, which contracts don't see.
 #[derive(Drop)]
 pub struct Member {
     weight: u8,
     fuel: u64,
+    spent: u64,
     instance: Instance,
+    // What its filter and its score said of all nodes.
+    filter: Said<FilterVerdict>,
+    score: Said<ScoreVerdict>,
 }
 
 impl Model for Member {
@@ -36,6 +43,10 @@ impl Model for Member {
       ready = record { weight = m.weight; fuel = m.fuel; content = m.instance.content; image = m.instance.image };
       store = m.instance.store;
     } };
+
+    ghost use Rattle.plugin.specs.inside.Member.{IsSound};
+
+    ghost invariant = { IsSound };
 }
 
 impl Member {
@@ -54,10 +65,19 @@ impl Member {
         ensures refused { IfErr result (WhyRefused (module_of (arc_value checked).content) fuel) }
     {
         let instance = Instance::new(alloc, checked, fuel)?;
+        let Ok(filter) = Said::new(alloc) else {
+            return Err(InstanceFault::NoMemory);
+        };
+        let Ok(score) = Said::new(alloc) else {
+            return Err(InstanceFault::NoMemory);
+        };
         Ok(Member {
             weight,
             fuel,
+            spent: 0,
             instance,
+            filter,
+            score,
         })
     }
 
@@ -68,6 +88,38 @@ impl Member {
         self.weight
     }
 
+    /// How much fuel its calls have used so far, from 2^64 on from 0 again.
+    pub fn spent(&self) -> u64 {
+        self.spent
+    }
+
+    /// What its filter says of this pod and all nodes, where it doesn't ask for the node, and where that is known or is found
+    /// out now: by a call that isn't shown a node.
+    pub fn filter_of_all(&mut self, records: &Records) -> Option<FilterVerdict>
+        ensures says { IfSome result (λ said. (node : Versions) →
+            FilterSays self.old.ready (record records.now { node = node }) said) }
+        ensures stays { self.new ≡ record self.old { store = self.new.store } }
+    {
+        if !self.instance.has(Export::Filter) {
+            return Some(FilterVerdict::Passes);
+        }
+        if let Some(said) = self.filter.of(records) {
+            return Some(said);
+        }
+        if self.filter.waits() {
+            return None;
+        }
+        let said = match self
+            .instance
+            .call_without_node(records, Export::Filter, self.fuel)
+        {
+            Some(outcome) => Some(filter_verdict(outcome)),
+            None => None,
+        };
+        self.filter.note(records, said);
+        said
+    }
+
     /// Asks its filter, from the image. A module without one lets the node pass. Of the instance only the store may change.
     pub fn filter(&mut self, records: &Records) -> FilterVerdict
         ensures says { FilterSays self.old.ready records.now result }
@@ -76,7 +128,37 @@ impl Member {
         if !self.instance.has(Export::Filter) {
             return FilterVerdict::Passes;
         }
-        filter_verdict(self.instance.call(records, Export::Filter, self.fuel))
+        let outcome = self.instance.call(records, Export::Filter, self.fuel);
+        self.spent = self.spent.wrapping_add(fuel_used(outcome));
+        filter_verdict(outcome)
+    }
+
+    /// What its score says of this pod and all nodes, where it doesn't ask for the node, and where that is known or is found
+    /// out now: by a call that isn't shown a node.
+    pub fn score_of_all(&mut self, records: &Records) -> Option<ScoreVerdict>
+        ensures says { IfSome result (λ said. (node : Versions) →
+            ScoreSays self.old.ready (record records.now { node = node }) said) }
+        ensures within { IfSome result IsWithin }
+        ensures stays { self.new ≡ record self.old { store = self.new.store } }
+    {
+        if !self.instance.has(Export::Score) {
+            return Some(ScoreVerdict::Good(0));
+        }
+        if let Some(said) = self.score.of(records) {
+            return Some(said);
+        }
+        if self.score.waits() {
+            return None;
+        }
+        let said = match self
+            .instance
+            .call_without_node(records, Export::Score, self.fuel)
+        {
+            Some(outcome) => Some(score_verdict(outcome)),
+            None => None,
+        };
+        self.score.note(records, said);
+        said
     }
 
     /// Asks its score, from the image. A module without one gives 0. Of the instance only the store may change.
@@ -88,6 +170,8 @@ impl Member {
         if !self.instance.has(Export::Score) {
             return ScoreVerdict::Good(0);
         }
-        score_verdict(self.instance.call(records, Export::Score, self.fuel))
+        let outcome = self.instance.call(records, Export::Score, self.fuel);
+        self.spent = self.spent.wrapping_add(fuel_used(outcome));
+        score_verdict(outcome)
     }
 }

@@ -2,6 +2,7 @@
 ghost use Rattle.std.specs.Prelude.{◌≡◌, ◌≤◌, Some};
 ghost use Rattle.wcode.specs.declared.value.ValueType.TheVariants.{I32, I64};
 ghost use Rattle.wmach.specs.Call.{ResultFits};
+ghost use Rattle.wmach.specs.Outcome.{cost_of};
 ghost use Rattle.wmach.specs.Trap as ended;
 ghost use Rattle.rules.specs.Trap as told;
 ghost use Rattle.rules.specs.Verdict.{IsWithin};
@@ -28,6 +29,15 @@ pub fn trap_told(trap: wmach::Trap) -> Trap
         wmach::Trap::CallDepth => Trap::CallDepth,
         wmach::Trap::HostOutOfBounds => Trap::HostOutOfBounds,
         wmach::Trap::NoRecord => Trap::NoRecord,
+    }
+}
+
+/// How much fuel a call used.
+pub fn fuel_used(outcome: Outcome) -> u64
+    ensures { result ≡ cost_of outcome }
+{
+    match outcome {
+        Outcome::Value(_, cost) | Outcome::Trap(_, cost) | Outcome::Exhausted(cost) => cost,
     }
 }
 

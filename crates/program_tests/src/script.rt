@@ -143,6 +143,10 @@ impl Rules for Same {
         }
     }
 
+    fn spent(&self) -> u64 {
+        0
+    }
+
     ghost say_one_thing = { λ r. record {
       filter = λ place told one other a b. a ∙ sym b;
       score = λ place told one other a b. a ∙ sym b;

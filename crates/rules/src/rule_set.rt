@@ -66,6 +66,10 @@ pub trait Rules {
         ensures notes { notes.new ≡ notes.old }
         ensures stays { self.new ≡ self.old };
 
+    /// About how much work the rules' calls have been so far, in units of fuel, from 2^64 on from 0 again. Nothing is promised of it:
+    /// by it alone whoever has several sets goes when the work is shared among them or not.
+    fn spent(&self) -> u64;
+
     // A filter says one thing, and so does a score.
     ghost say_one_thing: { (rules : Self) → SayOneThing (answers rules) };
 }

@@ -71,6 +71,10 @@ impl Rules for Site {
         }
     }
 
+    fn spent(&self) -> u64 {
+        0
+    }
+
     ghost say_one_thing = { λ _. record {
       filter = λ place told one other a b. a ∙ sym b;
       score = λ place told one other a b. a ∙ sym b;

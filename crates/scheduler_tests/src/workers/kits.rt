@@ -94,6 +94,11 @@ impl Rules for Tally {
         ScoreVerdict::Good(0)
     }
 
+    // So much for each time that the filter is asked that the work is always shared.
+    fn spent(&self) -> u64 {
+        self.asked.at(self.place).wrapping_mul(1_000_000)
+    }
+
     ghost say_one_thing = { λ _. record {
       filter = λ place told one other a b. a ∙ sym b;
       score = λ place told one other a b. a ∙ sym b;

@@ -24,7 +24,7 @@ fn pool_of<
     requires pool { blank.seen.book ≡ J.book }
     requires speak { (kit : _) → SpeaksFor J.Says (⟦<Tally as Rules>⟧.answers kit) }
 {
-    let asked = Arc::new(alloc, Counts::new(alloc, 0).ok()?).ok()?;
+    let asked = Arc::new(alloc, Counts::new(alloc, kits).ok()?).ok()?;
     let gate: Arc<G> = Arc::try_clone(gate).ok()?;
     let mut others = Vec::new(alloc);
     for place in 1..kits {

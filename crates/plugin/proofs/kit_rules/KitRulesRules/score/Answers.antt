@@ -1,18 +1,14 @@
-use Rattle.std.proofs.Common.{◌≡◌, ◌<◌, ◌∙◌, length, IfSome, slice_get, sym, subst, arith}
+use Rattle.std.proofs.Common.{◌≡◌, ◌∙◌, sym, subst}
 use Rattle.whost.specs.declared.records.Records.{Records}
-use Rattle.plugin.specs.Kit.{InstanceState, ScoreSays, records_of}
-use Rattle.plugin.proofs.KitLemmas.{plugins_stay, as_many, said_at}
+use Rattle.plugin.specs.Kit.{ScoreSays, records_of}
 use Rattle.plugin.proofs.CallLemmas.{records_told}
 use Rattle.plugin.proofs.kit_rules.KitRulesRules.score.Goals as goal
 
 pub returns-clause-says : goal.returns-clause-says
 returns-clause-says c = λ told of_pod of_node.
-    let kit = c.self.inside.kit in
-    let below : c.args.place < length kit = omega (arith, as_many kit, rw (sym c.self.view_is) at c.requires) in
-    let same : c.args.records.now ≡ records_of told = records_told c.args.records.now told of_pod of_node in
-    let says : IfSome (slice_get kit c.args.place) (λ (i : InstanceState). ScoreSays i.ready (records_of told) c.score.result) =
-    subst (λ (r : Records). IfSome (slice_get kit c.args.place) (λ (i : InstanceState). ScoreSays i.ready r c.score.result)) same c.score.ensures.says in
-    rw (sym c.self.view_is) (said_at kit c.args.place (λ p. ScoreSays p (records_of told) c.score.result) below says)
+    let same : c.args.shown.now ≡ records_of told = records_told c.args.shown.now told of_pod of_node in
+    let says = c.ask_score.ensures.says in
+    rw (sym c.self.view_is) (says.0, says.1, subst (λ (r : Records). ScoreSays says.0 r c.ask_score.result) same says.2)
 
 pub returns-clause-stays : goal.returns-clause-stays
-returns-clause-stays c = plugins_stay c.args.place c.self.inside.kit c.score.new.self c.score.ensures.others ∙ c.self.view_is
+returns-clause-stays c = c.ask_score.ensures.kit ∙ c.self.view_is

@@ -11,4 +11,4 @@ returns-then-not-has-clause-says c =
 
 pub returns-clause-says : goal.returns-clause-says
 returns-clause-says c =
-    rw (sym c.self.view_is) (inr (c.call.result, ends_of_call c.self.inside.weight c.self.inside.fuel c.self.inside.instance c.call.new.self export.Score c.args.records.now c.call.result c.call.ensures.calls, c.score_verdict.ensures.value))
+    rw (sym c.self.view_is) (inr (c.call-outcome.result, ends_of_call c.self.inside.weight c.self.inside.fuel c.self.inside.instance c.call-outcome.new.self export.Score c.args.records.now c.call-outcome.result c.call-outcome.ensures.calls, c.score_verdict.ensures.value))

@@ -1,0 +1,92 @@
+-- What a plugin said of all nodes it says of each.
+use Rattle.std.proofs.Common.{◌≡◌, ℕ, ◌<◌, List, Option, Some, None, IfSome, length, slice_get, refl, sym, ap, ◌∙◌, subst, arith, inr}
+use Rattle.std.proofs.lemmas.List.{length-map}
+use Rattle.quant.specs.declared.amount.Res.{Res}
+use Rattle.quant.specs.declared.objects.Node.{Node}
+use Rattle.wmach.specs.declared.export.Export.{Export}
+use Rattle.wmach.specs.declared.outcome.Outcome.{Outcome}
+use Rattle.wmach.specs.Call.{MachineState}
+use Rattle.whost.specs.Calls.{CallsFromImage}
+use Rattle.whost.specs.declared.records.Records.{Records}
+use Rattle.whost.specs.declared.records.Versions.{Versions}
+use Rattle.rules.specs.declared.verdict.ScoreVerdict.{ScoreVerdict}
+use Rattle.rules.specs.Verdict.{IsWithin}
+use Rattle.plugin.specs.Kit.{Ready, InstanceState, Says, ready_parts}
+use Rattle.plugin.specs.inside.Said.{SaidOfAll}
+use Rattle.plugin.specs.inside.Shown.{shown_of}
+use Rattle.plugin.proofs.KitLemmas.{ends_of_call, said_at}
+
+-- with a pod that has the same records
+with_this_pod : {V : Type 0} (Says : Records → V → Type 0) (v : V) (first second : List ℕ) (records : Records) → first ≡ records.pod.first → second ≡ records.pod.second
+    → ((node : Versions) → Says (record { pod = record { first = first; second = second }; node = node }) v) → (node : Versions) → Says (record records { node = node }) v
+with_this_pod Says v first second records one two says node =
+    let pod : Versions = record { first = first; second = second } in
+    let same : pod ≡ records.pod = λ j. record { first = one j; second = two j } in
+    subst (λ (p : Versions). Says (record { pod = p; node = node }) v) same (says node)
+
+-- and back
+with_its_records : {V : Type 0} (Says : Records → V → Type 0) (v : V) (first second : List ℕ) (records : Records) → first ≡ records.pod.first → second ≡ records.pod.second
+    → ((node : Versions) → Says (record records { node = node }) v) → (node : Versions) → Says (record { pod = record { first = first; second = second }; node = node }) v
+with_its_records Says v first second records one two says node =
+    let pod : Versions = record { first = first; second = second } in
+    let same : records.pod ≡ pod = λ j. record { first = sym one j; second = sym two j } in
+    subst (λ (p : Versions). Says (record { pod = p; node = node }) v) same (says node)
+
+-- what was noted is said with this pod, and each node
+pub said_of_each : {V : Type 0} (Says : Records → V → Type 0) (said : Option V) (first second : List ℕ) (v : V) (records : Records) → SaidOfAll Says said first second
+    → said ≡ Some v → first ≡ records.pod.first → second ≡ records.pod.second → (node : Versions) → Says (record records { node = node }) v
+said_of_each Says said first second v records noted is one two =
+    with_this_pod Says v first second records one two (subst (λ (s : Option _). SaidOfAll Says s first second) is noted)
+
+-- what is noted is what was said with the pod of these records, and each node
+pub noted_of_all : {V : Type 0} (Says : Records → V → Type 0) (said now : Option V) (first second : List ℕ) (records : Records)
+    → IfSome now (λ v. said ≡ Some v) → IfSome now (λ v. first ≡ records.pod.first) → IfSome now (λ v. second ≡ records.pod.second)
+    → IfSome said (λ v. (node : Versions) → Says (record records { node = node }) v) → SaidOfAll Says now first second
+noted_of_all Says said None first second records is one two says = tt
+noted_of_all Says said (Some v) first second records is one two says =
+    with_its_records Says v first second records one two (subst (λ (s : Option _). IfSome s (λ w. (node : Versions) → Says (record records { node = node }) w)) is says)
+
+pub noted_within : (said now : Option ScoreVerdict) → IfSome now (λ v. said ≡ Some v) → IfSome said IsWithin → IfSome now IsWithin
+noted_within said None is within = tt
+noted_within said (Some v) is within = subst (λ (s : Option ScoreVerdict). IfSome s IsWithin) is within
+
+-- a call that is shown no node is one with each
+pub of_call : {V : Type 0} (weight fuel : ℕ) (before after : MachineState) (export : Export) (records : Records) (outcome : Outcome) (without : V) (said : Outcome → V) (v : V)
+    → ((node : Versions) → CallsFromImage before export (record records { node = node }) fuel outcome after) → v ≡ said outcome
+    → (node : Versions) → Says (record { weight = weight; fuel = fuel; content = before.content; image = before.image }) export without said (record records { node = node }) v
+of_call weight fuel before after export records outcome without said v calls is node =
+    inr (outcome, ends_of_call weight fuel before after export (record records { node = node }) outcome (calls node), is)
+
+-- a plugin by its instance
+abbrev pub plugin_of : (weight fuel : ℕ) → MachineState → Ready
+plugin_of weight fuel m = record { weight = weight; fuel = fuel; content = m.content; image = m.image }
+
+-- it is the same where its instance's store alone has changed
+pub same_plugin : (weight fuel : ℕ) (before after : MachineState) → after ≡ record before { store = after.store } → plugin_of weight fuel before ≡ plugin_of weight fuel after
+same_plugin weight fuel before after stays = ap (λ (m : MachineState). plugin_of weight fuel m) (sym stays)
+
+-- the records that are shown have the pod of those that are written
+shown_is : (records : Records) (node : Option Node) (used : Res) → record records { node = (shown_of records node used).node } ≡ shown_of records node used
+shown_is records None used = refl
+shown_is records (Some node) used = refl
+
+-- what a kit's plugin says of all nodes it says of the one that is shown
+pub of_the_shown : (kit : List InstanceState) (place : ℕ) (records : Records) (node : Option Node) (used : Res) (P : Ready → Records → Type 0) → place < length kit
+    → IfSome (slice_get kit place) (λ i. (n : Versions) → P i.ready (record records { node = n }))
+    → (p : Ready) × (slice_get (ready_parts kit) place ≡ Some p) × P p (shown_of records node used)
+of_the_shown kit place records node used P below says =
+    let all = said_at kit place (λ p. (n : Versions) → P p (record records { node = n })) below says in
+    (all.0, all.1, subst (λ (r : Records). P all.0 r) (shown_is records node used) (all.2 (shown_of records node used).node))
+
+-- a kit whose plugins are those of another has as many
+pub as_many_instances : (old mid : List InstanceState) → ready_parts mid ≡ ready_parts old → length mid ≡ length old
+as_many_instances old mid same =
+    sym (length-map mid (λ (i : InstanceState). i.ready)) ∙ ap (λ (ps : List Ready). length ps) same ∙ length-map old (λ (i : InstanceState). i.ready)
+
+-- what the plugin of a kit says by these records, where its stores alone have changed before
+pub of_the_kit : (old mid : List InstanceState) (place : ℕ) (told now : Records) (P : Ready → Records → Type 0) → place < length old
+    → ready_parts mid ≡ ready_parts old → told ≡ now → IfSome (slice_get mid place) (λ i. P i.ready told)
+    → (p : Ready) × (slice_get (ready_parts old) place ≡ Some p) × P p now
+of_the_kit old mid place told now P below same is says =
+    let at = said_at mid place (λ p. P p told) (omega (arith, as_many_instances old mid same, below)) says in
+    (at.0, subst (λ (ps : List Ready). slice_get ps place ≡ Some at.0) same at.1, subst (λ (r : Records). P at.0 r) is at.2)

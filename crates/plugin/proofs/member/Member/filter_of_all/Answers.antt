@@ -1,0 +1,39 @@
+use Rattle.std.proofs.Common.{IfSome, sym, subst}
+use Rattle.whost.specs.declared.records.Versions.{Versions}
+use Rattle.wmach.specs.declared.export.Export.TheVariants as export
+use Rattle.rules.specs.declared.verdict.FilterVerdict.TheVariants as filter
+use Rattle.plugin.specs.Verdict.{filter_said}
+use Rattle.plugin.specs.Kit.{Ready, FilterSays, ScoreSays}
+use Rattle.plugin.specs.inside.Said.{SaidOfAll}
+use Rattle.plugin.specs.inside.Member.{ready_of}
+use Rattle.plugin.proofs.SaidLemmas.{said_of_each, noted_of_all, of_call, same_plugin}
+use Rattle.plugin.proofs.member.Member.filter_of_all.Goals.{in-Some-call_without_node, in-None}
+use Rattle.plugin.proofs.member.Member.filter_of_all.Goals as goal
+
+pub returns-in-Some-clause-says : goal.returns-in-Some-clause-says
+returns-in-Some-clause-says c =
+    rw (sym c.self.view_is) (said_of_each (FilterSays (ready_of c.self.inside)) c.self.inside.filter.said c.self.inside.filter.first.items c.self.inside.filter.second.items c.in-Some.said c.args.records.now
+    c.self.invariant.filter c.in-Some.ensures.said c.in-Some.ensures.first c.in-Some.ensures.second)
+
+-- what is said now is said of each node
+says : (c : goal.After-note) → IfSome c.match-call_without_node.said (λ said. (node : Versions) → FilterSays (ready_of c.self.inside) (record c.args.records.now { node = node }) said)
+says c =
+    elim c.match-call_without_node.branch [
+      | in-Some-call_without_node w ↦ rw w.said-is (of_call c.self.inside.weight c.self.inside.fuel c.self.inside.instance c.call_without_node.new.self export.Filter c.args.records.now
+          w.in-Some-call_without_node.outcome (filter.Passes) filter_said w.filter_verdict.result w.in-Some-call_without_node.ensures.calls w.filter_verdict.ensures)
+      | in-None w ↦ rw w.said-is tt
+    ]
+
+pub invariant_of-self-2 : goal.invariant_of-self-2
+invariant_of-self-2 c =
+    let same = same_plugin c.self.inside.weight c.self.inside.fuel c.self.inside.instance c.call_without_node.new.self c.call_without_node.ensures.stays in
+    record {
+      filter = subst (λ (p : Ready). SaidOfAll (FilterSays p) c.note.new.self.said c.note.new.self.first.items c.note.new.self.second.items) same
+          (noted_of_all (FilterSays (ready_of c.self.inside)) c.match-call_without_node.said c.note.new.self.said c.note.new.self.first.items c.note.new.self.second.items c.args.records.now
+          c.note.ensures.said c.note.ensures.first c.note.ensures.second (says c));
+      score = subst (λ (p : Ready). SaidOfAll (ScoreSays p) c.self.inside.score.said c.self.inside.score.first.items c.self.inside.score.second.items) same c.self.invariant.score;
+      within = c.self.invariant.within;
+    }
+
+pub returns-clause-says : goal.returns-clause-says
+returns-clause-says c = rw (sym c.self.view_is) (says c)
