@@ -269,8 +269,10 @@ impl OperandStack {
     // Takes one operand of this type, and gives one of that.
     #[inline(always)]
     pub fn change_one(&mut self, t: ValueType, gives: ValueType) -> Result<(), Stop>
-        ensures ok { OnOk result (pass_type (takes_gives (t ∷ []) (gives ∷ [])) (stack_of self.old) ≡ Some (stack_of self.new)) }
-        ensures err { result ≡ Err Stop.Untyped → pass_type (takes_gives (t ∷ []) (gives ∷ [])) (stack_of self.old) ≡ None }
+        ensures ok { OnOk result (pass_type (takes_gives (t ∷ []) (gives ∷ []))
+            (stack_of self.old) ≡ Some (stack_of self.new)) }
+        ensures err { result ≡ Err Stop.Untyped → pass_type (takes_gives (t ∷ []) (gives ∷ []))
+            (stack_of self.old) ≡ None }
         ensures same { OnOk result (SameBlock self.old self.new) }
         ensures greatest { OnOk result (self.new.greatest ≡ max self.old.greatest (vec_len self.new.items)) }
     {
@@ -282,8 +284,10 @@ impl OperandStack {
     // Takes two operands of this type, and gives one of that.
     #[inline(always)]
     pub fn change_two(&mut self, t: ValueType, gives: ValueType) -> Result<(), Stop>
-        ensures ok { OnOk result (pass_type (takes_gives (t ∷ t ∷ []) (gives ∷ [])) (stack_of self.old) ≡ Some (stack_of self.new)) }
-        ensures err { result ≡ Err Stop.Untyped → pass_type (takes_gives (t ∷ t ∷ []) (gives ∷ [])) (stack_of self.old) ≡ None }
+        ensures ok { OnOk result (pass_type (takes_gives (t ∷ t ∷ []) (gives ∷ []))
+            (stack_of self.old) ≡ Some (stack_of self.new)) }
+        ensures err { result ≡ Err Stop.Untyped → pass_type (takes_gives (t ∷ t ∷ []) (gives ∷ []))
+            (stack_of self.old) ≡ None }
         ensures same { OnOk result (SameBlock self.old self.new) }
         ensures greatest { OnOk result (self.new.greatest ≡ max self.old.greatest (vec_len self.new.items)) }
     {
@@ -308,8 +312,10 @@ impl OperandStack {
     // Takes an operand of the first type, and below it one of the second.
     #[inline(always)]
     pub fn take_two(&mut self, above: ValueType, below: ValueType) -> Result<(), Stop>
-        ensures ok { OnOk result (pass_type (takes_gives (above ∷ below ∷ []) []) (stack_of self.old) ≡ Some (stack_of self.new)) }
-        ensures err { result ≡ Err Stop.Untyped → pass_type (takes_gives (above ∷ below ∷ []) []) (stack_of self.old) ≡ None }
+        ensures ok { OnOk result (pass_type (takes_gives (above ∷ below ∷ []) [])
+            (stack_of self.old) ≡ Some (stack_of self.new)) }
+        ensures err { result ≡ Err Stop.Untyped → pass_type (takes_gives (above ∷ below ∷ []) [])
+            (stack_of self.old) ≡ None }
         ensures same { OnOk result (SameBlock self.old self.new) }
         ensures greatest { OnOk result (self.new.greatest ≡ max self.old.greatest (vec_len self.new.items)) }
     {

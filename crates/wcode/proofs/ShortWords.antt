@@ -18,7 +18,7 @@ use Rattle.wcode.specs.declared.opcode.Form.TheVariants as forms
 use Rattle.wcode.specs.declared.short.Tail.{Tail}
 use Rattle.wcode.specs.declared.short.Tail.TheVariants as tails
 use Rattle.wcode.specs.Opcodes.{form, form_in, rows, indexed_plain}
-use Rattle.wcode.specs.Grammar.{one, SpellsIndex, SpellsForm, SpellsWord}
+use Rattle.wcode.specs.Grammar.{one, end, SpellsIndex, SpellsForm, SpellsWord}
 use Rattle.wcode.specs.inside.Short.{form_tail, HasNumber}
 use Rattle.wcode.proofs.Table.{from, map_from}
 use Rattle.wcode.proofs.KnownWords.{known_word}
@@ -150,3 +150,8 @@ two_pass bytes at middle (Some next) within e first k h =
     let w = with_opcode bytes at (drop next bytes) within (two_spelled (form (get_or bytes at 0)) (drop (at + 1) bytes) (drop middle bytes) (drop next bytes) e k h.2) in
     let past = h.0 in
     (omega (arith, past), h.1, w.0, w.1)
+
+-- an `end` at its opcode
+pub end_stands : (bytes : List ℕ) (at : ℕ) → at < length bytes → get_or bytes at 0 ≡ 11 → SpellsWord (drop at bytes) end (drop (at + 1) bytes)
+unfolding form
+end_stands bytes at within e = known_word bytes at forms.End end (drop (at + 1) bytes) within (ap form e) (refl, refl)

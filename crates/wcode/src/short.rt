@@ -1,9 +1,9 @@
-//! Instructions without others inside them whose numbers have four bytes at most: where they end, and no more.
+//! Instructions without others inside them whose numbers have four bytes at most: where they end, and no more. And an `end`.
 
-ghost use Rattle.std.specs.Prelude.{◌≡◌, ◌≢◌, ℕ, ◌+◌, ◌<◌, ◌≤◌, List, length, drop, IfSome, slice_index};
+ghost use Rattle.std.specs.Prelude.{true, ◌≡◌, ◌≢◌, ℕ, ◌+◌, ◌<◌, ◌≤◌, List, length, drop, IfSome, slice_index};
 ghost use Rattle.wcode.specs.declared.instruction.Plain.{Plain};
 ghost use Rattle.wcode.specs.Opcodes.{form};
-ghost use Rattle.wcode.specs.Grammar.{one, SpellsWord};
+ghost use Rattle.wcode.specs.Grammar.{one, end, SpellsWord};
 ghost use Rattle.wcode.specs.inside.Short.{form_tail, HasNumber};
 
 // A byte of a number from here on says that another one follows.
@@ -50,7 +50,8 @@ fn tail_of(opcode: u8) -> Tail
 #[inline(always)]
 fn short_number(bytes: &[u8], at: usize) -> Option<usize>
     requires { at ≤ length bytes.now }
-    ensures { IfSome result (λ next. (at < next) × (next ≤ length bytes.now) × HasNumber (drop at bytes.now) (drop next bytes.now)) }
+    ensures { IfSome result (λ next. (at < next) × (next ≤ length bytes.now)
+        × HasNumber (drop at bytes.now) (drop next bytes.now)) }
 {
     if bytes.len() - at < 4 {
         None
@@ -71,7 +72,8 @@ fn short_number(bytes: &[u8], at: usize) -> Option<usize>
 #[inline(always)]
 pub(crate) fn pass_short(bytes: &[u8], at: usize) -> Option<usize>
     requires { at ≤ length bytes.now }
-    ensures { IfSome result (λ next. (at < next) × (next ≤ length bytes.now) × (p : Plain) × SpellsWord (drop at bytes.now) (one p) (drop next bytes.now)) }
+    ensures { IfSome result (λ next. (at < next) × (next ≤ length bytes.now) × (p : Plain)
+        × SpellsWord (drop at bytes.now) (one p) (drop next bytes.now)) }
 {
     if at == bytes.len() {
         return None;
@@ -84,5 +86,21 @@ pub(crate) fn pass_short(bytes: &[u8], at: usize) -> Option<usize>
             short_number(bytes, middle)
         }
         Tail::Other => None,
+    }
+}
+
+/// Whether an `end` stands at `at`.
+#[inline(always)]
+pub(crate) fn stands_end(bytes: &[u8], at: usize) -> bool
+    requires { at ≤ length bytes.now }
+    ensures within { result ≡ true → at < length bytes.now }
+    ensures word { result ≡ true → SpellsWord (drop at bytes.now) end (drop (at + 1) bytes.now) }
+{
+    if at == bytes.len() {
+        return false;
+    }
+    match bytes[at] {
+        0x0B => true,
+        _ => false,
     }
 }

@@ -12,7 +12,7 @@ use crate::expression::{NESTING, bad_opcode, too_deep};
 use crate::fault::BinFault;
 use crate::instruction::{Op, Plain};
 use crate::reading::read_op;
-use crate::short::pass_short;
+use crate::short::{pass_short, stands_end};
 use crate::value::Value;
 use std::alloc::{AllocError, Global};
 
@@ -121,6 +121,9 @@ fn skip_item(bytes: &[u8], at: usize, room: u32, blocks: &mut Vec<Block>) -> Res
 {
     if let Some(next) = pass_short(bytes, at) {
         return Ok(Step::Passes(next));
+    }
+    if stands_end(bytes, at) {
+        return Ok(Step::Ends(false, at + 1));
     }
     let (op, next) = read_op(bytes, at)?;
     match op {

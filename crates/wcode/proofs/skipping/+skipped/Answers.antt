@@ -152,6 +152,12 @@ skip_item-returns-in-Some t c =
       plain_passes c.args.bytes.now c.args.room c.args.at a.next (ops.Plain x.2) x.2 refl (one x.2, refl, x.3),
     )
 
+pub skip_item-returns-then-stands_end : goal.skip_item-returns-then-stands_end
+unfolding SkipsItem
+skip_item-returns-then-stands_end t c =
+    let within = c.stands_end.ensures.within c.if-stands_end.true in
+    (omega (arith, within), c.stands_end.ensures.word c.if-stands_end.true, refl)
+
 pub skip_item-returns-in-Plain : goal.skip_item-returns-in-Plain
 unfolding SkipsItem
 skip_item-returns-in-Plain t c =
