@@ -140,7 +140,8 @@ impl<J: Site, K: Rules + Drop, G: Gate + Drop> Pool<J, K, G> {
         is_shared: bool,
     ) -> Result<Decision, NoMemory>
         ensures chosen { IfOk result (Choice (rules_of K.answers self.old.kits) snapshot pod.now) }
-        ensures judged { OnOk result (AreVerdicts (rules_of K.answers self.old.kits) pod.now snapshot self.new.verdicts) }
+        ensures judged { OnOk result (AreVerdicts (rules_of K.answers self.old.kits) pod.now snapshot
+            self.new.verdicts) }
         ensures kits { self.new.kits ≡ self.old.kits }
     {
         self.verdicts.resize(snapshot.rows().len(), UNJUDGED)?;
