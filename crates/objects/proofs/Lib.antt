@@ -3,3 +3,8 @@ pub mod Places
 pub mod Worth
 pub mod Items
 pub mod Peaks
+pub mod Spelled
+pub mod Rows
+pub mod Lines
+pub mod Added
+pub mod Lengths

@@ -14,6 +14,8 @@ mod container;
 mod digits;
 mod fault;
 mod key;
+mod line;
+mod line_field;
 mod node;
 mod pod;
 mod quantity;
@@ -27,6 +29,7 @@ mod tests;
 
 pub use fault::{ObjectFault, QuantityFault};
 pub use key::Key;
+pub use line::write_line;
 pub use node::allocatable;
 pub use pod::pod_request;
 pub use quantity::{cpu_asked, cpu_offered, memory_asked, memory_offered, pods_offered};

@@ -1,0 +1,137 @@
+//! The line of a script that tells an event.
+ghost use Rattle.std.specs.Prelude.{◌≡◌, IfOk, Ok};
+ghost use Rattle.json.specs.Tree.{json_tokens};
+ghost use Rattle.manifest.specs.Line.{meaning};
+ghost use Rattle.manifest.specs.declared.command.Command.TheVariants as commands;
+ghost use Rattle.quant.specs.declared.event.Event.TheVariants.{NodeSet, NodeGone, PodPending, PodBound, PodGone};
+ghost use Rattle.objects.specs.Line.{line_json};
+ghost use Rattle.objects.specs.Sayable.{IsSayable};
+ghost use Rattle.objects.specs.inside.Added.{Adds};
+
+use crate::line_field::{
+    put_amounts, put_flag, put_labels, put_number, put_priority, put_request, put_taints, put_text,
+    put_tolerations,
+};
+use json::Writer;
+use quant::{Event, Name, Node, Pod, Request, Version};
+use std::alloc::{AllocError, Global};
+
+// The room that most lines need.
+const ROOM: usize = 512;
+
+// The line that tells an event, without its newline.
+pub fn write_line(alloc: Global, event: &Event) -> Result<Vec<u8>, AllocError>
+    requires { IsSayable event.now }
+    ensures { IfOk result (λ line. meaning line.items ≡ Ok (commands.Event event.now)) }
+{
+    let mut writer = Writer::new(Vec::with_capacity(alloc, ROOM)?);
+    write_event(alloc, &mut writer, event)?;
+    Ok(writer.into_inner())
+}
+
+// Writes the object that tells an event.
+fn write_event(alloc: Global, writer: &mut Writer, event: &Event) -> Result<(), AllocError>
+    ensures { Adds result writer.old writer.new (json_tokens (line_json event.now)) }
+{
+    match event {
+        Event::NodeSet { version, node } => write_node(alloc, writer, *version, node),
+        Event::NodeGone { version, name } => write_gone(writer, *version, name),
+        Event::PodPending { version, pod } => write_pod(alloc, writer, *version, pod),
+        Event::PodBound {
+            version,
+            uid,
+            node,
+            request,
+        } => write_bound(alloc, writer, *version, uid, node, request),
+        Event::PodGone { version, uid } => write_deleted(writer, *version, uid),
+    }
+}
+
+// Writes a node's row.
+fn write_node(
+    alloc: Global,
+    writer: &mut Writer,
+    version: Version,
+    node: &Node,
+) -> Result<(), AllocError>
+    ensures { Adds result writer.old writer.new (json_tokens (line_json (NodeSet version node.now))) }
+{
+    writer.begin_object()?;
+    put_text(writer, "op", "node")?;
+    put_number(writer, "v", version.0)?;
+    put_text(writer, "name", node.name.as_str())?;
+    put_amounts(alloc, writer, node.allocatable.cpu, node.allocatable.mem)?;
+    put_number(writer, "pods", node.allocatable.pods as u64)?;
+    put_labels(writer, node.labels.as_slice())?;
+    put_taints(writer, node.taints.as_slice())?;
+    put_flag(writer, "unschedulable", node.unschedulable)?;
+    writer.end_object()?;
+    Ok(())
+}
+
+// Writes that a node is gone.
+fn write_gone(writer: &mut Writer, version: Version, name: &Name) -> Result<(), AllocError>
+    ensures { Adds result writer.old writer.new (json_tokens (line_json (NodeGone version name.now))) }
+{
+    writer.begin_object()?;
+    put_text(writer, "op", "gone")?;
+    put_number(writer, "v", version.0)?;
+    put_text(writer, "name", name.as_str())?;
+    writer.end_object()?;
+    Ok(())
+}
+
+// Writes the row of a pod that waits.
+fn write_pod(
+    alloc: Global,
+    writer: &mut Writer,
+    version: Version,
+    pod: &Pod,
+) -> Result<(), AllocError>
+    ensures { Adds result writer.old writer.new (json_tokens (line_json (PodPending version pod.now))) }
+{
+    writer.begin_object()?;
+    put_text(writer, "op", "pod")?;
+    put_number(writer, "v", version.0)?;
+    put_text(writer, "uid", pod.uid.as_str())?;
+    put_priority(writer, pod)?;
+    put_request(alloc, writer, &pod.request)?;
+    put_labels(writer, pod.labels.as_slice())?;
+    put_tolerations(writer, pod.tolerations.as_slice())?;
+    writer.end_object()?;
+    Ok(())
+}
+
+// Writes a pod's place.
+fn write_bound(
+    alloc: Global,
+    writer: &mut Writer,
+    version: Version,
+    uid: &Name,
+    node: &Name,
+    request: &Request,
+) -> Result<(), AllocError>
+    ensures { Adds result writer.old writer.new
+        (json_tokens (line_json (PodBound version uid.now node.now request.now))) }
+{
+    writer.begin_object()?;
+    put_text(writer, "op", "bound")?;
+    put_number(writer, "v", version.0)?;
+    put_text(writer, "uid", uid.as_str())?;
+    put_text(writer, "node", node.as_str())?;
+    put_amounts(alloc, writer, request.cpu, request.mem)?;
+    writer.end_object()?;
+    Ok(())
+}
+
+// Writes that a pod is gone.
+fn write_deleted(writer: &mut Writer, version: Version, uid: &Name) -> Result<(), AllocError>
+    ensures { Adds result writer.old writer.new (json_tokens (line_json (PodGone version uid.now))) }
+{
+    writer.begin_object()?;
+    put_text(writer, "op", "deleted")?;
+    put_number(writer, "v", version.0)?;
+    put_text(writer, "uid", uid.as_str())?;
+    writer.end_object()?;
+    Ok(())
+}
