@@ -8,7 +8,7 @@ use Rattle.json.specs.Tree.{json_tokens, items_tokens}
 use Rattle.quant.specs.declared.objects.Label.{Label}
 use Rattle.quant.specs.declared.taint.Taint.{Taint}
 use Rattle.quant.specs.declared.taint.Toleration.{Toleration}
-use Rattle.objects.specs.Line.{label_json, taint_json, toleration_json, items_json}
+use Rattle.objects.specs.inside.Line.{label_json, taint_json, toleration_json, items_json}
 
 -- one item more of an array, and its end
 more_items : {A : Type 0} (f : A → Json) (xs : List A) (i : ℕ) (x : A) (old new : List Token) → i < length xs → x ≡ get_or xs i x → new ≡ old ++ json_tokens (f x)

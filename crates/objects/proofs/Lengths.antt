@@ -27,7 +27,7 @@ use Rattle.quant.specs.declared.taint.Operator.TheVariants.{Equal, Exists}
 use Rattle.quant.specs.declared.event.Event.{Event}
 use Rattle.quant.specs.declared.event.Event.TheVariants.{NodeSet, NodeGone, PodPending, PodBound, PodGone}
 use Rattle.manifest.specs.declared.line.TheConstants.{MAX_LINE}
-use Rattle.objects.specs.Line.{cpu_text, memory_text, effect_text, optional_effect_text, operator_text, label_json, taint_json, toleration_json, items_json, line_json}
+use Rattle.objects.specs.inside.Line.{cpu_text, memory_text, effect_text, optional_effect_text, operator_text, label_json, taint_json, toleration_json, items_json, line_json}
 use Rattle.objects.specs.Sayable.{each_beside, says_label, says_taint, says_toleration, IsVersion, IsNodeRow, IsPodRow, IsSayable}
 
 -- a byte is written as six at most

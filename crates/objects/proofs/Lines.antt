@@ -36,7 +36,7 @@ use Rattle.manifest.specs.Operation.{operation_named}
 use Rattle.manifest.specs.Reading.{◌>>=◌, member, text, integer, natural, signed, flag, name, name_from, cpu, cpu_from, memory, memory_from, request}
 use Rattle.manifest.specs.Line.{version_in, node_in, gone_in, pod_in, bound_in, deleted_in, fields_of, command_in, meaning}
 use Rattle.manifest.proofs.Parsed.{parsed_read}
-use Rattle.objects.specs.Line.{cpu_text, memory_text, label_json, taint_json, toleration_json, request_json, items_json, line_json}
+use Rattle.objects.specs.inside.Line.{cpu_text, memory_text, label_json, taint_json, toleration_json, request_json, items_json, line_json}
 use Rattle.objects.specs.Sayable.{IsVersion, IsNodeRow, IsPodRow, IsSayable}
 use Rattle.objects.proofs.Spelled.{cpu_back, memory_back}
 use Rattle.objects.proofs.Lengths.{line_short}

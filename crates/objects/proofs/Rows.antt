@@ -21,7 +21,7 @@ use Rattle.manifest.specs.declared.fault.LineFault.{LineFault}
 use Rattle.manifest.specs.Reading.{text, name_from, text_from, cpu_from, memory_from, request}
 use Rattle.manifest.specs.Item.{count, items, each, list, parts, part}
 use Rattle.manifest.specs.Rows.{effect_named, effect_or_none, operator_named, lawful, label, taint, toleration, container}
-use Rattle.objects.specs.Line.{cpu_text, memory_text, effect_text, optional_effect_text, operator_text, label_json, taint_json, toleration_json, request_json, items_json}
+use Rattle.objects.specs.inside.Line.{cpu_text, memory_text, effect_text, optional_effect_text, operator_text, label_json, taint_json, toleration_json, request_json, items_json}
 use Rattle.objects.specs.Sayable.{each_beside, says_label, says_taint, says_toleration}
 use Rattle.objects.proofs.Spelled.{cpu_back, memory_back}
 

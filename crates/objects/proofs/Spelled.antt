@@ -10,7 +10,7 @@ use Rattle.quant.specs.Amount.{is_digit, is_digits, number, leading_digits, afte
 use Rattle.quant.specs.declared.amount.Cpu.{Cpu}
 use Rattle.quant.specs.declared.amount.Bytes.{Bytes}
 use Rattle.quant.proofs.Decimal.{number_push}
-use Rattle.objects.specs.Line.{cpu_text, memory_text}
+use Rattle.objects.specs.inside.Line.{cpu_text, memory_text}
 
 one_digit : (n : ℕ) → n < 10 → is_digit (48 + n) ≡ true
 one_digit n h = grind (arith, nat_tests)

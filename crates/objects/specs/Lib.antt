@@ -7,6 +7,5 @@ pub mod Container
 pub mod Resource
 pub mod PodRequest
 pub mod Allocatable
-pub mod Line
 pub mod Sayable
 pub mod inside

@@ -4,7 +4,7 @@ ghost use Rattle.json.specs.Tree.{json_tokens};
 ghost use Rattle.manifest.specs.Line.{meaning};
 ghost use Rattle.manifest.specs.declared.command.Command.TheVariants as commands;
 ghost use Rattle.quant.specs.declared.event.Event.TheVariants.{NodeSet, NodeGone, PodPending, PodBound, PodGone};
-ghost use Rattle.objects.specs.Line.{line_json};
+ghost use Rattle.objects.specs.inside.Line.{line_json};
 ghost use Rattle.objects.specs.Sayable.{IsSayable};
 ghost use Rattle.objects.specs.inside.Added.{Adds};
 

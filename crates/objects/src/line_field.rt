@@ -3,7 +3,7 @@ ghost use Rattle.std.specs.Prelude.{◌≡◌, [], ◌∷◌, codes, decimal};
 ghost use Rattle.std.specs.Fmt.{signed_decimal};
 ghost use Rattle.json.specs.Token.{key, string, number, boolean, begin_array, end_array};
 ghost use Rattle.json.specs.Tree.{json_tokens, items_tokens};
-ghost use Rattle.objects.specs.Line.{cpu_text, memory_text, effect_text, optional_effect_text, operator_text, label_json, taint_json, toleration_json, request_json, items_json};
+ghost use Rattle.objects.specs.inside.Line.{cpu_text, memory_text, effect_text, optional_effect_text, operator_text, label_json, taint_json, toleration_json, request_json, items_json};
 ghost use Rattle.objects.specs.inside.Added.{Adds};
 
 use json::Writer;

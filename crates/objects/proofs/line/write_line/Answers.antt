@@ -1,6 +1,6 @@
 use Rattle.std.proofs.Common.{◌++◌, ◌∙◌, ap}
 use Rattle.json.specs.Tree.{json_tokens}
-use Rattle.objects.specs.Line.{line_json}
+use Rattle.objects.specs.inside.Line.{line_json}
 use Rattle.objects.proofs.Lines.{line_told}
 use Rattle.objects.proofs.line.write_line.Goals as goal
 

@@ -1,5 +1,5 @@
 use Rattle.std.proofs.Common.{refl, append_assoc}
-use Rattle.objects.specs.Line.{line_json}
+use Rattle.objects.specs.inside.Line.{line_json}
 use Rattle.objects.proofs.line.write_pod.Goals as goal
 
 pub returns : goal.returns

@@ -1,6 +1,6 @@
 use Rattle.std.proofs.Common.{◌≡◌, ◌++◌, drop}
 use Rattle.json.specs.Tree.{items_tokens}
-use Rattle.objects.specs.Line.{label_json, items_json}
+use Rattle.objects.specs.inside.Line.{label_json, items_json}
 use Rattle.objects.proofs.line_field.end_labels.Given as goal
 
 abbrev pub invariant-loop-label : goal.invariant-loop-label

@@ -1,6 +1,6 @@
 use Rattle.std.proofs.Common.{◌≡◌, ◌++◌, drop}
 use Rattle.json.specs.Tree.{items_tokens}
-use Rattle.objects.specs.Line.{taint_json, items_json}
+use Rattle.objects.specs.inside.Line.{taint_json, items_json}
 use Rattle.objects.proofs.line_field.end_taints.Given as goal
 
 abbrev pub invariant-loop-taint : goal.invariant-loop-taint

@@ -1,6 +1,6 @@
 use Rattle.std.proofs.Common.{◌≡◌, ◌++◌, drop}
 use Rattle.json.specs.Tree.{items_tokens}
-use Rattle.objects.specs.Line.{toleration_json, items_json}
+use Rattle.objects.specs.inside.Line.{toleration_json, items_json}
 use Rattle.objects.proofs.line_field.end_tolerations.Given as goal
 
 abbrev pub invariant-loop-toleration : goal.invariant-loop-toleration
