@@ -8,6 +8,9 @@
 //! `pod` tells what a pod asks for by its object: `container` reads its containers, `request` finds
 //! the moment at which they need most, and `specs/PodRequest.antt` says which that is. `node` tells
 //! what a node has. Both read a field by `reading`, and know its name by `key`.
+//!
+//! `line` writes the line of a script that tells an event, and `line_field` its fields. Which events a
+//! line can say is defined in `specs/Sayable.antt`.
 #![tactic(auto)]
 
 mod container;
