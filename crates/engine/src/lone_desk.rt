@@ -8,7 +8,7 @@ ghost use Rattle.engine.specs.inside.Cycle.{popped_reply};
 ghost use Rattle.engine.specs.CycleAlone.{IsDecidedAlone};
 
 use crate::fault::RunFault;
-use crate::one_cycle::{CutShort, Cycled, place, pop};
+use crate::one_cycle::{CutShort, Cycled, place, place_untold, pop};
 use choose::Decider;
 use desk::{Blank, Desk, Limits, Naming, NoMemory, Pass, Reply, Snapshot, Step, one_pass_is_alone};
 use quant::SharedPod;
@@ -111,6 +111,21 @@ impl<J: Naming> LoneDesk<J> {
     {
         one_pass_is_alone();
         place(&self.desk, rt, &mut self.pass, pod, decider)
+    }
+
+    // Does the same; by which verdicts it was decided, isn't told.
+    pub(crate) fn place_untold<R: Wait + Threads + Sync, D: Decider>(
+        &mut self,
+        rt: &R,
+        pod: &SharedPod,
+        decider: &mut D,
+    ) -> Result<Cycled, CutShort>
+        ensures decided { IfOk result (λ came. IsDecidedAlone (rules_of D.Kit.answers (D.kits decider.old)) self.old
+            pod.now came self.new) }
+        ensures kits { D.kits decider.new ≡ D.kits decider.old }
+    {
+        one_pass_is_alone();
+        place_untold(&self.desk, rt, &mut self.pass, pod, decider)
     }
 
     // Ends the desk.

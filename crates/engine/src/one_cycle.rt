@@ -182,6 +182,24 @@ fn decide<J: Naming, T: Wait + Threads + Sync, D: Decider>(
     decider.decide(rt, snapshot, pod)
 }
 
+// Looks, and chooses a node for a pod; by which verdicts, isn't told.
+fn choose<J: Naming, T: Wait + Threads + Sync, D: Decider>(
+    desk: &Desk<J>,
+    rt: &T,
+    pass: &mut Pass<J>,
+    pod: &SharedPod,
+    decider: &mut D,
+) -> Result<Decision, NoMemory>
+    requires { IsPassOf pass.old desk.now }
+    ensures chosen { IfOk result (λ decision. IsChosen (rules_of D.Kit.answers (D.kits decider.old)) desk.now
+        pass.old pod.now decision pass.new) }
+    ensures looked { OnErr result (MayLook desk.now pass.old pass.new) }
+    ensures kits { D.kits decider.new ≡ D.kits decider.old }
+{
+    let snapshot = desk.look(pass)?;
+    decider.choose(rt, snapshot, pod)
+}
+
 /// Pops a pod for the pass, where one waits.
 pub(crate) fn pop<J: Naming, T: Wait>(
     desk: &Desk<J>,
@@ -221,6 +239,29 @@ pub(crate) fn place<J: Naming, T: Wait + Threads + Sync, D: Decider>(
     ensures kits { D.kits decider.new ≡ D.kits decider.old }
 {
     match decide(desk, rt, pass, pod, decider) {
+        Ok(decision) => end_with(desk, rt, pass, &pod.uid, decision),
+        Err(NoMemory) => Err(give_up(desk, rt, pass, &pod.uid)),
+    }
+}
+
+/// Looks for a place for a pod that the pass popped, and does what is decided of it, as `place` does; by which verdicts, isn't
+/// told, so that none need be written.
+///
+/// Errors: as `cycle`.
+pub(crate) fn place_untold<J: Naming, T: Wait + Threads + Sync, D: Decider>(
+    desk: &Desk<J>,
+    rt: &T,
+    pass: &mut Pass<J>,
+    pod: &SharedPod,
+    decider: &mut D,
+) -> Result<Cycled, CutShort>
+    requires { IsPassOf pass.old desk.now }
+    ensures decided { IfOk result (λ came. IsDecided (rules_of D.Kit.answers (D.kits decider.old)) desk.now pass.old
+        pod.now came pass.new) }
+    ensures in_vain { IfErr result (λ short. IsInVain desk.now pass.old pod.now.uid short.held pass.new) }
+    ensures kits { D.kits decider.new ≡ D.kits decider.old }
+{
+    match choose(desk, rt, pass, pod, decider) {
         Ok(decision) => end_with(desk, rt, pass, &pod.uid, decision),
         Err(NoMemory) => Err(give_up(desk, rt, pass, &pod.uid)),
     }

@@ -173,7 +173,7 @@ impl<J: Naming> Session<J> {
             None => return Ok(Cycled::Idle),
         };
         if !explains {
-            return Ok(self.desk.place(rt, &pod, decider)?);
+            return Ok(self.desk.place_untold(rt, &pod, decider)?);
         }
         let snapshot = self.desk.look()?;
         let came = self.desk.place(rt, &pod, decider)?;

@@ -31,6 +31,15 @@ impl<J: Site, K: Rules + Drop, G: Gate + Drop> Decider for Pool<J, K, G> {
         self.decide(rt, snapshot, pod)
     }
 
+    fn choose<R: Threads + Wait + Sync>(
+        &mut self,
+        rt: &R,
+        snapshot: Snapshot,
+        pod: &SharedPod,
+    ) -> Result<Decision, NoMemory> {
+        self.choose(rt, snapshot, pod)
+    }
+
     fn verdicts(&self) -> &[Verdict] {
         self.verdicts()
     }

@@ -10,7 +10,7 @@ use crate::asked::{Asked, Blank, History, Order, Site};
 use crate::fleet::MAX_KITS;
 use crate::gate::Gate;
 use crate::lent_kit::{Helper, collect, judge_said, send_all};
-use choose::{Decision, NoMemory, UNJUDGED, Verdict, decide, judge};
+use choose::{Decision, NoMemory, UNJUDGED, Verdict, choose_alone, decide, judge};
 use desk::Snapshot;
 use quant::SharedPod;
 use rules::Rules;
@@ -205,6 +205,27 @@ impl<J: Site, K: Rules + Drop, G: Gate + Drop> Pool<J, K, G> {
         if nodes > 0 {
             self.cost = Some(self.home.spent().wrapping_sub(before) / nodes as u64);
         }
+    }
+
+    /// Where a pod goes, as `decide` says it. Where there is no rule it is chosen here, and no verdict is written.
+    ///
+    /// Errors: as those of `decide`; none where there is no rule.
+    pub fn choose<R: Wait>(
+        &mut self,
+        rt: &R,
+        snapshot: Snapshot,
+        pod: &SharedPod,
+    ) -> Result<Decision, NoMemory>
+        ensures chosen { IfOk result (Choice (rules_of K.answers self.old.kits) snapshot pod.now) }
+        ensures kits { self.new.kits ≡ self.old.kits }
+    {
+        if self.home.count() != 0 {
+            return self.decide(rt, snapshot, pod);
+        }
+        if !snapshot.rows().is_empty() {
+            self.gate.enter(0);
+        }
+        Ok(choose_alone(&snapshot, pod, &self.home))
     }
 
     /// The verdicts of the last decision, in the order of the nodes.

@@ -26,7 +26,7 @@ returns-in-None-clause-told g c =
 pub returns-then-not-explains-clause-cycled : goal.returns-then-not-explains-clause-cycled
 returns-then-not-explains-clause-cycled g c =
     let pops = rw c.in-Some.is at c.in_ok-popped.ensures.popped in
-    placed_cycle _ _ _ _ _ _ pops c.in_ok-popped.ensures.after c.in_ok-place.ensures.decided
+    placed_cycle _ _ _ _ _ _ pops c.in_ok-popped.ensures.after c.in_ok-place_untold.ensures.decided
 
 pub returns-then-not-explains-clause-told : goal.returns-then-not-explains-clause-told
 returns-then-not-explains-clause-told g c =
