@@ -19,12 +19,12 @@ use Rattle.serving.proofs.StormEnds.{storm_not_begun}
 module _ (Unkeyed : Type 0) (files : FilesUse) (source out err : DeviceUse) (ended : ℕ) where
   -- nothing was touched
   pub record AreUntouched : Type 0 where
-    pub files : files.IsUntouched
-    pub files_failures : files.failures_new ≡ files.failures_old
-    pub source : source.IsUntouched
-    pub source_failures : source.failures_new ≡ source.failures_old
-    pub out : out.IsUntouched
-    pub out_failures : out.failures_new ≡ out.failures_old
+    pub unopened : files.IsUntouched
+    pub opens : files.failures_new ≡ files.failures_old
+    pub unread : source.IsUntouched
+    pub reads : source.failures_new ≡ source.failures_old
+    pub unwritten : out.IsUntouched
+    pub writes : out.failures_new ≡ out.failures_old
 
   -- memory was wanting for the words: whatever they ask for isn't begun
   wanting : (asked : Option Asked) (fault : Fault) → ended ≡ 3 → TellsFault err (Words word_fault.NoMemory) → AreUntouched → IsDone asked fault Unkeyed files source out err ended
@@ -32,64 +32,64 @@ module _ (Unkeyed : Type 0) (files : FilesUse) (source out err : DeviceUse) (end
     status = inr three;
     words = λ two. absurd (omega (arith, two, three));
     room = λ _. rw no_memory_told at tells;
-    unopened = h.files;
-    unread = h.source;
-    unwritten = h.out;
+    unopened = h.unopened;
+    unread = h.unread;
+    unwritten = h.unwritten;
   }
   wanting (Some (run workers specs)) fault three tells h = record {
-    run = not_begun _ _ _ _ _ _ _ (inl three) h.out;
-    failures = told _ _ _ _ _ _ _ (Words word_fault.NoMemory) three tells (h.source_failures, h.out_failures);
-    files_told = λ _. h.files_failures;
+    run = not_begun _ _ _ _ _ _ _ (inl three) h.unwritten;
+    failures = told _ _ _ _ _ _ _ (Words word_fault.NoMemory) three tells (h.reads, h.writes);
+    files_told = λ _. h.opens;
   }
   wanting (Some (explain workers specs)) fault three tells h = record {
-    run = not_begun _ _ _ _ _ _ _ (inl three) h.out;
-    failures = told _ _ _ _ _ _ _ (Words word_fault.NoMemory) three tells (h.source_failures, h.out_failures);
-    files_told = λ _. h.files_failures;
+    run = not_begun _ _ _ _ _ _ _ (inl three) h.unwritten;
+    failures = told _ _ _ _ _ _ _ (Words word_fault.NoMemory) three tells (h.reads, h.writes);
+    files_told = λ _. h.opens;
   }
   wanting (Some (check file)) fault three tells h = record {
     check = record {
       status = inr (inr (inl three));
       told = λ low. absurd (omega (arith, low, three));
       quiet = λ low. absurd (omega (arith, low, three));
-      room = λ _. (rw no_memory_told at tells, h.out);
+      room = λ _. (rw no_memory_told at tells, h.unwritten);
       failed = λ four. absurd (omega (arith, four, three));
-      failures_told = λ _. h.out_failures;
-      front = inl h.out;
+      failures_told = λ _. h.writes;
+      front = inl h.unwritten;
     };
-    files_told = λ _. h.files_failures;
-    unread = h.source;
+    files_told = λ _. h.opens;
+    unread = h.unread;
   }
   wanting (Some (storm cycles binders flaky specs)) fault three tells h = record {
-    storm = storm_not_begun _ _ _ _ _ _ _ _ (inl three) h.out;
-    failures = told _ _ _ _ _ _ _ (Words word_fault.NoMemory) three tells (h.source_failures, h.out_failures);
-    files_told = λ _. h.files_failures;
+    storm = storm_not_begun _ _ _ _ _ _ _ _ (inl three) h.unwritten;
+    failures = told _ _ _ _ _ _ _ (Words word_fault.NoMemory) three tells (h.reads, h.writes);
+    files_told = λ _. h.opens;
   }
 
   module _ {V : Type 0} (texts : V → List (List ℕ)) (args : Result V WordFault) where
     -- the words could be read, and what they ask for is done
-    pub done : (words : V) (asked : Option Asked) → args ≡ Ok words → asked_by texts (Ok {E = WordFault} words) ≡ asked
-        → IsDone asked (told_of texts (Ok words)) Unkeyed files source out err ended → IsAnswer texts args Unkeyed files source out err ended
-    done words asked is asks it = subst (λ a. IsAnswer texts a Unkeyed files source out err ended) (sym is) (record {
-      done = subst (λ a. IsDone a (told_of texts (Ok words)) Unkeyed files source out err ended) (sym asks) it;
-      unread = tt;
-    })
+    pub done : (words : V) (asked : Option Asked) → args ≡ Ok words → asked_by texts args ≡ asked
+        → IsDone asked (told_of texts args) Unkeyed files source out err ended → IsAnswer texts args Unkeyed files source out err ended
+    done words asked is asks it = record {
+      done = subst (λ a. IsDone a (told_of texts args) Unkeyed files source out err ended) (sym asks) it;
+      unread = subst (λ a. IfErr a (λ fault. (ended ≡ status_of (Words fault)) × TellsFault err (Words fault))) (sym is) tt;
+    }
 
     -- they ask for nothing, which is told
-    pub misused : (words : V) → args ≡ Ok words → asked_by texts (Ok {E = WordFault} words) ≡ None → ended ≡ 2 → TellsFault err (told_of texts (Ok words)) → AreUntouched
+    pub misused : (words : V) → args ≡ Ok words → asked_by texts args ≡ None → ended ≡ 2 → TellsFault err (told_of texts args) → AreUntouched
         → IsAnswer texts args Unkeyed files source out err ended
     misused words is none two tells h = done words None is none (record {
       status = inl two;
       words = λ _. tells;
       room = λ three. absurd (omega (arith, two, three));
-      unopened = h.files;
-      unread = h.source;
-      unwritten = h.out;
+      unopened = h.unopened;
+      unread = h.unread;
+      unwritten = h.unwritten;
     })
 
     -- memory was wanting for them
     pub wanting_words : (words : V) → args ≡ Ok words → ended ≡ 3 → TellsFault err (Words word_fault.NoMemory) → AreUntouched
         → IsAnswer texts args Unkeyed files source out err ended
-    wanting_words words is three tells h = done words (asked_by texts (Ok {E = WordFault} words)) is refl (wanting _ _ three tells h)
+    wanting_words words is three tells h = done words (asked_by texts args) is refl (wanting _ _ three tells h)
 
     -- they couldn't be read
     pub unread : (fault : WordFault) → args ≡ Err fault → ended ≡ status_of (Words fault) → TellsFault err (Words fault) → AreUntouched
@@ -104,8 +104,8 @@ module _ (Unkeyed : Type 0) (files : FilesUse) (source out err : DeviceUse) (end
           status = inl two;
           words = λ _. tells;
           room = λ three. absurd (omega (arith, two, three));
-          unopened = h.files;
-          unread = h.source;
-          unwritten = h.out;
+          unopened = h.unopened;
+          unread = h.unread;
+          unwritten = h.unwritten;
         }
         idle word_fault.NoMemory three tells = wanting None (Words word_fault.NoMemory) three tells h

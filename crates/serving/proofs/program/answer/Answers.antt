@@ -1,6 +1,5 @@
-use Rattle.std.proofs.Common.{◌≡◌, ◌∙◌, Some, None, map, refl, ap}
-use Rattle.fault_line.specs.Fault.{status_of}
-use Rattle.fault_line.specs.declared.fault.Fault.TheVariants.{Misused}
+use Rattle.std.proofs.Common.{◌∙◌, map, refl, ap}
+use Rattle.command.specs.Words.{asked_by}
 use Rattle.serving.proofs.Answered.{done, misused, unread, wanting_words}
 use Rattle.serving.proofs.program.answer.Goals as goal
 
@@ -9,22 +8,26 @@ use Rattle.serving.proofs.program.answer.Goals as goal
 pub returns-in-Ok-Run : goal.returns-in-Ok-Run
 returns-in-Ok-Run g c =
     let read = rw (c.as_slice.ensures.value, c.in-Ok-Run.field-0-is) at c.in-Ok-Run.ensures.ok in
-    done _ _ _ _ _ _ (λ given. map g.S.AsStr.text given.items) _ _ _ c.in-Ok.is read c.serve_plan.ensures
+    let asked = ap (asked_by (λ given. map g.S.AsStr.text given.items)) c.in-Ok.is ∙ read in
+    done _ _ _ _ _ _ (λ given. map g.S.AsStr.text given.items) _ _ _ c.in-Ok.is asked c.serve_plan.ensures
 
 pub returns-in-Ok-Explain : goal.returns-in-Ok-Explain
 returns-in-Ok-Explain g c =
     let read = rw (c.as_slice.ensures.value, c.in-Ok-Explain.field-0-is) at c.in-Ok-Explain.ensures.ok in
-    done _ _ _ _ _ _ (λ given. map g.S.AsStr.text given.items) _ _ _ c.in-Ok.is read c.serve_plan-in-Ok-Explain.ensures
+    let asked = ap (asked_by (λ given. map g.S.AsStr.text given.items)) c.in-Ok.is ∙ read in
+    done _ _ _ _ _ _ (λ given. map g.S.AsStr.text given.items) _ _ _ c.in-Ok.is asked c.serve_plan-in-Ok-Explain.ensures
 
 pub returns-in-Ok-Storm : goal.returns-in-Ok-Storm
 returns-in-Ok-Storm g c =
     let read = rw (c.as_slice.ensures.value, c.in-Ok-Storm.field-0-is) at c.in-Ok-Storm.ensures.ok in
-    done _ _ _ _ _ _ (λ given. map g.S.AsStr.text given.items) _ _ _ c.in-Ok.is read c.storm_plan.ensures
+    let asked = ap (asked_by (λ given. map g.S.AsStr.text given.items)) c.in-Ok.is ∙ read in
+    done _ _ _ _ _ _ (λ given. map g.S.AsStr.text given.items) _ _ _ c.in-Ok.is asked c.storm_plan.ensures
 
 pub returns-in-Ok-Check : goal.returns-in-Ok-Check
 returns-in-Ok-Check g c =
     let read = rw (c.as_slice.ensures.value, c.in-Ok-Check.field-0-is) at c.in-Ok-Check.ensures.ok in
-    done _ _ _ _ _ _ (λ given. map g.S.AsStr.text given.items) _ _ _ c.in-Ok.is read (record {
+    let asked = ap (asked_by (λ given. map g.S.AsStr.text given.items)) c.in-Ok.is ∙ read in
+    done _ _ _ _ _ _ (λ given. map g.S.AsStr.text given.items) _ _ _ c.in-Ok.is asked (record {
       check = c.check_file.ensures.check;
       files_told = c.check_file.ensures.files_told;
       unread = refl;
