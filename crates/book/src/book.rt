@@ -327,6 +327,9 @@ impl Book {
         ensures in_range { IfErr result (λ at. at ≤ length (rows_in self.now.nodes)) }
         ensures listed { named (rows_in self.now.nodes) ≡ fin.entries self.now.nodes }
     {
+        if self.nodes.is_last(node) {
+            return self.nodes.find(node, None);
+        }
         self.nodes.find(node, self.places.total_slot(node))
     }
 

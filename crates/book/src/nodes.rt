@@ -22,6 +22,8 @@ pub(crate) struct Nodes {
     used: Vec<Res>,
     // Where the row of a node was last found, by the slot of the node's total. Each is a guess.
     guesses: Vec<usize>,
+    // The row beside which an amount was written last. It is a guess too.
+    last: usize,
     room: usize,
 }
 
@@ -56,6 +58,7 @@ impl Nodes {
             rows,
             used,
             guesses,
+            last: 0,
             room,
         })
     }
@@ -84,6 +87,14 @@ impl Nodes {
         }
     }
 
+    /// Whether the row beside which `keep` wrote an amount last has this name, so that `find` finds it at once without a slot.
+    pub(crate) fn is_last(&self, name: &Name) -> bool {
+        match self.rows.get(self.last) {
+            Some(row) => row.name == *name,
+            None => false,
+        }
+    }
+
     /// Where the row of this name is, or where it would go. The slot tells names apart as in `keep`, if it is known.
     pub(crate) fn find(&self, name: &Name, slot: Option<usize>) -> Result<usize, usize>
         ensures found { IfOk result (IsRowOf (rows_in self.now.map) name.now) }
@@ -93,7 +104,7 @@ impl Nodes {
     {
         let guess = match slot {
             Some(slot) => self.guesses.get(slot).copied().unwrap_or(0),
-            None => 0,
+            None => self.last,
         };
         place_near(&self.rows, name, guess)
     }
@@ -159,6 +170,7 @@ impl Nodes {
             return;
         };
         self.used[at] = used;
+        self.last = at;
         if slot < self.guesses.len() {
             self.guesses[slot] = at;
         }

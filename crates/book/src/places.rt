@@ -3,7 +3,7 @@ ghost use Rattle.std.specs.Prelude.{◌≡◌, ℕ, ◌+◌, ◌<◌, ◌≤◌,
 ghost use Rattle.std.specs.Bool.{IsTrue};
 ghost use Rattle.std.specs.Option.{option_copied};
 ghost use Rattle.std.specs.FinMap as fin;
-ghost use Rattle.name_table.specs.Slots.{map_of};
+ghost use Rattle.name_table.specs.Slots.{entry_in, map_of, name_in};
 ghost use Rattle.book.specs.Tables.{is_full_for};
 ghost use Rattle.book.specs.inside.Tables.{IsShown};
 ghost use Rattle.book.specs.Used.{used, assumed, bound, assumed_in};
@@ -45,6 +45,8 @@ pub(crate) struct Places {
     // When the bind of the place in each slot was reported done.
     finishes: Finishes,
     overdue: Overdue,
+    // The slot of the place that was put or finished last, at which the next pod is looked for first. It is a guess.
+    last: usize,
 }
 
 impl Model for Places {
@@ -59,7 +61,7 @@ impl Model for Places {
     ghost coded = { held_code place.the_row.coded };
 
     ghost use Rattle.std.specs.Prelude.{length};
-    ghost use Rattle.name_table.specs.Slots.{map_of};
+    ghost use Rattle.name_table.specs.Slots.{entry_in, map_of, name_in};
     ghost use Rattle.book.specs.inside.Finishes.{IsKept};
 
     ghost view = { λ t. record { map = map_of t.by_uid; room = length t.by_uid } };
@@ -87,6 +89,7 @@ impl Places {
             assumed: 0,
             finishes,
             overdue,
+            last: 0,
         })
     }
 
@@ -127,7 +130,10 @@ impl Places {
     pub(crate) fn get(&self, uid: &Name) -> Option<&Place>
         ensures { option_copied result ≡ fin.get self.now.map uid.now }
     {
-        self.by_uid.get(uid)
+        match slot_near(&self.by_uid, uid, self.last) {
+            Some(slot) => Some(self.by_uid.value_at(slot)),
+            None => self.by_uid.get(uid),
+        }
     }
 
     /// Gives a pod a place, instead of the one that it may have. What is used of nodes is shown beside their rows.
@@ -155,6 +161,7 @@ impl Places {
                 self.by_uid.replace_at(slot, place);
                 self.finishes.set(slot, finish);
                 self.overdue.limit = None;
+                self.last = slot;
                 Ok(())
             }
             None => {
@@ -167,6 +174,7 @@ impl Places {
                 let slot = self.by_uid.insert(uid, place);
                 self.finishes.set(slot, finish);
                 self.overdue.limit = None;
+                self.last = slot;
                 Ok(())
             }
         }
@@ -211,6 +219,7 @@ impl Places {
         self.finishes.set(slot, finished.status.finish());
         self.by_uid.replace_at(slot, finished);
         self.overdue.limit = None;
+        self.last = slot;
     }
 
     /// Whether a place expires at this moment.
@@ -241,6 +250,17 @@ impl Places {
         let uid = self.overdue.first(&self.by_uid, limit)?;
         self.remove(nodes, &uid);
         Some(uid)
+    }
+}
+
+// The slot that was guessed, if it has this name.
+fn slot_near(table: &NameTable<Place>, name: &Name, guess: usize) -> Option<usize>
+    ensures filled { IfSome result (λ slot. IsSome (entry_in table.now slot)) }
+    ensures name { IfSome result (λ slot. name_in table.now slot ≡ Some name.now) }
+{
+    match table.slots().get(guess) {
+        Some(Some(entry)) if entry.name == *name => Some(guess),
+        _ => None,
     }
 }
 
