@@ -2,8 +2,10 @@
 //! 1.20.2 told of the same texts, but that it has no limits and no fault for amounts below 0.
 use crate::fault::{ObjectFault, QuantityFault};
 use crate::key::Key;
+use crate::line::write_line;
 use crate::pod::pod_request;
 use crate::quantity::{cpu_asked, cpu_offered, memory_asked, memory_offered, pods_offered};
+use quant::{Event, Name, Version};
 use serde_json::Value;
 use std::alloc::Global;
 
@@ -202,4 +204,22 @@ fn quantities_come_to_what_kubernetes_says(rt: HostRuntime) {
 #[test]
 fn pods_ask_for_what_their_containers_need(rt: HostRuntime) {
     assert_eq!(rt; first_other_pod(rt.alloc()), None);
+}
+
+// The line that tells that a pod is gone. A uid that is no name has none.
+fn gone_line(alloc: Global, uid: &[u8]) -> Option<Vec<u8>> {
+    let uid = Name::new(uid).ok()?;
+    let event = Event::PodGone {
+        version: Version(7),
+        uid,
+    };
+    write_line(alloc, &event).ok()
+}
+
+#[test]
+fn an_event_is_written_as_its_line(rt: HostRuntime) {
+    let line = gone_line(rt.alloc(), b"default/web-1");
+    let want = br#"{"op":"deleted","v":7,"uid":"default/web-1"}"#;
+    assert!(rt; line.is_some_and(|line| line.as_slice() == want.as_slice()));
+    assert!(rt; gone_line(rt.alloc(), b"default/web 1").is_none());
 }
