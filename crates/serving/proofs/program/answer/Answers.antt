@@ -32,3 +32,15 @@ returns-in-Ok-Check g c =
       files_told = c.check_file.ensures.files_told;
       unread = refl;
     })
+
+-- ---- memory was wanting for the words, or they couldn't be read
+
+pub returns-in-Ok : goal.returns-in-Ok
+returns-in-Ok g c =
+    wanting_words _ _ _ _ _ _ (λ given. map g.S.AsStr.text given.items) _ _ c.in-Ok.is c.report-in-Err-NoMemory.ensures.status c.report-in-Err-NoMemory.ensures.told
+    (record { unopened = refl; opens = refl; unread = refl; reads = refl; unwritten = refl; writes = refl })
+
+pub returns : goal.returns
+returns g c =
+    unread _ _ _ _ _ _ (λ given. map g.S.AsStr.text given.items) _ c.in-Err.unread c.in-Err.is c.report-in-Err.ensures.status c.report-in-Err.ensures.told
+    (record { unopened = refl; opens = refl; unread = refl; reads = refl; unwritten = refl; writes = refl })
