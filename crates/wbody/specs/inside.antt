@@ -9,3 +9,4 @@ pub mod Near
 pub mod Trail
 pub mod Kinds
 pub mod Words
+pub mod Noted

@@ -8,7 +8,7 @@ ghost use Rattle.wmach.specs.Call.{called_function, result_type, ResultFits};
 ghost use Rattle.wmach.specs.inside.Coded.{IsCoded};
 ghost use Rattle.wmach.specs.Configuration.{Store as TheStore};
 ghost use Rattle.wmach.specs.inside.Known.{IsChecked};
-ghost use Rattle.wmach.specs.inside.Kept.{HasSlots, Begun, HoldsResult, IsCallOf};
+ghost use Rattle.wmach.specs.inside.Kept.{HasSlots, Begun, HoldsResult, IsCallOf, setting_of};
 ghost use Rattle.wmach.specs.declared.shape.Shape.{Shape as TheShape};
 ghost use Rattle.wmach.specs.Outcome.{HasOutcome};
 ghost use Rattle.wmach.specs.Reduction.{most_frames};
@@ -91,10 +91,8 @@ pub fn invoke<H: Host>(
     requires room { most_frames ≤ vec_capacity waiting.old }
     requires slots { HasSlots store.old.checked slots.old }
     requires there { called_function (module_of store.old.checked.content) export ≡ Some function }
-    ensures ends { HasOutcome (record {
-      module_syntax = module_of store.old.checked.content;
-      records = H.records host.now;
-    }) store.old.current function fuel result store.new.current }
+    ensures ends { HasOutcome (setting_of store.old.checked (H.records host.now))
+        store.old.current function fuel result store.new.current }
     ensures fits { ResultFits (result_type export) result }
     ensures checked { store.new.checked ≡ store.old.checked }
     ensures image { store.new.image ≡ store.old.image }
