@@ -59,7 +59,8 @@ fn decide_alone(rows: &[Row], pod: &Pod) -> Decision
 // pass is made only where one with such taints passes.
 fn best_alone(rows: &[Row], pod: &Pod) -> Option<Found>
     requires { AreInOrder (map shown rows.now) }
-    ensures first { let nodes = judged_alone pod.now (map shown rows.now) in StandsFirst (Worth.Total (most_of nodes)) nodes nodes result }
+    ensures first { let nodes = judged_alone pod.now (map shown rows.now) in
+        StandsFirst (Worth.Total (most_of nodes)) nodes nodes result }
     ensures there { IfSome result (λ found. found.at < length rows.now) }
 {
     let pass = pass_over(rows, pod, 0);
@@ -72,7 +73,8 @@ fn best_alone(rows: &[Row], pod: &Pod) -> Option<Found>
 // The first node among those of the greatest total, where so many untolerated taints count as the most.
 fn pass_over(rows: &[Row], pod: &Pod, most: u8) -> Pass
     requires { AreInOrder (map shown rows.now) }
-    ensures first { let nodes = judged_alone pod.now (map shown rows.now) in StandsFirst (Worth.Total most) nodes nodes result.first }
+    ensures first { let nodes = judged_alone pod.now (map shown rows.now) in
+        StandsFirst (Worth.Total most) nodes nodes result.first }
     ensures there { IfSome result.first (λ found. found.at < length rows.now) }
     ensures most { result.most ≡ most_of (judged_alone pod.now (map shown rows.now)) }
 {

@@ -68,7 +68,8 @@ impl Allocatable {
     /// least so much. Where it is less, mostly no more than two products are made.
     #[inline]
     pub fn score_from(&self, least: u32, used: Res, request: Request) -> Option<u8>
-        ensures value { result ≡ score_from least (fit_of self.now used request) (least_allocated_score self.now used request) }
+        ensures value { result ≡ score_from least (fit_of self.now used request)
+            (least_allocated_score self.now used request) }
         ensures most { IfSome result (λ score. score ≤ 100) }
     {
         if fits(self.amounts, used, request).is_err() {
