@@ -9,7 +9,7 @@
 //! - `short` passes an instruction without others inside it, where its numbers are short.
 //! - `expression` reads all up to an `end` as a tree. `skipping` passes it without one, and gives where its blocks go on: `blocks`.
 //! - `known` reads instructions of which it is known that they stand there, and which they are, without a test; `several_bytes` has
-//!   their longer numbers.
+//!   their longer numbers, and `ten_bytes` those of 64 bits.
 //! - `laws`: at most one instruction, and one expression, is spelled.
 #![tactic(auto)]
 
@@ -25,6 +25,7 @@ mod reading;
 mod several_bytes;
 mod short;
 mod skipping;
+mod ten_bytes;
 mod value;
 
 pub use blocks::Block;
