@@ -4,8 +4,8 @@ use Rattle.std.proofs.Math.Seq.{take-append-add}
 use Rattle.std.proofs.lemmas.List.{take_min, take-append-drop, length-take, drop-take, drop-drop, drop_more}
 
 -- what is added to a kept line within its room is kept of the whole
-pub kept_push : (line piece : List ℕ) (room n : ℕ) → length line + room ≡ 65537 → n ≡ min (length piece) room → line ++ take n piece ≡ take 65537 (line ++ piece)
-kept_push line piece room n fits least =
+pub kept_push : (most : ℕ) (line piece : List ℕ) (room n : ℕ) → length line + room ≡ most → n ≡ min (length piece) room → line ++ take n piece ≡ take most (line ++ piece)
+kept_push most line piece room n fits least =
     let smaller : n ≡ min room (length piece) = omega arith in
     let cut : take n piece ≡ take room piece = ap (λ k. take k piece) smaller ∙ take_min room piece in
     ap (λ t. line ++ t) cut ∙ sym (take-append-add line piece room) ∙ ap (λ k. take k (line ++ piece)) fits

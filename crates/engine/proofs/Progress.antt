@@ -1,5 +1,5 @@
 -- How far a run has come: what is written and what waits answers the lines that were taken.
-use Rattle.std.proofs.Common.{◌≡◌, ℕ, ◌+◌, false, eqb, leb, List, [], ◌∷◌, ◌++◌, length, Option, Some, None, Result, Ok, Err, IfSome, ⊎_elim, refl, sym, subst, ap, ◌∙◌, arith, append_assoc}
+use Rattle.std.proofs.Common.{◌≡◌, ℕ, ◌+◌, false, eqb, leb, List, [], ◌∷◌, ◌++◌, length, take, Option, Some, None, Result, Ok, Err, IfSome, ⊎_elim, refl, sym, subst, ap, ◌∙◌, arith, append_assoc}
 use Rattle.std.proofs.KnownBytes.{Appends-trans, Appends-nil}
 use Rattle.std.proofs.lemmas.Bool.{ne_eqb, lt-leb, cases_lt}
 use Rattle.std.proofs.lemmas.List.{length-take, append-nil, take_all}
@@ -11,7 +11,7 @@ use Rattle.manifest.specs.declared.command.Command.{Command}
 use Rattle.manifest.specs.Line.{meaning}
 use Rattle.engine.specs.Device.{AppendsFront}
 use Rattle.engine.specs.inside.Device.{WritesSome}
-use Rattle.engine.specs.Lines.{lines_of, kept, TakesLine}
+use Rattle.engine.specs.Lines.{lines_of, TakesLine}
 use Rattle.engine.specs.Answers.{State, opening, Answered, AllAnswered}
 use Rattle.engine.specs.Script.{asked_by, asked_then, asked_in, fault_or, fault_from}
 use Rattle.engine.specs.Output.{taken, first_fault, WritesOutput, WritesFront}
@@ -19,6 +19,10 @@ use Rattle.engine.specs.inside.Output.{IsAnswered}
 use Rattle.engine.proofs.Taking.{lines_of-nil}
 
 -- ---- a line of which the front is kept
+
+-- the first 65,537 bytes: of a longer line no more is kept
+abbrev pub kept : List ℕ → List ℕ
+kept text = take 65537 text
 
 -- what is kept of a line means what the line means
 pub meaning-kept : (text : List ℕ) → meaning (kept text) ≡ meaning text

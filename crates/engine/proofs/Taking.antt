@@ -7,7 +7,7 @@ use Rattle.std.proofs.lemmas.List.Elements.{All-append}
 use Rattle.std.proofs.lemmas.List.Splits.{slice_split_at, slice_split_none}
 use Rattle.std.specs.Io.KnownBytes.{Consumes, IsAtEnd, prepend_known}
 use Rattle.std.specs.List.{slice_split, onto_first}
-use Rattle.engine.specs.Lines.{is_newline, without_empty_end, lines_of, IsLine, kept, TakesLine}
+use Rattle.engine.specs.Lines.{is_newline, without_empty_end, lines_of, IsLine, TakesFront}
 use Rattle.engine.specs.inside.Lines.{TakesPiece}
 
 -- ---- the lines of a text
@@ -48,10 +48,10 @@ lines_of-last text line some =
 
 -- ---- what is known of a source, from one piece to the next
 
--- a line was taken so far, of what was known at first, as `taken`
-pub record IsTaken (first now : Option (List ℕ)) (line : List ℕ) (begun : Bool) (taken : List ℕ) : Type 0 where
+-- a line was taken so far, of what was known at first, as `taken`, of which so many bytes are kept at most
+pub record IsTaken (most : ℕ) (first now : Option (List ℕ)) (line : List ℕ) (begun : Bool) (taken : List ℕ) : Type 0 where
   pub is_line : IsLine taken
-  pub kept_is : line ≡ kept taken
+  pub kept_is : line ≡ take most taken
   pub consumed : Consumes first now taken
   pub begun_is : begun ≡ ltb 0 (length taken)
 
@@ -66,8 +66,8 @@ pub unread : (known : Option (List ℕ)) → Consumes known known []
 unread known = Consumes-nil known
 
 -- more of the source is read, and none of it taken
-pub IsTaken-more : (first old new : Option (List ℕ)) (line : List ℕ) (begun : Bool) (taken : List ℕ) → Consumes old new [] → IsTaken first old line begun taken → IsTaken first new line begun taken
-IsTaken-more first old new line begun taken read so_far = record {
+pub IsTaken-more : (most : ℕ) (first old new : Option (List ℕ)) (line : List ℕ) (begun : Bool) (taken : List ℕ) → Consumes old new [] → IsTaken most first old line begun taken → IsTaken most first new line begun taken
+IsTaken-more most first old new line begun taken read so_far = record {
   is_line = so_far.is_line;
   kept_is = so_far.kept_is;
   consumed = subst (Consumes first new) (append-nil taken) (Consumes-trans _ _ _ _ _ so_far.consumed read);
@@ -81,8 +81,8 @@ take-append-take (suc n) [] ys = refl
 take-append-take (suc n) (x ∷ xs) ys = ap (λ t. x ∷ t) (take-append-take n xs ys)
 
 -- what is kept of a line and a piece is kept of both together
-kept-append : (line taken piece : List ℕ) → line ≡ kept taken → kept (line ++ piece) ≡ kept (taken ++ piece)
-kept-append line taken piece e = ap (λ t. kept (t ++ piece)) e ∙ take-append-take 65537 taken piece
+kept-append : (most : ℕ) (line taken piece : List ℕ) → line ≡ take most taken → take most (line ++ piece) ≡ take most (taken ++ piece)
+kept-append most line taken piece e = ap (λ t. take most (t ++ piece)) e ∙ take-append-take most taken piece
 
 -- a piece that stood in front was taken
 passed : (rest : Option (List ℕ)) (piece : List ℕ) → Consumes (prepend_known piece rest) (prepend_known [] rest) piece
@@ -94,51 +94,51 @@ grown : (taken piece : List ℕ) → 0 < length piece → ltb 0 (length (taken +
 grown taken piece some = lt-ltb 0 (length (taken ++ piece)) (omega (arith, length-append taken piece))
 
 -- a piece of the line is taken, which does not end there
-pub IsTaken-piece : (first rest : Option (List ℕ)) (old new piece line kept_line : List ℕ) (begun : Bool) (taken : List ℕ) → IsLine piece → kept_line ≡ kept (line ++ piece) → TakesPiece false old new piece → 0 < length old → IsTaken first (prepend_known old rest) line begun taken → IsTaken first (prepend_known new rest) kept_line true (taken ++ piece)
-IsTaken-piece first rest old new piece line kept_line begun taken is_line stored cut some so_far =
+pub IsTaken-piece : (most : ℕ) (first rest : Option (List ℕ)) (old new piece line kept_line : List ℕ) (begun : Bool) (taken : List ℕ) → IsLine piece → kept_line ≡ take most (line ++ piece) → TakesPiece false old new piece → 0 < length old → IsTaken most first (prepend_known old rest) line begun taken → IsTaken most first (prepend_known new rest) kept_line true (taken ++ piece)
+IsTaken-piece most first rest old new piece line kept_line begun taken is_line stored cut some so_far =
     let read : Consumes first (prepend_known piece rest) taken = subst (λ t. Consumes first (prepend_known t rest) taken) cut.0 so_far.consumed in
     let left : Consumes first (prepend_known [] rest) (taken ++ piece) = Consumes-trans _ _ _ _ _ read (passed rest piece) in
     record {
       is_line = All-append (λ b. is_newline b ≡ false) taken piece so_far.is_line is_line;
-      kept_is = stored ∙ kept-append line taken piece so_far.kept_is;
+      kept_is = stored ∙ kept-append most line taken piece so_far.kept_is;
       consumed = subst (λ t. Consumes first (prepend_known t rest) (taken ++ piece)) (sym cut.1) left;
       begun_is = sym (grown taken piece (subst (λ t. 0 < length t) cut.0 some));
     }
 
 -- what was taken up to the newline is the first line, and what stands behind it has the later ones
-taken_whole : (first rest : Option (List ℕ)) (line taken piece new : List ℕ) → IsLine (taken ++ piece) → line ≡ kept (taken ++ piece) → Consumes first (prepend_known (piece ++ 10 ∷ new) rest) taken → TakesLine first (prepend_known new rest) line
-taken_whole None rest line taken piece new is_line stored read = tt
-taken_whole (Some xs) None line taken piece new is_line stored read = absurd read
-taken_whole (Some xs) (Some ys) line taken piece new is_line stored read =
+taken_whole : (most : ℕ) (first rest : Option (List ℕ)) (line taken piece new : List ℕ) → IsLine (taken ++ piece) → line ≡ take most (taken ++ piece) → Consumes first (prepend_known (piece ++ 10 ∷ new) rest) taken → TakesFront most first (prepend_known new rest) line
+taken_whole most None rest line taken piece new is_line stored read = tt
+taken_whole most (Some xs) None line taken piece new is_line stored read = absurd read
+taken_whole most (Some xs) (Some ys) line taken piece new is_line stored read =
     let apart : xs ≡ (taken ++ piece) ++ 10 ∷ (new ++ ys) = read ∙ ap (λ t. taken ++ t) (append_assoc piece (10 ∷ new) ys) ∙ sym (append_assoc taken piece (10 ∷ (new ++ ys))) in
     (taken ++ piece, stored, ap lines_of apart ∙ lines_of-newline (taken ++ piece) (new ++ ys) is_line)
 
 -- the rest of the line is taken, up to its newline
-pub TakesLine-newline : (first rest : Option (List ℕ)) (old piece new line kept_line : List ℕ) (begun : Bool) (taken : List ℕ) → IsLine piece → kept_line ≡ kept (line ++ piece) → TakesPiece true old new piece → IsTaken first (prepend_known old rest) line begun taken → TakesLine first (prepend_known new rest) kept_line
-TakesLine-newline first rest old piece new line kept_line begun taken is_line stored cut so_far =
-    taken_whole first rest kept_line taken piece new (All-append (λ b. is_newline b ≡ false) taken piece so_far.is_line is_line) (stored ∙ kept-append line taken piece so_far.kept_is) (subst (λ t. Consumes first (prepend_known t rest) taken) cut so_far.consumed)
+pub TakesFront-newline : (most : ℕ) (first rest : Option (List ℕ)) (old piece new line kept_line : List ℕ) (begun : Bool) (taken : List ℕ) → IsLine piece → kept_line ≡ take most (line ++ piece) → TakesPiece true old new piece → IsTaken most first (prepend_known old rest) line begun taken → TakesFront most first (prepend_known new rest) kept_line
+TakesFront-newline most first rest old piece new line kept_line begun taken is_line stored cut so_far =
+    taken_whole most first rest kept_line taken piece new (All-append (λ b. is_newline b ≡ false) taken piece so_far.is_line is_line) (stored ∙ kept-append most line taken piece so_far.kept_is) (subst (λ t. Consumes first (prepend_known t rest) taken) cut so_far.consumed)
 
 -- all that was left is the last line
-last_whole : (first rest : Option (List ℕ)) (line taken : List ℕ) → IsLine taken → line ≡ kept taken → 0 < length taken → IsAtEnd rest → Consumes first (prepend_known [] rest) taken → TakesLine first (prepend_known [] rest) line
-last_whole None rest line taken is_line stored some ended read = tt
-last_whole (Some xs) None line taken is_line stored some ended read = absurd read
-last_whole (Some xs) (Some ys) line taken is_line stored some ended read =
+last_whole : (most : ℕ) (first rest : Option (List ℕ)) (line taken : List ℕ) → IsLine taken → line ≡ take most taken → 0 < length taken → IsAtEnd rest → Consumes first (prepend_known [] rest) taken → TakesFront most first (prepend_known [] rest) line
+last_whole most None rest line taken is_line stored some ended read = tt
+last_whole most (Some xs) None line taken is_line stored some ended read = absurd read
+last_whole most (Some xs) (Some ys) line taken is_line stored some ended read =
     let all : xs ≡ taken = read ∙ ap (λ t. taken ++ t) ended ∙ append-nil taken in
     (taken, stored, ap lines_of all ∙ lines_of-last taken is_line some ∙ ap (λ parts. taken ∷ parts) (sym (ap lines_of ended ∙ lines_of-nil)))
 
 -- the source ends behind a line that was begun
-pub TakesLine-last : (first rest : Option (List ℕ)) (now line : List ℕ) (begun : Bool) (taken : List ℕ) → begun ≡ true → (now ≡ []) × IsAtEnd rest → IsTaken first (prepend_known now rest) line begun taken → TakesLine first (prepend_known now rest) line
-TakesLine-last first rest now line begun taken begins ended so_far =
+pub TakesFront-last : (most : ℕ) (first rest : Option (List ℕ)) (now line : List ℕ) (begun : Bool) (taken : List ℕ) → begun ≡ true → (now ≡ []) × IsAtEnd rest → IsTaken most first (prepend_known now rest) line begun taken → TakesFront most first (prepend_known now rest) line
+TakesFront-last most first rest now line begun taken begins ended so_far =
     let some : 0 < length taken = ltb-true 0 (length taken) (sym so_far.begun_is ∙ begins) in
     let read : Consumes first (prepend_known [] rest) taken = subst (λ t. Consumes first (prepend_known t rest) taken) ended.0 so_far.consumed in
-    let line_taken : TakesLine first (prepend_known [] rest) line = last_whole first rest line taken so_far.is_line so_far.kept_is some ended.1 read in
-    subst (λ t. TakesLine first (prepend_known t rest) line) (sym ended.0) line_taken
+    let line_taken : TakesFront most first (prepend_known [] rest) line = last_whole most first rest line taken so_far.is_line so_far.kept_is some ended.1 read in
+    subst (λ t. TakesFront most first (prepend_known t rest) line) (sym ended.0) line_taken
 
 -- Nothing waits where what was left has no newline. So nothing waits behind a piece without a newline: it is what was left, or nothing was.
 pub told-still : (old more piece waits : List ℕ) → (IsLine old → waits ≡ []) → (0 < length old → more ≡ old) → IsLine piece → more ≡ piece → waits ≡ []
 told-still [] more piece waits told same line cut = told (λ k d inside. absurd (omega arith))
 told-still (x ∷ xs) more piece waits told same line cut = told (subst IsLine (sym cut ∙ same (omega arith)) line)
 
--- no more than 65,537 bytes are kept
-pub length-kept : (line taken : List ℕ) → line ≡ kept taken → length line ≤ 65537
-length-kept line taken e = omega (arith, ap length e, length-take 65537 taken)
+-- no more than so many bytes are kept
+pub length-kept : (most : ℕ) (line taken : List ℕ) → line ≡ take most taken → length line ≤ most
+length-kept most line taken e = omega (arith, ap length e, length-take most taken)

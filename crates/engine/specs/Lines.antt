@@ -19,12 +19,12 @@ lines_of script = without_empty_end (slice_split is_newline script)
 abbrev pub IsLine : List ℕ → Type 0
 IsLine text = All (λ b. is_newline b ≡ false) text
 
--- the first 65,537 bytes: of a longer line no more is kept
-abbrev pub kept : List ℕ → List ℕ
-kept text = take 65537 text
+-- where the text is known, its first line was taken off, of which the first so many bytes are kept as `line`
+abbrev pub TakesFront : (most : ℕ) → Option (List ℕ) → Option (List ℕ) → List ℕ → Type 0
+TakesFront most None new line = ⊤
+TakesFront most (Some old) None line = ⊥
+TakesFront most (Some old) (Some new) line = (text : List ℕ) × (line ≡ take most text) × (lines_of old ≡ text ∷ lines_of new)
 
--- where the text is known, its first line was taken off, and is kept as `line`
+-- the same, where what a script's line may have and one byte more is kept
 abbrev pub TakesLine : Option (List ℕ) → Option (List ℕ) → List ℕ → Type 0
-TakesLine None new line = ⊤
-TakesLine (Some old) None line = ⊥
-TakesLine (Some old) (Some new) line = (text : List ℕ) × (line ≡ kept text) × (lines_of old ≡ text ∷ lines_of new)
+TakesLine old new line = TakesFront 65537 old new line

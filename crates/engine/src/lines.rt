@@ -2,7 +2,7 @@
 ghost use Rattle.std.specs.Prelude.{◌≡◌, ◌≢◌, ◌==◌, ◌⊎◌, ◌+◌, ◌^◌, ◌<◌, ◌≤◌, ◌++◌, [], nat_lt, true, false, Ok, Err, IfErr, IsErrOf, ℕ, List, length, take, slice_index, vec_len, Contains, IsTrue, IfOk, OnOk, IfSome, IfNone};
 ghost use Rattle.std.specs.Io.KnownBytes.{Consumes, IsAtEnd, prepend_known};
 ghost use Rattle.engine.specs.Device.{CountsFailure};
-ghost use Rattle.engine.specs.Lines.{IsLine, TakesLine, kept};
+ghost use Rattle.engine.specs.Lines.{IsLine, TakesFront, TakesLine};
 ghost use Rattle.engine.specs.inside.Lines.{TakesPiece};
 
 use crate::device::{DeviceFailed, Source};
@@ -57,8 +57,8 @@ impl LineReader {
         self.start == self.end
     }
 
-    // Whether a whole line was read and is not yet taken.
-    pub(crate) fn has_line(&self) -> bool
+    /// Whether a whole line was read and is not yet taken.
+    pub fn has_line(&self) -> bool
         ensures some { IsTrue result → Contains self.now 10 }
         ensures none { result ≡ false → IsLine self.now }
     {
@@ -88,6 +88,32 @@ impl LineReader {
         ensures kept { result ≢ Err RunFault.Read → R.failure_count source.new ≡ R.failure_count source.old }
         ensures faults { IfErr result (λ e. (e ≡ RunFault.Read) ⊎ (e ≡ RunFault.NoMemory)) }
     {
+        self.next_front(MAX_KEPT, source, line, waits)
+    }
+
+    /// Takes the next line of a source, as `next_line` does, but keeps so many bytes of it at most.
+    ///
+    /// Errors: `Read`, and `NoMemory` where there is none for the line.
+    pub fn next_front<R: Source>(
+        &mut self,
+        most: usize,
+        source: &mut R,
+        line: &mut Vec<u8>,
+        waits: &[u8],
+    ) -> Result<bool, RunFault>
+        requires reads { R.failure_count source.old < 10 ^ 18 }
+        requires told { IsLine self.old → waits.now ≡ [] }
+        ensures found { result ≡ Ok true → TakesFront most (prepend_known self.old (R.remaining source.old))
+            (prepend_known self.new (R.remaining source.new)) line.new.items }
+        ensures ended { result ≡ Ok false → (self.new ≡ []) × IsAtEnd (R.remaining source.new)
+            × Consumes (prepend_known self.old (R.remaining source.old))
+            (prepend_known self.new (R.remaining source.new)) [] }
+        ensures less { result ≡ Ok true → R.bytes_left source.new + length self.new
+            < R.bytes_left source.old + length self.old }
+        ensures failed { IsErrOf result RunFault.Read → R.failure_count source.old < R.failure_count source.new }
+        ensures kept { result ≢ Err RunFault.Read → R.failure_count source.new ≡ R.failure_count source.old }
+        ensures faults { IfErr result (λ e. (e ≡ RunFault.Read) ⊎ (e ≡ RunFault.NoMemory)) }
+    {
         line.clear();
         let mut begun = false;
         'pieces: loop {
@@ -95,7 +121,7 @@ impl LineReader {
                 return Ok(begun);
             }
             begun = true;
-            let ended = self.take_piece(line)?;
+            let ended = self.take_piece(most, line)?;
             if ended {
                 return Ok(true);
             }
@@ -142,21 +168,21 @@ impl LineReader {
         Ok(())
     }
 
-    // Takes what there is of a line, and says whether its end was there.
-    fn take_piece(&mut self, line: &mut Vec<u8>) -> Result<bool, AllocError>
-        requires { vec_len line.old ≤ 65537 }
+    // Takes what there is of a line, of which so many bytes are kept at most, and says whether its end was there.
+    fn take_piece(&mut self, most: usize, line: &mut Vec<u8>) -> Result<bool, AllocError>
+        requires { vec_len line.old ≤ most }
         ensures { IfOk result (λ ended. (text : List ℕ) × IsLine text
-            × (line.new.items ≡ kept (line.old.items ++ text)) × TakesPiece ended self.old self.new text) }
+            × (line.new.items ≡ take most (line.old.items ++ text)) × TakesPiece ended self.old self.new text) }
     {
         let piece = &self.buffer[self.start..self.end];
         match newline_at(piece) {
             Some(at) => {
-                keep(line, &piece[..at])?;
+                keep(most, line, &piece[..at])?;
                 self.start += at + 1;
                 Ok(true)
             }
             None => {
-                keep(line, piece)?;
+                keep(most, line, piece)?;
                 self.start = self.end;
                 Ok(false)
             }
@@ -173,12 +199,12 @@ fn newline_at(bytes: &[u8]) -> Option<usize>
     memchr(b'\n', bytes)
 }
 
-// Adds a piece to what is kept of a line.
+// Adds a piece to what is kept of a line, so many bytes at most.
 #[tactic(auto, using(crate::proofs::Pieces::kept_push))]
-fn keep(line: &mut Vec<u8>, piece: &[u8]) -> Result<(), AllocError>
-    requires { vec_len line.old ≤ 65537 }
-    ensures { OnOk result (line.new.items ≡ kept (line.old.items ++ piece.now)) }
+fn keep(most: usize, line: &mut Vec<u8>, piece: &[u8]) -> Result<(), AllocError>
+    requires { vec_len line.old ≤ most }
+    ensures { OnOk result (line.new.items ≡ take most (line.old.items ++ piece.now)) }
 {
-    let room = MAX_KEPT - line.len();
+    let room = most - line.len();
     line.extend_from_slice(&piece[..piece.len().min(room)])
 }

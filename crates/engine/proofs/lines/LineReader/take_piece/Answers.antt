@@ -1,5 +1,4 @@
 use Rattle.std.proofs.Common.{◌≡◌, ◌<◌, ◌++◌, length, rules, take, get_or, slice_range, ◌∙◌, sym}
-use Rattle.engine.specs.Lines.{kept}
 use Rattle.engine.proofs.Pieces.{range-cut}
 use Rattle.engine.proofs.lines.LineReader.take_piece.Goals as goal
 
@@ -9,5 +8,5 @@ returns-in_ok-keep-in-Some c =
     let piece = slice_range inside.buffer.items inside.start inside.end in
     let within : c.in-Some.at < length piece = search rules in
     let newline : get_or piece c.in-Some.at 0 ≡ 10 = search rules in
-    let stored : c.keep.new.line.items ≡ kept (c.args.line.now.items ++ take c.in-Some.at piece) = search rules in
+    let stored : c.keep.new.line.items ≡ take c.args.most (c.args.line.now.items ++ take c.in-Some.at piece) = search rules in
     (take c.in-Some.at piece, search rules, stored, sym c.self.view_is ∙ range-cut inside.buffer.items inside.start inside.end c.in-Some.at within newline)

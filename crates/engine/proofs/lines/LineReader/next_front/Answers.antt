@@ -1,24 +1,24 @@
 use Rattle.std.proofs.Common.{◌≡◌, ◌++◌, ◌<◌, true, false, Ok, length, ap, subst, arith, rules}
 use Rattle.std.proofs.lemmas.List.{length-append}
 use Rattle.engine.specs.inside.Lines.{TakesPiece}
-use Rattle.engine.proofs.Taking.{IsTaken-more, IsTaken-piece, told-still, TakesLine-newline, TakesLine-last, length-kept}
-use Rattle.engine.proofs.lines.LineReader.next_line.Goals as goal
+use Rattle.engine.proofs.Taking.{IsTaken-more, IsTaken-piece, told-still, TakesFront-newline, TakesFront-last, length-kept}
+use Rattle.engine.proofs.lines.LineReader.next_front.Goals as goal
 
 pub take_piece-requires : goal.take_piece-requires
 take_piece-requires g c =
-    omega (arith, length-kept _ _ c.pieces.invariant.1.kept_is, c.pieces.line.ok.0)
+    omega (arith, length-kept _ _ _ c.pieces.invariant.1.kept_is, c.pieces.line.ok.0)
 
 pub returns-then-not-branch-clause-found : goal.returns-then-not-branch-clause-found
 returns-then-not-branch-clause-found g c e =
     let begins : c.pieces.begun ≡ true = cc in
     let none : c.in_ok-has_more.field-0 ≡ false = search rules in
-    TakesLine-last _ _ _ _ _ _ begins (c.in_ok-has_more.ensures.ended (ap Ok none)) (IsTaken-more _ _ _ _ _ _ c.in_ok-has_more.ensures.read c.pieces.invariant.1)
+    TakesFront-last _ _ _ _ _ _ _ begins (c.in_ok-has_more.ensures.ended (ap Ok none)) (IsTaken-more _ _ _ _ _ _ _ c.in_ok-has_more.ensures.read c.pieces.invariant.1)
 
 pub returns-then-ended-clause-found : goal.returns-then-ended-clause-found
 returns-then-ended-clause-found g c _ =
     let piece = c.in_ok-ended.ensures in
     let cut : TakesPiece true c.has_more.new.self c.take_piece.new.self piece.0 = subst (λ b. TakesPiece b c.has_more.new.self c.take_piece.new.self piece.0) c.if-ended.true piece.3 in
-    TakesLine-newline _ _ _ _ _ _ _ _ _ piece.1 piece.2 cut (IsTaken-more _ _ _ _ _ _ c.in_ok-has_more.ensures.read c.pieces.invariant.1)
+    TakesFront-newline _ _ _ _ _ _ _ _ _ _ piece.1 piece.2 cut (IsTaken-more _ _ _ _ _ _ _ c.in_ok-has_more.ensures.read c.pieces.invariant.1)
 
 pub pieces-preserved : goal.pieces-preserved
 pieces-preserved g c =
@@ -26,7 +26,7 @@ pieces-preserved g c =
     let cut : TakesPiece false c.has_more.new.self c.take_piece.new.self piece.0 = subst (λ b. TakesPiece b c.has_more.new.self c.take_piece.new.self piece.0) c.if-ended.false piece.3 in
     let some : 0 < length c.has_more.new.self = search rules in (
       c.pieces.invariant.0 ++ piece.0,
-      IsTaken-piece _ _ _ _ _ _ _ _ _ piece.1 piece.2 cut some (IsTaken-more _ _ _ _ _ _ c.in_ok-has_more.ensures.read c.pieces.invariant.1),
+      IsTaken-piece _ _ _ _ _ _ _ _ _ _ piece.1 piece.2 cut some (IsTaken-more _ _ _ _ _ _ _ c.in_ok-has_more.ensures.read c.pieces.invariant.1),
       search rules,
       λ _. told-still _ _ _ _ c.pieces.invariant.3 c.in_ok-has_more.ensures.kept piece.1 cut.0,
       omega (arith, length-append c.pieces.invariant.0 piece.0, ap length cut.0, ap length cut.1, c.pieces.invariant.4, c.in_ok-has_more.ensures.left),
