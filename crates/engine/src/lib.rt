@@ -31,6 +31,6 @@ pub use fault::RunFault;
 pub use laws::{explained_output, one_output, same_output};
 pub use lines::LineReader;
 pub use named_rule::NamedRule;
-pub use one_cycle::{CutShort, Cycled, cycle};
+pub use one_cycle::{CutShort, Cycled, cycle, cycle_untold};
 pub use script::run;
 pub use session::push_dump;

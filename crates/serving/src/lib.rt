@@ -2,7 +2,6 @@
 //!
 //! - `program`: what is done from the words to the status: a run by `site_run`, a storm by `storm_run`, a check by `check`.
 //! - `site`: a site's plugins, from what the words configure and the files have to kits.
-//! - `site_fleet`: a fleet of a site's kits, as what decides.
 //! - `with_kits`: a run by a pool of kits, which lives as long as the run.
 //! - `stand_in`: binders that stand in for a cluster.
 //! - `verdict`: what is found of a module, and the line that tells it.
@@ -16,7 +15,6 @@ mod folder;
 mod laws;
 mod program;
 mod site;
-mod site_fleet;
 mod site_run;
 mod stand_in;
 mod storm_run;
@@ -30,7 +28,6 @@ pub use folder::{Files, Folder};
 pub use laws::{decided_by_calls, one_site_output};
 pub use program::answer;
 pub use site::{modules_in, site_kits};
-pub use site_fleet::SiteFleet;
 pub use site_run::serve;
 pub use stand_in::StandIn;
 pub use storm_run::serve_storm;

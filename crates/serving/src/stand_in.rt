@@ -1,19 +1,19 @@
 //! Binders that stand in for a cluster.
-ghost use Rattle.std.specs.Prelude.{◌≡◌, ◌<◌, ◌^◌, vec_len};
+ghost use Rattle.std.specs.Prelude.{◌≡◌, ◌<◌, ◌^◌, ◌∷◌, [], vec_len};
 ghost use Rattle.engine.specs.Device.{use_of};
 ghost use Rattle.choose.specs.Kits as choosing;
 ghost use Rattle.plugin.specs.Kit.{rules_of};
 ghost use Rattle.storm.specs.Storm.{IsStormRun};
 
-use crate::site_fleet::SiteFleet;
 use binder::{BindAnswer, Binder, Tally};
 use engine::{RunFault, Sink, Source};
+use plugin::KitRules;
 use quant::Name;
 use std::alloc::Global;
 use std::hash::RandomState;
 use std::sync::Wait;
 use std::thread::Threads;
-use storm::storm;
+use storm::{OneKit, storm};
 
 /// A binder that tells no cluster. Each bind that it is asked for is done, but where it is flaky every third one fails.
 #[derive(Debug, Drop)]
@@ -61,7 +61,7 @@ pub(crate) fn storm_by<T: Wait + Threads + Sync, R: Source, W: Sink>(
     keys: RandomState,
     source: &mut R,
     out: &mut W,
-    deciders: Vec<SiteFleet>,
+    deciders: Vec<OneKit<KitRules>>,
     binders: usize,
     is_flaky: bool,
 ) -> Result<bool, RunFault>
@@ -70,7 +70,7 @@ pub(crate) fn storm_by<T: Wait + Threads + Sync, R: Source, W: Sink>(
     requires finite { R.bytes_left source.old < 2 ^ 64 }
     requires some_decider { 0 < vec_len deciders }
     requires some_binder { 0 < binders }
-    ensures { IsStormRun (λ d. choosing.rules_of rules_of d.kits) deciders.items binders
+    ensures { IsStormRun (λ d. choosing.rules_of rules_of (d.kit ∷ [])) deciders.items binders
         (use_of R.remaining R.failure_count source.old source.new) (use_of W.written W.failure_count out.old out.new) result }
 {
     let mut boxes = Vec::new(alloc);

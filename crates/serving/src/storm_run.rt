@@ -10,7 +10,6 @@ ghost use Rattle.serving.specs.inside.Storm.{audit_status};
 
 use crate::folder::Files;
 use crate::site::{modules_in, site_kits};
-use crate::site_fleet::SiteFleet;
 use crate::stand_in::storm_by;
 use command::StormPlan;
 use engine::{RunFault, Sink, Source};
@@ -20,6 +19,7 @@ use std::alloc::{AllocError, Global};
 use std::hash::RandomState;
 use std::sync::Wait;
 use std::thread::Threads;
+use storm::OneKit;
 
 /// Reads a script whole from `source` and makes a storm of it: cycle threads that decide by the plugins that are planned, whose
 /// modules' bytes stand in their order, and binders that stand in for a cluster, at work on one desk at once. It writes the
@@ -77,15 +77,12 @@ fn status_for(is_right: bool) -> u8
 }
 
 // One that decides for each kit, in the thread that asks it.
-fn deciders_of(alloc: Global, kits: Vec<KitRules>) -> Result<Vec<SiteFleet>, AllocError>
-    ensures { IfOk result (λ deciders. map (λ d. d.kits) deciders.items ≡ map (λ kit. kit ∷ []) kits.items) }
+fn deciders_of(alloc: Global, kits: Vec<KitRules>) -> Result<Vec<OneKit<KitRules>>, AllocError>
+    ensures { IfOk result (λ deciders. map (λ d. d.kit ∷ []) deciders.items ≡ map (λ kit. kit ∷ []) kits.items) }
 {
     let mut deciders = Vec::new(alloc);
     for kit in kits {
-        let Ok(decider) = SiteFleet::of_one(alloc, kit) else {
-            return Err(AllocError);
-        };
-        if deciders.push(decider).is_err() {
+        if deciders.push(OneKit::new(alloc, kit)).is_err() {
             return Err(AllocError);
         }
     }

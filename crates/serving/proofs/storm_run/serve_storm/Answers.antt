@@ -1,4 +1,4 @@
-use Rattle.std.proofs.Common.{inl, refl, map}
+use Rattle.std.proofs.Common.{inl, refl, map, ◌∷◌, []}
 use Rattle.command.specs.Words.{syntax_of}
 use Rattle.engine.specs.Device.{use_of}
 use Rattle.engine.specs.declared.fault.RunFault.TheVariants.{NoMemory}
@@ -32,7 +32,7 @@ pub returns-in-Ok-storm_by-clause-storm : goal.returns-in-Ok-storm_by-clause-sto
 returns-in-Ok-storm_by-clause-storm g c =
     let made = rw c.as_slice.ensures.value at c.in-Ok.ensures.made in
     audited _ (map syntax_of c.args.plan.now.specs.items) _ _ (use_of g.R.Source.remaining g.R.Source.failure_count c.args.source.now c.storm_by.new.source)
-    (use_of g.W.Sink.written g.W.Sink.failure_count c.args.out.now c.storm_by.new.out) _ _ (λ d. d.kits) c.in-Ok-deciders_of.deciders.items c.in-Ok.kits.items (map (λ m. m.items) c.args.modules.now)
+    (use_of g.W.Sink.written g.W.Sink.failure_count c.args.out.now c.storm_by.new.out) _ _ (λ d. d.kit ∷ []) c.in-Ok-deciders_of.deciders.items c.in-Ok.kits.items (map (λ m. m.items) c.args.modules.now)
     c.requires.plan.least_cycles made c.in-Ok-deciders_of.ensures refl c.in-Ok-storm_by.is_right c.in-Ok-storm_by.ensures c.status_for.ensures refl
 
 pub returns-in-Ok-storm_by-clause-failures : goal.returns-in-Ok-storm_by-clause-failures
@@ -45,10 +45,10 @@ pub returns-in-Err-storm_by-clause-storm : goal.returns-in-Err-storm_by-clause-s
 returns-in-Err-storm_by-clause-storm g c =
     let made = rw c.as_slice.ensures.value at c.in-Ok.ensures.made in
     storm_cut_short _ (map syntax_of c.args.plan.now.specs.items) _ _ (use_of g.R.Source.remaining g.R.Source.failure_count c.args.source.now c.storm_by.new.source)
-    (use_of g.W.Sink.written g.W.Sink.failure_count c.args.out.now c.storm_by.new.out) _ _ (λ d. d.kits) c.in-Ok-deciders_of.deciders.items c.in-Ok.kits.items (map (λ m. m.items) c.args.modules.now)
+    (use_of g.W.Sink.written g.W.Sink.failure_count c.args.out.now c.storm_by.new.out) _ _ (λ d. d.kit ∷ []) c.in-Ok-deciders_of.deciders.items c.in-Ok.kits.items (map (λ m. m.items) c.args.modules.now)
     c.requires.plan.least_cycles made c.in-Ok-deciders_of.ensures refl c.in-Err-storm_by.fault c.in-Err-storm_by.ensures c.report-in-Err-storm_by.ensures.status c.report-in-Err-storm_by.ensures.told
 
 pub returns-in-Err-storm_by-clause-failures : goal.returns-in-Err-storm_by-clause-failures
 returns-in-Err-storm_by-clause-failures g c =
     told _ _ (λ _. ⊥) _ _ _ _ (Run c.in-Err-storm_by.fault) c.report-in-Err-storm_by.ensures.status c.report-in-Err-storm_by.ensures.told
-    (besides_storm _ (λ _. ⊥) (λ d. d.kits) c.in-Ok-deciders_of.deciders.items c.args.plan.now.binders _ _ c.in-Err-storm_by.fault c.in-Err-storm_by.ensures)
+    (besides_storm _ (λ _. ⊥) (λ d. d.kit ∷ []) c.in-Ok-deciders_of.deciders.items c.args.plan.now.binders _ _ c.in-Err-storm_by.fault c.in-Err-storm_by.ensures)

@@ -1,0 +1,70 @@
+//! One kit as what decides.
+ghost use Rattle.std.specs.Prelude.{◌≡◌, [], ◌∷◌, List, IfOk, OnOk};
+ghost use denote.Param.Send.{IsSync};
+ghost use Rattle.choose.specs.Choice.{AreVerdicts, Choice};
+ghost use Rattle.choose.specs.declared.decision.Verdict.{Verdict};
+ghost use Rattle.choose.specs.Kits.{rules_of};
+
+use choose::{Decider, Decision, UNJUDGED, Verdict, choose_alone, decide, judge};
+use desk::{NoMemory, Snapshot};
+use quant::SharedPod;
+use rules::Rules;
+use std::alloc::Global;
+use std::sync::Wait;
+use std::thread::Threads;
+
+/// One kit, which decides in the thread that asks it. Where it has no rule, a choice of which no verdict is told takes one pass
+/// over the nodes and no memory.
+#[derive(Drop)]
+pub struct OneKit<K: Rules + Drop> {
+    pub kit: K,
+    verdicts: Vec<Verdict>,
+}
+
+impl<K: Rules + Drop> OneKit<K> {
+    /// Nothing was decided yet. It takes no memory yet.
+    pub fn new(alloc: Global, kit: K) -> OneKit<K>
+        ensures { result.kit ≡ kit }
+    {
+        OneKit {
+            kit,
+            verdicts: Vec::new(alloc),
+        }
+    }
+}
+
+impl<K: Rules + Drop> Decider for OneKit<K> {
+    type Kit = K;
+
+    ghost kits = { λ d. d.kit ∷ [] };
+
+    ghost last = { λ d. d.verdicts.items };
+
+    fn decide<R: Threads + Wait + Sync>(
+        &mut self,
+        _rt: &R,
+        snapshot: Snapshot,
+        pod: &SharedPod,
+    ) -> Result<Decision, NoMemory> {
+        let rows = snapshot.rows();
+        self.verdicts.resize(rows.len(), UNJUDGED)?;
+        judge(rows, pod, &mut self.kit, self.verdicts.as_mut_slice());
+        Ok(decide(rows, self.verdicts.as_slice()))
+    }
+
+    fn choose<R: Threads + Wait + Sync>(
+        &mut self,
+        rt: &R,
+        snapshot: Snapshot,
+        pod: &SharedPod,
+    ) -> Result<Decision, NoMemory> {
+        if self.kit.count() != 0 {
+            return self.decide(rt, snapshot, pod);
+        }
+        Ok(choose_alone(&snapshot, pod, &self.kit))
+    }
+
+    fn verdicts(&self) -> &[Verdict] {
+        self.verdicts.as_slice()
+    }
+}
