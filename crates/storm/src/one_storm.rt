@@ -39,6 +39,11 @@ struct Hands<J: Naming, D: Drop> {
     clerk: Pass<J>,
 }
 
+// How many passes there are with so many deciders and binders.
+fn passes_for(deciders: usize, binders: usize) -> usize {
+    deciders.saturating_add(binders).saturating_add(FEEDERS + 1)
+}
+
 // Hands out all passes.
 fn hand_out<J: Naming, D: Decider + Drop>(
     alloc: Global,
@@ -207,7 +212,8 @@ fn storm_on<
     ensures { IsStormOf (λ d. rules_of D.Kit.answers (D.kits d)) deciders.items (length binders.items) steps.now
         (use_of W.written W.failure_count sink.old sink.new) result }
 {
-    let mut desk = Desk::<J>::new(blank, alloc, keys, greatest)?;
+    let passes = passes_for(deciders.len(), binders.len());
+    let mut desk = Desk::<J>::for_passes(blank, alloc, keys, greatest, passes)?;
     match storm_to_dump(rt, alloc, &mut desk, steps, deciders, binders) {
         Err(fault) => {
             desk.discard(rt);
