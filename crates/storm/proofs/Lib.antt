@@ -7,3 +7,4 @@ pub mod Closing
 pub mod Enlisting
 pub mod Staging
 pub mod Ending
+pub mod Waking

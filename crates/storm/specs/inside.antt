@@ -1,4 +1,5 @@
 pub mod Made
+pub mod News
 pub mod Cycles
 pub mod Crew
 pub mod Stages

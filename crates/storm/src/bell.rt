@@ -4,10 +4,20 @@ use std::sync::{Condvar, Mutex, Wait};
 /// How many feeders a storm has.
 pub(crate) const FEEDERS: usize = 2;
 
-/// How often the bell was rung, and how many feeders have ended.
+/// What a feeder's step brought.
+#[derive(Clone, Copy, Debug, PartialEq, Eq)]
+pub(crate) enum News {
+    /// A pod that waits.
+    Pod,
+    /// A move: pods that were waiting for one may have a place now.
+    Move,
+}
+
+/// How often the bell was rung, whether a pod has come, and how many feeders have ended.
 #[derive(Clone, Copy, Debug, PartialEq, Eq)]
 pub(crate) struct Heard {
     rings: u64,
+    any_pod: bool,
     ended: usize,
 }
 
@@ -19,7 +29,8 @@ impl Heard {
 }
 
 /// A cycle thread that finds no pod waits for the next ring, and doesn't ask the desk again and again: each Pop is published.
-/// It remembers what it heard before it asks, so that no ring falls between.
+/// It remembers what it heard before it asks, so that no ring falls between. Whoever is woken makes cycles until it finds no pod
+/// again, so one is enough for a pod.
 #[derive(Drop)]
 pub(crate) struct Bell {
     heard: Mutex<Heard>,
@@ -29,7 +40,11 @@ pub(crate) struct Bell {
 impl Bell {
     pub(crate) fn new() -> Bell {
         Bell {
-            heard: Mutex::new(Heard { rings: 0, ended: 0 }),
+            heard: Mutex::new(Heard {
+                rings: 0,
+                any_pod: false,
+                ended: 0,
+            }),
             rung: Condvar::new(),
         }
     }
@@ -39,11 +54,21 @@ impl Bell {
         *self.heard.lock(rt)
     }
 
-    /// A step was done that may bring a pod.
-    pub(crate) fn ring<R: Wait>(&self, rt: &R) {
+    /// A step was done that brought this. A move brings nothing where no pod has come: where one comes meanwhile, it is rung for.
+    pub(crate) fn ring<R: Wait>(&self, rt: &R, news: News) {
         let mut heard = self.heard.lock(rt);
-        heard.rings = heard.rings.wrapping_add(1);
-        self.rung.notify_all();
+        match news {
+            News::Pod => {
+                heard.any_pod = true;
+                heard.rings = heard.rings.wrapping_add(1);
+                self.rung.notify_one();
+            }
+            News::Move if heard.any_pod => {
+                heard.rings = heard.rings.wrapping_add(1);
+                self.rung.notify_all();
+            }
+            News::Move => {}
+        }
     }
 
     /// A feeder has ended.

@@ -1,14 +1,31 @@
 //! A feeder: it tells the desk what the watch told.
-ghost use Rattle.std.specs.Prelude.{◌≡◌, false, IfOk, OnOk};
+ghost use Rattle.std.specs.Prelude.{◌≡◌, false, None, IfOk, OnOk};
 ghost use Rattle.std.specs.List.{All};
 ghost use Rattle.desk.specs.Caller.{IsTimely};
 ghost use Rattle.desk.specs.Shared.{IsPassOf};
 ghost use Rattle.storm.specs.inside.Made.{Makes};
+ghost use Rattle.storm.specs.inside.News.{WakesNone};
 
-use crate::bell::Bell;
+use crate::bell::{Bell, News};
 use crate::worker::Worker;
-use desk::{Desk, Naming, NoMemory, Pass, Step};
+use desk::{Desk, Naming, NoMemory, Pass, Reply, Step};
+use quant::Event;
 use std::sync::Wait;
+
+// What a step brought that was answered so. Where that is nothing, no pod can be popped after it that couldn't before.
+fn news_of(step: &Step, reply: &Reply) -> Option<News>
+    ensures { result ≡ None → WakesNone step.now reply.now }
+{
+    if let Reply::Refused(_) = reply {
+        return None;
+    }
+    match step {
+        Step::Event(Event::PodPending { .. }) => Some(News::Pod),
+        Step::Event(Event::NodeGone { .. }) => None,
+        Step::Event(Event::PodBound { .. }) => None,
+        _ => Some(News::Move),
+    }
+}
 
 // Does all steps, in order.
 fn tell_all<J: Naming, R: Wait>(
@@ -24,8 +41,10 @@ fn tell_all<J: Naming, R: Wait>(
     ensures told { OnOk result (Makes pass.old steps.now pass.new) }
 {
     for step in steps {
-        desk.apply(rt, pass, step.share()?)?;
-        bell.ring(rt);
+        let reply = desk.apply(rt, pass, step.share()?)?;
+        if let Some(news) = news_of(step, &reply) {
+            bell.ring(rt, news);
+        }
     }
     Ok(())
 }

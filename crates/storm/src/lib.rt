@@ -2,7 +2,7 @@
 //!
 //! - `storm` is the whole of it. It reads its script first, which holds what the watch tells, and how time goes on: `script`.
 //! - Each thread has a `Worker`: a pass of the desk, and what it works with. `feed`, `cycles` and `binding` are what they do. A
-//!   `Bell` wakes the cycle threads where a feeder told something new, and tells them when both have ended.
+//!   `Bell` wakes the cycle threads where a feeder brought a pod or a move, and tells them when both have ended.
 //! - `one_kit` is what decides in a cycle thread.
 //! - `stages` is who works beside whom, and who ends when.
 //! - `clerk` is the pass that meets all others at the end, counts and looks. It closes the desk, whose book is audited.

@@ -10,7 +10,7 @@ pub loop-step-preserved : goal.loop-step-preserved
 loop-step-preserved g c =
     let k = c.loop-step.step-index in
     let steps = c.args.steps.now in
-    let more = makes_more c.args.desk.now c.args.pass.now c.loop-step.pass c.apply.new.pass (take k steps) c.in_ok-share.field-0 c.in_ok-apply.field-0 c.loop-step.invariant c.in_ok-apply.ensures.applied in
+    let more = makes_more c.args.desk.now c.args.pass.now c.loop-step.pass c.apply.new.pass (take k steps) c.in_ok-share.field-0 c.in_ok-reply.reply c.loop-step.invariant c.in_ok-reply.ensures.applied in
     let next : k + 1 ≡ suc k = omega arith in
     subst (λ (made : List Step). Makes c.args.pass.now made c.apply.new.pass)
     (ap (λ (e : Step). take k steps ++ e ∷ []) (c.in_ok-share.ensures ∙ c.step-item.is) ∙ sym (ap (λ (n : ℕ). take n steps) next ∙ take-suc steps k c.step-item.result c.loop-step-test.true))
