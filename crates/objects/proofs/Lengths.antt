@@ -1,8 +1,7 @@
 -- No line that tells an event is too long.
-use Rattle.std.proofs.Common.{◌≡◌, ℕ, suc, ◌+◌, ◌*◌, ◌^◌, ◌≤◌, ◌<◌, ℤ, pos, negsuc, int_le, Bool, true, false, cond, ◌&&◌, nat_lt, List, [], ◌∷◌, ◌++◌, length, codes, decimal, Option, Some, None, refl, ap, arith, length-append, leb-true}
+use Rattle.std.proofs.Common.{◌≡◌, ℕ, suc, ◌+◌, ◌*◌, ◌^◌, ◌≤◌, ℤ, pos, negsuc, int_le, Bool, true, false, cond, ◌&&◌, nat_lt, List, [], ◌∷◌, ◌++◌, length, codes, decimal, Option, Some, None, refl, ap, arith, length-append, leb-true}
 use Rattle.std.proofs.lemmas.Bool.{and_parts}
 use Rattle.std.proofs.lemmas.Fmt.{length-decimal-le}
-use Rattle.std.specs.Char.{digit_char}
 use Rattle.std.specs.Fmt.{signed_decimal}
 use Rattle.json.specs.Json.{Json, boolean, array, no_members, member}
 use Rattle.json.specs.Token.{Token, string}
@@ -13,7 +12,6 @@ use Rattle.quant.specs.Name.{is_name, is_text}
 use Rattle.quant.specs.declared.amount.Cpu.{Cpu}
 use Rattle.quant.specs.declared.amount.Bytes.{Bytes}
 use Rattle.quant.specs.declared.amount.Request.{Request}
-use Rattle.quant.specs.declared.limits.TheConstants.{MAX_LABELS, MAX_TAINTS, MAX_TOLERATIONS, MAX_PLACED, MAX_VERSION}
 use Rattle.quant.specs.declared.version.Version.{Version}
 use Rattle.quant.specs.declared.objects.Label.{Label}
 use Rattle.quant.specs.declared.objects.Node.{Node}

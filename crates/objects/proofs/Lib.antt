@@ -8,3 +8,12 @@ pub mod Rows
 pub mod Lines
 pub mod Added
 pub mod Lengths
+pub mod Parsed
+pub mod Beside
+pub mod OneLine
+pub mod Standing
+pub mod Requests
+pub mod Named
+pub mod Names
+pub mod Changes
+pub mod Faults

@@ -1,5 +1,5 @@
 -- The line that tells an event is read as that event.
-use Rattle.std.proofs.Common.{◌≡◌, ℕ, suc, ◌+◌, ◌^◌, ◌<◌, ◌≤◌, ℤ, pos, negsuc, int_le, max, Bool, true, false, nat_le, List, [], ◌∷◌, ◌++◌, length, codes, decimal, Option, Some, None, option_and_then, Ok, refl, sym, ap, ◌∙◌, arith, append-nil, le-leb, leb-true, lt-ltb}
+use Rattle.std.proofs.Common.{◌≡◌, ℕ, ◌+◌, ◌^◌, ◌<◌, ◌≤◌, ℤ, pos, negsuc, int_le, max, Bool, true, List, [], ◌∷◌, ◌++◌, length, codes, Option, Some, None, option_and_then, Ok, refl, sym, ap, ◌∙◌, arith, append-nil, le-leb, leb-true, lt-ltb}
 use Rattle.std.specs.Fmt.{signed_decimal}
 use Rattle.std.specs.Option.{ok_or}
 use Rattle.std.specs.Str.{IsUtf8}
@@ -10,7 +10,7 @@ use Rattle.json.specs.Lex.{tokens}
 use Rattle.json.specs.Print.{print}
 use Rattle.json.specs.Tree.{json_tokens, depth, items_depth}
 use Rattle.json.proofs.Printed.Trees.{value-json_tokens}
-use Rattle.serde_json.specs.Data.{Num, unsigned, negative, Data, number, string, array, object, boolean, Items, no_members, put}
+use Rattle.serde_json.specs.Data.{Num, unsigned, negative, Data, number, string, array, object, boolean, no_members, put}
 use Rattle.serde_json.specs.Read.{read, of_json, max_depth}
 use Rattle.serde_json.specs.Find.{get}
 use Rattle.serde_json.proofs.Numbers.{number_of-decimal, number_of-negative}
@@ -36,11 +36,11 @@ use Rattle.manifest.specs.Operation.{operation_named}
 use Rattle.manifest.specs.Reading.{◌>>=◌, member, text, integer, natural, signed, flag, name, name_from, cpu, cpu_from, memory, memory_from, request}
 use Rattle.manifest.specs.Line.{version_in, node_in, gone_in, pod_in, bound_in, deleted_in, fields_of, command_in, meaning}
 use Rattle.manifest.proofs.Parsed.{parsed_read}
-use Rattle.objects.specs.inside.Line.{cpu_text, memory_text, label_json, taint_json, toleration_json, request_json, items_json, line_json}
+use Rattle.objects.specs.inside.Line.{cpu_text, memory_text, label_json, taint_json, toleration_json, items_json, line_json}
 use Rattle.objects.specs.Sayable.{IsVersion, IsNodeRow, IsPodRow, IsSayable}
 use Rattle.objects.proofs.Spelled.{cpu_back, memory_back}
 use Rattle.objects.proofs.Lengths.{line_short}
-use Rattle.objects.proofs.Rows.{label_data, taint_data, toleration_data, request_data, items_data, of_labels, of_taints, of_tolerations, of_requests, labels_back, taints_back, tolerations_back, request_back}
+use Rattle.objects.proofs.Rows.{label_data, taint_data, toleration_data, request_data, items_data, of_labels, of_taints, of_tolerations, labels_back, taints_back, tolerations_back, request_back}
 
 -- the value of what was read, where nothing is left
 abbrev whole : Option (Json × List Token) → Option Data

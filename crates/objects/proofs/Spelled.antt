@@ -1,5 +1,5 @@
 -- What a line spells of an amount is read back as that amount.
-use Rattle.std.proofs.Common.{◌≡◌, ℕ, ◌+◌, ◌-◌, ◌*◌, ◌^◌, ◌/◌, ◌%◌, ◌<◌, ◌≤◌, true, cond, ◌&&◌, nat_le, List, [], ◌∷◌, ◌++◌, length, take, drop, Ok, decimal, codes, refl, sym, ap, ◌∙◌, arith, length-append, append-nil, le-leb}
+use Rattle.std.proofs.Common.{◌≡◌, ℕ, ◌+◌, ◌*◌, ◌^◌, ◌%◌, ◌<◌, ◌≤◌, true, cond, List, [], ◌∷◌, ◌++◌, length, take, drop, Ok, decimal, codes, refl, sym, ap, ◌∙◌, arith, append-nil, le-leb}
 use Rattle.std.proofs.lemmas.Bool.{and_parts, and_from}
 use Rattle.std.proofs.lemmas.Bool.Decides.{nat_tests}
 use Rattle.std.proofs.lemmas.Fmt.{decimal_by_steps, decimal_nonempty, length-decimal-le}
@@ -16,7 +16,7 @@ one_digit : (n : ℕ) → n < 10 → is_digit (48 + n) ≡ true
 one_digit n h = grind (arith, nat_tests)
 
 -- a number's digits are digits
-decimal_digits : (n : ℕ) → n < 2 ^ 64 → list_all is_digit (decimal n) ≡ true
+pub decimal_digits : (n : ℕ) → n < 2 ^ 64 → list_all is_digit (decimal n) ≡ true
 decimal_digits =
     decimal_by_steps (λ n ds. list_all is_digit ds ≡ true)
     (λ n h. and_from _ _ (one_digit n h) refl)

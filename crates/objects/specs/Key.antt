@@ -1,7 +1,7 @@
 -- How the Kubernetes API spells the names of its fields.
 use Rattle.std.specs.Prelude.{ℕ, List, codes}
 use Rattle.objects.specs.declared.key.Key.{Key}
-use Rattle.objects.specs.declared.key.Key.TheVariants.{Spec, Containers, InitContainers, RestartPolicy, Resources, Requests, Limits, Overhead, Status, Allocatable, Cpu, Memory, Pods}
+use Rattle.objects.specs.declared.key.Key.TheVariants.{Spec, Containers, InitContainers, RestartPolicy, Resources, Requests, Limits, Overhead, Status, Allocatable, Cpu, Memory, Pods, Metadata, Name, Namespace, Uid, Labels, DeletionTimestamp, Kind, EventType, Object, Unschedulable, Taints, LabelKey, LabelValue, Effect, Operator, Tolerations, Priority, NodeName, SchedulerName, Phase, NodeSelector, Affinity, NodeAffinity, PodAffinity, PodAntiAffinity, Required, Preferred, TopologySpread, WhenUnsatisfiable, SchedulingGates, ResourceClaims, Volumes, Ports, HostPort}
 
 -- the name of a field
 unfoldable pub key_of : Key → List ℕ
@@ -18,3 +18,37 @@ key_of Allocatable = codes "allocatable"
 key_of Cpu = codes "cpu"
 key_of Memory = codes "memory"
 key_of Pods = codes "pods"
+key_of Metadata = codes "metadata"
+key_of Name = codes "name"
+key_of Namespace = codes "namespace"
+key_of Uid = codes "uid"
+key_of Labels = codes "labels"
+key_of DeletionTimestamp = codes "deletionTimestamp"
+key_of Kind = codes "kind"
+key_of EventType = codes "type"
+key_of Object = codes "object"
+key_of Unschedulable = codes "unschedulable"
+key_of Taints = codes "taints"
+key_of LabelKey = codes "key"
+key_of LabelValue = codes "value"
+key_of Effect = codes "effect"
+key_of Operator = codes "operator"
+key_of Tolerations = codes "tolerations"
+key_of Priority = codes "priority"
+key_of NodeName = codes "nodeName"
+key_of SchedulerName = codes "schedulerName"
+key_of Phase = codes "phase"
+key_of NodeSelector = codes "nodeSelector"
+key_of Affinity = codes "affinity"
+key_of NodeAffinity = codes "nodeAffinity"
+key_of PodAffinity = codes "podAffinity"
+key_of PodAntiAffinity = codes "podAntiAffinity"
+key_of Required = codes "requiredDuringSchedulingIgnoredDuringExecution"
+key_of Preferred = codes "preferredDuringSchedulingIgnoredDuringExecution"
+key_of TopologySpread = codes "topologySpreadConstraints"
+key_of WhenUnsatisfiable = codes "whenUnsatisfiable"
+key_of SchedulingGates = codes "schedulingGates"
+key_of ResourceClaims = codes "resourceClaims"
+key_of Volumes = codes "volumes"
+key_of Ports = codes "ports"
+key_of HostPort = codes "hostPort"

@@ -8,4 +8,14 @@ pub mod Resource
 pub mod PodRequest
 pub mod Allocatable
 pub mod Sayable
+pub mod LeftOut
+pub mod Field
+pub mod Labels
+pub mod NodeRow
+pub mod Demands
+pub mod PodRow
+pub mod Counted
+pub mod Told
+pub mod Standing
+pub mod Translation
 pub mod inside

@@ -9,7 +9,7 @@ use Rattle.objects.specs.declared.key.Key.{Key}
 use Rattle.objects.specs.declared.key.Key.TheVariants as keys
 use Rattle.objects.specs.declared.fault.QuantityFault.{QuantityFault}
 use Rattle.objects.specs.declared.fault.ObjectFault.{ObjectFault}
-use Rattle.objects.specs.declared.fault.ObjectFault.TheVariants.{BadField, Quantity, TooMany, PodResources, TooLarge, NoMemory}
+use Rattle.objects.specs.declared.fault.ObjectFault.TheVariants.{BadField, BadName, Quantity, TooMany, PodResources, TooLarge, NoMemory}
 use Rattle.objects.specs.Key.{key_of}
 use Rattle.objects.specs.Quantity.{◌>>=◌, cpu_asked, memory_asked}
 
@@ -17,6 +17,7 @@ use Rattle.objects.specs.Quantity.{◌>>=◌, cpu_asked, memory_asked}
 abbrev pub Fails : {Y : Type 0} → ObjectFault → Result Y ObjectFault → Type 0
 Fails NoMemory meaning = Unit {0}
 Fails (BadField key) meaning = meaning ≡ Err (BadField key)
+Fails (BadName key) meaning = meaning ≡ Err (BadName key)
 Fails (Quantity key fault) meaning = meaning ≡ Err (Quantity key fault)
 Fails (TooMany key) meaning = meaning ≡ Err (TooMany key)
 Fails PodResources meaning = meaning ≡ Err PodResources

@@ -75,8 +75,8 @@ fn one_container(item: &Value) -> Result<Container, ObjectFault>
 
 // Whether a container says that it goes on running.
 #[tactic(auto, unfolding(crate::specs::Container::goes_on))]
-fn goes_on(item: &Value) -> Result<bool, ObjectFault>
-    ensures { Answers result (goes_on (view item.now)) }
+pub(crate) fn goes_on(item: &Value) -> Result<bool, ObjectFault>
+    ensures { result ≡ goes_on (view item.now) }
 {
     match field(item, Key::RestartPolicy) {
         Some(value) => {

@@ -1,5 +1,9 @@
 //! Why an amount is refused, and why an object doesn't tell amounts.
+ghost use Rattle.std.specs.Prelude.{◌≡◌};
+ghost use Rattle.objects.specs.declared.fault.ObjectFault.TheVariants as faults;
+
 use crate::key::Key;
+use std::alloc::AllocError;
 use thiserror::Error;
 
 /// Why a text of the API gives no amount.
@@ -19,12 +23,15 @@ pub enum QuantityFault {
     TooLarge,
 }
 
-/// Why an object doesn't tell what a node has or a pod asks for. Of several faults the first is told.
+/// Why an object doesn't tell what a script says of a node or a pod. Of several faults the first is told.
 #[derive(Clone, Copy, Debug, PartialEq, Eq, Error)]
 pub enum ObjectFault {
     /// The field has another type than the API gives it, or is missing where it has to be there.
     #[error("a field of another type")]
     BadField(Key),
+    /// The field's text is no name or text of a script.
+    #[error("not a name or text of a script")]
+    BadName(Key),
     /// The field's amount is refused.
     #[error("an amount that is refused")]
     Quantity(Key, QuantityFault),
@@ -40,4 +47,12 @@ pub enum ObjectFault {
     /// No memory was left.
     #[error("no memory")]
     NoMemory,
+}
+
+impl From<AllocError> for ObjectFault {
+    ghost from_gives = { λ _ fault. fault ≡ faults.NoMemory };
+
+    fn from(_refused: AllocError) -> Self {
+        ObjectFault::NoMemory
+    }
 }

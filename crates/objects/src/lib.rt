@@ -9,30 +9,53 @@
 //! the moment at which they need most, and `specs/PodRequest.antt` says which that is. `node` tells
 //! what a node has. Both read a field by `reading`, and know its name by `key`.
 //!
+//! `translation` gives the line of a script for a line of the API. Which event an object tells is found
+//! by `told` and defined in `specs/Told.antt`: `node_row` reads a node's row and `pod_row` a waiting pod's,
+//! with their `labels`, `taints` and `tolerations`; `demands` finds what keeps a pod from being told;
+//! `counted` says what a pod takes that stands on a node; and `gone` tells that an object is gone. What a
+//! field says is read by `field`, and what isn't told is named by `left_out`.
+//!
 //! `line` writes the line of a script that tells an event, and `line_field` its fields. Which events a
 //! line can say is defined in `specs/Sayable.antt`.
 #![tactic(auto)]
 
+mod change;
 mod container;
+mod counted;
+mod demands;
 mod digits;
 mod fault;
+mod field;
+mod gone;
 mod key;
+mod labels;
+mod laws;
+mod left_out;
 mod line;
 mod line_field;
 mod node;
+mod node_row;
 mod pod;
+mod pod_row;
 mod quantity;
 mod reading;
 mod request;
 mod resource;
 mod rounding;
 mod suffix;
+mod taints;
 #[cfg(test)]
 mod tests;
+mod told;
+mod tolerations;
+mod translation;
 
+pub use change::Change;
 pub use fault::{ObjectFault, QuantityFault};
 pub use key::Key;
+pub use laws::bound_pods_are_counted;
 pub use line::write_line;
 pub use node::allocatable;
 pub use pod::pod_request;
 pub use quantity::{cpu_asked, cpu_offered, memory_asked, memory_offered, pods_offered};
+pub use translation::{MAX_OBJECT, Translation, translate};

@@ -1,11 +1,12 @@
 //! The line of a script that tells an event.
-ghost use Rattle.std.specs.Prelude.{◌≡◌, IfOk, Ok};
+ghost use Rattle.std.specs.Prelude.{◌≡◌, IfOk, Ok, true};
 ghost use Rattle.json.specs.Tree.{json_tokens};
 ghost use Rattle.manifest.specs.Line.{meaning};
 ghost use Rattle.manifest.specs.declared.command.Command.TheVariants as commands;
 ghost use Rattle.quant.specs.declared.event.Event.TheVariants.{NodeSet, NodeGone, PodPending, PodBound, PodGone};
 ghost use Rattle.objects.specs.inside.Line.{line_json};
 ghost use Rattle.objects.specs.Sayable.{IsSayable};
+ghost use Rattle.objects.specs.Translation.{is_one_line};
 ghost use Rattle.objects.specs.inside.Added.{Adds};
 
 use crate::line_field::{
@@ -22,7 +23,8 @@ const ROOM: usize = 512;
 // The line that tells an event, without its newline.
 pub fn write_line(alloc: Global, event: &Event) -> Result<Vec<u8>, AllocError>
     requires { IsSayable event.now }
-    ensures { IfOk result (λ line. meaning line.items ≡ Ok (commands.Event event.now)) }
+    ensures meaning { IfOk result (λ line. meaning line.items ≡ Ok (commands.Event event.now)) }
+    ensures one_line { IfOk result (λ line. is_one_line line.items ≡ true) }
 {
     let mut writer = Writer::new(Vec::with_capacity(alloc, ROOM)?);
     write_event(alloc, &mut writer, event)?;

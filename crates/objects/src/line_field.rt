@@ -30,7 +30,8 @@ pub(crate) fn put_number(writer: &mut Writer, name: &str, n: u64) -> Result<(), 
 
 // A pod's priority.
 pub(crate) fn put_priority(writer: &mut Writer, pod: &Pod) -> Result<(), AllocError>
-    ensures { Adds result writer.old writer.new (key (codes "priority") ∷ number (signed_decimal pod.now.priority) ∷ []) }
+    ensures { Adds result writer.old writer.new
+        (key (codes "priority") ∷ number (signed_decimal pod.now.priority) ∷ []) }
 {
     writer.key("priority")?;
     writer.i64(i64::from(pod.priority))?;

@@ -1,7 +1,7 @@
 //! From a JSON value to what one field of an object says.
 ghost use Rattle.std.specs.Prelude.{◌≡◌, ◌≤◌, ◌^◌, IfOk, option_map};
 ghost use Rattle.serde_json.specs.View.{view};
-ghost use Rattle.objects.specs.Reading.{field, within, asked, overhead, cpu_from, cpu_if, memory_from, memory_if, Answers};
+ghost use Rattle.objects.specs.Reading.{field, within, asked, overhead, cpu_from, cpu_if, memory_from, memory_if};
 
 use crate::fault::ObjectFault;
 use crate::key::Key;
@@ -49,7 +49,7 @@ pub(crate) fn within(object: &Value, outer: Key, inner: Key) -> Option<&Value>
 
 // The thousandths of a core that a value spells, and none where there is no value.
 pub(crate) fn cpu_if(value: Option<&Value>) -> Result<Cpu, ObjectFault>
-    ensures value { Answers result (cpu_if (option_map (λ v. view v.now) value.entry)) }
+    ensures value { result ≡ cpu_if (option_map (λ v. view v.now) value.entry) }
     ensures bounded { IfOk result (λ cpu. cpu.0 ≤ 2 ^ 30) }
 {
     match value {
@@ -61,7 +61,7 @@ pub(crate) fn cpu_if(value: Option<&Value>) -> Result<Cpu, ObjectFault>
 // The thousandths of a core that a value spells.
 #[tactic(auto, unfolding(crate::specs::Reading::cpu_from))]
 fn cpu_from(value: &Value) -> Result<Cpu, ObjectFault>
-    ensures value { Answers result (cpu_from (view value.now)) }
+    ensures value { result ≡ cpu_from (view value.now) }
     ensures bounded { IfOk result (λ cpu. cpu.0 ≤ 2 ^ 30) }
 {
     let text = value.as_str().ok_or(ObjectFault::BadField(Key::Cpu))?;
@@ -70,7 +70,7 @@ fn cpu_from(value: &Value) -> Result<Cpu, ObjectFault>
 
 // The bytes of memory that a value spells, and none where there is no value.
 pub(crate) fn memory_if(value: Option<&Value>) -> Result<Bytes, ObjectFault>
-    ensures value { Answers result (memory_if (option_map (λ v. view v.now) value.entry)) }
+    ensures value { result ≡ memory_if (option_map (λ v. view v.now) value.entry) }
     ensures bounded { IfOk result (λ memory. memory.0 ≤ 2 ^ 44) }
 {
     match value {
@@ -82,7 +82,7 @@ pub(crate) fn memory_if(value: Option<&Value>) -> Result<Bytes, ObjectFault>
 // The bytes of memory that a value spells.
 #[tactic(auto, unfolding(crate::specs::Reading::memory_from))]
 fn memory_from(value: &Value) -> Result<Bytes, ObjectFault>
-    ensures value { Answers result (memory_from (view value.now)) }
+    ensures value { result ≡ memory_from (view value.now) }
     ensures bounded { IfOk result (λ memory. memory.0 ≤ 2 ^ 44) }
 {
     let text = value.as_str().ok_or(ObjectFault::BadField(Key::Memory))?;

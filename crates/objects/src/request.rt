@@ -26,7 +26,7 @@ pub(crate) fn request_of_all(
 
 // How much of a resource a pod needs at the moment when it needs most.
 #[tactic(auto, unfolding(crate::specs::PodRequest::effective))]
-fn effective(
+pub(crate) fn effective(
     containers: &[Container],
     init: &[Container],
     overhead: &Request,

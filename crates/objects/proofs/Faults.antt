@@ -1,0 +1,65 @@
+-- What is told of an object in place of a row.
+use Rattle.std.proofs.Common.{◌≡◌, ℕ, Bool, true, List, [], ◌∷◌, Option, Result, Ok, Err, refl, sym}
+use Rattle.serde_json.specs.Data.{Data}
+use Rattle.quant.specs.declared.version.Version.{Version}
+use Rattle.quant.specs.declared.event.Event.{Event}
+use Rattle.objects.specs.declared.change.Change.{Change}
+use Rattle.objects.specs.declared.change.Change.TheVariants.{Gone}
+use Rattle.objects.specs.declared.gone.Kind.TheVariants as kinds
+use Rattle.objects.specs.declared.fault.ObjectFault.{ObjectFault}
+use Rattle.objects.specs.declared.fault.ObjectFault.TheVariants.{BadField, BadName, Quantity, TooMany, PodResources, TooLarge, NoMemory}
+use Rattle.objects.specs.Reading.{Fails, Gives}
+use Rattle.objects.specs.LeftOut.{refused}
+use Rattle.objects.specs.NodeRow.{node_row}
+use Rattle.objects.specs.PodRow.{pod_row}
+use Rattle.objects.specs.Told.{Told, gone_if, node_of, node_told, waiting_row, kept_back, waiting_told, has_ended, pod_told}
+use Rattle.objects.specs.inside.Gone.{gone, name_of, as_told}
+use Rattle.objects.proofs.Changes.{still_there}
+
+-- a fault is want of memory, which nothing tells, or the one that the definition tells
+by_fault : {Y : Type 0} (fault : ObjectFault) (meaning : Result Y ObjectFault) (out : List ℕ) (result : Result (Option Event) ObjectFault) (told : Result Y ObjectFault → Told)
+    (instead : Told) → Fails fault meaning → (told (Err fault) ≡ instead)
+    → (¬ (fault ≡ NoMemory) → Gives (as_told out) result (Ok instead)) → (fault ≡ NoMemory → result ≡ Err NoMemory)
+    → Gives (as_told out) result (Ok (told meaning))
+by_fault NoMemory meaning out result told instead f e h m = rw (m refl) tt
+by_fault (BadField key) meaning out result told instead f e h m = rw (f, e) (h (λ x. cc))
+by_fault (BadName key) meaning out result told instead f e h m = rw (f, e) (h (λ x. cc))
+by_fault (Quantity key why) meaning out result told instead f e h m = rw (f, e) (h (λ x. cc))
+by_fault (TooMany key) meaning out result told instead f e h m = rw (f, e) (h (λ x. cc))
+by_fault PodResources meaning out result told instead f e h m = rw (f, e) (h (λ x. cc))
+by_fault TooLarge meaning out result told instead f e h m = rw (f, e) (h (λ x. cc))
+
+pub node_fault : (became : Change) (version : Version) (by_uid : Bool) (json : Data) (fault : ObjectFault) (out : List ℕ) (result : Result (Option Event) ObjectFault)
+    → ¬ (became ≡ Gone) → Fails fault (node_row json)
+    → (¬ (fault ≡ NoMemory) → Gives (as_told out) result (Ok (gone_if became (gone kinds.Node version) (name_of kinds.Node by_uid json) (refused fault))))
+    → (fault ≡ NoMemory → result ≡ Err NoMemory)
+    → Gives (as_told out) result (Ok (node_told became version json))
+unfolding node_told
+node_fault became version by_uid json fault out result there f h m =
+    rw (still_there became _ (node_of became version json (node_row json)) there)
+    (by_fault fault (node_row json) out result (node_of became version json) (gone_if became (gone kinds.Node version) (name_of kinds.Node by_uid json) (refused fault)) f refl h m)
+
+pub pod_fault : (by_uid : Bool) (became : Change) (version : Version) (json : Data) (fault : ObjectFault) (out : List ℕ) (result : Result (Option Event) ObjectFault)
+    → Fails fault (pod_row by_uid json)
+    → (¬ (fault ≡ NoMemory) → Gives (as_told out) result (Ok (gone_if became (gone kinds.Pod version) (name_of kinds.Pod by_uid json) (refused fault))))
+    → (fault ≡ NoMemory → result ≡ Err NoMemory)
+    → Gives (as_told out) result (Ok (waiting_row by_uid became version json (pod_row by_uid json)))
+pod_fault by_uid became version json fault out result f h m =
+    by_fault fault (pod_row by_uid json) out result (waiting_row by_uid became version json)
+    (gone_if became (gone kinds.Pod version) (name_of kinds.Pod by_uid json) (refused fault)) f refl h m
+
+pub held_back : (scheduler : List ℕ) (by_uid : Bool) (became : Change) (version : Version) (spec pod : Data) (out : List ℕ) (result : Result (Option Event) ObjectFault)
+    → ¬ (out ≡ []) → out ≡ kept_back scheduler spec pod
+    → Gives (as_told out) result (Ok (gone_if became (gone kinds.Pod version) (name_of kinds.Pod by_uid pod) out))
+    → Gives (as_told out) result (Ok (waiting_told scheduler by_uid became version spec pod))
+unfolding waiting_told
+held_back scheduler by_uid became version spec pod [] result some e h = absurd (some refl)
+held_back scheduler by_uid became version spec pod (x ∷ more) result some e h = rw (sym e) h
+
+pub ended : (scheduler : List ℕ) (by_uid : Bool) (became : Change) (version : Version) (json : Data) (out : List ℕ) (result : Result (Option Event) ObjectFault)
+    → ¬ (became ≡ Gone) → has_ended json ≡ true → out ≡ []
+    → Gives (as_told out) result (Ok (gone_if became (gone kinds.Pod version) (name_of kinds.Pod by_uid json) out))
+    → Gives (as_told out) result (pod_told scheduler by_uid became version json)
+unfolding pod_told
+ended scheduler by_uid became version json [] result there over none h = rw (still_there became _ _ there, over) h
+ended scheduler by_uid became version json (x ∷ more) result there over none h = cc

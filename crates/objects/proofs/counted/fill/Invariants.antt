@@ -1,0 +1,10 @@
+use Rattle.std.proofs.Common.{◌≡◌, ◌≤◌, length, drop}
+use Rattle.serde_json.specs.View.{items_view}
+use Rattle.objects.specs.Counted.{counted_items}
+use Rattle.objects.proofs.counted.fill.Given as goal
+
+abbrev pub invariant-loop-item : goal.invariant-loop-item
+invariant-loop-item l = record {
+  few : length l.row.items ≤ l.item-index;
+  same : counted_items l.initial.row.items (items_view l.found) ≡ counted_items l.row.items (items_view (drop l.item-index l.found));
+}

@@ -1,0 +1,8 @@
+use Rattle.std.proofs.Common.{append_assoc}
+use Rattle.std.proofs.lemmas.Result.{IfOk-equal}
+use Rattle.objects.specs.Demands.{placement}
+use Rattle.objects.proofs.demands.put_placement.Goals as goal
+
+pub returns : goal.returns
+unfolding placement
+returns c = IfOk-equal c.put_list.result _ _ _ c.put_list.ensures (rw (c.in_ok-put_affinity-3.ensures, c.in_ok-put_affinity-2.ensures, c.in_ok-put_affinity.ensures, c.in_ok-put_given.ensures) (simp append_assoc))

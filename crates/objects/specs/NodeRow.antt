@@ -1,0 +1,89 @@
+-- The row that a node's object gives.
+use Rattle.std.specs.Prelude.{ℕ, Bool, ◌||◌, List, [], ◌∷◌, ◌++◌, nat_le, codes, bytes_eq, Option, Result, Ok, Err, if◌then◌else◌}
+use Rattle.std.specs.Option.{ok_or}
+use Rattle.serde_json.specs.Data.{Data, Items, no_items, item, Members, no_members, member}
+use Rattle.serde_json.specs.Find.{as_str}
+use Rattle.quant.specs.declared.limits.TheConstants.{MAX_TAINTS}
+use Rattle.quant.specs.declared.amount.Res.{Res}
+use Rattle.quant.specs.declared.objects.Label.{Label}
+use Rattle.quant.specs.declared.objects.Node.{Node}
+use Rattle.quant.specs.declared.taint.Taint.{Taint}
+use Rattle.manifest.specs.Rows.{effect_named}
+use Rattle.objects.specs.declared.key.Key.TheVariants as keys
+use Rattle.objects.specs.declared.fault.ObjectFault.{ObjectFault}
+use Rattle.objects.specs.declared.fault.ObjectFault.TheVariants.{BadField, BadName, TooMany}
+use Rattle.objects.specs.Quantity.{◌>>=◌}
+use Rattle.objects.specs.Reading.{field, within}
+use Rattle.objects.specs.Container.{count}
+use Rattle.objects.specs.Allocatable.{allocatable}
+use Rattle.objects.specs.Sayable.{says_taint}
+use Rattle.objects.specs.LeftOut.{left_out}
+use Rattle.objects.specs.Field.{text_at, text_or, name_at, flag_of, members_of, items_of, is_text_of}
+use Rattle.objects.specs.Labels.{Kept, labels_of}
+
+-- a node's row, and what it leaves out
+pub record NodeTold : Type 0 where
+  pub node : Node
+  pub left_out : List ℕ
+
+-- a taint beside those before it
+abbrev pub a_taint : List Taint → Taint → Result Taint ObjectFault
+a_taint before taint = if says_taint before taint then Ok taint else Err (BadName keys.Taints)
+
+unfoldable pub taint_of : List Taint → Data → Result Taint ObjectFault
+taint_of before json = do
+  key ← text_at keys.LabelKey json
+  value ← text_or keys.LabelValue [] json
+  named ← text_at keys.Effect json
+  effect ← ok_or (effect_named named) (BadField keys.Effect)
+  a_taint before (record { key = key; value = value; effect = effect })
+
+-- the taints of an array's items, behind others; the first fault is told
+abbrev pub taints_of : List Taint → Items → Result (List Taint) ObjectFault
+taints_of before no_items = Ok before
+taints_of before (item d rest) = do
+  taint ← taint_of before d
+  taints_of (before ++ taint ∷ []) rest
+
+-- a node that has more taints than a row has room for isn't told, since a pod could be put there that mustn't be
+unfoldable pub taints : Option Data → Result (List Taint) ObjectFault
+taints value = do
+  found ← items_of keys.Taints value
+  if nat_le (count found) MAX_TAINTS then taints_of [] found else Err (TooMany keys.Taints)
+
+-- whether a resource is one that a row tells
+abbrev pub is_told : (resource : List ℕ) → Bool
+is_told resource = bytes_eq resource (codes "cpu") || bytes_eq resource (codes "memory") || bytes_eq resource (codes "pods")
+
+-- the names of the other resources of which a node has some
+abbrev pub other_resource : (key : List ℕ) → Data → List ℕ
+other_resource key value = if is_told key || is_text_of (codes "0") (as_str value) then [] else left_out (codes "resource ") key
+
+abbrev pub other_resources : Members → List ℕ
+other_resources no_members = []
+other_resources (member key value rest) = other_resource key value ++ other_resources rest
+
+-- the row of these parts
+abbrev pub node_of : (name : List ℕ) → Res → List Taint → (unschedulable : Bool) → Kept Label → NodeTold
+node_of name room taints unschedulable labels = record {
+  node = record {
+    name = name;
+    allocatable = room;
+    labels = record { items = labels.items };
+    taints = record { items = taints };
+    unschedulable = unschedulable;
+  };
+  left_out = labels.left_out;
+}
+
+-- the row of a node's object
+unfoldable pub node_row : Data → Result NodeTold ObjectFault
+node_row json = do
+  meta ← ok_or (field keys.Metadata json) (BadField keys.Metadata)
+  name ← name_at keys.Name meta
+  room ← allocatable json
+  taints ← taints (within keys.Spec keys.Taints json)
+  unschedulable ← flag_of keys.Unschedulable (within keys.Spec keys.Unschedulable json)
+  labels ← members_of keys.Labels (field keys.Labels meta)
+  resources ← members_of keys.Allocatable (within keys.Status keys.Allocatable json)
+  Ok (node_of name room taints unschedulable (labels_of (record { items = []; left_out = other_resources resources }) labels))

@@ -1,0 +1,12 @@
+-- The members of an object that may be absent.
+use Rattle.std.specs.Prelude.{ℕ, List, Option, Some, None}
+use Rattle.serde_json.specs.Data.{Members, no_members}
+use Rattle.objects.specs.Labels.{Kept}
+
+abbrev pub members_or_none : Option Members → Members
+members_or_none None = no_members
+members_or_none (Some members) = members
+
+-- what a reader has put into a row and beside it
+abbrev pub kept : {A : Type 0} → (items : List A) → (left_out : List ℕ) → Kept A
+kept items left_out = record { items = items; left_out = left_out }

@@ -1,0 +1,113 @@
+//! The row that the object of a pod gives that waits for a place.
+ghost use Rattle.std.specs.Prelude.{◌≡◌, ◌+◌, ◌<◌, ◌++◌, [], length, codes, Some, None, OnSome, IfNone, IfOk, option_and_then, if◌then◌else◌};
+ghost use Rattle.quant.specs.Name.{is_name};
+ghost use Rattle.serde_json.specs.Find.{as_number, as_i64};
+ghost use Rattle.serde_json.specs.View.{view};
+ghost use Rattle.objects.specs.Reading.{Gives, Answers};
+ghost use Rattle.objects.specs.PodRow.{pod_name, a_priority, priority, pod_row};
+ghost use Rattle.objects.specs.Sayable.{IsPodRow};
+
+use crate::demands::put_wishes;
+use crate::fault::ObjectFault;
+use crate::field::{items_of, members_of, name_at, text_at, text_or};
+use crate::key::Key;
+use crate::labels::take_labels;
+use crate::pod::pod_request;
+use crate::reading::field;
+use crate::tolerations::take_tolerations;
+use arrayvec::ArrayVec;
+use quant::{MAX_NAME, Name, Pod};
+use serde_json::Value;
+use std::alloc::Global;
+
+// The row of a pod's object, and beside it the names of what it leaves out, unless a fault comes
+// first.
+#[tactic(auto, unfolding(crate::specs::PodRow::pod_row))]
+pub(crate) fn pod_row(
+    alloc: Global,
+    json: &Value,
+    by_uid: bool,
+    out: &mut Vec<u8>,
+) -> Result<Pod, ObjectFault>
+    requires { out.old.items ≡ [] }
+    ensures value { Gives (λ pod. record { pod = pod; left_out = out.new.items }) result
+        (pod_row by_uid (view json.now)) }
+    ensures sayable { IfOk result IsPodRow }
+{
+    let meta = field(json, Key::Metadata).ok_or(ObjectFault::BadField(Key::Metadata))?;
+    let spec = field(json, Key::Spec).ok_or(ObjectFault::BadField(Key::Spec))?;
+    let mut pod = Pod {
+        uid: pod_name(meta, by_uid)?,
+        priority: priority(spec)?,
+        request: pod_request(alloc, json)?,
+        labels: ArrayVec::new(),
+        tolerations: ArrayVec::new(),
+    };
+    let labels = members_of(field(meta, Key::Labels), Key::Labels)?;
+    let tolerations = items_of(field(spec, Key::Tolerations), Key::Tolerations)?;
+    put_wishes(out, spec)?;
+    take_labels(&mut pod.labels, out, labels)?;
+    take_tolerations(&mut pod.tolerations, out, tolerations)?;
+    Ok(pod)
+}
+
+// How a script calls a pod: by its namespace and name, where that is a name of a script and its uid
+// isn't asked for, and by its uid otherwise.
+#[tactic(auto, unfolding(crate::specs::PodRow::pod_name))]
+pub(crate) fn pod_name(meta: &Value, by_uid: bool) -> Result<Name, ObjectFault>
+    ensures { Answers result (pod_name by_uid (view meta.now)) }
+{
+    if by_uid {
+        return name_at(meta, Key::Uid);
+    }
+    let namespace = text_or(meta, Key::Namespace, "default")?;
+    let name = text_at(meta, Key::Name)?;
+    match full_name(namespace, name) {
+        Some(name) => Ok(name),
+        None => name_at(meta, Key::Uid),
+    }
+}
+
+// A namespace and a name with a slash between them, where that is a name of a script.
+fn full_name(namespace: &str, name: &str) -> Option<Name>
+    ensures { let text = namespace.now ++ codes "/" ++ name.now in
+        result ≡ (if is_name text then Some text else None) }
+{
+    let mut text = ArrayVec::new();
+    put_behind(&mut text, namespace)?;
+    put_behind(&mut text, "/")?;
+    put_behind(&mut text, name)?;
+    Name::new(text.as_slice()).ok()
+}
+
+// Puts a text behind another, where a name has room for both.
+fn put_behind(text: &mut ArrayVec<u8, MAX_NAME>, more: &str) -> Option<()>
+    ensures put { OnSome result (text.new.items ≡ text.old.items ++ more.now) }
+    ensures full { IfNone result (63 < length text.old.items + length more.now) }
+{
+    match text.try_extend_from_slice(more.as_bytes()) {
+        Ok(()) => Some(()),
+        Err(_) => None,
+    }
+}
+
+// Which pods come first, by a number of 32 bits, which is 0 where it is absent.
+#[tactic(auto, unfolding(crate::specs::PodRow::priority))]
+fn priority(spec: &Value) -> Result<i32, ObjectFault>
+    ensures { Answers result (priority (view spec.now)) }
+{
+    match field(spec, Key::Priority) {
+        Some(value) => priority_from(value),
+        None => Ok(0),
+    }
+}
+
+// A number of 32 bits.
+fn priority_from(value: &Value) -> Result<i32, ObjectFault>
+    ensures { Answers result (a_priority (option_and_then as_i64 (as_number (view value.now)))) }
+{
+    match value.as_i64() {
+        Some(n) if i64::from(i32::MIN) <= n && n <= i64::from(i32::MAX) => Ok(n as i32),
+        _ => Err(ObjectFault::BadField(Key::Priority)),
+    }
+}

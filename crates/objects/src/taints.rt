@@ -1,0 +1,99 @@
+//! The taints of a node.
+ghost use Rattle.std.specs.Prelude.{◌≡◌, ◌+◌, ◌≤◌, ◌&&◌, true, [], length, bytes_eq, IfOk, OnOk, option_map};
+ghost use Rattle.std.specs.List.{list_any};
+ghost use Rattle.arrayvec.specs.ArrayVec.{array_vec_len};
+ghost use Rattle.serde_json.specs.View.{view, items_view};
+ghost use Rattle.quant.specs.Effect.{same_effect};
+ghost use Rattle.manifest.specs.Rows.{effect_named};
+ghost use Rattle.objects.specs.Reading.{Gives, Answers};
+ghost use Rattle.objects.specs.NodeRow.{a_taint, taint_of, taints_of, taints};
+ghost use Rattle.objects.specs.Sayable.{each_beside, says_taint};
+
+use crate::fault::ObjectFault;
+use crate::field::{items_of, text_at, text_or};
+use crate::key::Key;
+use arrayvec::ArrayVec;
+use quant::{Effect, MAX_TAINTS, Name, Taint, Text};
+use serde_json::Value;
+
+// Fills an empty row with the taints of a field, which may be absent.
+#[tactic(auto, unfolding(crate::specs::NodeRow::taints), using(crate::proofs::Items::count_of_items_view))]
+pub(crate) fn fill_taints(
+    row: &mut ArrayVec<Taint, MAX_TAINTS>,
+    value: Option<&Value>,
+) -> Result<(), ObjectFault>
+    requires { row.old.items ≡ [] }
+    ensures value { Gives (λ _. row.new.items) result (taints (option_map (λ v. view v.now) value.entry)) }
+    ensures sayable { OnOk result (each_beside says_taint [] row.new.items ≡ true) }
+    ensures few { OnOk result (length row.new.items ≤ 8) }
+{
+    let found = items_of(value, Key::Taints)?;
+    if found.len() > MAX_TAINTS {
+        return Err(ObjectFault::TooMany(Key::Taints));
+    }
+    take_taints(row, found)
+}
+
+// Puts the taints of an array behind those of a row, each read beside those before it.
+#[tactic(auto, using(crate::proofs::Beside::taint_beside))]
+fn take_taints(row: &mut ArrayVec<Taint, MAX_TAINTS>, found: &[Value]) -> Result<(), ObjectFault>
+    requires { array_vec_len row.old + length found.now ≤ 8 }
+    ensures value { Gives (λ _. row.new.items) result (taints_of row.old.items (items_view found.now)) }
+    ensures sayable { each_beside says_taint [] row.old.items ≡ true
+        → OnOk result (each_beside says_taint [] row.new.items ≡ true) }
+    ensures few { OnOk result (length row.new.items ≤ 8) }
+{
+    for item in found {
+        let taint = taint_of(row.as_slice(), item)?;
+        row.push(taint);
+    }
+    Ok(())
+}
+
+// A taint beside those before it.
+#[tactic(auto, unfolding(crate::specs::NodeRow::taint_of))]
+fn taint_of(before: &[Taint], item: &Value) -> Result<Taint, ObjectFault>
+    ensures value { Answers result (taint_of before.now (view item.now)) }
+    ensures sayable { IfOk result (λ taint. says_taint before.now taint ≡ true) }
+{
+    let key = text_at(item, Key::LabelKey)?;
+    let value = text_or(item, Key::LabelValue, "")?;
+    let named = text_at(item, Key::Effect)?;
+    let effect = effect_named(named).ok_or(ObjectFault::BadField(Key::Effect))?;
+    a_taint(before, key, value, effect)
+}
+
+// The taint of these parts beside those before it.
+#[tactic(auto, unfolding(crate::specs::Sayable::says_taint))]
+fn a_taint(before: &[Taint], key: &str, value: &str, effect: Effect) -> Result<Taint, ObjectFault>
+    ensures value { result ≡ a_taint before.now (record { key = key.now; value = value.now; effect = effect }) }
+    ensures sayable { IfOk result (λ taint. says_taint before.now taint ≡ true) }
+{
+    let key = Name::new(key.as_bytes()).map_err(|_| ObjectFault::BadName(Key::Taints))?;
+    let value = Text::new(value.as_bytes()).map_err(|_| ObjectFault::BadName(Key::Taints))?;
+    if has_taint(before, &key, effect) {
+        return Err(ObjectFault::BadName(Key::Taints));
+    }
+    Ok(Taint { key, value, effect })
+}
+
+// Whether one of the taints has both this key and this effect.
+fn has_taint(taints: &[Taint], key: &Name, effect: Effect) -> bool
+    ensures { result ≡ list_any
+        (λ taint. bytes_eq taint.key key.now && same_effect taint.effect effect) taints.now }
+{
+    taints.iter().any(|taint| taint.key.as_bytes() == key.as_bytes() && taint.effect == effect)
+}
+
+// The effect of this name.
+#[tactic(auto, unfolding(manifest::specs::Rows::effect_named))]
+pub(crate) fn effect_named(name: &str) -> Option<Effect>
+    ensures { result ≡ effect_named name.now }
+{
+    match name {
+        "NoSchedule" => Some(Effect::NoSchedule),
+        "PreferNoSchedule" => Some(Effect::PreferNoSchedule),
+        "NoExecute" => Some(Effect::NoExecute),
+        _ => None,
+    }
+}

@@ -1,0 +1,139 @@
+//! The tolerations that a row has of a pod's.
+ghost use Rattle.std.specs.Prelude.{◌≡◌, ◌<◌, ◌≤◌, true, [], length, IfOk, OnOk, IfSome, OnSome};
+ghost use Rattle.serde_json.specs.View.{view, items_view};
+ghost use Rattle.manifest.specs.Rows.{operator_named, effect_or_none, lawful};
+ghost use Rattle.objects.specs.declared.key.Key.TheVariants as keys;
+ghost use Rattle.objects.specs.Field.{spelled};
+ghost use Rattle.objects.specs.PodRow.{fitting, toleration_of, with_toleration, tolerations_of};
+ghost use Rattle.objects.specs.Sayable.{each_beside, says_toleration};
+ghost use Rattle.objects.specs.inside.Members.{kept};
+
+use crate::field::spelled;
+use crate::key::Key;
+use crate::left_out::put_left_out;
+use crate::taints::effect_named;
+use arrayvec::ArrayVec;
+use quant::{Effect, MAX_TOLERATIONS, Operator, Text, Toleration};
+use serde_json::Value;
+use std::alloc::AllocError;
+
+// Takes the tolerations of an array's items behind others, and puts the names of those that are
+// left out.
+pub(crate) fn take_tolerations(
+    tolerations: &mut ArrayVec<Toleration, MAX_TOLERATIONS>,
+    out: &mut Vec<u8>,
+    found: &[Value],
+) -> Result<(), AllocError>
+    ensures value { IfOk result (λ _. tolerations_of (kept tolerations.old.items out.old.items) (items_view found.now)
+        ≡ kept tolerations.new.items out.new.items) }
+    ensures sayable { each_beside says_toleration [] tolerations.old.items ≡ true
+        → OnOk result (each_beside says_toleration [] tolerations.new.items ≡ true) }
+    ensures few { length tolerations.old.items ≤ 16 → OnOk result (length tolerations.new.items ≤ 16) }
+{
+    for item in found {
+        take_toleration(tolerations, out, item)?;
+    }
+    Ok(())
+}
+
+// Takes a toleration behind others, or puts the name of one that is left out.
+#[tactic(auto, using(crate::proofs::Beside::toleration_beside))]
+fn take_toleration(
+    tolerations: &mut ArrayVec<Toleration, MAX_TOLERATIONS>,
+    out: &mut Vec<u8>,
+    item: &Value,
+) -> Result<(), AllocError>
+    ensures value { IfOk result (λ _. with_toleration (kept tolerations.old.items out.old.items)
+        (spelled keys.LabelKey (view item.now)) (toleration_of tolerations.old.items (view item.now))
+        ≡ kept tolerations.new.items out.new.items) }
+    ensures sayable { each_beside says_toleration [] tolerations.old.items ≡ true
+        → OnOk result (each_beside says_toleration [] tolerations.new.items ≡ true) }
+    ensures few { length tolerations.old.items ≤ 16 → OnOk result (length tolerations.new.items ≤ 16) }
+{
+    match toleration_of(tolerations.as_slice(), item) {
+        Some(toleration) => {
+            tolerations.push(toleration);
+            Ok(())
+        }
+        None => put_left_out(
+            out,
+            "toleration of ",
+            spelled(item, Key::LabelKey).as_bytes(),
+        ),
+    }
+}
+
+// The toleration of an item, where a row can have it behind others.
+#[tactic(auto, unfolding(crate::specs::PodRow::toleration_of))]
+fn toleration_of(before: &[Toleration], item: &Value) -> Option<Toleration>
+    ensures value { result ≡ toleration_of before.now (view item.now) }
+    ensures sayable { IfSome result (λ toleration. says_toleration before.now toleration ≡ true) }
+    ensures room { OnSome result (length before.now < 16) }
+{
+    let operator = operator_named(spelled(item, Key::Operator))?;
+    let effect = effect_or_none(spelled(item, Key::Effect))?;
+    let key = spelled(item, Key::LabelKey);
+    let value = spelled(item, Key::LabelValue);
+    fitting(before, key, operator, value, effect)
+}
+
+// A toleration, where a row can have it behind others.
+#[tactic(auto, unfolding(crate::specs::Sayable::says_toleration))]
+fn fitting(
+    before: &[Toleration],
+    key: &str,
+    operator: Operator,
+    value: &str,
+    effect: Option<Effect>,
+) -> Option<Toleration>
+    ensures value { result ≡ fitting before.now
+        (record { key = key.now; operator = operator; value = value.now; effect = effect }) }
+    ensures sayable { IfSome result (λ toleration. says_toleration before.now toleration ≡ true) }
+    ensures room { OnSome result (length before.now < 16) }
+{
+    let key = Text::new(key.as_bytes()).ok()?;
+    let value = Text::new(value.as_bytes()).ok()?;
+    if before.len() < MAX_TOLERATIONS && is_lawful(operator, &key, &value) {
+        Some(Toleration {
+            key,
+            operator,
+            value,
+            effect,
+        })
+    } else {
+        None
+    }
+}
+
+// Whether there is a key, under `Equal`, or no value, under `Exists`.
+fn is_lawful(operator: Operator, key: &Text, value: &Text) -> bool
+    ensures { result ≡ lawful operator key.now value.now }
+{
+    match operator {
+        Operator::Equal => !key.as_bytes().is_empty(),
+        Operator::Exists => value.as_bytes().is_empty(),
+    }
+}
+
+// The operator of this name. No name is that of `Equal`.
+#[tactic(auto, unfolding(manifest::specs::Rows::operator_named))]
+fn operator_named(name: &str) -> Option<Operator>
+    ensures { result ≡ operator_named name.now }
+{
+    match name {
+        "" | "Equal" => Some(Operator::Equal),
+        "Exists" => Some(Operator::Exists),
+        _ => None,
+    }
+}
+
+// The effect of this name. No name is that of no effect, which stands for every one.
+#[tactic(auto, unfolding(manifest::specs::Rows::effect_or_none))]
+fn effect_or_none(name: &str) -> Option<Option<Effect>>
+    ensures { result ≡ effect_or_none name.now }
+{
+    if name.is_empty() {
+        return Some(None);
+    }
+    effect_named(name).map(Some)
+}
