@@ -5,6 +5,7 @@ use crate::key::Key;
 use crate::line::write_line;
 use crate::pod::pod_request;
 use crate::quantity::{cpu_asked, cpu_offered, memory_asked, memory_offered, pods_offered};
+use crate::translation::translate;
 use quant::{Event, Name, Version};
 use serde_json::Value;
 use std::alloc::Global;
@@ -222,4 +223,144 @@ fn an_event_is_written_as_its_line(rt: HostRuntime) {
     let want = br#"{"op":"deleted","v":7,"uid":"default/web-1"}"#;
     assert!(rt; line.is_some_and(|line| line.as_slice() == want.as_slice()));
     assert!(rt; gone_line(rt.alloc(), b"default/web 1").is_none());
+}
+
+// A line of the API, and the script's line with what is left out of it.
+const TRANSLATIONS: &[(&str, &str, &str, &str)] = &[
+    (
+        "a node",
+        r#"{"kind":"Node","metadata":{"name":"n1","labels":{"zone":"a","note":"two words"}},"spec":{"taints":[
+            {"key":"dedicated","value":"db","effect":"NoSchedule"}]},"status":{"allocatable":{"cpu":"3920m",
+            "memory":"15Gi","pods":"110","ephemeral-storage":"95Gi","hugepages-2Mi":"0"}}}"#,
+        r#"{"op":"node","v":7,"name":"n1","cpu":"3920m","mem":"16106127360","pods":110,"labels":[["zone","a"]],"taints":[["dedicated","db","NoSchedule"]],"unschedulable":false}"#,
+        r#""resource ephemeral-storage", "label note""#,
+    ),
+    (
+        "a node whose amount can't be read, as it was changed to",
+        r#"{"type":"MODIFIED","object":{"kind":"Node","metadata":{"name":"n1"},"status":{"allocatable":{"cpu":"much"}}}}"#,
+        r#"{"op":"gone","v":7,"name":"n1"}"#,
+        r#""no quantity: cpu""#,
+    ),
+    (
+        "a pod that waits, with a sidecar",
+        r#"{"kind":"Pod","metadata":{"namespace":"shop","name":"web-1","uid":"u1"},"spec":{"schedulerName":"wsched",
+            "priority":5,"containers":[{"resources":{"requests":{"cpu":"250m","memory":"64Mi"}}}],"initContainers":[
+            {"restartPolicy":"Always","resources":{"requests":{"cpu":"50m"}}}],"tolerations":[
+            {"key":"node.kubernetes.io/not-ready","operator":"Exists","effect":"NoExecute","tolerationSeconds":300}]},
+            "status":{"phase":"Pending"}}"#,
+        r#"{"op":"pod","v":7,"uid":"shop/web-1","priority":5,"containers":[["300m","67108864"]],"labels":[],"tolerations":[["node.kubernetes.io/not-ready","Exists","","NoExecute"]]}"#,
+        "",
+    ),
+    (
+        "a pod that another scheduler places",
+        r#"{"type":"ADDED","object":{"kind":"Pod","metadata":{"name":"a"},"spec":{"containers":[{}]}}}"#,
+        "",
+        r#""it is for the scheduler default-scheduler""#,
+    ),
+    (
+        "a pod that waits and asks for what no row tells, as it was changed to",
+        r#"{"type":"MODIFIED","object":{"kind":"Pod","metadata":{"name":"a"},"spec":{"schedulerName":"wsched",
+            "nodeSelector":{"disk":"ssd"},"containers":[{"resources":{"limits":{"example.com/gpu":"1"}}}]}}}"#,
+        r#"{"op":"deleted","v":7,"uid":"default/a"}"#,
+        r#""node selector", "resource example.com/gpu""#,
+    ),
+    (
+        "a pod on a node whose amount can't be read",
+        r#"{"type":"ADDED","object":{"kind":"Pod","metadata":{"namespace":"shop","name":"db-0"},"spec":{"nodeName":"n1",
+            "containers":[{"resources":{"requests":{"cpu":"1","memory":"lots"}}}]},"status":{"phase":"Running"}}}"#,
+        r#"{"op":"bound","v":7,"uid":"shop/db-0","node":"n1","cpu":"1000m","mem":"17592186044416"}"#,
+        r#""no quantity: memory""#,
+    ),
+    (
+        "a pod that waits and can do without what it wishes",
+        r#"{"kind":"Pod","metadata":{"name":"a"},"spec":{"schedulerName":"wsched","containers":[{}],"affinity":{
+            "nodeAffinity":{"preferredDuringSchedulingIgnoredDuringExecution":[{"weight":1}]},"podAntiAffinity":{
+            "preferredDuringSchedulingIgnoredDuringExecution":[]}},"topologySpreadConstraints":[
+            {"whenUnsatisfiable":"ScheduleAnyway"}],"tolerations":[{"key":"a","operator":"Gt","value":"5"},
+            {"key":"b","value":"c"},{"operator":"Equal"}]}}"#,
+        r#"{"op":"pod","v":7,"uid":"default/a","priority":0,"containers":[["0m","0"]],"labels":[],"tolerations":[["b","Equal","c",""]]}"#,
+        r#""preferred node affinity", "preferred topology spread", "toleration of a", "toleration of ""#,
+    ),
+    (
+        "a pod that waits and is tied to a node by more than its row can tell",
+        r#"{"kind":"Pod","metadata":{"name":"a"},"spec":{"schedulerName":"wsched","schedulingGates":[{"name":"b"}],
+            "topologySpreadConstraints":[{"whenUnsatisfiable":"DoNotSchedule"}],"resourceClaims":[],"volumes":[
+            {"name":"config","configMap":{}},{"name":"data","persistentVolumeClaim":{}}],"containers":[{"ports":[
+            {"containerPort":80},{"hostPort":8080}],"resources":{"requests":{"cpu":"1","a.com/b":"1"},"limits":{
+            "memory":"1","a.com/b":"1","a.com/c":"1"}}}]}}"#,
+        "",
+        r#""required topology spread", "scheduling gates", "volume data", "host port 8080", "resource a.com/b", "resource a.com/c""#,
+    ),
+    (
+        "a pod on a node that asks for resources as a whole, and whose name is too long",
+        r#"{"kind":"Pod","metadata":{"namespace":"a-namespace-of-thirty-letters-x","name":"a-name-of-more-than-thirty-letters","uid":"u-1"},
+            "spec":{"nodeName":"n1","overhead":{"cpu":"100m"},"resources":{"requests":{"cpu":"2"}},"containers":[
+            {"resources":{"requests":{"cpu":"500m","memory":"1Ki"}}}]}}"#,
+        r#"{"op":"bound","v":7,"uid":"u-1","node":"n1","cpu":"2100m","mem":"1024"}"#,
+        "",
+    ),
+    (
+        "a pod that has ended",
+        r#"{"type":"MODIFIED","object":{"kind":"Pod","metadata":{"name":"a"},"spec":{"nodeName":"n1"},"status":{"phase":"Failed"}}}"#,
+        r#"{"op":"deleted","v":7,"uid":"default/a"}"#,
+        "",
+    ),
+    (
+        "a pod that is gone",
+        r#"{"type":"DELETED","object":{"kind":"Pod","metadata":{"name":"a"}}}"#,
+        r#"{"op":"deleted","v":7,"uid":"default/a"}"#,
+        "",
+    ),
+    (
+        "a bookmark",
+        r#"{"type":"BOOKMARK","object":{"kind":"Pod","metadata":{"resourceVersion":"12746"}}}"#,
+        "",
+        "",
+    ),
+    (
+        "another type",
+        r#"{"type":"ERROR","object":{"kind":"Status","code":410}}"#,
+        "",
+        r#""an event of another type""#,
+    ),
+    (
+        "another kind",
+        r#"{"kind":"ConfigMap","metadata":{"name":"a"}}"#,
+        "",
+        r#""an object of the kind ConfigMap""#,
+    ),
+    ("no JSON", "{", "", r#""no JSON""#),
+];
+
+fn translations() -> &'static [(&'static str, &'static str, &'static str, &'static str)] {
+    TRANSLATIONS
+}
+
+// Whether a line of the API gives just this line and these names.
+fn is_translated(alloc: Global, line: &str, want: &str, left_out: &str) -> bool {
+    match translate(alloc, line.as_bytes(), "wsched", false, Version(7)) {
+        Ok(told) => {
+            told.line.as_slice() == want.as_bytes()
+                && told.left_out.as_slice() == left_out.as_bytes()
+        }
+        Err(_) => false,
+    }
+}
+
+// The first line that gives something else.
+fn first_other_translation(alloc: Global) -> Option<&'static str> {
+    for (name, line, want, left_out) in translations() {
+        if !is_translated(alloc, line, want, left_out) {
+            return Some(name);
+        }
+    }
+    None
+}
+
+#[test]
+fn objects_give_the_lines_of_a_script(rt: HostRuntime) {
+    assert_eq!(rt; first_other_translation(rt.alloc()), None);
+    let unnamed = br#"{"kind":"Pod","metadata":{},"spec":{"nodeName":"n1"}}"#;
+    let told = translate(rt.alloc(), unnamed, "wsched", false, Version(7));
+    assert!(rt; matches!(told, Err(ObjectFault::BadField(Key::Name))));
 }
