@@ -6,7 +6,7 @@ use Rattle.clap.specs.Words.{Row, Text, first_of, subcommand_name_of, subcommand
 use Rattle.clap.specs.declared.parser.matches.ArgMatches.{ArgMatches}
 use Rattle.clap.specs.declared.parser.matches.ArgMatches.TheViews.{out-ArgMatches}
 use Rattle.command.specs.declared.count.Count.TheVariants.{Workers, Cycles, Binders}
-use Rattle.command.specs.Words.{SpecSyntax, are_taken, check, command_line, explain, found, is_told, meaning, number_found, plan_found, run, specs_found, storm, storm_found}
+use Rattle.command.specs.Words.{SpecSyntax, are_taken, check, command_line, explain, found, is_told, meaning, number_found, plan_found, run, scheduler_found, specs_found, storm, storm_found, translate, translate_found}
 
 -- the number of workers and the plugins of a run
 pub plan_is : (rows : List Row) (workers : ℕ) (specs : List SpecSyntax) → number_found Workers rows ≡ Some workers
@@ -37,6 +37,12 @@ pub no_storm_specs : (rows : List Row) (cycles binders : ℕ) → number_found C
     → specs_found rows ≡ None → storm_found rows ≡ None
 no_storm_specs rows cycles binders first second none = rw (first, second, none) refl
 
+-- the scheduler and the flags of a translation
+pub translate_is : (rows : List Row) (scheduler : List ℕ) (by_uid answers : Bool) → scheduler ≡ scheduler_found rows
+    → by_uid ≡ is_told (first_of (codes "by-uid") rows) → answers ≡ is_told (first_of (codes "answers") rows)
+    → translate scheduler by_uid answers ≡ translate_found rows
+translate_is rows scheduler by_uid answers first second third = λ i. translate (first i) (second i) (third i)
+
 -- the texts that stand there, or none
 pub texts_or_none : (r : Option (Bor (List (Bor (List ℕ))))) (d : Bor (List (Bor (List ℕ)))) → d.now ≡ []
     → map (λ s. s.now) (unwrap_or r d).now ≡ unwrap_or (option_map (λ s. map (λ v. v.now) s.now) r) []
@@ -61,7 +67,7 @@ found_by (Some p) name rows first second =
     let rows_are : p.1 ≡ rows = ap (λ o. unwrap_or o rows) (sym second) in
     ap₂ (λ n r. found (Some (n, r))) name_is rows_are
 
--- a run, what explains one, a storm, and a command that is none of these
+-- a run, what explains one, a storm, a translation, and a command that is none of these
 pub run_by : (name : Text) (rows : List Row) (workers : ℕ) (specs : List SpecSyntax) → bytes_eq name (codes "run") ≡ true → plan_found rows ≡ Some (workers, specs)
     → found (Some (name, rows)) ≡ Some (run workers specs)
 run_by name rows workers specs is_run plan = rw (is_run, plan) refl
@@ -74,9 +80,13 @@ pub storm_by : (name : Text) (rows : List Row) → bytes_eq name (codes "run") �
     → found (Some (name, rows)) ≡ storm_found rows
 storm_by name rows no_run no_explain is_storm = rw (no_run, no_explain, is_storm) refl
 
+pub translate_by : (name : Text) (rows : List Row) → bytes_eq name (codes "run") ≡ false → bytes_eq name (codes "explain") ≡ false → bytes_eq name (codes "storm") ≡ false
+    → bytes_eq name (codes "translate") ≡ true → found (Some (name, rows)) ≡ Some (translate_found rows)
+translate_by name rows no_run no_explain no_storm is_translate = rw (no_run, no_explain, no_storm, is_translate) refl
+
 pub check_by : (name : Text) (rows : List Row) → bytes_eq name (codes "run") ≡ false → bytes_eq name (codes "explain") ≡ false → bytes_eq name (codes "storm") ≡ false
-    → found (Some (name, rows)) ≡ option_map check (first_of (codes "MODULE") rows)
-check_by name rows no_run no_explain no_storm = rw (no_run, no_explain, no_storm) refl
+    → bytes_eq name (codes "translate") ≡ false → found (Some (name, rows)) ≡ option_map check (first_of (codes "MODULE") rows)
+check_by name rows no_run no_explain no_storm no_translate = rw (no_run, no_explain, no_storm, no_translate) refl
 
 -- what words ask for that are taken, and that aren't
 pub meaning_taken : (words : List Text) → are_taken words ≡ true → meaning words ≡ found (subcommand_of command_line words)

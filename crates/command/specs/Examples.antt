@@ -1,8 +1,8 @@
 -- What words ask for at worked examples.
 use Rattle.std.specs.Prelude.{◌≡◌, ℕ, ◌^◌, true, false, List, [], ◌∷◌, map, codes, Some, None}
-use Rattle.command.specs.Words.{SpecSyntax, check, explain, meaning, run, storm}
+use Rattle.command.specs.Words.{SpecSyntax, check, explain, meaning, run, storm, translate}
 use Rattle.command.specs.declared.count.Count.TheVariants.{Workers, Cycles, Binders}
-use Rattle.command.specs.declared.misuse.Misuse.TheVariants.{Command, Number, Plugin, Together}
+use Rattle.command.specs.declared.misuse.Misuse.TheVariants.{Command, Number, Plugin, Scheduler, Unknown, Together}
 use Rattle.command.specs.declared.misuse.Part.TheVariants.{Spec, Name, Weight, Fuel}
 use Rattle.command.specs.Misuse.{misuse_of}
 
@@ -78,6 +78,22 @@ pub record WorkedExamples : Type 0 where
   pub an_option : meaning (codes "check" ∷ codes "-f" ∷ []) ≡ None
   pub no_module : meaning (codes "check" ∷ []) ≡ None
   pub two_modules : meaning (codes "check" ∷ codes "f" ∷ codes "g" ∷ []) ≡ None
+  -- a translation
+  pub a_translation : meaning (codes "translate" ∷ []) ≡ Some (translate (codes "default-scheduler") false false)
+  pub all_of_a_translation : meaning (codes "translate" ∷ codes "--answers" ∷ codes "--scheduler" ∷ codes "a b" ∷ codes "--by-uid" ∷ [])
+      ≡ Some (translate (codes "a b") true true)
+  pub scheduler_at_once : meaning (codes "translate" ∷ codes "--scheduler=-a=b" ∷ codes "--" ∷ []) ≡ Some (translate (codes "-a=b") false false)
+  pub empty_scheduler : meaning (codes "translate" ∷ codes "--scheduler" ∷ [] ∷ codes "--by-uid" ∷ []) ≡ Some (translate [] true false)
+  pub a_hyphen_as_a_scheduler : meaning (codes "translate" ∷ codes "--scheduler" ∷ codes "-" ∷ []) ≡ Some (translate (codes "-") false false)
+  pub no_scheduler : meaning (codes "translate" ∷ codes "--scheduler" ∷ []) ≡ None
+  pub an_option_as_a_scheduler : meaning (codes "translate" ∷ codes "--scheduler" ∷ codes "--by-uid" ∷ []) ≡ None
+  pub scheduler_twice : meaning (codes "translate" ∷ codes "--scheduler=a" ∷ codes "--scheduler=a" ∷ []) ≡ None
+  pub by_uid_twice : meaning (codes "translate" ∷ codes "--by-uid" ∷ codes "--by-uid" ∷ []) ≡ None
+  pub answers_with_a_value : meaning (codes "translate" ∷ codes "--answers=true" ∷ []) ≡ None
+  pub a_plugin_of_a_translation : meaning (codes "translate" ∷ codes "a:1:1:f" ∷ []) ≡ None
+  pub an_option_of_a_translation_behind_the_end : meaning (codes "translate" ∷ codes "--" ∷ codes "--by-uid" ∷ []) ≡ None
+  pub help_on_a_translation : meaning (codes "translate" ∷ codes "--help" ∷ []) ≡ None
+  pub answers_of_a_run : meaning (codes "run" ∷ codes "--answers" ∷ []) ≡ None
   -- no command, and requests for help
   pub nothing : meaning [] ≡ None
   pub help : meaning (codes "help" ∷ []) ≡ None
@@ -116,3 +132,9 @@ pub record WorkedExamples : Type 0 where
   pub of_a_weight_behind_the_end : misuse_of (codes "run" ∷ codes "--" ∷ codes "-a:0:1:f" ∷ []) ≡ Plugin Weight 3
   pub of_the_end_as_a_number : misuse_of (codes "run" ∷ codes "--workers" ∷ codes "--" ∷ []) ≡ Number Workers 3
   pub of_one_name_twice_behind_the_end : misuse_of (codes "run" ∷ codes "--" ∷ codes "a:1:1:f" ∷ codes "a:2:2:g" ∷ []) ≡ Together
+  pub of_a_scheduler : misuse_of (codes "translate" ∷ codes "--by-uid" ∷ codes "--scheduler" ∷ []) ≡ Scheduler 3
+  pub of_an_option_as_a_scheduler : misuse_of (codes "translate" ∷ codes "--scheduler" ∷ codes "--by-uid" ∷ []) ≡ Scheduler 3
+  pub of_a_scheduler_twice : misuse_of (codes "translate" ∷ codes "--scheduler=a" ∷ codes "--scheduler" ∷ codes "a" ∷ []) ≡ Together
+  pub of_answers_with_a_value : misuse_of (codes "translate" ∷ codes "--scheduler" ∷ codes "-" ∷ codes "--answers=true" ∷ []) ≡ Unknown 4
+  pub of_a_plugin_of_a_translation : misuse_of (codes "translate" ∷ codes "a:1:1:f" ∷ []) ≡ Unknown 2
+  pub of_an_option_of_a_translation_behind_the_end : misuse_of (codes "translate" ∷ codes "--" ∷ codes "--by-uid" ∷ []) ≡ Unknown 3

@@ -3,5 +3,6 @@ pub mod Count
 pub mod Words
 pub mod Within
 pub mod Examples
+pub mod TranslateMisuse
 pub mod Misuse
 pub mod inside

@@ -13,7 +13,9 @@ use Rattle.command.specs.declared.misuse.ReadAs.TheVariants.{Anything, Value, No
 use Rattle.command.specs.declared.count.Count.{Count}
 use Rattle.command.specs.declared.count.Count.TheVariants.{Workers, Cycles, Binders}
 use Rattle.command.specs.Count.{number_for, number_up_to}
+use Rattle.command.specs.declared.translate_misuse.NextWord.TheVariants as next_word
 use Rattle.command.specs.Words.{cut}
+use Rattle.command.specs.TranslateMisuse.{wrong_among}
 
 -- the first of a plugin's parts that is wrong
 abbrev pub part_of : (name weight fuel : List ℕ) → Option Part
@@ -104,5 +106,6 @@ misuse_of [] = Command
 misuse_of (command ∷ rest) =
     if bytes_eq command (codes "run") || bytes_eq command (codes "explain") then misuse_in false 2 Anything rest
     else if bytes_eq command (codes "storm") then misuse_in true 2 Anything rest
+    else if bytes_eq command (codes "translate") then wrong_among 2 next_word.Anything rest
     else if bytes_eq command (codes "check") then Together
     else Command

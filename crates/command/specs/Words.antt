@@ -1,5 +1,5 @@
 -- What the program's words ask for: `run [--workers N] [SPEC]...`, `explain` with the same words behind it, `storm [--cycles C] [--binders B] [--flaky] [SPEC]...`, where
--- a SPEC is `NAME:WEIGHT:FUEL:FILE`, or `check MODULE`.
+-- a SPEC is `NAME:WEIGHT:FUEL:FILE`, `check MODULE`, or `translate [--scheduler NAME] [--by-uid] [--answers]`.
 use Rattle.std.specs.Prelude.{ℕ, ◌+◌, ◌==◌, ◌&&◌, nat_le, not, Bool, true, false, List, [], ◌∷◌, take, drop, length, map, codes, bytes_eq, Option, Some, None, option_map, option_and_then, unwrap_or, Result, Ok, Err, if◌then◌else◌}
 use Rattle.std.specs.List.{list_any, position}
 use Rattle.clap.specs.declared.builder.action.ArgAction.TheVariants.{Set, SetTrue, Append}
@@ -8,9 +8,10 @@ use Rattle.clap.specs.Words.{Row, Rule, Text, all_of, fault_of, first_of, new_ap
 use Rattle.quant.specs.Name.{is_name}
 use Rattle.quant.specs.declared.limits.TheConstants.{MAX_PLUGINS, MAX_WEIGHT, MAX_FUEL}
 use Rattle.command.specs.declared.asked.StormPlan.{StormPlan}
+use Rattle.command.specs.declared.asked.TranslatePlan.{TranslatePlan}
 use Rattle.command.specs.declared.asked.Spec.{Spec}
 use Rattle.command.specs.declared.asked.Words.{Words}
-use Rattle.command.specs.declared.asked.Words.TheVariants.{Run, Explain, Storm, Check}
+use Rattle.command.specs.declared.asked.Words.TheVariants.{Run, Explain, Storm, Check, Translate}
 use Rattle.command.specs.declared.count.Count.{Count}
 use Rattle.command.specs.declared.count.Count.TheVariants.{Workers, Cycles, Binders}
 use Rattle.command.specs.Count.{name_of, number_for, number_up_to}
@@ -24,12 +25,14 @@ pub record SpecSyntax : Type 0 where
   pub file : List ℕ
 
 -- what the program can be asked for: a run by so many workers with these plugins, or what explains one, a storm of so many threads that run cycles and so
--- many that bind pods, of which every third bind fails or not, or to check the module in the file of this name
+-- many that bind pods, of which every third bind fails or not, to check the module in the file of this name, or to translate objects for this
+-- scheduler, with pods called by their uid or not, and with answers that also say what is left out or not
 pub data Asked : Type 0 where
   run : (workers : ℕ) → (specs : List SpecSyntax) → Asked
   explain : (workers : ℕ) → (specs : List SpecSyntax) → Asked
   storm : (cycles binders : ℕ) → (is_flaky : Bool) → (specs : List SpecSyntax) → Asked
   check : (file : List ℕ) → Asked
+  translate : (scheduler : List ℕ) → (by_uid answers : Bool) → Asked
 
 -- the same, as the code has it
 abbrev pub syntax_of : Spec → SpecSyntax
@@ -38,11 +41,15 @@ syntax_of spec = record { name = spec.name; weight = spec.weight; fuel = spec.fu
 abbrev pub storm_planned : StormPlan → Asked
 storm_planned plan = storm plan.cycles plan.binders plan.is_flaky (map syntax_of plan.specs.items)
 
+abbrev pub translate_planned : TranslatePlan → Asked
+translate_planned plan = translate plan.scheduler.now plan.by_uid plan.answers
+
 abbrev pub asked_of : Words → Asked
 asked_of (Run plan) = run plan.workers (map syntax_of plan.specs.items)
 asked_of (Explain plan) = explain plan.workers (map syntax_of plan.specs.items)
 asked_of (Storm plan) = storm_planned plan
 asked_of (Check file) = check file.now
+asked_of (Translate plan) = translate_planned plan
 
 -- ---- a plugin, as a word spells it
 
@@ -109,6 +116,15 @@ storm_found rows =
     option_and_then (λ cycles. option_and_then (λ binders. option_map (storm cycles binders (is_told (first_of (codes "flaky") rows)))
     (specs_found rows)) (number_found Binders rows)) (number_found Cycles rows)
 
+-- the scheduler that is named, or the default one (Kubernetes, "Configure Multiple Schedulers")
+abbrev pub scheduler_found : List Row → List ℕ
+scheduler_found rows = unwrap_or (first_of (codes "scheduler") rows) (codes "default-scheduler")
+
+-- the translation that is asked for
+abbrev pub translate_found : List Row → Asked
+translate_found rows =
+    translate (scheduler_found rows) (is_told (first_of (codes "by-uid") rows)) (is_told (first_of (codes "answers") rows))
+
 -- what is asked for by the command that `clap` found, and what it found behind it
 abbrev pub found : Option (Text × List Row) → Option Asked
 found None = None
@@ -116,6 +132,7 @@ found (Some command) =
     if bytes_eq command.0 (codes "run") then option_map (λ plan. run plan.0 plan.1) (plan_found command.1)
     else if bytes_eq command.0 (codes "explain") then option_map (λ plan. explain plan.0 plan.1) (plan_found command.1)
     else if bytes_eq command.0 (codes "storm") then storm_found command.1
+    else if bytes_eq command.0 (codes "translate") then Some (translate_found command.1)
     else option_map check (first_of (codes "MODULE") command.1)
 
 -- ---- the words
@@ -125,8 +142,8 @@ abbrev pub option_rule : Text → Rule
 option_rule name = record (new_rule name) { long = Some name; action = Some Set }
 
 -- an option without a value, told once at most
-abbrev pub flaky_rule : Rule
-flaky_rule = record (new_rule (codes "flaky")) { long = Some (codes "flaky"); action = Some SetTrue }
+abbrev pub flag_rule : Text → Rule
+flag_rule name = record (new_rule name) { long = Some name; action = Some SetTrue }
 
 -- any number of plugins
 abbrev pub specs_rule : Rule
@@ -142,10 +159,14 @@ run_command name = with_rule (with_rule (new_app name) (option_rule (codes "work
 
 abbrev pub storm_command : App
 storm_command =
-    with_rule (with_rule (with_rule (with_rule (new_app (codes "storm")) (option_rule (codes "cycles"))) (option_rule (codes "binders"))) flaky_rule) specs_rule
+    with_rule (with_rule (with_rule (with_rule (new_app (codes "storm")) (option_rule (codes "cycles"))) (option_rule (codes "binders"))) (flag_rule (codes "flaky"))) specs_rule
 
 abbrev pub check_command : App
 check_command = with_rule (new_app (codes "check")) file_rule
+
+abbrev pub translate_command : App
+translate_command =
+    with_rule (with_rule (with_rule (new_app (codes "translate")) (option_rule (codes "scheduler"))) (flag_rule (codes "by-uid"))) (flag_rule (codes "answers"))
 
 -- the program, of which a command is wanted and which answers no request for help
 abbrev pub program : App
@@ -159,8 +180,8 @@ program = on_top (λ s. record s {
 -- the command line as `clap` sees it
 abbrev pub command_line : App
 command_line =
-    with_subcommand (with_subcommand (with_subcommand (with_subcommand program (run_command (codes "run")).top) (run_command (codes "explain")).top) storm_command.top)
-    check_command.top
+    with_subcommand (with_subcommand (with_subcommand (with_subcommand (with_subcommand program (run_command (codes "run")).top)
+    (run_command (codes "explain")).top) storm_command.top) check_command.top) translate_command.top
 
 -- `clap` takes the words for the command line
 abbrev pub are_taken : List (List ℕ) → Bool

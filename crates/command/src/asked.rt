@@ -37,6 +37,17 @@ pub struct StormPlan<'a> {
     pub specs: Vec<Spec<'a>>,
 }
 
+/// A translation, as the words ask for it.
+#[derive(Debug, PartialEq, Eq, Drop)]
+pub struct TranslatePlan<'a> {
+    /// The name of the scheduler whose pods are told.
+    pub scheduler: &'a str,
+    /// Whether pods are called by their uid.
+    pub by_uid: bool,
+    /// Whether each answer is an object that also says what is left out.
+    pub answers: bool,
+}
+
 /// What the program is asked to do.
 #[derive(Debug, PartialEq, Eq, Drop)]
 pub enum Words<'a> {
@@ -48,4 +59,6 @@ pub enum Words<'a> {
     Storm(StormPlan<'a>),
     /// To say whether the module in the file of this name is accepted.
     Check(&'a str),
+    /// To read objects of the Kubernetes API from standard input, and to write the lines of a script that they give.
+    Translate(TranslatePlan<'a>),
 }

@@ -2,11 +2,11 @@
 ghost use Rattle.std.specs.Prelude.{◌≡◌, ◌≤◌, Some, None, Err, true, false, map, option_map, IfErr, IfOk};
 ghost use Rattle.clap.specs.Words.{app_of, found_of, rows_of, rule_of, subcommand_of, subcommand_rows_of, with_rule, with_subcommand};
 ghost use Rattle.command.specs.Count.{most_of};
-ghost use Rattle.command.specs.Words.{are_taken, asked_of, check_command, command_line, file_rule, flaky_rule, found, is_told, meaning, number_found, option_rule, plan_found, program, run_command, specs_found, specs_rule, storm_command, storm_found, storm_planned, syntax_of};
+ghost use Rattle.command.specs.Words.{are_taken, asked_of, check_command, command_line, file_rule, flag_rule, found, is_told, meaning, number_found, option_rule, plan_found, program, run_command, scheduler_found, specs_found, specs_rule, storm_command, storm_found, storm_planned, syntax_of, translate_command, translate_found, translate_planned};
 ghost use Rattle.command.specs.inside.Words.{IsLocal, planned};
 ghost use Rattle.command.specs.Within.{AreWithinLimits, IsPlan, IsStormPlan, IsWithin};
 
-use crate::asked::{Plan, Spec, StormPlan, Words};
+use crate::asked::{Plan, Spec, StormPlan, TranslatePlan, Words};
 use crate::count::{Count, number_for};
 use crate::fault::WordFault;
 use crate::plugin_words::specs_of;
@@ -25,14 +25,12 @@ fn option<'a>(alloc: Global, name: &'a str) -> Arg<'a>
     Arg::new(alloc, name).long(name).action(ArgAction::Set)
 }
 
-// The flag that makes binds of a storm fail.
-fn flaky<'a>(alloc: Global) -> Arg<'a>
-    ensures rule { rule_of result ≡ flaky_rule }
+// An option with no value.
+fn flag<'a>(alloc: Global, name: &'a str) -> Arg<'a>
+    ensures rule { rule_of result ≡ flag_rule name.entry.now }
     ensures local { result.global ≡ false }
 {
-    Arg::new(alloc, "flaky")
-        .long("flaky")
-        .action(ArgAction::SetTrue)
+    Arg::new(alloc, name).long(name).action(ArgAction::SetTrue)
 }
 
 // Any number of plugins.
@@ -86,7 +84,7 @@ fn storm_command<'a>(alloc: Global) -> Result<Command<'a>, AllocError>
     let storm = Command::new(alloc, "storm");
     let storm = with_argument(storm, option(alloc, "cycles"))?;
     let storm = with_argument(storm, option(alloc, "binders"))?;
-    let storm = with_argument(storm, flaky(alloc))?;
+    let storm = with_argument(storm, flag(alloc, "flaky"))?;
     with_argument(storm, plugins(alloc))
 }
 
@@ -96,6 +94,17 @@ fn check_command<'a>(alloc: Global) -> Result<Command<'a>, AllocError>
     ensures local { IfOk result IsLocal }
 {
     with_argument(Command::new(alloc, "check"), module(alloc))
+}
+
+// The command `translate`.
+fn translate_command<'a>(alloc: Global) -> Result<Command<'a>, AllocError>
+    ensures shape { IfOk result (λ command. app_of command ≡ translate_command) }
+    ensures local { IfOk result IsLocal }
+{
+    let translate = Command::new(alloc, "translate");
+    let translate = with_argument(translate, option(alloc, "scheduler"))?;
+    let translate = with_argument(translate, flag(alloc, "by-uid"))?;
+    with_argument(translate, flag(alloc, "answers"))
 }
 
 // The program, of which one of its commands is wanted.
@@ -120,7 +129,9 @@ fn command_line<'a>(alloc: Global) -> Result<Command<'a>, AllocError>
     let storm = storm_command(alloc)?;
     let line = with_command(line, storm)?;
     let check = check_command(alloc)?;
-    with_command(line, check)
+    let line = with_command(line, check)?;
+    let translate = translate_command(alloc)?;
+    with_command(line, translate)
 }
 
 // The plugins that were found behind a command.
@@ -185,6 +196,27 @@ fn storm_of<'a>(alloc: Global, matches: &ArgMatches<'a>) -> Result<StormPlan<'a>
     })
 }
 
+// The scheduler whose pods a translation tells: the default one where none is named (Kubernetes, "Configure Multiple Schedulers").
+fn scheduler_behind<'a>(matches: &ArgMatches<'a>) -> &'a str
+    ensures { result.now ≡ scheduler_found (rows_of (found_of matches.now)) }
+{
+    match matches.get_str("scheduler") {
+        Some(name) => name,
+        None => "default-scheduler",
+    }
+}
+
+// The translation that was found behind a command.
+fn translate_of<'a>(matches: &ArgMatches<'a>) -> TranslatePlan<'a>
+    ensures { translate_planned result ≡ translate_found (rows_of (found_of matches.now)) }
+{
+    TranslatePlan {
+        scheduler: scheduler_behind(matches),
+        by_uid: is_told(matches.get_str("by-uid")),
+        answers: is_told(matches.get_str("answers")),
+    }
+}
+
 // The command that was found.
 fn words_of<'a>(alloc: Global, matches: &ArgMatches<'a>) -> Result<Words<'a>, WordFault>
     ensures ok { IfOk result (λ words. found (subcommand_rows_of matches.now) ≡ Some (asked_of words)) }
@@ -202,6 +234,9 @@ fn words_of<'a>(alloc: Global, matches: &ArgMatches<'a>) -> Result<Words<'a>, Wo
     }
     if name == "storm" {
         return Ok(Words::Storm(storm_of(alloc, behind)?));
+    }
+    if name == "translate" {
+        return Ok(Words::Translate(translate_of(behind)));
     }
     match behind.get_str("MODULE") {
         Some(file) => Ok(Words::Check(file)),
@@ -229,12 +264,12 @@ fn found_in<'a, S: AsStr>(alloc: Global, args: &'a [S]) -> Result<ArgMatches<'a>
 }
 
 /// Reads the words that follow the program's name: `run [--workers N] [SPEC]...`, `explain` with the same words behind it,
-/// `storm [--cycles C] [--binders B] [--flaky] [SPEC]...` or `check MODULE`.
+/// `storm [--cycles C] [--binders B] [--flaky] [SPEC]...`, `check MODULE` or `translate [--scheduler NAME] [--by-uid] [--answers]`.
 ///
 /// N is a whole number from 1 to 64, and 1 where it isn't told; C and B are from 1 to 8, and 2 where they aren't. A SPEC is `NAME:WEIGHT:FUEL:FILE`,
 /// cut at its first three colons: a name of its own, a weight from 1 to 10 and fuel from 1 to 10^9 in
-/// digits alone, and a file. There are at most 16. A `--` ends the options. No command, and a request
-/// for help or for the version, are bad words.
+/// digits alone, and a file. There are at most 16. A scheduler's NAME is any text, and `default-scheduler` where it isn't told. A
+/// `--` ends the options. No command, and a request for help or for the version, are bad words.
 ///
 /// Errors: `BadWords`, and `NoMemory`, which says nothing of the words.
 pub fn words<'a, S: AsStr>(alloc: Global, args: &'a [S]) -> Result<Words<'a>, WordFault>

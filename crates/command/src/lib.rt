@@ -1,9 +1,9 @@
-//! What the program's words ask for: a run or a storm with a site's plugins, or to check a module.
+//! What the program's words ask for: a run or a storm with a site's plugins, to check a module, or to translate objects.
 //!
 //! `arguments` has the words that follow the program's name, and `words` says what they ask for:
 //! `run [--workers N] [SPEC]...`, `explain` with the same words behind it, or `storm [--cycles C] [--binders B] [--flaky] [SPEC]...`, where a
-//! SPEC is `NAME:WEIGHT:FUEL:FILE`, or `check MODULE`. The words are read as `clap` reads them; `count`
-//! and `plugin_words` read what `clap` leaves as text.
+//! SPEC is `NAME:WEIGHT:FUEL:FILE`, or `check MODULE`, or `translate [--scheduler NAME] [--by-uid] [--answers]`. The words are
+//! read as `clap` reads them; `count` and `plugin_words` read what `clap` leaves as text.
 #![tactic(auto)]
 
 mod asked;
@@ -13,8 +13,9 @@ mod fault;
 mod laws;
 mod misuse;
 mod plugin_words;
+mod translate_misuse;
 
-pub use asked::{Plan, Spec, StormPlan, Words};
+pub use asked::{Plan, Spec, StormPlan, TranslatePlan, Words};
 pub use command_line::{arguments, words};
 pub use count::{Count, MAX_STORM_THREADS};
 pub use fault::WordFault;

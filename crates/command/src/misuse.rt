@@ -4,6 +4,7 @@ ghost use Rattle.command.specs.Misuse.{at_end, at_equals, count_named, is_hyphen
 
 use crate::count::{Count, number_for};
 use crate::plugin_words::{cut, digits_up_to};
+use crate::translate_misuse::misuse_among;
 use quant::{MAX_FUEL, MAX_WEIGHT, Name};
 use std::convert::AsStr;
 use thiserror::Error;
@@ -37,6 +38,12 @@ pub enum Misuse {
     /// This part of the word of this number isn't that of a plugin.
     #[error(" {0} of word {1}")]
     Plugin(Part, usize),
+    /// The word of this number is no scheduler's name, where one belongs, or it is the option for one and the last word.
+    #[error(" NAME of word {0}")]
+    Scheduler(usize),
+    /// The word of this number is no option, and nothing else belongs there.
+    #[error(" OPTION of word {0}")]
+    Unknown(usize),
     /// Each word may stand where it does, but not all: an option or a name comes twice, there are more than 16 plugins, or
     /// `check` has another number of words than one.
     #[error("")]
@@ -228,6 +235,9 @@ pub fn misuse_of<S: AsStr>(args: &[S]) -> Misuse
     }
     if command.as_str() == "storm" {
         return misuse_behind(true, args);
+    }
+    if command.as_str() == "translate" {
+        return misuse_among(args);
     }
     if command.as_str() == "check" {
         return Misuse::Together;

@@ -1,4 +1,4 @@
--- How a message grows by why a module is refused.
+-- How a message grows.
 use Rattle.std.proofs.Common.{◌≡◌, ℕ, List, ◌++◌, codes, sym, ap, ◌∙◌}
 use Rattle.std.proofs.lemmas.List.{append_assoc}
 use Rattle.wcode.specs.declared.fault.BinFault.{BinFault}
@@ -22,3 +22,8 @@ pub untyped_added : (old mid new : List ℕ) (refusal : Refusal) (fault : TypeFa
 unfolding refusal_text
 untyped_added old mid new refusal fault is a b =
     joined old mid new (codes "refused type ") (type_text fault) (refusal_text refusal) a b (ap refusal_text is)
+
+-- three pieces behind one another are one
+pub three_added : (old first second new a b c : List ℕ) → first ≡ old ++ a → second ≡ first ++ b → new ≡ second ++ c → new ≡ old ++ (a ++ b ++ c)
+three_added old first second new a b c p q r =
+    r ∙ (ap (λ m. m ++ c) (q ∙ (ap (λ m. m ++ b) p ∙ append_assoc old a b)) ∙ append_assoc old (a ++ b) c)

@@ -2,7 +2,7 @@
 use Rattle.std.specs.Prelude.{ℕ}
 use Rattle.engine.specs.declared.fault.RunFault.TheVariants.{Line, NoMemory, Read, Write, NoPlace}
 use Rattle.fault_line.specs.declared.fault.Fault.{Fault}
-use Rattle.fault_line.specs.declared.fault.Fault.TheVariants.{Words, Misused, Plugin, Unread, Run}
+use Rattle.fault_line.specs.declared.fault.Fault.TheVariants.{Words, Misused, Plugin, Unread, Run, Uncounted}
 use Rattle.command.specs.declared.fault.WordFault.TheVariants as words
 
 -- the exit status of the program, where a fault ends it
@@ -17,3 +17,4 @@ status_of (Run NoMemory) = 3
 status_of (Run Read) = 4
 status_of (Run Write) = 4
 status_of (Run NoPlace) = 3
+status_of (Uncounted number) = 1

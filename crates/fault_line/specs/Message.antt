@@ -20,7 +20,7 @@ use Rattle.command.specs.declared.misuse.Part.{Part}
 use Rattle.command.specs.declared.count.Count.{Count}
 use Rattle.command.specs.declared.count.Count.TheVariants as count
 use Rattle.command.specs.declared.misuse.Part.TheVariants as part
-use Rattle.fault_line.specs.declared.fault.Fault.TheVariants.{Words, Misused, Plugin, Unread, Run}
+use Rattle.fault_line.specs.declared.fault.Fault.TheVariants.{Words, Misused, Plugin, Unread, Run, Uncounted}
 
 -- the field in which a fault stands, where there is one
 abbrev pub field_text : Option Field → List ℕ
@@ -57,11 +57,13 @@ unfoldable pub misuse_text : Misuse → List ℕ
 misuse_text misuse.Command = codes " COMMAND"
 misuse_text (misuse.Number count number) = codes " " ++ count_letter count ++ codes " of word " ++ decimal number
 misuse_text (misuse.Plugin part number) = codes " " ++ part_name part ++ codes " of word " ++ decimal number
+misuse_text (misuse.Scheduler number) = codes " NAME of word " ++ decimal number
+misuse_text (misuse.Unknown number) = codes " OPTION of word " ++ decimal number
 misuse_text misuse.Together = []
 
 -- what the words may be
 abbrev pub usage : List ℕ
-usage = codes "; usage: wsched run [--workers N] [SPEC]... or wsched explain [--workers N] [SPEC]... or wsched storm [--cycles C] [--binders B] [--flaky] [SPEC]... or wsched check MODULE; a SPEC is NAME:WEIGHT:FUEL:FILE"
+usage = codes "; usage: wsched run [--workers N] [SPEC]... or wsched explain [--workers N] [SPEC]... or wsched storm [--cycles C] [--binders B] [--flaky] [SPEC]... or wsched check MODULE or wsched translate [--scheduler NAME] [--by-uid] [--answers]; a SPEC is NAME:WEIGHT:FUEL:FILE"
 
 -- why the program ended early
 abbrev pub text_of : Fault → List ℕ
@@ -70,6 +72,7 @@ text_of (Misused misuse) = fault_text (number_of BadWords) (name_of BadWords) ++
 text_of (Plugin name refusal) = codes "plugin " ++ name ++ codes ": " ++ refusal_text refusal
 text_of (Unread name) = codes "plugin " ++ name ++ codes ": " ++ fault_text (run.number_of Read) (run.name_of Read)
 text_of (Run fault) = run_text fault
+text_of (Uncounted number) = codes "line " ++ decimal number ++ codes ": 6 Uncounted"
 
 -- the line that tells it
 unfoldable pub message_of : Fault → List ℕ

@@ -26,16 +26,20 @@ pub enum Fault {
     /// The run of a script ended early.
     #[error("{0}")]
     Run(RunFault),
+    /// The object on the line of this number, counted from 1, can't be counted: it is a pod on a node, and no line of a script can
+    /// call it by a name, or there is no version left.
+    #[error("line {0}: 6 Uncounted")]
+    Uncounted(u64),
 }
 
 impl Fault {
-    /// The exit status: 1 at a faulty line or a refused module, 2 at bad words, 3 for want of memory or of a place at
-    /// the desk, 4 when a read or a write failed.
+    /// The exit status: 1 at a faulty line, a refused module or an object that can't be counted, 2 at bad words, 3 for want of
+    /// memory or of a place at the desk, 4 when a read or a write failed.
     pub fn status(&self) -> u8
         ensures { result ≡ status_of self.now }
     {
         match self {
-            Fault::Plugin(_, _) | Fault::Run(RunFault::Line(_, _)) => 1,
+            Fault::Plugin(_, _) | Fault::Run(RunFault::Line(_, _)) | Fault::Uncounted(_) => 1,
             Fault::Words(WordFault::BadWords) | Fault::Misused(_) => 2,
             Fault::Words(WordFault::NoMemory)
             | Fault::Run(RunFault::NoMemory | RunFault::NoPlace) => 3,

@@ -1,7 +1,7 @@
 //! The line by which the program tells a fault.
 ghost use Rattle.std.specs.Prelude.{◌≡◌, ◌+◌, ◌^◌, ◌<◌, ◌≤◌, ◌++◌, codes, length, decimal};
 ghost use Rattle.fault_line.specs.Fault.{status_of};
-ghost use Rattle.fault_line.specs.declared.fault.Fault.TheVariants.{Misused, Unread};
+ghost use Rattle.fault_line.specs.declared.fault.Fault.TheVariants.{Misused, Uncounted, Unread};
 ghost use Rattle.fault_line.specs.Text.{fault_text};
 ghost use Rattle.fault_line.specs.Refusal.{refusal_text};
 ghost use Rattle.fault_line.specs.Message.{Tells, line_fault_text, run_text, part_name, count_letter, misuse_text, usage, text_of, message_of};
@@ -17,18 +17,18 @@ use quant::Name;
 
 // Room for the longest line: a number has up to 20 digits, a fault's name up to 20 bytes, a field's
 // key up to 13, and a plugin's name up to 63. Each `push_..` says how much of the room it wants at most.
-const MAX_MESSAGE: usize = 320;
+const MAX_MESSAGE: usize = 400;
 
 // What the program's words may be.
 const USAGE: &[u8] =
-    b"; usage: wsched run [--workers N] [SPEC]... or wsched explain [--workers N] [SPEC]... or wsched storm [--cycles C] [--binders B] [--flaky] [SPEC]... or wsched check MODULE; a SPEC is NAME:WEIGHT:FUEL:FILE";
+    b"; usage: wsched run [--workers N] [SPEC]... or wsched explain [--workers N] [SPEC]... or wsched storm [--cycles C] [--binders B] [--flaky] [SPEC]... or wsched check MODULE or wsched translate [--scheduler NAME] [--by-uid] [--answers]; a SPEC is NAME:WEIGHT:FUEL:FILE";
 
 /// A line that is made without memory, so that want of memory can be told.
 pub type Message = ArrayVec<u8, MAX_MESSAGE>;
 
 /// Adds a piece to a message.
 pub fn push(message: &mut Message, piece: &[u8])
-    requires { length message.old.items + length piece.now ≤ 320 }
+    requires { length message.old.items + length piece.now ≤ 400 }
     ensures text { message.new.items ≡ message.old.items ++ piece.now }
     ensures len { length message.new.items ≡ length message.old.items + length piece.now }
 {
@@ -37,7 +37,7 @@ pub fn push(message: &mut Message, piece: &[u8])
 
 /// Adds a number in decimal.
 pub(crate) fn push_number(message: &mut Message, n: u64)
-    requires { length message.old.items + 20 ≤ 320 }
+    requires { length message.old.items + 20 ≤ 400 }
     ensures text { message.new.items ≡ message.old.items ++ decimal n }
     ensures len { length message.new.items ≤ length message.old.items + 20 }
 {
@@ -47,7 +47,7 @@ pub(crate) fn push_number(message: &mut Message, n: u64)
 
 /// Adds a fault's number and its name.
 pub(crate) fn push_fault(message: &mut Message, number: u8, name: &str)
-    requires { length message.old.items + (length name.now + 21) ≤ 320 }
+    requires { length message.old.items + (length name.now + 21) ≤ 400 }
     ensures text { message.new.items ≡ message.old.items ++ fault_text number name.now }
     ensures len { length message.new.items ≤ length message.old.items + (length name.now + 21) }
 {
@@ -59,7 +59,7 @@ pub(crate) fn push_fault(message: &mut Message, number: u8, name: &str)
 // Adds a line's fault, with the field in which it stands.
 #[tactic(auto, using(crate::proofs::Lengths::line_name_short, crate::proofs::Lengths::key_short), unfolding(crate::specs::Message::line_fault_text))]
 fn push_line_fault(message: &mut Message, fault: LineFault)
-    requires { length message.old.items + 45 ≤ 320 }
+    requires { length message.old.items + 45 ≤ 400 }
     ensures text { message.new.items ≡ message.old.items ++ line_fault_text fault }
     ensures len { length message.new.items ≤ length message.old.items + 45 }
 {
@@ -73,7 +73,7 @@ fn push_line_fault(message: &mut Message, fault: LineFault)
 // Adds why a run ended early.
 #[tactic(auto, using(crate::proofs::Lengths::run_name_short), unfolding(crate::specs::Message::run_text))]
 fn push_run_fault(message: &mut Message, fault: RunFault)
-    requires { length message.old.items + 80 ≤ 320 }
+    requires { length message.old.items + 80 ≤ 400 }
     ensures text { message.new.items ≡ message.old.items ++ run_text fault }
     ensures len { length message.new.items ≤ length message.old.items + 80 }
 {
@@ -115,7 +115,7 @@ fn count_letter(count: Count) -> &'static str
 // Adds what is wrong in the word of this number.
 fn push_place(message: &mut Message, what: &str, number: usize)
     requires what { length what.now ≤ 6 }
-    requires room { length message.old.items + 40 ≤ 320 }
+    requires room { length message.old.items + 40 ≤ 400 }
     ensures text { message.new.items ≡ message.old.items ++
         (codes " " ++ what.now ++ codes " of word " ++ decimal number) }
     ensures len { length message.new.items ≤ length message.old.items + 40 }
@@ -129,7 +129,7 @@ fn push_place(message: &mut Message, what: &str, number: usize)
 // Adds what is wrong with words.
 #[tactic(auto, unfolding(crate::specs::Message::misuse_text))]
 fn push_misuse(message: &mut Message, misuse: Misuse)
-    requires { length message.old.items + 40 ≤ 320 }
+    requires { length message.old.items + 40 ≤ 400 }
     ensures text { message.new.items ≡ message.old.items ++ misuse_text misuse }
     ensures len { length message.new.items ≤ length message.old.items + 40 }
 {
@@ -137,15 +137,17 @@ fn push_misuse(message: &mut Message, misuse: Misuse)
         Misuse::Command => push(message, b" COMMAND"),
         Misuse::Number(count, number) => push_place(message, count_letter(count), number),
         Misuse::Plugin(part, number) => push_place(message, part_name(part), number),
+        Misuse::Scheduler(number) => push_place(message, "NAME", number),
+        Misuse::Unknown(number) => push_place(message, "OPTION", number),
         Misuse::Together => {}
     }
 }
 
 // Adds that words ask for nothing, what is wrong with them, and what they may be.
 fn push_words_fault(message: &mut Message, misuse: Misuse)
-    requires { length message.old.items + 290 ≤ 320 }
+    requires { length message.old.items + 355 ≤ 400 }
     ensures text { message.new.items ≡ message.old.items ++ text_of (Misused misuse) }
-    ensures len { length message.new.items ≤ length message.old.items + 290 }
+    ensures len { length message.new.items ≤ length message.old.items + 355 }
 {
     let fault = WordFault::BadWords;
     push_fault(message, fault.number(), fault.name());
@@ -155,7 +157,7 @@ fn push_words_fault(message: &mut Message, misuse: Misuse)
 
 // Adds which plugin is refused, and why.
 fn push_plugin_fault(message: &mut Message, name: &Name, refusal: Refusal)
-    requires { length message.old.items + 200 ≤ 320 }
+    requires { length message.old.items + 200 ≤ 400 }
     ensures text { message.new.items ≡ message.old.items ++
         (codes "plugin " ++ name.now ++ codes ": " ++ refusal_text refusal) }
     ensures len { length message.new.items ≤ length message.old.items + 200 }
@@ -169,7 +171,7 @@ fn push_plugin_fault(message: &mut Message, name: &Name, refusal: Refusal)
 // Adds which plugin's file couldn't be read.
 #[tactic(auto, using(crate::proofs::Lengths::run_name_short))]
 fn push_unread(message: &mut Message, name: &Name)
-    requires { length message.old.items + 103 ≤ 320 }
+    requires { length message.old.items + 103 ≤ 400 }
     ensures text { message.new.items ≡ message.old.items ++ text_of (Unread name.now) }
     ensures len { length message.new.items ≤ length message.old.items + 103 }
 {
@@ -178,6 +180,17 @@ fn push_unread(message: &mut Message, name: &Name)
     push(message, name.as_bytes());
     push(message, b": ");
     push_fault(message, fault.number(), fault.name());
+}
+
+// Adds that the object on the line of this number can't be counted.
+fn push_uncounted(message: &mut Message, number: u64)
+    requires { length message.old.items + 60 ≤ 400 }
+    ensures text { message.new.items ≡ message.old.items ++ text_of (Uncounted number) }
+    ensures len { length message.new.items ≤ length message.old.items + 60 }
+{
+    push(message, b"line ");
+    push_number(message, number);
+    push(message, b": 6 Uncounted");
 }
 
 // The line that tells a fault.
@@ -193,6 +206,7 @@ fn fault_message(fault: &Fault) -> Message
         Fault::Plugin(name, refusal) => push_plugin_fault(&mut message, name, *refusal),
         Fault::Unread(name) => push_unread(&mut message, name),
         Fault::Run(fault) => push_run_fault(&mut message, *fault),
+        Fault::Uncounted(number) => push_uncounted(&mut message, *number),
     }
     push(&mut message, b"\n");
     message

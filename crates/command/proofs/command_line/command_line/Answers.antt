@@ -10,4 +10,5 @@ returns c =
     let with_run = c.in_ok-line.ensures ∙ ap₂ with_subcommand c.program.ensures (ap top c.in_ok-run.ensures.shape) in
     let with_explain = c.in_ok-line-2.ensures ∙ ap₂ with_subcommand with_run (ap top c.in_ok-explain.ensures.shape) in
     let with_storm = c.in_ok-line-3.ensures ∙ ap₂ with_subcommand with_explain (ap top c.in_ok-storm.ensures.shape) in
-    IfOk-weaker c.with_command-4.result _ _ (λ _ h. h ∙ ap₂ with_subcommand with_storm (ap top c.in_ok-check.ensures.shape)) c.with_command-4.ensures
+    let with_check = c.in_ok-line-4.ensures ∙ ap₂ with_subcommand with_storm (ap top c.in_ok-check.ensures.shape) in
+    IfOk-weaker c.with_command-5.result _ _ (λ _ h. h ∙ ap₂ with_subcommand with_check (ap top c.in_ok-translate.ensures.shape)) c.with_command-5.ensures

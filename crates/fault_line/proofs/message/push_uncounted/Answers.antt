@@ -1,0 +1,5 @@
+use Rattle.fault_line.proofs.Texts.{three_added}
+use Rattle.fault_line.proofs.message.push_uncounted.Goals as goal
+
+pub returns-clause-text : goal.returns-clause-text
+returns-clause-text c = three_added _ _ _ _ _ _ _ c.push.ensures.text c.push_number.ensures.text c.push-2.ensures.text
