@@ -1,10 +1,11 @@
-# Tells what pods ask of nodes' labels as the rule node_affinity reads it, in what kubectl tells of a cluster, for from-kubectl.jq:
+# Tells what pods ask of nodes' labels as the rule node_affinity reads it, in what kubectl tells of a cluster, for `wsched translate`:
 #
-#   kubectl get nodes,pods,pv,pvc --all-namespaces -o json | jq -c -f examples/node-affinity.jq | jq -c -f examples/from-kubectl.jq > cluster.jsonl
+#   kubectl get nodes,pods,pv,pvc --all-namespaces -o json | jq -c -f examples/node-affinity.jq | wsched translate > cluster.jsonl
 #
+# Each node and each pod is one line.
 # Of each pod without a node, its node selector, its node affinity and its claims are taken away, and stand among its labels as the
 # entries of docs/PLUGINS.md, "Node selectors, affinity and the zones of volumes". Of a node with more than 32 labels those stay that
-# some pod asks for. A pod whose demands pass the limits there is left as it is, so that from-kubectl.jq leaves it out, and why is said
+# some pod asks for. A pod whose demands pass the limits there is left as it is, so that `translate` leaves it out, and why is said
 # on standard error. A script that was made so is run by `node_affinity:WEIGHT:500000:examples/plugins/node_affinity.wasm`.
 #
 # Tried with jq 1.6: tests/affinity/spelled compares it with affinity.py of the second scheduler.
@@ -109,14 +110,14 @@ def of_kind($kind): .items[] | select(.kind == $kind);
       | if $asked.why then .told[$pod | full_name] = $asked
         elif $keys | length > 32 then .told[$pod | full_name] = {why: "other pods ask for so many node labels that there is no room for \($asked.keys - .keys | join(", "))"}
         else .keys = $keys | .told[$pod | full_name] = $asked end)) as $all
-| .items |= map(
-    if .kind == "Pod" and (.spec.nodeName // "" | . == "") then
-      full_name as $name
-      | $all.told[$name] as $asked
-      | if $asked.why then ("left out: pod \($name): \($asked.why)" | say), . else told($asked) end
-    elif .kind == "Node" and (.metadata.labels // {} | length > 32) then
-      .metadata.name as $name
-      | (.metadata.labels | to_entries | sort_by([(.key as $key | any($all.keys[]; . == $key) | not), .key])) as $labels
-      | ($labels[32:][] | "left out of node \($name): label \(.key)" | say), (.metadata.labels = ($labels[:32] | from_entries))
-    elif .kind | IN("Node", "Pod") then .
-    else empty end)
+| .items[]
+| if .kind == "Pod" and (.spec.nodeName // "" | . == "") then
+    full_name as $name
+    | $all.told[$name] as $asked
+    | if $asked.why then ("left out: pod \($name): \($asked.why)" | say), . else told($asked) end
+  elif .kind == "Node" and (.metadata.labels // {} | length > 32) then
+    .metadata.name as $name
+    | (.metadata.labels | to_entries | sort_by([(.key as $key | any($all.keys[]; . == $key) | not), .key])) as $labels
+    | ($labels[32:][] | "left out of node \($name): label \(.key)" | say), (.metadata.labels = ($labels[:32] | from_entries))
+  elif .kind | IN("Node", "Pod") then .
+  else empty end

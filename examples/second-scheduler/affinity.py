@@ -72,19 +72,14 @@ def asked(pod: Manifest, there: Volumes) -> Asked:
         return Asked(entries, keys_of(required), left_out)
 
 
-def demands(pod: Manifest) -> Iterator[str]:
-    """Without the rule: what nobody can tell, and without which the pod could be put where it mustn't be."""
-    if pod["spec"].get("nodeSelector"):
-        yield "node selector"
-    if node_affinity(pod).get(REQUIRED):
-        yield "required node affinity"
-    yield from (f"volume {it['name']}" for it in pod["spec"].get("volumes") or [] if claim_of(pod, it))
-
-
-def wishes(pod: Manifest) -> Iterator[str]:
-    """Without the rule: what it can do without."""
-    if node_affinity(pod).get(PREFERRED):
-        yield "preferred node affinity"
+def without(pod: Manifest) -> dict[str, Any]:
+    """The pod, as if it asked for nothing of what is told so."""
+    spec = {key: value for key, value in pod["spec"].items() if key != "nodeSelector"}
+    if spec.get("affinity"):
+        spec["affinity"] = {key: value for key, value in spec["affinity"].items() if key != "nodeAffinity"}
+    if spec.get("volumes"):
+        spec["volumes"] = [it for it in spec["volumes"] if not claim_of(pod, it)]
+    return {**pod, "spec": spec}
 
 
 # What the manifests say.

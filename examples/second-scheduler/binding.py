@@ -14,7 +14,7 @@ from kubernetes.client.rest import ApiException
 
 from pods import Pod
 from posting import FIRST_PAUSE, JSON, LONGEST_PAUSE, UNWANTED, Answer, Posts, Request
-from rows import SeenPod
+from seen import SeenPod
 from watch import AWAY, message
 from way import Way
 

@@ -2,11 +2,11 @@
 from __future__ import annotations
 
 import threading
-from typing import Any, Callable
+from typing import Any, Callable, Sequence
 
 from affinity import PLACES, Volumes, claim_of
 from metrics import Metrics
-from rows import Json
+from translating import Json
 
 Claim = tuple[str, str]
 
@@ -27,7 +27,7 @@ class Claims:
         self.there = Volumes(self.claims, self.volumes) if is_told else None
         self.pods: dict[str, tuple[Json, set[Claim]]] = {}
         self.lock = threading.RLock()
-        self.again: Callable[[str, Json], None] = lambda event, pod: None
+        self.again: Callable[[str, Sequence[Json]], None] = lambda event, pods: None
         self.unlisted = {"claim": threading.Event(), "volume": threading.Event()}
 
     def wait(self) -> None:
@@ -47,9 +47,8 @@ class Claims:
             del self.pods[uid]
 
     def changed(self, claims: set[Claim]) -> None:
-        for pod, own in [*self.pods.values()]:
-            if own & claims:
-                self.again("MODIFIED", pod)
+        if pods := [pod for pod, own in self.pods.values() if own & claims]:
+            self.again("MODIFIED", pods)
 
 
 class ClaimHearing:
@@ -63,7 +62,11 @@ class ClaimHearing:
     def key(self, thing: Json) -> str:
         return f"{thing['metadata']['namespace']}/{thing['metadata']['name']}"
 
-    def hear(self, event: str, thing: Json) -> None:
+    def hear(self, event: str, things: Sequence[Json]) -> None:
+        for it in things:
+            self.hear_one(event, it)
+
+    def hear_one(self, event: str, thing: Json) -> None:
         meta, spec = thing["metadata"], thing["spec"]
         key = (meta["namespace"], meta["name"])
         kept = None
@@ -104,7 +107,11 @@ class VolumeHearing:
     def key(self, thing: Json) -> str:
         return str(thing["metadata"]["name"])
 
-    def hear(self, event: str, thing: Json) -> None:
+    def hear(self, event: str, things: Sequence[Json]) -> None:
+        for it in things:
+            self.hear_one(event, it)
+
+    def hear_one(self, event: str, thing: Json) -> None:
         labels = thing["metadata"].get("labels") or {}
         kept = None
         if event != "DELETED":

@@ -139,19 +139,19 @@ def command(program: str, workers: int, specs: list[str]) -> list[str]:
     return [program, "run", "--workers", str(workers), *specs]
 
 
-def try_plugins(words: list[str]) -> str | None:
-    """Runs wsched on nothing, so that a plugin that can't be read or is refused is known before anything depends on it. Gives what is
-    wrong."""
+def try_on_nothing(words: list[str]) -> str | None:
+    """Runs wsched on nothing, so that a plugin that can't be read or is refused, or a word that it doesn't know, is known before anything
+    depends on it. Gives what is wrong."""
     try:
         nothing, heard = subprocess.DEVNULL, subprocess.PIPE
         tried = subprocess.run(words, stdin=nothing, stdout=nothing, stderr=heard, text=True, timeout=60, start_new_session=True, check=False)
     except subprocess.TimeoutExpired:
-        return "wsched hasn't read its plugins within 60 s"
+        return "it hasn't ended within 60 s"
     except OSError as why:
-        return f"wsched can't be run: {why}"
+        return f"it can't be run: {why}"
     if tried.returncode == 0:
         return None
-    return tried.stderr.strip() or f"wsched ended with status {tried.returncode}"
+    return tried.stderr.strip() or f"it ended with status {tried.returncode}"
 
 
 def quoted(text: str) -> str:

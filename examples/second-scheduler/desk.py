@@ -11,7 +11,7 @@ from core import Core, quoted
 from metrics import Metrics
 from nodes import Nodes, nothing
 from pods import Pod, Told, Turn, Wait
-from rows import SeenPod
+from seen import SeenPod
 from share import ALONE, Share
 from telling import Telling, about_pod
 
@@ -53,7 +53,7 @@ class Desk(Nodes):
         self.note(f"pod {pod}", True, seen.left_out)
         if not seen.is_whole and pod not in self.unread:
             self.unread.add(pod)
-            why = f"not all that the pod asks for can be read, and it counts on {seen.node} with the rest: {', '.join(seen.left_out)}"
+            why = f"not all that the pod asks for can be read, and it counts on {seen.node} as the most there can be: {', '.join(seen.left_out)}"
             LOG.error("pod %s: %s", pod, why)
             self.telling.warn(about_pod(pod), "NotCounted", why)
         is_new = (pod.node, pod.size) != (seen.node, seen.size)

@@ -2,14 +2,15 @@
 from __future__ import annotations
 
 import queue
-from typing import Any
+from typing import Any, Sequence
 
 from binding import Newest
 from affinity import NodeLabels
 from claims import Claims
 from metrics import Metrics
-from rows import ENDED, Json, node_row, pod_row
+from seen import ENDED, Reader, SeenPod
 from share import Share
+from translating import Json
 
 # A kind, an event, and what it is of.
 Inbox = queue.SimpleQueue[tuple[str, str, Any]]
@@ -20,8 +21,8 @@ class Hearing:
 
     kind = ""
 
-    def __init__(self, inbox: Inbox, metrics: Metrics) -> None:
-        self.inbox, self.metrics = inbox, metrics
+    def __init__(self, inbox: Inbox, metrics: Metrics, reader: Reader, newest: Newest, share: Share) -> None:
+        self.inbox, self.metrics, self.reader, self.newest, self.share = inbox, metrics, reader, newest, share
 
     def failed(self) -> None:
         self.metrics.breaks.labels(self.kind).inc()
@@ -36,23 +37,22 @@ class NodeHearing(Hearing):
 
     kind = "node"
 
-    def __init__(self, inbox: Inbox, metrics: Metrics, newest: Newest, labels: NodeLabels, share: Share) -> None:
-        super().__init__(inbox, metrics)
-        self.newest, self.labels, self.share = newest, labels, share
+    def __init__(self, inbox: Inbox, metrics: Metrics, reader: Reader, newest: Newest, share: Share, labels: NodeLabels) -> None:
+        super().__init__(inbox, metrics, reader, newest, share)
+        self.labels = labels
 
     def key(self, thing: Json) -> str:
         return str(thing["metadata"]["name"])
 
-    def hear(self, event: str, thing: Json) -> None:
-        name = self.key(thing)
-        if not self.share.has_node(name):
-            return
+    def hear(self, event: str, things: Sequence[Json]) -> None:
+        own = [it for it in things if self.share.has_node(self.key(it))]
         if event == "DELETED":
-            self.newest.hear_node(name, None)
-            self.inbox.put((self.kind, event, name))
-        else:
-            seen = node_row(thing, self.labels)
-            self.newest.hear_node(name, seen.uid)
+            for name in map(self.key, own):
+                self.newest.hear_node(name, None)
+                self.inbox.put((self.kind, event, name))
+            return
+        for seen in self.reader.nodes(own, self.labels):
+            self.newest.hear_node(seen.name, seen.uid)
             self.inbox.put((self.kind, event, seen))
 
     def listed(self, keys: set[str]) -> None:
@@ -66,24 +66,30 @@ class PodHearing(Hearing):
 
     kind = "pod"
 
-    def __init__(self, inbox: Inbox, metrics: Metrics, scheduler: str, newest: Newest, claims: Claims, share: Share) -> None:
-        super().__init__(inbox, metrics)
-        self.scheduler, self.newest, self.claims, self.share = scheduler, newest, claims, share
+    def __init__(self, inbox: Inbox, metrics: Metrics, reader: Reader, newest: Newest, share: Share, claims: Claims) -> None:
+        super().__init__(inbox, metrics, reader, newest, share)
+        self.claims = claims
         claims.again = self.hear
 
     def key(self, thing: Json) -> str:
         return str(thing["metadata"]["uid"])
 
-    def hear(self, event: str, thing: Json) -> None:
+    def hear(self, event: str, things: Sequence[Json]) -> None:
         with self.claims.lock:
-            self.hear_one(event, thing)
+            here = [] if event == "DELETED" else [it for it in things if self.is_here(it)]
+            seen = self.reader.pods(here, self.claims.there)
+            gone = {self.key(it) for it in things} - {self.key(it) for it in here}
+            for it in things:
+                self.hear_one(it, seen.get(self.key(it)), self.key(it) in gone)
 
-    def hear_one(self, event: str, thing: Json) -> None:
-        meta = thing["metadata"]
-        node = thing["spec"].get("nodeName")
-        is_gone = event == "DELETED" or (thing.get("status") or {}).get("phase") in ENDED or bool(node and not self.share.has_node(node))
-        seen = None if is_gone else pod_row(thing, self.scheduler, self.claims.there)
-        self.claims.keep(thing, seen is not None and not seen.node)
+    def is_here(self, pod: Json) -> bool:
+        node = pod["spec"].get("nodeName")
+        return (pod.get("status") or {}).get("phase") not in ENDED and (not node or self.share.has_node(node))
+
+    def hear_one(self, pod: Json, seen: SeenPod | None, is_gone: bool) -> None:
+        """(one that isn't seen, and isn't gone, is another scheduler's to place)"""
+        meta = pod["metadata"]
+        self.claims.keep(pod, seen is not None and not seen.node)
         self.newest.hear(f"{meta['namespace']}/{meta['name']}", meta["uid"], seen)
         if seen:
             self.inbox.put((self.kind, "MODIFIED", seen))

@@ -28,7 +28,7 @@ class Metrics:
         self.not_bound = Counter("wsched_binds_failed_total", "Binds that came to nothing.", registry=it)
         self.not_posted = Counter("wsched_binds_not_posted_total", "Binds not asked for: pod or node gone or made anew, or the pod bound.", registry=it)
         self.left_out = Gauge("wsched_left_out", "Nodes that no line can say, and own pods that are left alone.", ["kind"], registry=it)
-        self.unread = Gauge("wsched_pods_not_read", "Pods that have a node, and amounts that can't be read: they count with the rest.", registry=it)
+        self.unread = Gauge("wsched_pods_not_read", "Pods that have a node, and amounts that can't be read, which count as the most.", registry=it)
         self.refused = Counter("wsched_refused_for_room_total", "What the desk had no room for.", ["kind"], registry=it)
         self.aside = Gauge("wsched_nodes_without_room", "Nodes that aren't used, since the desk has no room for them or their pods.", registry=it)
         self.handed_on = Counter("wsched_handed_on_total", "Pods in the desk that became another instance's to place.", registry=it)

@@ -8,13 +8,13 @@ import sys
 from typing import Callable
 
 from affinity import NodeLabels
-from amounts import spelled_cpu, spelled_memory
 from core import Core, quoted
 from metrics import Metrics
 from pods import Pod, Told, Turn
-from rows import SeenNode, row_of
+from seen import SeenNode, row_of
 from share import ALONE, Share
 from telling import Telling, about_node
+from translating import spelled
 from waiting import Waiting
 
 LOG = logging.getLogger("second-scheduler")
@@ -148,8 +148,7 @@ class Nodes:
         if pod.told is Told.PLACED and not is_new:
             return
         pod.told, pod.place, pod.ticket = Told.PLACED, pod.node, None
-        cpu, memory = spelled_cpu(pod.size[0]), spelled_memory(pod.size[1])
-        fields = f'"uid":{quoted(pod.uid)},"node":{quoted(pod.node)},"cpu":"{cpu}","mem":"{memory}"'
+        fields = f'"uid":{quoted(pod.uid)},"node":{quoted(pod.node)},{spelled(pod.size)}'
         self.open_places += 1
         self.tell("bound", fields, functools.partial(self.bound_answered, pod, pod.node))
 

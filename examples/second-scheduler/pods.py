@@ -3,7 +3,8 @@ from __future__ import annotations
 
 import enum
 
-from rows import SeenPod, Size
+from seen import SeenPod
+from translating import Size
 
 
 class Told(enum.Enum):

@@ -23,6 +23,7 @@ from hearing import Inbox, NodeHearing, PodHearing
 from metrics import Metrics
 from pods import Told
 from record import Record
+from seen import Reader
 from telling import Telling
 from verdicts import is_of_rules, said_of_no_node
 from watch import Watched
@@ -63,13 +64,14 @@ class Scheduler:
         self.audit = Audit(self.desk, self.telling, metrics)
         self.explaining = Explaining([given.wsched, "explain", "--", *given.spec], self.desk, self.telling, self.inbox, self.whose)
         only = {"label_selector": given.nodes} if given.nodes else {}
-        Watched(api.list_node, NodeHearing(self.inbox, metrics, newest, labels, self.share), **only)
+        reader = Reader(given.wsched, given.scheduler)
+        Watched(api.list_node, NodeHearing(self.inbox, metrics, reader, newest, self.share, labels), **only)
         claims = Claims(is_told=bool(given.node_affinity))
         if given.node_affinity:
             Watched(api.list_persistent_volume, VolumeHearing(claims, metrics))
             Watched(api.list_persistent_volume_claim_for_all_namespaces, ClaimHearing(claims, metrics))
         phases = "status.phase!=Succeeded,status.phase!=Failed"
-        pods = PodHearing(self.inbox, metrics, given.scheduler, newest, claims, self.share)
+        pods = PodHearing(self.inbox, metrics, reader, newest, self.share, claims)
         Watched(listed_after(claims, api.list_pod_for_all_namespaces), pods, field_selector=phases)
 
     # Decisions.

@@ -27,10 +27,11 @@ import lease
 import serving
 import share
 import site_settings
-from core import CoreFault, command, try_plugins
+from core import CoreFault, command, try_on_nothing
 from health import Health
 from metrics import Metrics
 from scheduler import Scheduler, end_process
+from translating import words_of
 from way import NoWay, Way
 
 LOG = logging.getLogger("second-scheduler")
@@ -186,9 +187,9 @@ def main() -> None:
     sys.setswitchinterval(0.001)
     log_to_standard_error(given.verbose)
     # (before anything depends on it: a replica that follows would find it out only once it leads)
-    wrong = try_plugins(command(given.wsched, given.workers, given.spec))
-    if wrong:
-        sys.exit(f"second_scheduler.py: {wrong}")
+    for it in (command(given.wsched, given.workers, given.spec), words_of(given.wsched, given.scheduler)):
+        if wrong := try_on_nothing(it):
+            sys.exit(f"second_scheduler.py: wsched {it[1]}: {wrong}")
     if given.record and not os.access(os.path.dirname(given.record) or ".", os.W_OK | os.X_OK):
         sys.exit(f"second_scheduler.py: --record: nothing can be written beside {given.record}")
     replica = Replica(given)

@@ -8,9 +8,8 @@ from __future__ import annotations
 import collections
 from typing import Iterable, Iterator, NamedTuple
 
-from amounts import spelled_cpu, spelled_memory
 from core import quoted
-from rows import Size
+from translating import Size, spelled
 
 WHY = {
     "marked": "node(s) were unschedulable",
@@ -45,8 +44,8 @@ def script(nodes: Iterable[str], bound: Iterable[tuple[str, str, Size]], pods: I
 
     for row in nodes:
         tell("node", row)
-    for uid, node, (cpu, memory) in bound:
-        tell("bound", f'"uid":{quoted(uid)},"node":{quoted(node)},"cpu":"{spelled_cpu(cpu)}","mem":"{spelled_memory(memory)}"')
+    for uid, node, size in bound:
+        tell("bound", f'"uid":{quoted(uid)},"node":{quoted(node)},{spelled(size)}')
     for uid, row in pods:
         tell("pod", f'"uid":{quoted(uid)},{row}')
         lines.append('{"op":"cycle"}')

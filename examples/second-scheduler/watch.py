@@ -10,11 +10,13 @@ import logging
 import os
 import threading
 import time
-from typing import Any, Callable, Iterator, Protocol
+from typing import Any, Callable, Iterator, Protocol, Sequence
 
 import urllib3
 from kubernetes.client.rest import ApiException
 from kubernetes.config import ConfigException
+
+from core import CoreFault
 
 LOG = logging.getLogger("second-scheduler")
 # What a call to the API server may end with when it is away, or has another opinion, or when nobody says who this is.
@@ -44,14 +46,14 @@ class Expired(Exception):
 
 
 class Ears(Protocol):
-    """What hears of objects, in the thread of its watch. `read` keeps what it needs of one (None: nothing), and `hear` is told of it, or
-    of one that is gone; `listed` is told after each list the keys of all that there are."""
+    """What hears of objects, in the thread of its watch, of a page of a list at once; `listed` is told after each list the keys of all
+    that there are."""
 
     kind: str
 
     def key(self, thing: dict[str, Any]) -> str: ...
 
-    def hear(self, event: str, thing: dict[str, Any]) -> None: ...
+    def hear(self, event: str, things: Sequence[dict[str, Any]]) -> None: ...
 
     def listed(self, keys: set[str]) -> None: ...
 
@@ -71,10 +73,12 @@ class Watched:
         try:
             while True:
                 self.once()
+        # without this thread nothing more would be heard, and nobody would know
+        except CoreFault as why:
+            LOG.error("%s: nothing more can be heard: %s", self.ears.kind, why)
         except Exception:  # pylint: disable=broad-except
-            # without this thread nothing more would be heard, and nobody would know
             LOG.exception("%s: nothing more can be heard", self.ears.kind)
-            os._exit(1)
+        os._exit(1)
 
     def once(self) -> None:
         """Lists where there is no version to go on from, and watches until that ends; then the pause that is due."""
@@ -108,9 +112,8 @@ class Watched:
         while True:
             answer = self.call(limit=PAGE, _continue=more, _preload_content=False, _request_timeout=(5, 60), **self.only)
             page = json.loads(answer.data)
-            for it in page["items"]:
-                keys.add(self.ears.key(it))
-                self.ears.hear("MODIFIED", it)
+            keys |= {self.ears.key(it) for it in page["items"]}
+            self.ears.hear("MODIFIED", page["items"])
             more = page["metadata"].get("continue")
             if not more:
                 self.ears.listed(keys)
@@ -137,7 +140,7 @@ class Watched:
                         raise Expired(thing.get("message"))
                     raise ValueError(f"the watch ended: {thing.get('message')}")
                 if event["type"] != "BOOKMARK":
-                    self.ears.hear(event["type"], thing)
+                    self.ears.hear(event["type"], [thing])
                 self.version = thing["metadata"]["resourceVersion"]
             answer.release_conn()
         finally:

@@ -1,7 +1,4 @@
 """Amounts that are no whole number of bytes or of thousandths of a core: what is asked for is rounded up, what there is down."""
-import json
-import subprocess
-
 from trials.site import Site, wait_for, whom
 
 # as the API server keeps 0.1Gi, and as a node may say what it has
@@ -48,34 +45,16 @@ def amounts_cpu(site: Site) -> str:
 
 
 def amounts_unread(site: Site) -> str:
-    """A bound pod whose amounts no line can say counts as a pod at least, and the log names it."""
-    site.node("one", pods=1)
+    """A bound pod whose amounts no line can say counts as the most that a line can, so nothing is bound beside it, and the log names it."""
+    site.node("one", memory="16Ti")
     site.pod("giant", memory="64Ti", on="one", scheduler="default-scheduler")
     site.pod("small")
     scheduler = site.start()
     wait_for(lambda: site.place("small") or site.events(about="small", reason="FailedScheduling"), 15, "a word about the pod that waits")
-    assert site.place("small") is None, "a second pod is on a node with room for one"
+    assert site.place("small") is None, "a second pod is on a node that has no memory left"
     said = [it for it in scheduler.log().splitlines() if "default/giant" in it]
     assert said, "the log doesn't name the pod that can't be read"
     return f"{site.check()}; told: {said[0][24:140]}"
 
 
-def amounts_jq(site: Site) -> str:
-    """examples/from-kubectl.jq tells the same amounts, rounded the same way."""
-    site.node("odd", memory=NODE, cpu="3999u")
-    site.pod("bound", memory=TENTH, cpu="1500u", on="odd")
-    site.pod("waits", memory=TENTH, cpu="1500u")
-    listed = json.dumps({"items": [*site.store.all("nodes"), *site.store.all("pods")]})
-    words = ["jq", "-c", "--arg", "scheduler", "wsched", "-f", str(site.programs.client.parent / "from-kubectl.jq")]
-    ran = subprocess.run(words, input=listed, capture_output=True, text=True, check=False)
-    told = {it["op"]: it for it in map(json.loads, ran.stdout.splitlines())}
-    want = {"node": ("3m", "7134698291"), "bound": ("2m", "107374183"), "pod": ("2m", "107374183")}
-    for op, sizes in want.items():
-        assert op in told, f"no line `{op}`: {ran.stderr.strip()[:150]}"
-        line = told[op]
-        said = tuple(line["containers"][0]) if op == "pod" else (line["cpu"], line["mem"])
-        assert said == sizes, f"{op}: {said}, and not {sizes}"
-    return "a node, a bound and a waiting pod: rounded down, up and up"
-
-
-TRIALS = [amounts_bound, amounts_waiting, amounts_cpu, amounts_unread, amounts_jq]
+TRIALS = [amounts_bound, amounts_waiting, amounts_cpu, amounts_unread]

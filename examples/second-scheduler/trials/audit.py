@@ -15,7 +15,9 @@ def relayed(site: Site) -> str:
     (site.folder / "lost").write_text("", encoding="utf-8")
     program = site.folder / "relay"
     relay = pathlib.Path(__file__).parent / "relay.py"
-    program.write_text(f'#!/bin/sh\nexec "{relay}" "{site.programs.wsched}" "{site.folder}" "$@"\n', encoding="utf-8")
+    # (objects aren't what it is about)
+    straight = f'[ "$1" = translate ] && exec "{site.programs.wsched}" "$@"'
+    program.write_text(f'#!/bin/sh\n{straight}\nexec "{relay}" "{site.programs.wsched}" "{site.folder}" "$@"\n', encoding="utf-8")
     program.chmod(0o755)
     return str(program)
 

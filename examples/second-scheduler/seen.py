@@ -1,0 +1,169 @@
+"""What is kept of the nodes and pods that are heard of: what `wsched translate` says of each, and what this client tells by itself.
+
+The latter are labels: of a pod the entries by which the rule node_affinity is told what it asks of a node, and of a node with many those
+that pods ask for. A pod that has a node is always counted, and one that waits and asks for what nobody knows is left alone.
+"""
+from __future__ import annotations
+
+import datetime
+import functools
+import itertools
+import json
+import sys
+from typing import NamedTuple, Sequence
+
+import affinity
+from affinity import LABELS, Asked, NodeLabels, Volumes
+from translating import Answer, Json, Size, Translator, as_json, fields_of, size_of
+
+ENDED = ("Succeeded", "Failed")
+# What is long and no line tells of: of what every object has, and of a container.
+OF_ALL = frozenset(["managedFields", "annotations"])
+OF_CONTAINERS = frozenset(["env", "envFrom", "command", "args", "volumeMounts", "livenessProbe", "readinessProbe", "startupProbe", "lifecycle"])
+
+
+class SeenNode(NamedTuple):
+    """All that is kept of a node. `row` is its line's fields behind the version, as JSON, or None where no line can say it."""
+
+    name: str
+    uid: str
+    row: str | None
+    room: tuple[int, int, int]
+    left_out: tuple[str, ...]
+    # its labels, where a row has no room for all of them
+    many: tuple[tuple[str, str], ...] = ()
+
+
+class SeenPod(NamedTuple):
+    """All that is kept of a pod: what it asks for, and of one that waits for a node also its line's fields behind uid and version, as
+    JSON, or None where it can't be told. `left_out` says why, or names what it can do without."""
+
+    namespace: str
+    name: str
+    uid: str
+    node: str | None
+    size: Size
+    is_whole: bool
+    row: str | None = None
+    priority: int = 0
+    left_out: tuple[str, ...] = ()
+    # the reason and the message of its condition PodScheduled, where that is False
+    unscheduled: tuple[str, str] | None = None
+    is_leaving: bool = False
+    # the labels of nodes that it asks for
+    keys: frozenset[str] = frozenset()
+    # when it was made, by the API server's clock, in seconds
+    created: float = 0.0
+
+    @property
+    def key(self) -> str:
+        return f"{self.namespace}/{self.name}"
+
+
+class Reader:
+    """Reads objects as they are heard, many at a time where many are."""
+
+    def __init__(self, program: str, scheduler: str) -> None:
+        self.translator, self.scheduler = Translator(program, scheduler), scheduler
+
+    def nodes(self, things: Sequence[Json], labels: NodeLabels) -> list[SeenNode]:
+        parts = [parts_of(it) for it in things]
+        answers = iter(self.translator.ask([*itertools.chain.from_iterable(parts)]))
+        return [seen_node(it, [next(answers) for _ in some], labels) for it, some in zip(things, parts)]
+
+    def pods(self, things: Sequence[Json], there: Volumes | None = None) -> dict[str, SeenPod]:
+        """By their uids, without those that another scheduler has to place and those that have ended. `there` is None where no rule is
+        asked about selectors, affinity and volumes."""
+        mine = [it for it in things if self.is_told(it)]
+        asks = [affinity.asked(it, there) if there and not it["spec"].get("nodeName") else None for it in mine]
+        answers = self.translator.ask([short_pod(affinity.without(it) if own else it) for it, own in zip(mine, asks)])
+        return {it["metadata"]["uid"]: seen_pod(it, own or Asked(), answer) for it, own, answer in zip(mine, asks, answers)}
+
+    def is_told(self, pod: Json) -> bool:
+        spec = pod["spec"]
+        is_mine = spec.get("nodeName") or (spec.get("schedulerName") or "default-scheduler") == self.scheduler
+        return bool(is_mine) and (pod.get("status") or {}).get("phase") not in ENDED
+
+
+def short(kind: str, thing: Json, part: str, spec: Json | None) -> Json:
+    """An object with one part of its status, and without what is long and no line tells of."""
+    return {"kind": kind, "metadata": but(OF_ALL, thing["metadata"]), "spec": spec, "status": {part: (thing.get("status") or {}).get(part)}}
+
+
+def but(keys: frozenset[str], thing: Json) -> Json:
+    return {key: value for key, value in thing.items() if key not in keys}
+
+
+# Nodes.
+
+
+def parts_of(node: Json) -> list[Json]:
+    """The node, as often as it takes to ask of all its labels, since a line has some of them."""
+    said, labels = short("Node", node, "allocatable", node.get("spec")), sorted((node["metadata"].get("labels") or {}).items())
+    some = [dict(labels[k : k + LABELS]) for k in range(0, len(labels), LABELS)]
+    return [{**said, "metadata": {**said["metadata"], "labels": it}} for it in some or [{}]]
+
+
+def seen_node(node: Json, answers: Sequence[Answer], labels: NodeLabels) -> SeenNode:
+    name, lines = sys.intern(node["metadata"]["name"]), [it.line for it in answers if it.line]
+    uid, left_out = node["metadata"].get("uid", name), tuple(dict.fromkeys(it for one in answers for it in one.left_out))
+    if not lines:
+        return SeenNode(name, uid, None, (0, 0, 0), left_out)
+    own = [label for line in lines for label in line["labels"]]
+    kept, gone = labels.kept(own)
+    row, many = as_json({**fields_of(lines[0]), "labels": kept}), tuple((key, value) for key, value in own) if gone else ()
+    return SeenNode(name, uid, row, (*size_of(lines[0]), lines[0]["pods"]), (*left_out, *gone), many)
+
+
+def row_of(seen: SeenNode, labels: NodeLabels) -> str | None:
+    """Its row as it is to be told now: of many labels those stay that are asked for."""
+    if not seen.row or not seen.many:
+        return seen.row
+    return as_json({**json.loads(f"{{{seen.row}}}"), "labels": labels.kept([[*it] for it in seen.many])[0]})
+
+
+# Pods.
+
+
+def short_pod(pod: Json) -> Json:
+    spec = {**pod["spec"], "containers": [but(OF_CONTAINERS, it) for it in pod["spec"]["containers"]]}
+    return short("Pod", pod, "phase", spec)
+
+
+def seen_pod(pod: Json, asks: Asked, answer: Answer) -> SeenPod:
+    meta, spec, line = pod["metadata"], pod["spec"], answer.line
+    who, size = (sys.intern(meta["namespace"]), meta["name"], meta["uid"]), one_size(*size_of(line)) if line else (0, 0)
+    if spec.get("nodeName"):
+        return SeenPod(*who, sys.intern(spec["nodeName"]), size, is_whole(answer), left_out=answer.left_out)
+    waits = SeenPod(*who, None, size, True, None, spec.get("priority") or 0, (), unscheduled(pod), bool(meta.get("deletionTimestamp")))
+    waits = waits._replace(created=created_at(meta))
+    if asks.why or not line:
+        return waits._replace(left_out=(*asks.why, *(() if line else answer.left_out)))
+    labels, gone = affinity.with_own(asks.entries, line["labels"])
+    row = as_json({**fields_of(line), "labels": labels})
+    return waits._replace(row=row, left_out=(*asks.left_out, *answer.left_out, *gone), keys=asks.keys)
+
+
+def is_whole(bound: Answer) -> bool:
+    """Whether all that a pod asks for on its node could be read: whatever else is left out of its line is named as required. (It has none
+    only where its node's name is none of a script's, so that the node has none either.)"""
+    return not bound.line or all(it.startswith("required ") for it in bound.left_out)
+
+
+@functools.lru_cache(maxsize=8192)
+def one_size(cpu: int, memory: int) -> Size:
+    """(of thousands of pods of one size, one pair is kept)"""
+    return cpu, memory
+
+
+def unscheduled(pod: Json) -> tuple[str, str] | None:
+    for it in (pod.get("status") or {}).get("conditions") or []:
+        if it.get("type") == "PodScheduled" and it.get("status") == "False":
+            return it.get("reason") or "", it.get("message") or ""
+    return None
+
+
+def created_at(meta: Json) -> float:
+    """(an API server always says it)"""
+    text = meta.get("creationTimestamp")
+    return datetime.datetime.fromisoformat(text.replace("Z", "+00:00")).timestamp() if text else 0.0
