@@ -62,7 +62,7 @@ class Translator:
             return self.exchange(lines)
         except Ended as why:
             self.end()
-            raise CoreFault(f"wsched translate {why}, and so it did before, of the same {len(lines)} objects") from why
+            raise CoreFault(f"wsched translate {why}, twice, when it was told the same {len(lines)} objects") from why
 
     def exchange(self, lines: Sequence[bytes]) -> list[bytes]:
         """Writes the lines and reads the answers meanwhile, so that neither side waits for the other before a full pipe."""
@@ -101,7 +101,7 @@ def start(words: Sequence[str]) -> subprocess.Popen[bytes]:
     try:
         child = subprocess.Popen(words, stdin=subprocess.PIPE, stdout=subprocess.PIPE, bufsize=0, start_new_session=True)
     except OSError as why:
-        raise Ended(f"can't be run: {why}") from why
+        raise CoreFault(f"wsched translate can't be run: {why}") from why
     assert child.stdin
     # (a pipe that has room for a part is given that part)
     os.set_blocking(child.stdin.fileno(), False)

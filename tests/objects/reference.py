@@ -28,7 +28,7 @@ AMOUNT = "an amount"
 
 
 class Unsaid(Exception):
-    """No line says the object, and this is why."""
+    """No line says the object, and these are why."""
 
 
 class Told(NamedTuple):
@@ -215,15 +215,17 @@ def tolerations_of(spec: Json, left_out: list[str]) -> list[list[str]]:
     return kept
 
 
-def waiting(meta: Json, spec: Json, by_uid: bool) -> Told:
+def waiting(meta: Json, spec: Json, scheduler: str, by_uid: bool) -> Told:
     """What it asks for, as one container."""
     asked = Asked()
     sizes = needed(spec, asked, is_whole_counted=False)
-    why = [*demands(meta, spec)]
+    whose = "default-scheduler" if spec.get("schedulerName") is None else spec["schedulerName"]
+    why = [f"it is for the scheduler {whose}"] if whose != scheduler else []
+    why += demands(meta, spec)
     if asked.unread or any(size > MOST[it] for it, size in sizes.items()):
         why.append(AMOUNT)
     if why:
-        return Told(None, why)
+        raise Unsaid(*why)
     left_out = [*wishes(spec)]
     line = {"op": "pod", "uid": called(meta, by_uid), "priority": spec.get("priority") or 0, "containers": [[sizes["cpu"], sizes["memory"]]]}
     return Told(line | {"labels": labels_of(meta, left_out), "tolerations": tolerations_of(spec, left_out)}, left_out)
@@ -233,12 +235,10 @@ def pod(thing: Json, scheduler: str, by_uid: bool) -> Told:
     """A pod's line."""
     meta, spec = thing["metadata"], thing["spec"]
     if (thing.get("status") or {}).get("phase") in ("Succeeded", "Failed"):
-        return Told(None, [])
+        raise Unsaid()
     if spec.get("nodeName"):
         return bound(meta, spec, by_uid)
-    if (spec.get("schedulerName") or "default-scheduler") != scheduler:
-        return Told(None, [])
-    return waiting(meta, spec, by_uid)
+    return waiting(meta, spec, scheduler, by_uid)
 
 
 # Both, and what a watch says of them.
@@ -250,7 +250,7 @@ def said(thing: Json, scheduler: str, by_uid: bool) -> Told:
 
 
 def gone(kind: str, thing: Json, by_uid: bool) -> Told:
-    """Of one that is gone, or has ended."""
+    """Of one that is gone, or is told no more."""
     if kind == "Pod":
         return Told({"op": "deleted", "uid": called(thing["metadata"], by_uid)}, [])
     name = thing["metadata"]["name"]
@@ -262,12 +262,14 @@ def gone(kind: str, thing: Json, by_uid: bool) -> Told:
 def translated(it: Json, scheduler: str = "default-scheduler", by_uid: bool = False) -> Told:
     """Of an object, or of an event about one."""
     event, thing = (it["type"], it["object"]) if "type" in it and "object" in it else ("", it)
-    if event in ("BOOKMARK", "ERROR"):
+    if event == "BOOKMARK":
         return Told(None, [])
-    has_ended = thing["kind"] == "Pod" and (thing.get("status") or {}).get("phase") in ("Succeeded", "Failed")
     try:
-        if event == "DELETED" or event == "MODIFIED" and has_ended:
-            return gone(thing["kind"], thing, by_uid)
-        return said(thing, scheduler, by_uid)
+        return gone(thing["kind"], thing, by_uid) if event == "DELETED" else said(thing, scheduler, by_uid)
     except Unsaid as why:
-        return Told(None, [str(why)])
+        left_out = [*map(str, why.args)]
+    try:
+        # (whoever has told of it before, as it was, is to tell that it is so no more)
+        return Told(gone(thing["kind"], thing, by_uid).line if event == "MODIFIED" else None, left_out)
+    except Unsaid:
+        return Told(None, left_out)
