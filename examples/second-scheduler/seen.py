@@ -17,8 +17,8 @@ from affinity import LABELS, Asked, NodeLabels, Volumes
 from translating import Answer, Json, Size, Translator, as_json, fields_of, size_of
 
 ENDED = ("Succeeded", "Failed")
-# What is long and no line tells of: of what every object has, and of a container.
-OF_ALL = frozenset(["managedFields", "annotations"])
+# All of a pod's own data that matters to its line, but for its name; and what is long in a container, and doesn't matter.
+OF_PODS = ("labels", "deletionTimestamp")
 OF_CONTAINERS = frozenset(["env", "envFrom", "command", "args", "volumeMounts", "livenessProbe", "readinessProbe", "startupProbe", "lifecycle"])
 
 
@@ -76,7 +76,7 @@ class Reader:
         asked about selectors, affinity and volumes."""
         mine = [it for it in things if self.is_told(it)]
         asks = [affinity.asked(it, there) if there and not it["spec"].get("nodeName") else None for it in mine]
-        answers = self.translator.ask([short_pod(affinity.without(it) if own else it) for it, own in zip(mine, asks)])
+        answers = self.translator.ask([short(affinity.without(it) if own else it) for it, own in zip(mine, asks)])
         return {it["metadata"]["uid"]: seen_pod(it, own or Asked(), answer) for it, own, answer in zip(mine, asks, answers)}
 
     def is_told(self, pod: Json) -> bool:
@@ -85,23 +85,15 @@ class Reader:
         return bool(is_mine) and (pod.get("status") or {}).get("phase") not in ENDED
 
 
-def short(kind: str, thing: Json, part: str, spec: Json | None) -> Json:
-    """An object with one part of its status, and without what is long and no line tells of."""
-    return {"kind": kind, "metadata": but(OF_ALL, thing["metadata"]), "spec": spec, "status": {part: (thing.get("status") or {}).get(part)}}
-
-
-def but(keys: frozenset[str], thing: Json) -> Json:
-    return {key: value for key, value in thing.items() if key not in keys}
-
-
 # Nodes.
 
 
 def parts_of(node: Json) -> list[Json]:
     """The node, as often as it takes to ask of all its labels, since a line has some of them."""
-    said, labels = short("Node", node, "allocatable", node.get("spec")), sorted((node["metadata"].get("labels") or {}).items())
+    name, labels = node["metadata"]["name"], sorted((node["metadata"].get("labels") or {}).items())
+    said = {"kind": "Node", "spec": node.get("spec"), "status": {"allocatable": (node.get("status") or {}).get("allocatable")}}
     some = [dict(labels[k : k + LABELS]) for k in range(0, len(labels), LABELS)]
-    return [{**said, "metadata": {**said["metadata"], "labels": it}} for it in some or [{}]]
+    return [{**said, "metadata": {"name": name, "labels": it}} for it in some or [{}]]
 
 
 def seen_node(node: Json, answers: Sequence[Answer], labels: NodeLabels) -> SeenNode:
@@ -125,9 +117,14 @@ def row_of(seen: SeenNode, labels: NodeLabels) -> str | None:
 # Pods.
 
 
-def short_pod(pod: Json) -> Json:
-    spec = {**pod["spec"], "containers": [but(OF_CONTAINERS, it) for it in pod["spec"]["containers"]]}
-    return short("Pod", pod, "phase", spec)
+def short(pod: Json) -> Json:
+    """A pod that hasn't ended, without what no line tells of: so most pods are equal to what they were before, and to their like."""
+    meta = {key: pod["metadata"][key] for key in OF_PODS if key in pod["metadata"]}
+    spec = {**pod["spec"], "containers": [{key: value for key, value in it.items() if key not in OF_CONTAINERS} for it in pod["spec"]["containers"]]}
+    if spec.get("volumes"):
+        # (each pod has one of its own name, with the token of its account)
+        spec["volumes"] = [it for it in spec["volumes"] if "projected" not in it]
+    return {"kind": "Pod", "metadata": {"uid": "a-pod", **meta}, "spec": spec}
 
 
 def seen_pod(pod: Json, asks: Asked, answer: Answer) -> SeenPod:

@@ -1,6 +1,7 @@
 """`wsched translate` as a child: it is told nodes and pods as the API has them, and says what they come to as lines of a script."""
 from __future__ import annotations
 
+import itertools
 import json
 import logging
 import os
@@ -17,6 +18,8 @@ Json = dict[str, Any]
 Size = tuple[int, int]
 # How many objects are told at once, how much is written or read at once, and for how long an answer may be waited for, in seconds.
 AT_ONCE, PIECE, PATIENCE = 500, 65536, 15.0
+# Of how many objects the answers are kept. Most of what is heard is what was heard before but for what no line tells.
+KEPT = 4096
 spell = json.JSONEncoder(separators=(",", ":"), check_circular=False).encode
 
 
@@ -42,14 +45,19 @@ class Translator:
     def __init__(self, program: str, scheduler: str) -> None:
         self.words, self.lock = words_of(program, scheduler), threading.Lock()
         self.child: subprocess.Popen[bytes] | None = None
+        self.kept: dict[bytes, Answer] = {}
 
     def ask(self, things: Sequence[Json]) -> list[Answer]:
-        """Of each object its answer."""
+        """Of each object its answer, which is the same for equal ones."""
         found: list[Answer] = []
         for k in range(0, len(things), AT_ONCE):
             lines = [spell(it).encode() + b"\n" for it in things[k : k + AT_ONCE]]
             with self.lock:
-                found += map(answer_of, self.answers(lines))
+                new = [it for it in dict.fromkeys(lines) if it not in self.kept]
+                self.kept.update(zip(new, map(answer_of, self.answers(new)), strict=True))
+                found += [self.kept[it] for it in lines]
+                for line in [*itertools.islice(self.kept, max(0, len(self.kept) - KEPT))]:
+                    del self.kept[line]
         return found
 
     def answers(self, lines: Sequence[bytes]) -> list[bytes]:

@@ -141,8 +141,8 @@ def node(thing: Json) -> Told:
 
 def called(meta: Json, by_uid: bool) -> str:
     """Its name in the script."""
-    name = f"{meta.get('namespace') or 'default'}/{meta['name']}"
-    if by_uid or not NAME.fullmatch(name):
+    name = "" if by_uid else f"{meta.get('namespace') or 'default'}/{meta['name']}"
+    if not NAME.fullmatch(name):
         name = meta["uid"]
     if not NAME.fullmatch(name):
         raise Unsaid("its uid")
@@ -185,7 +185,8 @@ def demands(meta: Json, spec: Json) -> Iterator[str]:
         yield from (f"host port {it['hostPort']}" for it in one.get("ports") or [] if it.get("hostPort"))
         resources = one.get("resources") or {}
         yield from (f"resource {it}" for part in ("requests", "limits") for it in resources.get(part) or {} if it not in ("cpu", "memory"))
-    if spec.get("resources"):
+    if spec.get("resources") is not None:
+        # (an empty one too, which asks for nothing)
         yield "resources of the whole pod"
     if meta.get("deletionTimestamp"):
         yield "it is being deleted"
