@@ -1,6 +1,6 @@
 -- What a pod asks of a node, by what its containers ask (the Kubernetes pages "Init Containers" and "Sidecar
 -- Containers", "Resource sharing within containers", and "Pod Overhead").
-use Rattle.std.specs.Prelude.{ℕ, ◌+◌, max, nat_le, if◌then◌else◌, List, [], ◌∷◌, length, sum_by, Option, Some, None, Result, Err}
+use Rattle.std.specs.Prelude.{ℕ, ◌+◌, max, nat_le, Bool, if◌then◌else◌, List, [], ◌∷◌, length, sum_by, Result, Err}
 use Rattle.std.specs.Option.{ok_or}
 use Rattle.serde_json.specs.Data.{Data}
 use Rattle.quant.specs.declared.amount.Request.{Request}
@@ -14,6 +14,7 @@ use Rattle.objects.specs.declared.fault.ObjectFault.TheVariants.{BadField, PodRe
 use Rattle.objects.specs.Quantity.{◌>>=◌}
 use Rattle.objects.specs.Resource.{amount_of}
 use Rattle.objects.specs.Reading.{field}
+use Rattle.objects.specs.Field.{is_given}
 use Rattle.objects.specs.Container.{whole, containers, overhead_request}
 
 -- how much of a resource containers ask together
@@ -48,9 +49,8 @@ request_of_all containers init overhead =
     whole (request_of (record { 0 = effective resources.Cpu containers init overhead }) (record { 0 = effective resources.Memory containers init overhead }))
 
 -- what a pod's containers come to, where it doesn't ask for resources as a whole beside them
-abbrev pub by_containers : Option Data → Result Request ObjectFault → Result Request ObjectFault
-by_containers None asked = asked
-by_containers (Some value) asked = Err PodResources
+abbrev pub by_containers : (asks_as_a_whole : Bool) → Result Request ObjectFault → Result Request ObjectFault
+by_containers asks_as_a_whole asked = if asks_as_a_whole then Err PodResources else asked
 
 -- the request of a pod's object, which has a container at least
 unfoldable pub pod_request : Data → Result Request ObjectFault
@@ -59,4 +59,4 @@ pod_request pod = do
   running ← containers keys.Containers spec
   init ← containers keys.InitContainers spec
   overhead ← overhead_request spec
-  if nat_le 1 (length running) then by_containers (field keys.Resources spec) (request_of_all running init overhead) else Err (BadField keys.Containers)
+  if nat_le 1 (length running) then by_containers (is_given (field keys.Resources spec)) (request_of_all running init overhead) else Err (BadField keys.Containers)

@@ -5,6 +5,7 @@ ghost use Rattle.objects.specs.PodRequest.{pod_request};
 
 use crate::container::{containers, overhead_request};
 use crate::fault::ObjectFault;
+use crate::field::is_given;
 use crate::key::Key;
 use crate::reading::field;
 use crate::request::request_of_all;
@@ -33,8 +34,8 @@ pub fn pod_request(alloc: Global, pod: &Value) -> Result<Request, ObjectFault>
     if running.is_empty() {
         return Err(ObjectFault::BadField(Key::Containers));
     }
-    match field(spec, Key::Resources) {
-        Some(_) => Err(ObjectFault::PodResources),
-        None => request_of_all(running.as_slice(), init.as_slice(), &overhead),
+    if is_given(field(spec, Key::Resources)) {
+        return Err(ObjectFault::PodResources);
     }
+    request_of_all(running.as_slice(), init.as_slice(), &overhead)
 }
