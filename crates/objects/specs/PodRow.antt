@@ -2,7 +2,7 @@
 use Rattle.std.specs.Prelude.{ℕ, ℤ, pos, negsuc, int_le, ◌&&◌, Bool, List, [], ◌∷◌, ◌++◌, length, nat_lt, codes, Option, Some, None, Result, Ok, Err, option_and_then, if◌then◌else◌}
 use Rattle.std.specs.Option.{ok_or}
 use Rattle.serde_json.specs.Data.{Data, Items, no_items, item, Members}
-use Rattle.serde_json.specs.Find.{as_number, as_i64}
+use Rattle.serde_json.specs.Find.{as_number, as_i64, as_str}
 use Rattle.quant.specs.Name.{is_name}
 use Rattle.quant.specs.declared.amount.Request.{Request}
 use Rattle.quant.specs.declared.limits.TheConstants.{MAX_TOLERATIONS}
@@ -62,15 +62,23 @@ priority spec = priority_of (field keys.Priority spec)
 abbrev pub fitting : List Toleration → Toleration → Option Toleration
 fitting before toleration = if nat_lt (length before) MAX_TOLERATIONS && says_toleration before toleration then Some toleration else None
 
-abbrev pub with_parts : List Toleration → Data → Option Operator → Option (Option Effect) → Option Toleration
-with_parts before json None effect = None
-with_parts before json (Some operator) None = None
-with_parts before json (Some operator) (Some effect) =
-    fitting before (record { key = spelled keys.LabelKey json; operator = operator; value = spelled keys.LabelValue json; effect = effect })
+-- (the text in a field that may be absent; what is no text gives no toleration)
+abbrev pub text_if : Option Data → Option (List ℕ)
+text_if None = Some []
+text_if (Some value) = as_str value
+
+abbrev pub with_parts : List Toleration → Option Operator → Option (Option Effect) → (key value : Option (List ℕ)) → Option Toleration
+with_parts before None effect key value = None
+with_parts before (Some operator) None key value = None
+with_parts before (Some operator) (Some effect) None value = None
+with_parts before (Some operator) (Some effect) (Some key) None = None
+with_parts before (Some operator) (Some effect) (Some key) (Some value) =
+    fitting before (record { key = key; operator = operator; value = value; effect = effect })
 
 unfoldable pub toleration_of : List Toleration → Data → Option Toleration
 toleration_of before json =
-    with_parts before json (operator_named (spelled keys.Operator json)) (effect_or_none (spelled keys.Effect json))
+    with_parts before (option_and_then operator_named (text_if (field keys.Operator json)))
+    (option_and_then effect_or_none (text_if (field keys.Effect json))) (text_if (field keys.LabelKey json)) (text_if (field keys.LabelValue json))
 
 -- one more toleration, or the name of one that is left out: without it the pod is kept from places where it could be
 abbrev pub with_toleration : Kept Toleration → (key : List ℕ) → Option Toleration → Kept Toleration

@@ -277,9 +277,9 @@ const TRANSLATIONS: &[(&str, &str, &str, &str)] = &[
             "nodeAffinity":{"preferredDuringSchedulingIgnoredDuringExecution":[{"weight":1}]},"podAntiAffinity":{
             "preferredDuringSchedulingIgnoredDuringExecution":[]}},"topologySpreadConstraints":[
             {"whenUnsatisfiable":"ScheduleAnyway"}],"tolerations":[{"key":"a","operator":"Gt","value":"5"},
-            {"key":"b","value":"c"},{"operator":"Equal"}]}}"#,
+            {"key":"b","value":"c"},{"operator":"Equal"},{"key":7,"operator":"Exists"}]}}"#,
         r#"{"op":"pod","v":7,"uid":"default/a","priority":0,"containers":[["0m","0"]],"labels":[],"tolerations":[["b","Equal","c",""]]}"#,
-        r#""preferred node affinity", "preferred topology spread", "toleration of a", "toleration of ""#,
+        r#""preferred node affinity", "preferred topology spread", "toleration of a", "toleration of ", "toleration of ""#,
     ),
     (
         "a pod that waits and is tied to a node by more than its row can tell",

@@ -1,16 +1,18 @@
 //! The tolerations that a row has of a pod's.
-ghost use Rattle.std.specs.Prelude.{◌≡◌, ◌<◌, ◌≤◌, true, [], length, IfOk, OnOk, IfSome, OnSome};
+ghost use Rattle.std.specs.Prelude.{◌≡◌, ◌<◌, ◌≤◌, true, [], length, IfOk, OnOk, IfSome, OnSome, option_map};
 ghost use Rattle.serde_json.specs.View.{view, items_view};
 ghost use Rattle.manifest.specs.Rows.{operator_named, effect_or_none, lawful};
 ghost use Rattle.objects.specs.declared.key.Key.TheVariants as keys;
 ghost use Rattle.objects.specs.Field.{spelled};
-ghost use Rattle.objects.specs.PodRow.{fitting, toleration_of, with_toleration, tolerations_of};
+ghost use Rattle.objects.specs.Reading.{field};
+ghost use Rattle.objects.specs.PodRow.{text_if, fitting, toleration_of, with_toleration, tolerations_of};
 ghost use Rattle.objects.specs.Sayable.{each_beside, says_toleration};
 ghost use Rattle.objects.specs.inside.Members.{kept};
 
 use crate::field::spelled;
 use crate::key::Key;
 use crate::left_out::put_left_out;
+use crate::reading::field;
 use crate::taints::effect_named;
 use arrayvec::ArrayVec;
 use quant::{Effect, MAX_TOLERATIONS, Operator, Text, Toleration};
@@ -70,11 +72,22 @@ fn toleration_of(before: &[Toleration], item: &Value) -> Option<Toleration>
     ensures sayable { IfSome result (λ toleration. says_toleration before.now toleration ≡ true) }
     ensures room { OnSome result (length before.now < 16) }
 {
-    let operator = operator_named(spelled(item, Key::Operator))?;
-    let effect = effect_or_none(spelled(item, Key::Effect))?;
-    let key = spelled(item, Key::LabelKey);
-    let value = spelled(item, Key::LabelValue);
+    let operator = operator_named(text_if(item, Key::Operator)?)?;
+    let effect = effect_or_none(text_if(item, Key::Effect)?)?;
+    let key = text_if(item, Key::LabelKey)?;
+    let value = text_if(item, Key::LabelValue)?;
     fitting(before, key, operator, value, effect)
+}
+
+// The text in a field that may be absent. What is no text gives no toleration, since an empty key
+// or effect stands for every one.
+fn text_if(item: &Value, key: Key) -> Option<&str>
+    ensures { option_map (λ text. text.now) result ≡ text_if (field key (view item.now)) }
+{
+    match field(item, key) {
+        Some(value) => value.as_str(),
+        None => Some(""),
+    }
 }
 
 // A toleration, where a row can have it behind others.
