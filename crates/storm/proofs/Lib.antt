@@ -1,5 +1,6 @@
 pub mod Going
 pub mod Cycling
+pub mod Batches
 pub mod Reading
 pub mod Answering
 pub mod Meeting

@@ -1,5 +1,6 @@
 pub mod Made
 pub mod News
+pub mod Lines
 pub mod Cycles
 pub mod Crew
 pub mod Stages

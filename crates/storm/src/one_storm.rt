@@ -228,7 +228,7 @@ fn storm_on<
     }
 }
 
-/// A storm: its script is read whole, and then told twice by two feeders, while a cycle pass for each decider places pods and
+/// A storm: its script is read whole, by up to four threads, and then told twice by two feeders, while a cycle pass for each decider places pods and
 /// each binder tells the cluster of places, each in a thread of its own. Cycles go on until both feeders have ended and no pod
 /// waits; then the first cycle pass, which has met the feeders', goes on alone until no pod waits once more, and the binders do
 /// what jobs are left. At the end it writes the dump's lines and the audit's: whether what the dump shows as used is the sum of
@@ -260,7 +260,7 @@ pub fn storm<
     ensures { IsStormRun (λ d. rules_of D.Kit.answers (D.kits d)) deciders.items (length binders.items)
         (use_of S.remaining S.failure_count source.old source.new) (use_of W.written W.failure_count sink.old sink.new) result }
 {
-    let steps = read_script(alloc, source)?;
+    let steps = read_script(rt, alloc, source)?;
     storm_on::<Brand, R, D, W>(
         rt,
         Blank::new(),

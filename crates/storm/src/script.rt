@@ -1,5 +1,5 @@
 //! The script of a storm: what the watch tells, and how time goes on.
-ghost use Rattle.std.specs.Prelude.{◌≡◌, ◌≢◌, ◌^◌, ◌<◌, ◌++◌, ◌∷◌, Some, None, [], ℕ, Err, IfOk, IfErr, IfSome, OnOk};
+ghost use Rattle.std.specs.Prelude.{◌≡◌, ◌≢◌, ◌⊎◌, ◌^◌, ◌<◌, ◌++◌, Some, None, [], ℕ, Err, IfOk, IfErr, IfSome, OnOk};
 ghost use Rattle.std.specs.List.{All};
 ghost use Rattle.desk.specs.Caller as caller;
 ghost use Rattle.manifest.specs.Line as line;
@@ -8,10 +8,12 @@ ghost use Rattle.manifest.specs.declared.fault.LineFault.{LineFault as Fault};
 ghost use Rattle.engine.specs.Script.{asked_by};
 ghost use Rattle.storm.specs.Script.{watched, script_steps, first_storm_fault};
 
+use crate::batch::{read_in_four, take_lines};
 use desk::Step;
 use engine::{LineReader, RunFault, Source};
 use manifest::{Command, Field, LineFault, read_line};
 use std::alloc::{AllocError, Global};
+use std::thread::Threads;
 
 // The step that a command asks for. What the watch doesn't tell is refused.
 fn step_for(command: Command) -> Result<Step, LineFault>
@@ -31,7 +33,7 @@ fn step_for(command: Command) -> Result<Step, LineFault>
 
 // The step that a line asks for: none, where it is empty.
 #[tactic(auto, unfolding(engine::specs::Script::asked_by))]
-fn step_in(alloc: Global, line: &[u8]) -> Result<Option<Step>, LineFault>
+pub(crate) fn step_in(alloc: Global, line: &[u8]) -> Result<Option<Step>, LineFault>
     ensures asked { Answers result (asked_by watched line.now) }
     ensures timely { IfOk result (λ step. IfSome step caller.IsTimely) }
 {
@@ -43,21 +45,38 @@ fn step_in(alloc: Global, line: &[u8]) -> Result<Option<Step>, LineFault>
     Ok(Some(step))
 }
 
-// Adds a step.
-fn add(steps: &mut Vec<Step>, step: Step) -> Result<(), AllocError>
-    ensures added { OnOk result (steps.new.items ≡ steps.old.items ++ step ∷ []) }
+// How the fault of the line of this number ends a storm.
+fn told_at(number: u64, fault: LineFault) -> RunFault
+    ensures line { (n : ℕ) (f : Fault) → result ≡ RunFault.Line n f
+        → (n ≡ number) × (f ≡ fault) × (fault ≢ LineFault.NoMemory) }
+    ensures faults { (result ≡ RunFault.NoMemory) ⊎ (result ≡ RunFault.Line number fault) }
 {
-    if steps.push(step).is_err() {
+    match fault {
+        LineFault::NoMemory => RunFault::NoMemory,
+        fault => RunFault::Line(number, fault),
+    }
+}
+
+// Adds steps.
+fn add_all(steps: &mut Vec<Step>, more: Vec<Step>) -> Result<(), AllocError>
+    ensures added { OnOk result (steps.new.items ≡ steps.old.items ++ more.items) }
+{
+    let mut more = more;
+    if steps.append(&mut more).is_err() {
         return Err(AllocError);
     }
     Ok(())
 }
 
-/// Reads a script whole: the steps that its lines ask for, in order. A line ends at a newline, which the last one may lack; an
-/// empty line is passed over and counted.
+/// Reads a script whole: the steps that its lines ask for, in order. A line ends at a newline, which the last one may
+/// lack; an empty line is passed over and counted. Several threads read it, many lines at once.
 ///
 /// Errors: `Line` with the number of the first faulty line and its fault; `NoMemory`; `Read`.
-pub(crate) fn read_script<R: Source>(alloc: Global, source: &mut R) -> Result<Vec<Step>, RunFault>
+pub(crate) fn read_script<T: Threads + Sync, R: Source>(
+    rt: &T,
+    alloc: Global,
+    source: &mut R,
+) -> Result<Vec<Step>, RunFault>
     requires reads { R.failure_count source.old < 10 ^ 18 }
     requires finite { R.bytes_left source.old < 2 ^ 64 }
     ensures read { IfOk result (λ steps. IfSome (R.remaining source.old) (λ script. (first_storm_fault script ≡ None)
@@ -71,19 +90,21 @@ pub(crate) fn read_script<R: Source>(alloc: Global, source: &mut R) -> Result<Ve
     ensures placed { result ≢ Err RunFault.NoPlace }
 {
     let mut reader = LineReader::new(alloc)?;
-    let mut line = Vec::new(alloc);
+    let mut lines = Vec::new(alloc);
     let mut steps = Vec::new(alloc);
     let mut number = 0u64;
     'lines: loop {
-        if !reader.next_line(source, &mut line, &[])? {
+        let more = take_lines(alloc, &mut reader, source, &mut lines)?;
+        let part = read_in_four(rt, alloc, &lines);
+        match part.fault {
+            None => add_all(&mut steps, part.steps)?,
+            Some(faulty) => {
+                return Err(told_at(number + faulty.before as u64 + 1, faulty.fault));
+            }
+        }
+        if !more {
             return Ok(steps);
         }
-        number += 1;
-        match step_in(alloc, &line) {
-            Ok(None) => {}
-            Ok(Some(step)) => add(&mut steps, step)?,
-            Err(LineFault::NoMemory) => return Err(RunFault::NoMemory),
-            Err(fault) => return Err(RunFault::Line(number, fault)),
-        }
+        number += lines.len() as u64;
     }
 }
