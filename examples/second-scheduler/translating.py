@@ -53,14 +53,14 @@ class Translator:
         for k in range(0, len(things), AT_ONCE):
             lines = [spell(it).encode() + b"\n" for it in things[k : k + AT_ONCE]]
             with self.lock:
-                new = [it for it in dict.fromkeys(lines) if it not in self.kept]
-                self.kept.update(zip(new, map(answer_of, self.answers(new)), strict=True))
+                if new := [it for it in dict.fromkeys(lines) if it not in self.kept]:
+                    self.kept.update(zip(new, self.answers(new)))
                 found += [self.kept[it] for it in lines]
                 for line in [*itertools.islice(self.kept, max(0, len(self.kept) - KEPT))]:
                     del self.kept[line]
         return found
 
-    def answers(self, lines: Sequence[bytes]) -> list[bytes]:
+    def answers(self, lines: Sequence[bytes]) -> list[Answer]:
         try:
             return self.exchange(lines)
         except Ended as why:
@@ -72,7 +72,7 @@ class Translator:
             self.end()
             raise CoreFault(f"wsched translate {why}, twice, when it was told the same {len(lines)} objects") from why
 
-    def exchange(self, lines: Sequence[bytes]) -> list[bytes]:
+    def exchange(self, lines: Sequence[bytes]) -> list[Answer]:
         """Writes the lines and reads the answers meanwhile, so that neither side waits for the other before a full pipe."""
         self.child = child = self.child or start(self.words)
         assert child.stdin and child.stdout
@@ -95,7 +95,9 @@ class Translator:
                     raise Ended(f"ended with status {child.wait()}")
                 *whole, rest = (rest + some).split(b"\n")
                 answers += whole
-        return answers
+        if len(answers) > len(lines) or rest:
+            raise Ended("says more than it is asked")
+        return [*map(answer_of, answers)]
 
     def end(self) -> None:
         if self.child:
@@ -127,8 +129,11 @@ def written(told: int, piece: memoryview) -> int:
 
 
 def answer_of(line: bytes) -> Answer:
-    said = json.loads(line)
-    return Answer(said["line"], tuple(said["left_out"]))
+    try:
+        said = json.loads(line)
+        return Answer(said["line"], tuple(said["left_out"]))
+    except (ValueError, LookupError, TypeError) as why:
+        raise Ended(f"says what is no answer ({why})") from why
 
 
 # Lines.

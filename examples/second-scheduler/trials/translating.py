@@ -22,11 +22,12 @@ def translate_killed(site: Site) -> str:
     it = site.start()
     for turn in range(5):
         for i in range(20):
-            site.pod(f"pod-{turn}-{i}", cpu="10m")
+            # (one that has its like is asked of once)
+            site.pod(f"pod-{turn}-{i}", cpu="10m", labels={"turn": f"{turn}-{i}"})
         wait_for(lambda turn=turn: site.placed() > 20 * turn, 20, f"pods of turn {turn} are bound")  # type: ignore[misc]
         os.kill(translator(it), signal.SIGKILL)
         time.sleep(0.1)
-    site.pod("last")
+    site.pod("last", labels={"turn": "last"})
     wait_for(lambda: site.placed() == 101, 20, f"all 101 pods are bound: {site.placed()}")
     said = it.log().count("it is started again")
     assert said == 5, f"the log says {said} times that it is started again: {it.log()[-500:]}"
@@ -42,7 +43,7 @@ def translate_stopped(site: Site) -> str:
     wait_for(lambda: site.place("first"), 20, "it binds")
     stopped = translator(it)
     os.kill(stopped, signal.SIGSTOP)
-    site.pod("second")
+    site.pod("second", labels={"turn": "second"})
     took = wait_for(lambda: site.place("second"), 30, "a pod is bound though it was stopped")
     assert took > 10 and translator(it) != stopped
     return f"bound after {took:.1f} s; {site.check()}"
