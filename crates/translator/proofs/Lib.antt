@@ -1,0 +1,4 @@
+pub mod Given
+pub mod Translating
+pub mod Translated
+pub mod Scripts

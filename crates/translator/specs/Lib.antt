@@ -1,0 +1,3 @@
+pub mod Translate
+pub mod Laws
+pub mod inside

@@ -1,0 +1,71 @@
+//! The texts that answer a line of a translation.
+ghost use Rattle.std.specs.Prelude.{◌≡◌, IfOk};
+ghost use Rattle.translator.specs.Translate.{answer_text, left_out_text, left_out_words, line_or_null};
+
+use itoa::Buffer;
+use objects::Translation;
+use std::alloc::{AllocError, Global};
+
+// The line of a script, or `null` where there is none, in an object of JSON.
+fn line_or_null(line: &[u8]) -> &[u8]
+    ensures { result.now ≡ line_or_null line.now }
+{
+    if line.is_empty() { b"null" } else { line }
+}
+
+// What is said of a line that gives a script's line, and of one that gives none.
+fn left_out_words(line: &[u8]) -> &'static [u8]
+    ensures { result.now ≡ left_out_words line.now }
+{
+    if line.is_empty() {
+        b" is left out: "
+    } else {
+        b": left out: "
+    }
+}
+
+// The answer to a line: the script's line, or an object with it and with what is left out.
+#[tactic(auto, unfolding(crate::specs::Translate::answer_text))]
+pub(crate) fn answer_text(
+    alloc: Global,
+    answers: bool,
+    translation: &Translation,
+) -> Result<Vec<u8>, AllocError>
+    ensures { IfOk result (λ text. text.items ≡ answer_text answers translation.now) }
+{
+    let mut text = Vec::new(alloc);
+    if answers {
+        text.extend_from_slice(b"{\"line\": ")?;
+        text.extend_from_slice(line_or_null(&translation.line))?;
+        text.extend_from_slice(b", \"left_out\": [")?;
+        text.extend_from_slice(&translation.left_out)?;
+        text.extend_from_slice(b"]}\n")?;
+        return Ok(text);
+    }
+    text.extend_from_slice(&translation.line)?;
+    text.extend_from_slice(b"\n")?;
+    Ok(text)
+}
+
+// What is told beside the answer to the line of this number: what is left out, where no answer says it.
+#[tactic(auto, unfolding(crate::specs::Translate::left_out_text))]
+pub(crate) fn left_out_text(
+    alloc: Global,
+    answers: bool,
+    number: u64,
+    translation: &Translation,
+) -> Result<Vec<u8>, AllocError>
+    ensures { IfOk result (λ text. text.items ≡ left_out_text answers number translation.now) }
+{
+    let mut text = Vec::new(alloc);
+    if answers || translation.left_out.is_empty() {
+        return Ok(text);
+    }
+    let mut digits = Buffer::new();
+    text.extend_from_slice(b"line ")?;
+    text.extend_from_slice(digits.format(number).as_bytes())?;
+    text.extend_from_slice(left_out_words(&translation.line))?;
+    text.extend_from_slice(&translation.left_out)?;
+    text.extend_from_slice(b"\n")?;
+    Ok(text)
+}

@@ -1,0 +1,171 @@
+//! A translation of objects of the Kubernetes API to the lines of a script, one for each.
+ghost use Rattle.std.specs.Prelude.{◌≡◌, ◌^◌, ◌<◌, ◌≤◌, ◌++◌, Result, IfOk, IfErr, OnOk, OnErr};
+ghost use Rattle.std.specs.Result.{result_ok};
+ghost use Rattle.engine.specs.Device.{use_of};
+ghost use Rattle.objects.specs.Reading.{Fails};
+ghost use Rattle.objects.specs.Told.{Told};
+ghost use Rattle.objects.specs.declared.fault.ObjectFault.{ObjectFault};
+ghost use Rattle.objects.specs.Translation.{IsTranslation};
+ghost use Rattle.translator.specs.Translate.{IsTranslated, answer_text, left_out_text, manner_of, next_version, told_under};
+ghost use Rattle.translator.specs.inside.Translate.{IsLineAnswered, IsLineEnd, IsStopped, TranslatesTo};
+
+use crate::answer_text::{answer_text, left_out_text};
+use crate::waiting::{Stopped, Waiting};
+use command::TranslatePlan;
+use engine::{LineReader, RunFault, Sink, Source};
+use fault_line::{Fault, report};
+use objects::{MAX_OBJECT, ObjectFault, Translation, translate};
+use quant::{MAX_VERSION, Version};
+use std::alloc::{AllocError, Global};
+
+// The most bytes of a line that are kept: one more than an object may have, by which it is known to be too long.
+const MAX_KEPT: usize = MAX_OBJECT + 1;
+
+/// Reads objects from `source`, one a line, writes what each gives a script to `out`, also one a line, and gives the exit status.
+/// What is left out of an object goes to `err`, unless the answers say it. So does a fault, as one line, and a failed write of that
+/// line changes nothing.
+pub fn serve_translation<R: Source, W: Sink, E: Sink>(
+    alloc: Global,
+    plan: &TranslatePlan<'_>,
+    source: &mut R,
+    out: &mut W,
+    err: &mut E,
+) -> u8
+    requires reads { R.failure_count source.old < 10 ^ 18 }
+    requires writes { W.failure_count out.old < 10 ^ 18 }
+    requires tells { E.failure_count err.old < 10 ^ 18 }
+    requires finite { R.bytes_left source.old < 2 ^ 64 }
+    ensures { IsTranslated (manner_of plan.now) (use_of R.remaining R.failure_count source.old source.new)
+        (use_of W.written W.failure_count out.old out.new) (use_of E.written E.failure_count err.old err.new) result }
+{
+    match translate_lines(alloc, plan, source, out, err) {
+        Ok(()) => 0,
+        Err(Stopped::By(fault)) => report(fault, err),
+        Err(Stopped::Untold) => Fault::Run(RunFault::Write).status(),
+    }
+}
+
+// Answers the lines of a source, up to one that can't be counted.
+fn translate_lines<R: Source, W: Sink, E: Sink>(
+    alloc: Global,
+    plan: &TranslatePlan<'_>,
+    source: &mut R,
+    out: &mut W,
+    err: &mut E,
+) -> Result<(), Stopped>
+    requires reads { R.failure_count source.old < 10 ^ 18 }
+    requires writes { W.failure_count out.old < 10 ^ 18 }
+    requires tells { E.failure_count err.old < 10 ^ 18 }
+    requires finite { R.bytes_left source.old < 2 ^ 64 }
+    ensures { IsStopped (manner_of plan.now) (use_of R.remaining R.failure_count source.old source.new)
+        (use_of W.written W.failure_count out.old out.new) (use_of E.written E.failure_count err.old err.new) result }
+{
+    let mut reader = LineReader::new(alloc)?;
+    let mut line = Vec::with_capacity(alloc, MAX_KEPT)?;
+    let mut waits = Waiting::new(alloc);
+    let mut number = 0u64;
+    let mut version = 1u64;
+    'lines: loop {
+        waits.flush_if(!reader.has_line(), out, err)?;
+        if !reader.next_front(MAX_KEPT, source, &mut line, &waits.answers)? {
+            return waits.flush(out, err);
+        }
+        number += 1;
+        if let Err(fault) = answer_line(alloc, plan, &line, number, &mut version, &mut waits) {
+            waits.flush(out, err)?;
+            return Err(Stopped::By(fault));
+        }
+    }
+}
+
+// Answers a line: its answer, and what is told beside it, wait then, and the next version is one more where the line gives an event.
+fn answer_line(
+    alloc: Global,
+    plan: &TranslatePlan<'_>,
+    line: &[u8],
+    number: u64,
+    version: &mut u64,
+    waits: &mut Waiting,
+) -> Result<(), Fault>
+    requires { 1 ≤ version.old }
+    ensures answered { OnOk result (IsLineAnswered (manner_of plan.now) number version.old line.now version.new
+        waits.old waits.new) }
+    ensures kept { OnErr result ((waits.new.answers.items ≡ waits.old.answers.items)
+        × (waits.new.left_out.items ≡ waits.old.left_out.items)) }
+    ensures next { version.old ≤ version.new }
+    ensures ends { IfErr result (IsLineEnd number (told_under (manner_of plan.now) version.old line.now)) }
+{
+    let translation = translation_under(alloc, plan, line, number, *version)?;
+    match wait_for(alloc, plan.answers, number, &translation, waits) {
+        Ok(()) => {
+            *version = version_behind(*version, &translation);
+            Ok(())
+        }
+        Err(_) => Err(Fault::Run(RunFault::NoMemory)),
+    }
+}
+
+// What a line gives under the next version.
+fn translation_under(
+    alloc: Global,
+    plan: &TranslatePlan<'_>,
+    line: &[u8],
+    number: u64,
+    version: u64,
+) -> Result<Translation, Fault>
+    requires { 1 ≤ version }
+    ensures given { IfOk result (TranslatesTo (told_under (manner_of plan.now) version line.now)) }
+    ensures within { IfOk result (λ _. version ≤ MAX_VERSION) }
+    ensures ends { IfErr result (IsLineEnd number (told_under (manner_of plan.now) version line.now)) }
+{
+    if version > MAX_VERSION {
+        return Err(Fault::Uncounted(number));
+    }
+    match translate(alloc, line, plan.scheduler, plan.by_uid, Version(version)) {
+        Ok(translation) => Ok(translation),
+        Err(fault) => Err(line_end(number, fault)),
+    }
+}
+
+// Why a line ends a translation, by the fault of its object: memory was wanting, or the object can't be counted.
+fn line_end(number: u64, fault: ObjectFault) -> Fault
+    ensures { (meant : Result Told ObjectFault) → Fails fault meant → IsLineEnd number (result_ok meant) result }
+{
+    match fault {
+        ObjectFault::NoMemory => Fault::Run(RunFault::NoMemory),
+        _ => Fault::Uncounted(number),
+    }
+}
+
+// Adds the answer to a line to what waits, and what is told beside it.
+fn wait_for(
+    alloc: Global,
+    answers: bool,
+    number: u64,
+    translation: &Translation,
+    waits: &mut Waiting,
+) -> Result<(), AllocError>
+    ensures answers { OnOk result (waits.new.answers.items
+        ≡ waits.old.answers.items ++ answer_text answers translation.now) }
+    ensures left_out { OnOk result (waits.new.left_out.items
+        ≡ waits.old.left_out.items ++ left_out_text answers number translation.now) }
+    ensures kept { OnErr result ((waits.new.answers.items ≡ waits.old.answers.items)
+        × (waits.new.left_out.items ≡ waits.old.left_out.items)) }
+{
+    let answer = answer_text(alloc, answers, translation)?;
+    let left_out = left_out_text(alloc, answers, number, translation)?;
+    waits.add(&answer, &left_out)
+}
+
+// The next version behind a translation: one more where it gives an event, which has a line then.
+fn version_behind(version: u64, translation: &Translation) -> u64
+    requires { version ≤ MAX_VERSION }
+    ensures next { (told : Told) → IsTranslation told translation.now → result ≡ next_version version told.event }
+    ensures least { version ≤ result }
+{
+    if translation.line.is_empty() {
+        version
+    } else {
+        version + 1
+    }
+}
