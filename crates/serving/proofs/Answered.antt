@@ -3,7 +3,7 @@ use Rattle.std.proofs.Common.{◌≡◌, ◌≢◌, ◌⊎◌, ◌∙◌, ◌<�
 use Rattle.std.specs.Prelude.{IfErr}
 use Rattle.engine.specs.Device.{DeviceUse}
 use Rattle.engine.specs.declared.fault.RunFault.TheVariants as run_fault
-use Rattle.command.specs.Words.{Asked, asked_by, run, explain, check, storm}
+use Rattle.command.specs.Words.{Asked, asked_by, run, explain, check, storm, translate}
 use Rattle.command.specs.declared.fault.WordFault.{WordFault}
 use Rattle.command.specs.declared.fault.WordFault.TheVariants as word_fault
 use Rattle.fault_line.specs.declared.fault.Fault.{Fault}
@@ -15,6 +15,7 @@ use Rattle.serving.specs.Run.{TellsFault, told_of}
 use Rattle.serving.proofs.Ends.{not_begun, told}
 use Rattle.serving.proofs.Quiet.{no_memory_told}
 use Rattle.serving.proofs.StormEnds.{storm_not_begun}
+use Rattle.translator.proofs.Translated.{nothing_translated}
 
 module _ (Unkeyed : Type 0) (files : FilesUse) (source out err : DeviceUse) (ended : ℕ) where
   -- nothing was touched
@@ -24,6 +25,7 @@ module _ (Unkeyed : Type 0) (files : FilesUse) (source out err : DeviceUse) (end
     pub unread : source.IsUntouched
     pub reads : source.failures_new ≡ source.failures_old
     pub unwritten : out.IsUntouched
+    pub same : out.new ≡ out.old
     pub writes : out.failures_new ≡ out.failures_old
 
   -- memory was wanting for the words: whatever they ask for isn't begun
@@ -63,6 +65,10 @@ module _ (Unkeyed : Type 0) (files : FilesUse) (source out err : DeviceUse) (end
     storm = storm_not_begun _ _ _ _ _ _ _ _ (inl three) h.unwritten;
     failures = told _ _ _ _ _ _ _ (Words word_fault.NoMemory) three tells (h.reads, h.writes);
     files_told = λ _. h.opens;
+  }
+  wanting (Some (translate scheduler by_uid answers)) fault three tells h = record {
+    translated = nothing_translated _ source out err ended three (rw no_memory_told at tells) h.same h.reads h.writes;
+    unopened = h.unopened;
   }
 
   module _ {V : Type 0} (texts : V → List (List ℕ)) (args : Result V WordFault) where

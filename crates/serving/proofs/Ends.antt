@@ -13,7 +13,7 @@ use Rattle.engine.specs.declared.fault.RunFault.TheVariants as run_fault
 use Rattle.command.specs.Words.{SpecSyntax}
 use Rattle.command.specs.declared.fault.WordFault.TheVariants as word_fault
 use Rattle.fault_line.specs.declared.fault.Fault.{Fault}
-use Rattle.fault_line.specs.declared.fault.Fault.TheVariants.{Words, Misused, Plugin, Unread, Run}
+use Rattle.fault_line.specs.declared.fault.Fault.TheVariants.{Words, Misused, Plugin, Unread, Run, Uncounted}
 use Rattle.fault_line.specs.Fault.{status_of}
 use Rattle.serving.specs.Run.{IsSiteRun, TellsFailures, TellsFault}
 use Rattle.serving.specs.Site.{AreSiteKits, IsToldAs, SiteFaulty, SiteFront, SiteRefused, UnreadPlugin, WhyNoModules, WhyNoPlugin, WhyNoSite, named_of}
@@ -33,6 +33,7 @@ Besides Left NotBegun NoFile source out (Unread name) = NoFile name × source.Is
 Besides Left NotBegun NoFile source out (Plugin name why) = (source.failures_new ≡ source.failures_old) × (out.failures_new ≡ out.failures_old)
 Besides Left NotBegun NoFile source out (Misused why) = (source.failures_new ≡ source.failures_old) × (out.failures_new ≡ out.failures_old)
 Besides Left NotBegun NoFile source out (Words why) = (source.failures_new ≡ source.failures_old) × (out.failures_new ≡ out.failures_old)
+Besides Left NotBegun NoFile source out (Uncounted number) = (source.failures_new ≡ source.failures_old) × (out.failures_new ≡ out.failures_old)
 
 module _ (Left NotBegun : Type 0) (NoFile : Name → Type 0) (source out err : DeviceUse) (ended : ℕ) where
   -- a fault that leaves the devices' failures as they were is told
@@ -53,6 +54,7 @@ module _ (Left NotBegun : Type 0) (NoFile : Name → Type 0) (source out err : D
       kept 3 is (λ e. omega (arith, e)) (λ e. omega (arith, e)) (λ _. inl (rw no_memory_told at tells)) besides
   told (Misused why) is tells besides = kept 2 is (λ e. omega (arith, e)) (λ e. omega (arith, e)) (λ e. absurd (omega (arith, e))) besides
   told (Plugin name why) is tells besides = kept 1 is (λ e. omega (arith, e)) (λ e. omega (arith, e)) (λ e. absurd (omega (arith, e))) besides
+  told (Uncounted number) is tells besides = kept 1 is (λ e. omega (arith, e)) (λ e. omega (arith, e)) (λ e. absurd (omega (arith, e))) besides
   told (Run (run_fault.Line number why)) is tells besides = kept 1 is (λ e. omega (arith, e)) (λ e. omega (arith, e)) (λ e. absurd (omega (arith, e))) besides
   told (Run run_fault.NoMemory) is tells besides = kept 3 is (λ e. omega (arith, e)) (λ e. omega (arith, e)) (λ _. inl tells) besides
   told (Run run_fault.NoPlace) is tells (unread, unwritten, reads, writes) =
@@ -104,6 +106,7 @@ plugin_status name bytes (Words why) why_not = absurd why_not
 plugin_status name bytes (Misused why) why_not = absurd why_not
 plugin_status name bytes (Plugin named why) why_not = inl refl
 plugin_status name bytes (Unread named) why_not = absurd why_not
+plugin_status name bytes (Uncounted number) why_not = absurd why_not
 plugin_status name bytes (Run run_fault.NoMemory) why_not = inr refl
 plugin_status name bytes (Run (run_fault.Line number why)) why_not = absurd why_not
 plugin_status name bytes (Run run_fault.Read) why_not = absurd why_not
@@ -126,6 +129,7 @@ besides_no_site Left NotBegun NoFile source out fault (inr memory) reads writes 
 besides_no_site Left NotBegun NoFile source out (Words why) (inl one) reads writes = (reads, writes)
 besides_no_site Left NotBegun NoFile source out (Misused why) (inl one) reads writes = (reads, writes)
 besides_no_site Left NotBegun NoFile source out (Plugin name why) (inl one) reads writes = (reads, writes)
+besides_no_site Left NotBegun NoFile source out (Uncounted number) (inl one) reads writes = (reads, writes)
 besides_no_site Left NotBegun NoFile source out (Unread name) (inl one) reads writes = absurd (omega (arith, one))
 besides_no_site Left NotBegun NoFile source out (Run (run_fault.Line number why)) (inl one) reads writes = (reads, writes)
 besides_no_site Left NotBegun NoFile source out (Run run_fault.NoMemory) (inl one) reads writes = (reads, writes)
@@ -147,6 +151,7 @@ why_none : (specs : List SpecSyntax) (failures_old failures_new : ℕ) (fault : 
 why_none specs failures_old failures_new (Words fault) why = absurd why
 why_none specs failures_old failures_new (Misused fault) why = absurd why
 why_none specs failures_old failures_new (Plugin name fault) why = absurd why
+why_none specs failures_old failures_new (Uncounted number) why = absurd why
 why_none specs failures_old failures_new (Unread name) why = inr (name, refl, why)
 why_none specs failures_old failures_new (Run run_fault.NoMemory) why = inl (refl, why)
 why_none specs failures_old failures_new (Run (run_fault.Line number fault)) why = absurd why

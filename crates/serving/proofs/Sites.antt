@@ -15,7 +15,7 @@ use Rattle.serving.specs.Verdict.{front_of}
 use Rattle.engine.specs.declared.fault.RunFault.TheVariants as run_fault
 use Rattle.engine.specs.declared.named_rule.NamedRule.{NamedRule}
 use Rattle.fault_line.specs.declared.fault.Fault.{Fault}
-use Rattle.fault_line.specs.declared.fault.Fault.TheVariants.{Words, Misused, Plugin, Unread, Run}
+use Rattle.fault_line.specs.declared.fault.Fault.TheVariants.{Words, Misused, Plugin, Unread, Run, Uncounted}
 use Rattle.serving.specs.Site.{ArePlugins, IsPlugin, ModuleRefused, WhyNoModules, WhyNoPlugin, AreFromFiles, named_of}
 use Rattle.serving.specs.inside.Site.{WhyNoModule}
 
@@ -186,6 +186,7 @@ pub no_modules : (specs : List Spec) (first old new : ℕ) (i : ℕ) (spec : Spe
 no_modules specs first old new i spec (Words fault) at same why = absurd why
 no_modules specs first old new i spec (Misused fault) at same why = absurd why
 no_modules specs first old new i spec (Plugin name fault) at same why = absurd why
+no_modules specs first old new i spec (Uncounted number) at same why = absurd why
 no_modules specs first old new i spec (Unread name) at same why =
     record { place = i; spec = syntax_of spec; spec_is = at_image syntax_of specs i spec at; named = sym why.0; failed = omega (arith, same, why.1) }
 no_modules specs first old new i spec (Run run_fault.NoMemory) at same why = why ∙ same

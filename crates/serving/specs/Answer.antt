@@ -2,11 +2,12 @@
 use Rattle.std.specs.Prelude.{◌≡◌, ◌≢◌, ◌⊎◌, ◌<◌, ◌≤◌, ⊤, ℕ, Bool, true, false, List, Option, Some, None, Result, IfErr}
 use Rattle.engine.specs.Device.{DeviceUse}
 use Rattle.engine.specs.declared.fault.RunFault.TheVariants as run_fault
-use Rattle.command.specs.Words.{Asked, SpecSyntax, asked_by, run, explain, check, storm}
+use Rattle.command.specs.Words.{Asked, SpecSyntax, asked_by, run, explain, check, storm, translate}
 use Rattle.command.specs.declared.fault.WordFault.{WordFault}
 use Rattle.fault_line.specs.declared.fault.Fault.{Fault}
 use Rattle.fault_line.specs.declared.fault.Fault.TheVariants.{Run, Words}
 use Rattle.fault_line.specs.Fault.{status_of}
+use Rattle.translator.specs.Translate.{Manner, IsTranslated}
 use Rattle.serving.specs.Check.{IsCheck}
 use Rattle.serving.specs.Run.{IsSiteRun, TellsFailures, TellsFault, told_of}
 use Rattle.serving.specs.Site.{AreFromFiles, UnreadPlugin}
@@ -45,6 +46,11 @@ pub record IsFileCheck (file : List ℕ) (files : FilesUse) (source out err : De
   pub files_told : ended ≢ 4 → files.failures_new ≡ files.failures_old
   pub unread : source.IsUntouched
 
+-- a translation of the source's lines ended with this status, and the files are as they were
+pub record IsTranslation (manner : Manner) (files : FilesUse) (source out err : DeviceUse) (ended : ℕ) : Type 0 where
+  pub translated : IsTranslated manner source out err ended
+  pub unopened : files.IsUntouched
+
 -- nothing was asked for: this fault is told, or that memory was wanting, and nothing is read or written
 pub record IsIdle (fault : Fault) (files : FilesUse) (source out err : DeviceUse) (ended : ℕ) : Type 0 where
   pub status : (ended ≡ 2) ⊎ (ended ≡ 3)
@@ -61,6 +67,8 @@ IsDone (Some (run workers specs)) fault Unkeyed files source out err ended = IsP
 IsDone (Some (explain workers specs)) fault Unkeyed files source out err ended = IsPlannedRun true specs Unkeyed files source out err ended
 IsDone (Some (check file)) fault Unkeyed files source out err ended = IsFileCheck file files source out err ended
 IsDone (Some (storm cycles binders flaky specs)) fault Unkeyed files source out err ended = IsPlannedStorm cycles binders specs Unkeyed files source out err ended
+IsDone (Some (translate scheduler by_uid answers)) fault Unkeyed files source out err ended =
+    IsTranslation (record { scheduler = scheduler; by_uid = by_uid; answers = answers }) files source out err ended
 
 -- The program's words, which could perhaps not be read, were answered with this status.
 pub record IsAnswer {V : Type 0} (texts : V → List (List ℕ)) (args : Result V WordFault) (Unkeyed : Type 0) (files : FilesUse) (source out err : DeviceUse) (ended : ℕ) : Type 0 where

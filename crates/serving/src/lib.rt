@@ -1,6 +1,7 @@
 //! What the program `wsched` does, from its words to its exit status, over streams and files that are handed in.
 //!
-//! - `program`: what is done from the words to the status: a run by `site_run`, a storm by `storm_run`, a check by `check`.
+//! - `program`: what is done from the words to the status: a run by `site_run`, a storm by `storm_run`, a check by `check`, a
+//!   translation by `translator`.
 //! - `site`: a site's plugins, from what the words configure and the files have to kits.
 //! - `with_kits`: a run by a pool of kits, which lives as long as the run.
 //! - `stand_in`: binders that stand in for a cluster.

@@ -15,11 +15,12 @@ use std::convert::AsStr;
 use std::hash::RandomState;
 use std::sync::Wait;
 use std::thread::Threads;
+use translator::serve_translation;
 
 /// Does what the words that follow the program's name ask for, and gives the exit status. Words that
 /// could not be read, or that ask for nothing, are told on `err`, and nothing is read or written.
-/// For `run` and `explain` it is what `serve_plan` does under the keys, for `storm` what `storm_plan` does, and for
-/// `check` what `check_file` does.
+/// For `run` and `explain` it is what `serve_plan` does under the keys, for `storm` what `storm_plan` does, for
+/// `check` what `check_file` does, and for `translate` what `serve_translation` does.
 pub fn answer<
     T: Wait + Threads + Copy + Send + Sync + 'static,
     S: AsStr + Drop,
@@ -57,6 +58,7 @@ pub fn answer<
             }
             Ok(Words::Storm(plan)) => storm_plan(rt, alloc, keys, &plan, files, source, out, err),
             Ok(Words::Check(file)) => check_file(alloc, file, files, out, err),
+            Ok(Words::Translate(plan)) => serve_translation(alloc, &plan, source, out, err),
             Err(WordFault::BadWords) => report(Fault::Misused(misuse_of(args.as_slice())), err),
             Err(WordFault::NoMemory) => report(Fault::Words(WordFault::NoMemory), err),
         },

@@ -33,14 +33,23 @@ returns-in-Ok-Check g c =
       unread = refl;
     })
 
+pub returns-in-Ok-Translate : goal.returns-in-Ok-Translate
+returns-in-Ok-Translate g c =
+    let read = rw (c.as_slice.ensures.value, c.in-Ok-Translate.field-0-is) at c.in-Ok-Translate.ensures.ok in
+    let asked = ap (asked_by (λ given. map g.S.AsStr.text given.items)) c.in-Ok.is ∙ read in
+    done _ _ _ _ _ _ (λ given. map g.S.AsStr.text given.items) _ _ _ c.in-Ok.is asked (record {
+      translated = c.serve_translation.ensures;
+      unopened = refl;
+    })
+
 -- ---- memory was wanting for the words, or they couldn't be read
 
 pub returns-in-Ok : goal.returns-in-Ok
 returns-in-Ok g c =
     wanting_words _ _ _ _ _ _ (λ given. map g.S.AsStr.text given.items) _ _ c.in-Ok.is c.report-in-Err-NoMemory.ensures.status c.report-in-Err-NoMemory.ensures.told
-    (record { unopened = refl; opens = refl; unread = refl; reads = refl; unwritten = refl; writes = refl })
+    (record { unopened = refl; opens = refl; unread = refl; reads = refl; unwritten = refl; same = refl; writes = refl })
 
 pub returns : goal.returns
 returns g c =
     unread _ _ _ _ _ _ (λ given. map g.S.AsStr.text given.items) _ c.in-Err.unread c.in-Err.is c.report-in-Err.ensures.status c.report-in-Err.ensures.told
-    (record { unopened = refl; opens = refl; unread = refl; reads = refl; unwritten = refl; writes = refl })
+    (record { unopened = refl; opens = refl; unread = refl; reads = refl; unwritten = refl; same = refl; writes = refl })
