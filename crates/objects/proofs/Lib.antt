@@ -12,6 +12,7 @@ pub mod Parsed
 pub mod Beside
 pub mod OneLine
 pub mod Standing
+pub mod Shown
 pub mod Requests
 pub mod Named
 pub mod Names

@@ -17,5 +17,6 @@ pub mod PodRow
 pub mod Counted
 pub mod Told
 pub mod Standing
+pub mod Shown
 pub mod Translation
 pub mod inside

@@ -53,7 +53,7 @@ mod translation;
 pub use change::Change;
 pub use fault::{ObjectFault, QuantityFault};
 pub use key::Key;
-pub use laws::bound_pods_are_counted;
+pub use laws::{bound_pods_are_counted, left_out_is_named_in_texts};
 pub use line::write_line;
 pub use node::allocatable;
 pub use pod::pod_request;

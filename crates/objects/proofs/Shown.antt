@@ -1,0 +1,433 @@
+-- What is left out is named in texts of JSON.
+use Rattle.std.proofs.Common.{◌≡◌, ℕ, ◌==◌, nat_le, Bool, true, false, cond, ◌&&◌, ◌||◌, not, List, [], ◌∷◌, ◌++◌, codes, decimal, length, bytes_eq, is_some, flat_map, Option, Some, None, option_and_then, Result, Ok, Err, IfOk, refl, sym, ap, ◌∙◌, subst, arith, append-nil}
+use Rattle.std.proofs.lemmas.Bool.{and_parts, and_from}
+use Rattle.std.proofs.lemmas.Bool.Decides.{nat_tests}
+use Rattle.std.proofs.lemmas.List.Concat.{flat_map-append}
+use Rattle.std.proofs.lemmas.List.Folds.{list_all-append}
+use Rattle.std.specs.List.{list_all}
+use Rattle.std.specs.Option.{ok_or}
+use Rattle.serde_json.specs.Data.{Data, Items, no_items, item, Members, no_members, member}
+use Rattle.serde_json.specs.Find.{as_array, as_object, as_str, as_number, as_u64}
+use Rattle.quant.specs.Name.{is_name_byte, is_name}
+use Rattle.quant.specs.declared.version.Version.{Version}
+use Rattle.quant.specs.declared.amount.Bytes.{Bytes}
+use Rattle.quant.specs.declared.amount.Request.{Request}
+use Rattle.quant.specs.declared.event.Event.{Event}
+use Rattle.quant.specs.declared.event.Event.TheVariants.{NodeGone, PodGone}
+use Rattle.quant.specs.declared.objects.Label.{Label}
+use Rattle.quant.specs.declared.taint.Toleration.{Toleration}
+use Rattle.objects.specs.declared.key.Key.{Key}
+use Rattle.objects.specs.declared.key.Key.TheVariants as keys
+use Rattle.objects.specs.declared.change.Change.{Change}
+use Rattle.objects.specs.declared.change.Change.TheVariants.{There, Changed, Gone}
+use Rattle.objects.specs.declared.fault.QuantityFault.{QuantityFault}
+use Rattle.objects.specs.declared.fault.QuantityFault.TheVariants as amounts
+use Rattle.objects.specs.declared.fault.ObjectFault.{ObjectFault}
+use Rattle.objects.specs.declared.fault.ObjectFault.TheVariants.{BadField, BadName, Quantity, TooMany, PodResources, TooLarge, NoMemory}
+use Rattle.objects.specs.declared.translation.TheConstants.{MAX_OBJECT}
+use Rattle.objects.specs.Quantity.{◌>>=◌}
+use Rattle.objects.specs.Key.{key_of}
+use Rattle.objects.specs.Reading.{field, within, asked}
+use Rattle.objects.specs.LeftOut.{shown, left_out, left_out_if, amount_refused, refused}
+use Rattle.objects.specs.Field.{name_at, flag_of, members_of, items_of, says, is_given, spelled, is_text_of}
+use Rattle.objects.specs.Labels.{Kept, label_of, with_label, labels_of}
+use Rattle.objects.specs.NodeRow.{NodeTold, is_told, node_row}
+use Rattle.objects.specs.NodeRow as node
+use Rattle.objects.specs.Demands.{each_item, items_give, array_gives, affinity, is_wished, required_spread, wished_spread, is_tied, volume, node_port, host_port_of, host_port, is_reckoned, other_resource, other_resources, members_give, object_gives, has, resources_of, container, containers, placement, demands, wishes}
+use Rattle.objects.specs.Allocatable.{allocatable}
+use Rattle.objects.specs.PodRow.{PodTold, pod_name, priority, toleration_of, with_toleration, tolerations_of, pod_row}
+use Rattle.objects.specs.PodRequest.{pod_request}
+use Rattle.objects.specs.Counted.{first_fault, whole_memory, whole_fault, request_fault, counted_left_out}
+use Rattle.objects.specs.Told.{Told, nothing, unless_gone, gone_if, gone_told, in_metadata, node_of, node_told, waiting_row, scheduler_of, other_scheduler, kept_back, waiting_of, waiting_told, bound_left_out, bound_as, bound_told, has_ended, ended_told, placed_told, spec_told, there_told, pod_told, object_told, change_of, changed_told, event_told, value_told, parsed, parsed_told, told}
+use Rattle.objects.specs.Shown.{stands_for_itself, in_marks, AreTexts, NamesAreTexts}
+
+-- what keeps texts texts
+
+none : AreTexts []
+none = record { texts = []; plain = refl; are = refl }
+
+name_byte : (b : ℕ) → is_name_byte b ≡ true → stands_for_itself b ≡ true
+name_byte b h = grind (arith, nat_tests)
+
+name_plain : (name : List ℕ) → list_all is_name_byte name ≡ true → list_all stands_for_itself name ≡ true
+name_plain [] h = refl
+name_plain (b ∷ bs) h =
+    let parts = and_parts (is_name_byte b) (list_all is_name_byte bs) h in
+    and_from _ _ (name_byte b parts.0) (name_plain bs parts.1)
+
+shown_plain : (name : List ℕ) → list_all stands_for_itself (shown name) ≡ true
+shown_plain name =
+    elim (list_all is_name_byte name) as (λ b. list_all is_name_byte name ≡ b → list_all stands_for_itself (cond b name (codes "?")) ≡ true) [
+      | true ↦ λ e. name_plain name e
+      | false ↦ λ e. refl
+    ] refl
+
+one : (what name : List ℕ) → list_all stands_for_itself what ≡ true → AreTexts (left_out what name)
+unfolding left_out
+one what name h = record {
+  texts = (what ++ shown name) ∷ [];
+  plain = and_from _ _ (list_all-append stands_for_itself what (shown name) ∙ and_from _ _ h (shown_plain name)) refl;
+  are = sym (append-nil (in_marks (what ++ shown name)));
+}
+
+both : (a b : List ℕ) → AreTexts a → AreTexts b → AreTexts (a ++ b)
+both a b p q = record {
+  texts = p.texts ++ q.texts;
+  plain = list_all-append (list_all stands_for_itself) p.texts q.texts ∙ and_from _ _ p.plain q.plain;
+  are = ap (λ x. x ++ b) p.are ∙ ap (λ y. flat_map in_marks p.texts ++ y) q.are ∙ sym (flat_map-append in_marks p.texts q.texts);
+}
+
+either : (b : Bool) (x y : List ℕ) → AreTexts x → AreTexts y → AreTexts (cond b x y)
+either true x y p q = p
+either false x y p q = q
+
+one_if : (b : Bool) (what : List ℕ) → list_all stands_for_itself what ≡ true → AreTexts (left_out_if b what)
+one_if b what h = either b (left_out what []) [] (one what [] h) none
+
+why_plain : (why : QuantityFault) → list_all stands_for_itself (amount_refused why) ≡ true
+why_plain amounts.NotAQuantity = refl
+why_plain amounts.FarExponent = refl
+why_plain amounts.Negative = refl
+why_plain amounts.TooLarge = refl
+
+fault : (e : ObjectFault) → AreTexts (refused e)
+fault (BadField key) = one (codes "a field of another type: ") (key_of key) refl
+fault (BadName key) = one (codes "not a name or text of a script: ") (key_of key) refl
+fault (Quantity key why) = one (amount_refused why) (key_of key) (why_plain why)
+fault (TooMany key) = one (codes "too many items: ") (key_of key) refl
+fault PodResources = one (codes "resources of the whole pod") [] refl
+fault TooLarge = one (codes "what it asks for in all") [] refl
+fault NoMemory = none
+
+-- what a pod asks for
+
+each : (f : Data → List ℕ) → ((d : Data) → AreTexts (f d)) → (found : Items) → AreTexts (each_item f found)
+each f h no_items = none
+each f h (item d rest) = both (f d) (each_item f rest) (h d) (each f h rest)
+
+items_texts : (f : Data → List ℕ) (otherwise : List ℕ) → ((d : Data) → AreTexts (f d)) → AreTexts otherwise → (found : Option Items)
+    → AreTexts (items_give f otherwise found)
+items_texts f otherwise h o None = o
+items_texts f otherwise h o (Some found) = each f h found
+
+array_texts : (f : Data → List ℕ) (otherwise : List ℕ) → ((d : Data) → AreTexts (f d)) → AreTexts otherwise → (value : Option Data)
+    → AreTexts (array_gives f otherwise value)
+array_texts f otherwise h o None = none
+array_texts f otherwise h o (Some value) = items_texts f otherwise h o (as_array value)
+
+required_texts : (d : Data) → AreTexts (required_spread d)
+unfolding required_spread
+required_texts d = one_if (not (is_wished d)) (codes "required topology spread") refl
+
+wished_texts : (d : Data) → AreTexts (wished_spread d)
+unfolding wished_spread
+wished_texts d = one_if (is_wished d) (codes "preferred topology spread") refl
+
+volume_texts : (d : Data) → AreTexts (volume d)
+unfolding volume
+volume_texts d = either (is_tied (as_object d)) (left_out (codes "volume ") (spelled keys.Name d)) [] (one (codes "volume ") (spelled keys.Name d) refl) none
+
+node_port_texts : (n : Option ℕ) → AreTexts (node_port n)
+node_port_texts None = one (codes "host port ") [] refl
+node_port_texts (Some n) = either (n == 0) [] (left_out (codes "host port ") (decimal n)) none (one (codes "host port ") (decimal n) refl)
+
+port_of_texts : (value : Option Data) → AreTexts (host_port_of value)
+port_of_texts None = none
+port_of_texts (Some value) = node_port_texts (option_and_then as_u64 (as_number value))
+
+port_texts : (d : Data) → AreTexts (host_port d)
+unfolding host_port
+port_texts d = port_of_texts (field keys.HostPort d)
+
+others_texts : (is_named : List ℕ → Bool) (found : Members) → AreTexts (other_resources is_named found)
+others_texts is_named no_members = none
+others_texts is_named (member key value rest) =
+    both (other_resource is_named key) (other_resources is_named rest)
+    (either (is_reckoned key || is_named key) [] (left_out (codes "resource ") key) none (one (codes "resource ") key refl)) (others_texts is_named rest)
+
+members_texts : (is_named : List ℕ → Bool) (found : Option Members) → AreTexts (members_give is_named found)
+members_texts is_named None = one (codes "resources") [] refl
+members_texts is_named (Some found) = others_texts is_named found
+
+object_texts : (is_named : List ℕ → Bool) (value : Option Data) → AreTexts (object_gives is_named value)
+object_texts is_named None = none
+object_texts is_named (Some value) = members_texts is_named (as_object value)
+
+resources_texts : (value : Option Data) → AreTexts (resources_of value)
+resources_texts None = none
+resources_texts (Some value) =
+    both (object_gives (has None) (field keys.Requests value)) (object_gives (has (field keys.Requests value)) (field keys.Limits value))
+    (object_texts (has None) (field keys.Requests value)) (object_texts (has (field keys.Requests value)) (field keys.Limits value))
+
+container_texts : (d : Data) → AreTexts (container d)
+unfolding container
+container_texts d =
+    both (array_gives host_port (left_out (codes "host port ") []) (field keys.Ports d)) (resources_of (field keys.Resources d))
+    (array_texts host_port (left_out (codes "host port ") []) port_texts (one (codes "host port ") [] refl) (field keys.Ports d)) (resources_texts (field keys.Resources d))
+
+containers_texts : (key : Key) (spec : Data) → AreTexts (containers key spec)
+containers_texts key spec = array_texts container [] container_texts none (field key spec)
+
+placement_texts : (spec : Data) → AreTexts (placement spec)
+unfolding placement
+placement_texts spec =
+    both _ _
+    (both _ _
+    (both _ _
+    (both _ _ (one_if (is_given (field keys.NodeSelector spec)) (codes "node selector") refl)
+    (one_if (is_given (affinity keys.NodeAffinity keys.Required spec)) (codes "required node affinity") refl))
+    (one_if (is_given (affinity keys.PodAffinity keys.Required spec)) (codes "required pod affinity") refl))
+    (one_if (is_given (affinity keys.PodAntiAffinity keys.Required spec)) (codes "required pod anti-affinity") refl))
+    (array_texts required_spread (left_out (codes "required topology spread") []) required_texts (one (codes "required topology spread") [] refl) (field keys.TopologySpread spec))
+
+demands_texts : (spec : Data) → AreTexts (demands spec)
+unfolding demands
+demands_texts spec =
+    both _ _
+    (both _ _
+    (both _ _
+    (both _ _
+    (both _ _ (placement_texts spec)
+    (one_if (is_given (field keys.SchedulingGates spec)) (codes "scheduling gates") refl))
+    (one_if (is_given (field keys.ResourceClaims spec)) (codes "resource claims") refl))
+    (array_texts volume (left_out (codes "volume ") []) volume_texts (one (codes "volume ") [] refl) (field keys.Volumes spec)))
+    (containers_texts keys.Containers spec))
+    (containers_texts keys.InitContainers spec)
+
+wishes_texts : (spec : Data) → AreTexts (wishes spec)
+unfolding wishes
+wishes_texts spec =
+    both _ _
+    (both _ _
+    (both _ _ (one_if (is_given (affinity keys.NodeAffinity keys.Preferred spec)) (codes "preferred node affinity") refl)
+    (one_if (is_given (affinity keys.PodAffinity keys.Preferred spec)) (codes "preferred pod affinity") refl))
+    (one_if (is_given (affinity keys.PodAntiAffinity keys.Preferred spec)) (codes "preferred pod anti-affinity") refl))
+    (array_texts wished_spread [] wished_texts none (field keys.TopologySpread spec))
+
+-- what a pod counts for
+
+first_texts : (memory : Result Bytes ObjectFault) → AreTexts (first_fault memory)
+first_texts (Ok memory) = none
+first_texts (Err e) = fault e
+
+whole_texts : (spec : Data) → AreTexts (whole_fault spec)
+unfolding whole_fault
+whole_texts spec = first_texts (whole_memory spec)
+
+request_texts : (spec : Data) (request : Result Request ObjectFault) → AreTexts (request_fault spec request)
+request_texts spec (Ok request) = none
+request_texts spec (Err PodResources) = whole_texts spec
+request_texts spec (Err (BadField key)) = fault (BadField key)
+request_texts spec (Err (BadName key)) = fault (BadName key)
+request_texts spec (Err (Quantity key why)) = fault (Quantity key why)
+request_texts spec (Err (TooMany key)) = fault (TooMany key)
+request_texts spec (Err TooLarge) = fault TooLarge
+request_texts spec (Err NoMemory) = none
+
+counted_texts : (pod spec : Data) → AreTexts (counted_left_out pod spec)
+unfolding counted_left_out
+counted_texts pod spec = request_texts spec (pod_request pod)
+
+-- rows
+
+label_texts : (kept : Kept Label) (key : List ℕ) (label : Option Label) → AreTexts kept.left_out → AreTexts (with_label kept key label).left_out
+label_texts kept key None h = both kept.left_out (left_out (codes "label ") key) h (one (codes "label ") key refl)
+label_texts kept key (Some label) h = h
+
+labels_texts : (kept : Kept Label) (found : Members) → AreTexts kept.left_out → AreTexts (labels_of kept found).left_out
+labels_texts kept no_members h = h
+labels_texts kept (member key value rest) h =
+    labels_texts (with_label kept key (label_of kept.items key value)) rest (label_texts kept key (label_of kept.items key value) h)
+
+toleration_texts : (kept : Kept Toleration) (key : List ℕ) (toleration : Option Toleration) → AreTexts kept.left_out
+    → AreTexts (with_toleration kept key toleration).left_out
+toleration_texts kept key None h = both kept.left_out (left_out (codes "toleration of ") key) h (one (codes "toleration of ") key refl)
+toleration_texts kept key (Some toleration) h = h
+
+tolerations_texts : (kept : Kept Toleration) (found : Items) → AreTexts kept.left_out → AreTexts (tolerations_of kept found).left_out
+tolerations_texts kept no_items h = h
+tolerations_texts kept (item d rest) h =
+    tolerations_texts (with_toleration kept (spelled keys.LabelKey d) (toleration_of kept.items d)) rest
+    (toleration_texts kept (spelled keys.LabelKey d) (toleration_of kept.items d) h)
+
+node_resources_texts : (found : Members) → AreTexts (node.other_resources found)
+node_resources_texts no_members = none
+node_resources_texts (member key value rest) =
+    both (node.other_resource key value) (node.other_resources rest)
+    (either (is_told key || is_text_of (codes "0") (as_str value)) [] (left_out (codes "resource ") key) none (one (codes "resource ") key refl))
+    (node_resources_texts rest)
+
+-- what is read, where it is, passes
+record OkIs {B : Type 0} (P : B → Type 0) (r : Result B ObjectFault) : Type 0 where
+  is : IfOk r P
+
+bind_ok : {A B : Type 0} {P : B → Type 0} (r : Result A ObjectFault) (f : A → Result B ObjectFault) → ((x : A) → OkIs P (f x)) → OkIs P (r >>= f)
+bind_ok (Ok x) f h = h x
+bind_ok (Err e) f h = record { is = tt }
+
+last_ok : {B : Type 0} {P : B → Type 0} (x : B) → P x → OkIs P (Ok x)
+last_ok x h = record { is = h }
+
+node_row_texts : (json : Data) → OkIs (λ row. AreTexts row.left_out) (node_row json)
+unfolding node_row
+node_row_texts json =
+    bind_ok (ok_or (field keys.Metadata json) (BadField keys.Metadata)) _ (λ meta.
+    bind_ok (name_at keys.Name meta) _ (λ name.
+    bind_ok (allocatable json) _ (λ room.
+    bind_ok (node.taints (within keys.Spec keys.Taints json)) _ (λ taints.
+    bind_ok (flag_of keys.Unschedulable (within keys.Spec keys.Unschedulable json)) _ (λ unschedulable.
+    bind_ok (members_of keys.Labels (field keys.Labels meta)) _ (λ labels.
+    bind_ok (members_of keys.Allocatable (within keys.Status keys.Allocatable json)) _ (λ resources.
+    last_ok _ (labels_texts (record { items = []; left_out = node.other_resources resources }) labels (node_resources_texts resources)))))))))
+
+node_texts : (json : Data) → IfOk (node_row json) (λ row. AreTexts row.left_out)
+node_texts json = (node_row_texts json).is
+
+pod_row_texts : (by_uid : Bool) (json : Data) → OkIs (λ row. AreTexts row.left_out) (pod_row by_uid json)
+unfolding pod_row
+pod_row_texts by_uid json =
+    bind_ok (ok_or (field keys.Metadata json) (BadField keys.Metadata)) _ (λ meta.
+    bind_ok (ok_or (field keys.Spec json) (BadField keys.Spec)) _ (λ spec.
+    bind_ok (pod_name by_uid meta) _ (λ uid.
+    bind_ok (priority spec) _ (λ number.
+    bind_ok (pod_request json) _ (λ request.
+    bind_ok (members_of keys.Labels (field keys.Labels meta)) _ (λ labels.
+    bind_ok (items_of keys.Tolerations (field keys.Tolerations spec)) _ (λ tolerations.
+    last_ok _ (tolerations_texts (record { items = []; left_out = (labels_of (record { items = []; left_out = wishes spec }) labels).left_out }) tolerations
+    (labels_texts (record { items = []; left_out = wishes spec }) labels (wishes_texts spec))))))))))
+
+pod_texts : (by_uid : Bool) (json : Data) → IfOk (pod_row by_uid json) (λ row. AreTexts row.left_out)
+pod_texts by_uid json = (pod_row_texts by_uid json).is
+
+-- what is told
+
+gone_if_texts : (became : Change) (gone : List ℕ → Event) (name : Result (List ℕ) ObjectFault) (left : List ℕ) → AreTexts left
+    → AreTexts (gone_if became gone name left).left_out
+gone_if_texts Changed gone (Ok name) left h = h
+gone_if_texts Changed gone (Err e) left h = h
+gone_if_texts There gone name left h = h
+gone_if_texts Gone gone name left h = h
+
+gone_texts : (gone : List ℕ → Event) (name : Result (List ℕ) ObjectFault) → AreTexts (gone_told gone name).left_out
+gone_texts gone (Ok name) = none
+gone_texts gone (Err e) = fault e
+
+node_of_texts : (became : Change) (version : Version) (json : Data) (row : Result NodeTold ObjectFault) → IfOk row (λ r. AreTexts r.left_out)
+    → AreTexts (node_of became version json row).left_out
+node_of_texts became version json (Ok row) h = h
+node_of_texts became version json (Err e) h = gone_if_texts became (NodeGone version) (in_metadata (name_at keys.Name) json) (refused e) (fault e)
+
+unless_texts : (became : Change) (gone there : Told) → AreTexts gone.left_out → AreTexts there.left_out → AreTexts (unless_gone became gone there).left_out
+unless_texts Gone gone there p q = p
+unless_texts There gone there p q = q
+unless_texts Changed gone there p q = q
+
+node_told_texts : (became : Change) (version : Version) (json : Data) → AreTexts (node_told became version json).left_out
+unfolding node_told
+node_told_texts became version json =
+    unless_texts became _ (node_of became version json (node_row json))
+    (gone_texts (NodeGone version) (in_metadata (name_at keys.Name) json)) (node_of_texts became version json (node_row json) (node_texts json))
+
+waiting_row_texts : (by_uid : Bool) (became : Change) (version : Version) (json : Data) (row : Result PodTold ObjectFault) → IfOk row (λ r. AreTexts r.left_out)
+    → AreTexts (waiting_row by_uid became version json row).left_out
+waiting_row_texts by_uid became version json (Ok row) h = h
+waiting_row_texts by_uid became version json (Err e) h = gone_if_texts became (PodGone version) (in_metadata (pod_name by_uid) json) (refused e) (fault e)
+
+kept_back_texts : (scheduler : List ℕ) (spec pod : Data) → AreTexts (kept_back scheduler spec pod)
+unfolding kept_back
+kept_back_texts scheduler spec pod =
+    both _ _
+    (both _ _
+    (either (bytes_eq (scheduler_of spec) scheduler) [] (left_out (codes "it is for the scheduler ") (scheduler_of spec)) none
+    (one (codes "it is for the scheduler ") (scheduler_of spec) refl))
+    (demands_texts spec))
+    (one_if (is_some (within keys.Metadata keys.DeletionTimestamp pod)) (codes "it is being deleted") refl)
+
+waiting_of_texts : (by_uid : Bool) (became : Change) (version : Version) (json : Data) (kept : List ℕ) → AreTexts kept
+    → AreTexts (waiting_of by_uid became version json kept).left_out
+waiting_of_texts by_uid became version json [] h = waiting_row_texts by_uid became version json (pod_row by_uid json) (pod_texts by_uid json)
+waiting_of_texts by_uid became version json (x ∷ more) h =
+    gone_if_texts became (PodGone version) (in_metadata (pod_name by_uid) json) (x ∷ more) h
+
+waiting_texts : (scheduler : List ℕ) (by_uid : Bool) (became : Change) (version : Version) (spec pod : Data)
+    → AreTexts (waiting_told scheduler by_uid became version spec pod).left_out
+unfolding waiting_told
+waiting_texts scheduler by_uid became version spec pod =
+    waiting_of_texts by_uid became version pod (kept_back scheduler spec pod) (kept_back_texts scheduler spec pod)
+
+abbrev OkTexts : Result Told ObjectFault → Type 0
+OkTexts found = IfOk found (λ t. AreTexts t.left_out)
+
+either_ok : (b : Bool) (x y : Result Told ObjectFault) → OkTexts x → OkTexts y → OkTexts (cond b x y)
+either_ok true x y p q = p
+either_ok false x y p q = q
+
+unless_ok : (became : Change) (gone there : Result Told ObjectFault) → OkTexts gone → OkTexts there → OkTexts (unless_gone became gone there)
+unless_ok Gone gone there p q = p
+unless_ok There gone there p q = q
+unless_ok Changed gone there p q = q
+
+bound_texts : (by_uid : Bool) (became : Change) (version : Version) (node : List ℕ) (spec pod : Data) → OkTexts (bound_told by_uid became version node spec pod)
+unfolding bound_told
+bound_texts by_uid became version node spec pod =
+    either_ok (is_name node) (in_metadata (pod_name by_uid) pod >>= bound_as version node spec pod)
+    (Ok (gone_if became (PodGone version) (in_metadata (pod_name by_uid) pod) (left_out (codes "node ") node)))
+    (bind_ok (in_metadata (pod_name by_uid) pod) (bound_as version node spec pod) (λ uid.
+    last_ok _ (both (counted_left_out pod spec) _ (counted_texts pod spec)
+    (one_if (is_given (affinity keys.PodAntiAffinity keys.Required spec)) (codes "required pod anti-affinity") refl)))).is
+    (gone_if_texts became (PodGone version) (in_metadata (pod_name by_uid) pod) (left_out (codes "node ") node) (one (codes "node ") node refl))
+
+placed_texts : (scheduler : List ℕ) (by_uid : Bool) (became : Change) (version : Version) (spec pod : Data) (node : List ℕ)
+    → OkTexts (placed_told scheduler by_uid became version spec pod node)
+placed_texts scheduler by_uid became version spec pod [] = waiting_texts scheduler by_uid became version spec pod
+placed_texts scheduler by_uid became version spec pod (x ∷ more) = bound_texts by_uid became version (x ∷ more) spec pod
+
+spec_texts : (scheduler : List ℕ) (by_uid : Bool) (became : Change) (version : Version) (pod : Data) (spec : Option Data)
+    → OkTexts (spec_told scheduler by_uid became version pod spec)
+spec_texts scheduler by_uid became version pod None = fault (BadField keys.Spec)
+spec_texts scheduler by_uid became version pod (Some spec) = placed_texts scheduler by_uid became version spec pod (spelled keys.NodeName spec)
+
+pod_told_texts : (scheduler : List ℕ) (by_uid : Bool) (became : Change) (version : Version) (json : Data) → OkTexts (pod_told scheduler by_uid became version json)
+unfolding pod_told
+pod_told_texts scheduler by_uid became version json =
+    unless_ok became (Ok (gone_told (PodGone version) (in_metadata (pod_name by_uid) json))) (there_told scheduler by_uid became version json)
+    (gone_texts (PodGone version) (in_metadata (pod_name by_uid) json))
+    (either_ok (has_ended json) (Ok (ended_told by_uid became version json)) (spec_told scheduler by_uid became version json (field keys.Spec json))
+    (gone_if_texts became (PodGone version) (in_metadata (pod_name by_uid) json) [] none)
+    (spec_texts scheduler by_uid became version json (field keys.Spec json)))
+
+object_told_texts : (scheduler : List ℕ) (by_uid : Bool) (became : Change) (version : Version) (json : Data)
+    → OkTexts (object_told scheduler by_uid became version json)
+unfolding object_told
+object_told_texts scheduler by_uid became version json =
+    either_ok (says keys.Kind (codes "Node") json) (Ok (node_told became version json)) _ (node_told_texts became version json)
+    (either_ok (says keys.Kind (codes "Pod") json) (pod_told scheduler by_uid became version json) _ (pod_told_texts scheduler by_uid became version json)
+    (one (codes "an object of the kind ") (spelled keys.Kind json) refl))
+
+changed_texts : (scheduler : List ℕ) (by_uid : Bool) (version : Version) (type : List ℕ) (json : Data) (became : Option Change)
+    → OkTexts (changed_told scheduler by_uid version type json became)
+changed_texts scheduler by_uid version type json None = one_if (not (bytes_eq type (codes "BOOKMARK"))) (codes "an event of another type") refl
+changed_texts scheduler by_uid version type json (Some became) = object_told_texts scheduler by_uid became version json
+
+event_texts : (scheduler : List ℕ) (by_uid : Bool) (version : Version) (json : Data) (held : Option Data) → OkTexts (event_told scheduler by_uid version json held)
+event_texts scheduler by_uid version json None = object_told_texts scheduler by_uid There version json
+event_texts scheduler by_uid version json (Some held) =
+    changed_texts scheduler by_uid version (spelled keys.EventType json) held (change_of (spelled keys.EventType json))
+
+value_texts : (scheduler : List ℕ) (by_uid : Bool) (version : Version) (json : Data) → OkTexts (value_told scheduler by_uid version json)
+unfolding value_told
+value_texts scheduler by_uid version json = event_texts scheduler by_uid version json (field keys.Object json)
+
+parsed_texts : (scheduler : List ℕ) (by_uid : Bool) (version : Version) (found : Option Data) → OkTexts (parsed_told scheduler by_uid version found)
+parsed_texts scheduler by_uid version None = one (codes "no JSON") [] refl
+parsed_texts scheduler by_uid version (Some json) = value_texts scheduler by_uid version json
+
+told_texts : (scheduler : List ℕ) (by_uid : Bool) (version : Version) (line : List ℕ) → OkTexts (told scheduler by_uid version line)
+unfolding told
+told_texts scheduler by_uid version line =
+    either_ok (nat_le (length line) MAX_OBJECT) (parsed_told scheduler by_uid version (parsed line))
+    (Ok (nothing (left_out (codes "a line of more than 2 MiB") [])))
+    (parsed_texts scheduler by_uid version (parsed line)) (one (codes "a line of more than 2 MiB") [] refl)
+
+pub names_are_texts : NamesAreTexts
+names_are_texts scheduler by_uid version line found e = subst OkTexts e (told_texts scheduler by_uid version line)
