@@ -185,8 +185,7 @@ def demands(meta: Json, spec: Json) -> Iterator[str]:
         yield from (f"host port {it['hostPort']}" for it in one.get("ports") or [] if it.get("hostPort"))
         resources = one.get("resources") or {}
         yield from (f"resource {it}" for part in ("requests", "limits") for it in resources.get(part) or {} if it not in ("cpu", "memory"))
-    if spec.get("resources") is not None:
-        # (an empty one too, which asks for nothing)
+    if spec.get("resources"):
         yield "resources of the whole pod"
     if meta.get("deletionTimestamp"):
         yield "it is being deleted"
