@@ -1,5 +1,5 @@
 -- What is left out is named in texts of JSON.
-use Rattle.std.proofs.Common.{◌≡◌, ℕ, ◌==◌, nat_le, Bool, true, false, cond, ◌&&◌, ◌||◌, not, List, [], ◌∷◌, ◌++◌, codes, decimal, length, bytes_eq, is_some, flat_map, Option, Some, None, option_and_then, Result, Ok, Err, IfOk, refl, sym, ap, ◌∙◌, subst, arith, append-nil}
+use Rattle.std.proofs.Common.{◌≡◌, ℕ, ◌==◌, nat_le, Bool, true, false, cond, ◌||◌, not, List, [], ◌∷◌, ◌++◌, codes, decimal, length, bytes_eq, is_some, flat_map, Option, Some, None, option_and_then, Result, Ok, Err, IfOk, refl, sym, ap, ◌∙◌, subst, arith, append-nil}
 use Rattle.std.proofs.lemmas.Bool.{and_parts, and_from}
 use Rattle.std.proofs.lemmas.Bool.Decides.{nat_tests}
 use Rattle.std.proofs.lemmas.List.Concat.{flat_map-append}
@@ -27,7 +27,7 @@ use Rattle.objects.specs.declared.fault.ObjectFault.TheVariants.{BadField, BadNa
 use Rattle.objects.specs.declared.translation.TheConstants.{MAX_OBJECT}
 use Rattle.objects.specs.Quantity.{◌>>=◌}
 use Rattle.objects.specs.Key.{key_of}
-use Rattle.objects.specs.Reading.{field, within, asked}
+use Rattle.objects.specs.Reading.{field, within}
 use Rattle.objects.specs.LeftOut.{shown, left_out, left_out_if, amount_refused, refused}
 use Rattle.objects.specs.Field.{name_at, flag_of, members_of, items_of, says, is_given, spelled, is_text_of}
 use Rattle.objects.specs.Labels.{Kept, label_of, with_label, labels_of}
@@ -38,7 +38,7 @@ use Rattle.objects.specs.Allocatable.{allocatable}
 use Rattle.objects.specs.PodRow.{PodTold, pod_name, priority, toleration_of, with_toleration, tolerations_of, pod_row}
 use Rattle.objects.specs.PodRequest.{pod_request}
 use Rattle.objects.specs.Counted.{first_fault, whole_memory, whole_fault, request_fault, counted_left_out}
-use Rattle.objects.specs.Told.{Told, nothing, unless_gone, gone_if, gone_told, in_metadata, node_of, node_told, waiting_row, scheduler_of, other_scheduler, kept_back, waiting_of, waiting_told, bound_left_out, bound_as, bound_told, has_ended, ended_told, placed_told, spec_told, there_told, pod_told, object_told, change_of, changed_told, event_told, value_told, parsed, parsed_told, told}
+use Rattle.objects.specs.Told.{Told, nothing, unless_gone, gone_if, gone_told, in_metadata, node_of, node_told, waiting_row, scheduler_of, kept_back, waiting_of, waiting_told, bound_as, bound_told, has_ended, ended_told, placed_told, spec_told, there_told, pod_told, object_told, change_of, changed_told, event_told, value_told, parsed, parsed_told, told}
 use Rattle.objects.specs.Shown.{stands_for_itself, in_marks, AreTexts, NamesAreTexts}
 
 -- what keeps texts texts
