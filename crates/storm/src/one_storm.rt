@@ -228,11 +228,11 @@ fn storm_on<
     }
 }
 
-/// A storm: its script is read whole, by up to four threads, and then told twice by two feeders, while a cycle pass for each decider places pods and
-/// each binder tells the cluster of places, each in a thread of its own. Cycles go on until both feeders have ended and no pod
-/// waits; then the first cycle pass, which has met the feeders', goes on alone until no pod waits once more, and the binders do
-/// what jobs are left. At the end it writes the dump's lines and the audit's: whether what the dump shows as used is the sum of
-/// the places of the closed desk's book. It answers what the audit said.
+/// A storm: its script is read whole, by up to four threads, and then told twice by two feeders, while a cycle pass for each
+/// decider places pods and each binder tells the cluster of places, each in a thread of its own. Cycles go on until both
+/// feeders have ended and no pod waits; then the first cycle pass, which has met the feeders', goes on alone until no pod waits
+/// once more, and the binders do what jobs are left. At the end it writes the dump's lines and the audit's: whether what the
+/// dump shows as used is the sum of the places of the closed desk's book. It answers what the audit said.
 ///
 /// There are at least one decider and one binder.
 ///
