@@ -8,6 +8,7 @@ mod modules;
 mod plugins;
 mod scripts;
 mod storms;
+mod translations;
 
 use command::{Misuse, Part, WordFault};
 use engine::RunFault;
@@ -92,7 +93,7 @@ impl Write for Paper {
 }
 
 // What the program is given: its words, those of plugins last, its input, how many bytes a read or a
-// write moves at most, and which read and which write fails, where they are not 0.
+// write moves at most, and which read, which write and which write of what is told fails, where they are not 0.
 #[derive(Clone, Copy)]
 struct Given<'a> {
     args: &'a [&'a str],
@@ -101,6 +102,7 @@ struct Given<'a> {
     most: usize,
     bad_read: u64,
     bad_write: u64,
+    bad_tell: u64,
 }
 
 // A run of nothing.
@@ -111,6 +113,7 @@ const RUN: Given<'static> = Given {
     most: 64,
     bad_read: 0,
     bad_write: 0,
+    bad_tell: 0,
 };
 
 // What it is to end with: the exit status, the output, and what is told beside it.
@@ -160,7 +163,7 @@ fn run_program<R: fs::Files + Wait + Threads + Copy + Send + Sync + 'static>(
     let mut err = Output::new(Paper {
         text: Vec::new(alloc),
         most: given.most,
-        calls: Calls::failing(0),
+        calls: Calls::failing(given.bad_tell),
     });
     let status = answer(
         rt,
@@ -301,7 +304,7 @@ fn removes_files<R: fs::Files>(rt: &R, files: Stored) -> bool {
 }
 
 const FAULTS: &str =
-    "1 BadWords, 1 BadWords NAME of word 3, plugin r: refused instance 4 StartExhausted, plugin s: 3 Read, 5 NoPlace";
+    "1 BadWords, 1 BadWords NAME of word 3, plugin r: refused instance 4 StartExhausted, plugin s: 3 Read, 5 NoPlace, line 7: 6 Uncounted";
 
 fn plugin_fault() -> Option<Fault> {
     let refusal = Refusal::NotReady(InstanceFault::StartExhausted);
@@ -318,10 +321,11 @@ fn are_told(alloc: Global) -> bool {
         return false;
     };
     let text = format!(in alloc;
-        "{}, {}, {plugin}, {unread}, {}",
+        "{}, {}, {plugin}, {unread}, {}, {}",
         Fault::Words(WordFault::BadWords),
         Fault::Misused(Misuse::Plugin(Part::Name, 3)),
-        Fault::Run(RunFault::NoPlace)
+        Fault::Run(RunFault::NoPlace),
+        Fault::Uncounted(7)
     );
     match text {
         Ok(text) => text.as_str() == FAULTS,

@@ -1,16 +1,17 @@
 //! That words are read where memory is left, the words of a process, and the texts of faults.
-use command::{Plan, Spec, StormPlan, WordFault, Words, arguments, words};
+use command::{Plan, Spec, StormPlan, TranslatePlan, WordFault, Words, arguments, words};
 use std::alloc::{AllocError, Global};
 use std::env::FillError;
 use std::rt::Env;
 
-// What words ask for, but for the plugins: to check a file, a run with this many workers, or a storm with this many cycle threads
-// and binders, which are flaky or not.
+// What words ask for, but for the plugins: to check a file, a run with this many workers, a storm with this many cycle threads
+// and binders, which are flaky or not, or a translation for this scheduler, by uids or not and with answers or not.
 #[derive(Clone, Copy)]
 enum Want {
     Check(&'static str),
     Run(usize),
     Storm(usize, usize, bool),
+    Translate(&'static str, bool, bool),
 }
 
 // A plugin's name, weight, fuel and file.
@@ -34,6 +35,16 @@ const ASKED: &[Row] = &[
     ),
     ("check f", Want::Check("f"), &[]),
     ("storm", Want::Storm(2, 2, false), &[]),
+    (
+        "translate",
+        Want::Translate("default-scheduler", false, false),
+        &[],
+    ),
+    (
+        "translate --answers --scheduler=a --by-uid",
+        Want::Translate("a", true, true),
+        &[],
+    ),
     (
         "storm --flaky --cycles +8 a:1:1:f --binders=01",
         Want::Storm(8, 1, true),
@@ -82,6 +93,9 @@ const REFUSED: &[&str] = &[
     "storm --flaky --flaky",
     "storm --workers 2",
     "run --flaky",
+    "translate --scheduler",
+    "translate --scheduler a --scheduler a",
+    "translate a:1:1:f",
 ];
 
 fn asked() -> &'static [Row] {
@@ -129,6 +143,15 @@ fn is_storm(plan: &StormPlan, want: Want, specs: &[SpecRow]) -> bool {
     }
 }
 
+fn is_translation(plan: &TranslatePlan, want: Want) -> bool {
+    match want {
+        Want::Translate(scheduler, by_uid, answers) => {
+            plan.scheduler == scheduler && plan.by_uid == by_uid && plan.answers == answers
+        }
+        _ => false,
+    }
+}
+
 fn is_check(file: &str, want: Want) -> bool {
     match want {
         Want::Check(wanted) => file == wanted,
@@ -152,6 +175,7 @@ fn are_asked(alloc: Global, args: &[&str], want: Want, specs: &[SpecRow]) -> boo
         Ok(Words::Run(plan)) => is_run(&plan, want, specs),
         Ok(Words::Storm(plan)) => is_storm(&plan, want, specs),
         Ok(Words::Check(file)) => is_check(file, want),
+        Ok(Words::Translate(plan)) => is_translation(&plan, want),
         _ => false,
     }
 }

@@ -52,7 +52,7 @@ const WORDS: &[(&[&str], Want<'static>)] = &[
         (
             2,
             "",
-            "wsched: 1 BadWords; usage: wsched run [--workers N] [SPEC]... or wsched explain [--workers N] [SPEC]... or wsched storm [--cycles C] [--binders B] [--flaky] [SPEC]... or wsched check MODULE; a SPEC is NAME:WEIGHT:FUEL:FILE\n",
+            "wsched: 1 BadWords; usage: wsched run [--workers N] [SPEC]... or wsched explain [--workers N] [SPEC]... or wsched storm [--cycles C] [--binders B] [--flaky] [SPEC]... or wsched check MODULE or wsched translate [--scheduler NAME] [--by-uid] [--answers]; a SPEC is NAME:WEIGHT:FUEL:FILE\n",
         ),
     ),
     (
@@ -60,7 +60,7 @@ const WORDS: &[(&[&str], Want<'static>)] = &[
         (
             2,
             "",
-            "wsched: 1 BadWords COMMAND; usage: wsched run [--workers N] [SPEC]... or wsched explain [--workers N] [SPEC]... or wsched storm [--cycles C] [--binders B] [--flaky] [SPEC]... or wsched check MODULE; a SPEC is NAME:WEIGHT:FUEL:FILE\n",
+            "wsched: 1 BadWords COMMAND; usage: wsched run [--workers N] [SPEC]... or wsched explain [--workers N] [SPEC]... or wsched storm [--cycles C] [--binders B] [--flaky] [SPEC]... or wsched check MODULE or wsched translate [--scheduler NAME] [--by-uid] [--answers]; a SPEC is NAME:WEIGHT:FUEL:FILE\n",
         ),
     ),
 ];
