@@ -7,6 +7,7 @@
 //!   have and one byte, by which it is known to be too long.
 //! - The desk is one that many passes can share, with one pass; its state is what that pass has seen.
 //! - A session has that desk, and makes the text that answers a command; `verdicts` has the lines that explain a cycle.
+//! - `one_cycle` has the cycle of any pass, and `untold_cycle` the one of which no verdict is told.
 //! - Each way to end early is a `RunFault`, which has a number and a name.
 //! - That a script has one output, whoever runs it and with however many workers, are the laws `one_output` and `same_output`;
 //!   that an explained one is the same with lines put in is `explained_output`.
@@ -24,6 +25,7 @@ mod one_cycle;
 mod script;
 mod session;
 mod text;
+mod untold_cycle;
 mod verdicts;
 
 pub use device::{DeviceFailed, Sink, Source, write_all};
@@ -31,6 +33,7 @@ pub use fault::RunFault;
 pub use laws::{explained_output, one_output, same_output};
 pub use lines::LineReader;
 pub use named_rule::NamedRule;
-pub use one_cycle::{CutShort, Cycled, cycle, cycle_untold};
+pub use one_cycle::{CutShort, Cycled, cycle};
 pub use script::run;
 pub use session::push_dump;
+pub use untold_cycle::cycle_untold;

@@ -1,6 +1,6 @@
 use Rattle.std.proofs.lemmas.Result.{IfErr-weaker}
 use Rattle.engine.proofs.Cycles.{popped_in_vain}
-use Rattle.engine.proofs.one_cycle.cycle_untold.Goals as goal
+use Rattle.engine.proofs.untold_cycle.cycle_untold.Goals as goal
 
 -- nothing comes of a popped pod
 pub returns-in-Ok-Some-clause-cut_short : goal.returns-in-Ok-Some-clause-cut_short
