@@ -44,8 +44,6 @@ mod resource;
 mod rounding;
 mod suffix;
 mod taints;
-#[cfg(test)]
-mod tests;
 mod told;
 mod tolerations;
 mod translation;

@@ -9,6 +9,7 @@
 //! Which module tests which crate (a module can't have the name of a library that its crate stands on):
 //!
 //! - `manifest`: `lines`
+//! - `objects`: `api_objects`
 //! - `engine`: `script`; `runs` by as many kits as there may be
 //! - `storm`: `storms`, `two_pools`
 //! - `command` and `fault_line`: `words`
@@ -16,6 +17,8 @@
 //! - `texts` puts texts together for all of these
 #![tactic(auto)]
 
+#[cfg(test)]
+mod api_objects;
 #[cfg(test)]
 mod lines;
 #[cfg(test)]

@@ -1,11 +1,9 @@
 //! Worked amounts and requests. What quantities come to is what `resource.Quantity` of Kubernetes
 //! 1.20.2 told of the same texts, but that it has no limits and no fault for amounts below 0.
-use crate::fault::{ObjectFault, QuantityFault};
-use crate::key::Key;
-use crate::line::write_line;
-use crate::pod::pod_request;
-use crate::quantity::{cpu_asked, cpu_offered, memory_asked, memory_offered, pods_offered};
-use crate::translation::translate;
+use objects::{
+    Key, ObjectFault, QuantityFault, cpu_asked, cpu_offered, memory_asked, memory_offered,
+    pod_request, pods_offered, translate, write_line,
+};
 use quant::{Event, Name, Version};
 use serde_json::Value;
 use std::alloc::Global;
