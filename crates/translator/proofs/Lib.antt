@@ -2,3 +2,4 @@ pub mod Given
 pub mod Translating
 pub mod Translated
 pub mod Scripts
+pub mod OneLine

@@ -17,22 +17,22 @@ use Rattle.translator.specs.Laws.{TranslationIsScript, event_then, events_from, 
 use Rattle.translator.proofs.Given.{no_meaning}
 
 -- a line of which no byte ends a line is one
-split_and : (a b : Bool) → (a && b) ≡ true → (a ≡ true) × (b ≡ true)
+pub split_and : (a b : Bool) → (a && b) ≡ true → (a ≡ true) × (b ≡ true)
 split_and true b e = (refl, e)
 split_and false b e = cc
 
-opposite : (b : Bool) → not b ≡ true → b ≡ false
+pub opposite : (b : Bool) → not b ≡ true → b ≡ false
 opposite true e = cc
 opposite false e = refl
 
-one_line : (text : List ℕ) → is_one_line text ≡ true → IsLine text
+pub one_line : (text : List ℕ) → is_one_line text ≡ true → IsLine text
 one_line [] e = All-nil (λ b. is_newline b ≡ false)
 one_line (b ∷ text) e =
     let parts = split_and (not (is_newline b)) (is_one_line text) e in
     All-cons (λ c. is_newline c ≡ false) b text (opposite (is_newline b) parts.0) (one_line text parts.1)
 
 -- the line of an event, or the empty one, is one line
-spelled_line : (event : Option Event) (line : List ℕ) → Spells event line → IsLine line
+pub spelled_line : (event : Option Event) (line : List ℕ) → Spells event line → IsLine line
 spelled_line None [] spells = All-nil (λ b. is_newline b ≡ false)
 spelled_line None (x ∷ more) spells = cc
 spelled_line (Some event) line spells = one_line line spells.1

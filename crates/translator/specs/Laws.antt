@@ -34,3 +34,9 @@ abbrev pub TranslationIsScript : Type 0
 TranslationIsScript =
     (manner : Manner) (lines : List (List ℕ)) (translations : List Translation) (next : ℕ)
     → AreTranslated manner 1 lines translations next → IsScriptOf manner lines (answers_text false translations)
+
+-- each line has one answer, on one line, also where it is an object that says what is left out
+abbrev pub OneAnswerALine : Type 0
+OneAnswerALine =
+    (manner : Manner) (lines : List (List ℕ)) (translations : List Translation) (next : ℕ)
+    → AreTranslated manner 1 lines translations next → length (lines_of (answers_text manner.answers translations)) ≡ length lines

@@ -110,8 +110,7 @@ impl Waiting {
         out: &mut W,
         err: &mut E,
     ) -> Result<(), Stopped>
-        requires writes { W.failure_count out.old < 10 ^ 18 }
-        requires tells { E.failure_count err.old < 10 ^ 18 }
+        requires { (W.failure_count out.old < 10 ^ 18) × (E.failure_count err.old < 10 ^ 18) }
         ensures due { OnOk result (IsTrue due → self.new.answers.items ≡ []) }
         ensures written { OnOk result (WritesSome (W.written out.old) (W.written out.new)
             self.old.answers.items self.new.answers.items) }
