@@ -12,12 +12,12 @@ use Rattle.manifest.specs.declared.fault.LineFault.TheVariants as faults
 use Rattle.manifest.specs.Reading.{Fails}
 use Rattle.desk.specs.Caller.{IsTimely}
 use Rattle.desk.specs.declared.step.Step.{Step}
-use Rattle.engine.specs.Lines.{lines_of, kept, TakesLine}
+use Rattle.engine.specs.Lines.{lines_of, TakesLine}
 use Rattle.engine.specs.Script.{asked_by, asked_then, asked_in, fault_or, fault_from}
 use Rattle.engine.proofs.Progress.{asked_by-kept}
 use Rattle.storm.specs.Script.{watched}
 use Rattle.storm.specs.declared.batch.Faulty.{Faulty}
-use Rattle.storm.specs.inside.Lines.{AreSteps, IsFaulty, AreRead, TakesLines}
+use Rattle.storm.specs.inside.Lines.{AreSteps, IsFaulty, AreRead, TakesLines, kept}
 
 module _ {A : Type 0} (taken : Command → Result A LineFault) where
   -- a fault, its line counted from so much further on

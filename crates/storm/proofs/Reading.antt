@@ -10,12 +10,12 @@ use Rattle.manifest.specs.declared.fault.LineFault.TheVariants.{NoMemory}
 use Rattle.desk.specs.Caller.{IsTimely}
 use Rattle.std.specs.Io.KnownBytes.{Consumes, IsAtEnd, prepend_known}
 use Rattle.desk.specs.declared.step.Step.{Step}
-use Rattle.engine.specs.Lines.{lines_of, kept}
+use Rattle.engine.specs.Lines.{lines_of}
 use Rattle.engine.proofs.Taking.{lines_of-nil}
 use Rattle.engine.specs.Script.{asked_in, fault_from}
 use Rattle.storm.specs.Script.{watched, script_steps, first_storm_fault}
 use Rattle.storm.specs.declared.batch.Faulty.{Faulty}
-use Rattle.storm.specs.inside.Lines.{AreSteps, IsFaulty, AreRead, TakesLines}
+use Rattle.storm.specs.inside.Lines.{AreSteps, IsFaulty, AreRead, TakesLines, kept}
 use Rattle.storm.proofs.Batches.{further, fault_both, fault_front, asked_both, asked_kept, fault_kept, from_number}
 
 -- Of a known script this rest is left; the lines before it asked for these steps, and the rest begins with the line of this number.

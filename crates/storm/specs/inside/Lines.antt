@@ -1,11 +1,11 @@
 -- What several lines of a storm's script ask for.
-use Rattle.std.specs.Prelude.{◌≡◌, ◌≢◌, ℕ, ◌<◌, List, [], ◌++◌, map, length, Option, Some, None, ⊤, MatchOption}
+use Rattle.std.specs.Prelude.{◌≡◌, ◌≢◌, ℕ, ◌<◌, List, [], ◌++◌, map, length, take, Option, Some, None, ⊤, MatchOption}
 use Rattle.std.specs.List.{All}
 use Rattle.std.specs.Io.KnownBytes.{Consumes, IsAtEnd, prepend_known}
 use Rattle.manifest.specs.declared.fault.LineFault.TheVariants.{NoMemory}
 use Rattle.desk.specs.Caller.{IsTimely}
 use Rattle.desk.specs.declared.step.Step.{Step}
-use Rattle.engine.specs.Lines.{lines_of, kept}
+use Rattle.engine.specs.Lines.{lines_of}
 use Rattle.engine.specs.Script.{asked_in, fault_from}
 use Rattle.storm.specs.Script.{watched}
 use Rattle.storm.specs.declared.batch.Faulty.{Faulty}
@@ -24,6 +24,10 @@ pub record IsFaulty (lines : List (List ℕ)) (faulty : Faulty) : Type 0 where
 pub record AreRead (lines : List (List ℕ)) (steps : List Step) (fault : Option Faulty) : Type 0 where
   pub timely : All IsTimely steps
   pub read : MatchOption fault (AreSteps lines steps) (IsFaulty lines)
+
+-- the first 65,537 bytes: of a longer line no more is kept
+abbrev pub kept : List ℕ → List ℕ
+kept text = take 65537 text
 
 -- where the text is known, its first lines were taken off, and are kept as these
 abbrev pub TakesLines : Option (List ℕ) → Option (List ℕ) → List (List ℕ) → Type 0
