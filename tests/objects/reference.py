@@ -158,7 +158,7 @@ def bound(meta: Json, spec: Json, by_uid: bool) -> Told:
     """Where it runs: it counts there whatever it asks for."""
     asked = Asked()
     sizes = needed(spec, asked, is_whole_counted=True)
-    is_over = any(size > MOST[it] for it, size in sizes.items())
+    is_over = spec.get("resources") is None and any(size > MOST[it] for it, size in sizes.items())
     if not NAME.fullmatch(spec["nodeName"]):
         raise Unsaid("its node's name")
     left_out = [AMOUNT] if asked.unread or is_over else []
