@@ -36,7 +36,7 @@ class Ended(Exception):
 
 def words_of(program: str, scheduler: str) -> list[str]:
     """By which it is started. Its own versions and the pods' uids are of no account here."""
-    return [program, "translate", "--answers", "--by-uid", "--scheduler", scheduler]
+    return [program, "translate", "--answers", "--by-uid", f"--scheduler={scheduler}"]
 
 
 class Translator:
