@@ -1,6 +1,17 @@
-# The commands of the README.
+# The commands of the README. Alone, `make` prints them.
 
-.PHONY: first-run try-run plugins deb dist image test
+.PHONY: help first-run try-run plugins deb dist image test
+
+help:
+	@echo 'make first-run   proves the program, builds it and runs it on the first script: 66 processor minutes, 20 by the clock on four'
+	@echo '                 quick cores, with an unproved run of the same sources after a few'
+	@echo 'make try-run     the unproved run alone, about three minutes of one core; leaves no program'
+	@echo 'make plugins     each plugin of examples/plugins over its script, a second (after first-run)'
+	@echo 'make deb         a Debian package, a minute (after first-run; as root)'
+	@echo 'make dist        a tar of the same, with sums and verdicts, a minute (after first-run)'
+	@echo 'make image       an image of the second scheduler, some minutes (after first-run; as root, with buildah)'
+	@echo 'make test        the gate: every proof, wrong body, test and program; an hour or two (docs/GATE.md)'
+	@echo 'tests/run        what is tried outside the gate; tests/run --list tells each'
 
 # Proves and builds the program, and runs it on the first script.
 first-run:
@@ -8,7 +19,7 @@ first-run:
 
 # Runs the same sources on the first script before any proof: it proves nothing, and leaves no program.
 try-run:
-	cd crates/wsched && rt try -- run < ../../examples/first-run.jsonl
+	examples/first-run --unproved
 
 # Runs each plugin of examples/plugins over its script, by the program that first-run built.
 plugins:
@@ -25,6 +36,6 @@ dist:
 image:
 	tools/packages/image
 
-# The gate: that definitions stand where they should, every proof from nothing, every must-fail edit, every test and program.
+# The gate: what stands beside the proofs, every proof from nothing, every must-fail edit, every test and program.
 test:
 	.ci/run
