@@ -23,6 +23,11 @@ import yaml
 from kubernetes import client, config
 from kubernetes.leaderelection import electionconfig, leaderelection
 
+sys.path.append(str(pathlib.Path(__file__).resolve().parent.parent))
+
+# pylint: disable=wrong-import-position
+from tools import rules
+
 import lease
 import serving
 import share
@@ -65,6 +70,7 @@ def words() -> argparse.Namespace:
     )
     said.add_argument("--plugins", metavar="FOLDER", help="where node_affinity.wasm is; else in the folder `plugins` beside this program's own")
     said.add_argument("--settings", metavar="FILE", help="settings of the rules, as lines NAME=VALUE: labels /cfg/NAME of each node's row")
+    said.add_argument("--rules", metavar="FILE", help="rules, settings and node affinity in a file (examples/tools/rules.py has its form), before the SPECs")
     said.add_argument("--lease", type=lease.name_of, metavar="NAMESPACE/NAME", help="a Lease that replicas share: only the one that holds it schedules")
     said.add_argument("--listen", type=serving.address, metavar="[HOST]:PORT", help="serve /metrics, /healthz, /livez and /readyz there")
     said.add_argument("--record", metavar="FILE", help="write every line that wsched is told and has answered to this file, compressed by gzip")
@@ -78,9 +84,14 @@ def words() -> argparse.Namespace:
         folder = pathlib.Path(given.plugins) if given.plugins else pathlib.Path(__file__).resolve().parent.parent / "plugins"
         given.spec = [f"{RULE}:{given.node_affinity}:{FUEL}:{folder / RULE}.wasm", *given.spec]
     try:
-        given.settings = site_settings.read(given.settings) if given.settings else []
+        by = rules.given_by(given)
+    except rules.BadRules as why:
+        said.error(f"argument --rules: {why}")
     except (OSError, ValueError, site_settings.BadSetting) as why:
         said.error(f"argument --settings: {why}")
+    given.spec, given.settings = [*by.specs], [*by.labels]
+    if given.rules and by.tells_affinity:
+        given.node_affinity = True
     return given
 
 
