@@ -73,7 +73,7 @@ class Cluster:
         claims = {key_of(it): it for it in found["PersistentVolumeClaim"]}
         there = Volumes(claims, {it["metadata"]["name"]: it for it in found["PersistentVolume"]}) if rules.tells_affinity else None
         reader = Reader(WSCHED, scheduler)
-        pods = [*reader.pods(found["Pod"], there).values()]
+        self.pods = pods = [*reader.pods(found["Pod"], there).values()]
         self.waiting = sorted((it for it in pods if not it.node), key=lambda it: (-it.priority, it.created, it.uid))
         self.alone = {it.uid: ", ".join(it.left_out) for it in self.waiting if it.row is None}
         labels = NodeLabels(rules.labels)

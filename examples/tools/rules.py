@@ -113,10 +113,11 @@ def loaded(file: str) -> Any:
         """Reads no mapping that has a key twice."""
 
         def construct_mapping(self, node: Any, deep: bool = False) -> Any:
-            keys = [key.value for key, _ in node.value]
+            before: list[Any] = []
             for key, _ in node.value:
-                if keys.count(key.value) > 1:
+                if key.value in before:
                     raise BadRules(f"{file}: line {key.start_mark.line + 1}: {key.value} stands there twice")
+                before.append(key.value)
             return super().construct_mapping(node, deep)
 
     try:
