@@ -2,19 +2,22 @@
 from __future__ import annotations
 
 import concurrent.futures
+import enum
 import functools
+import heapq
+import itertools
 import json
 import logging
-import queue
 import threading
 import time
 from typing import Any, NamedTuple
 
 from kubernetes.client.rest import ApiException
 
+from metrics import Metrics
+from newest import Meant, Newest
 from pods import Pod
-from posting import FIRST_PAUSE, JSON, LONGEST_PAUSE, UNWANTED, Answer, Posts, Request
-from seen import SeenPod
+from posting import FIRST_PAUSE, JSON, UNWANTED, Answer, Posts, Request
 from watch import AWAY, message
 from way import Way
 
@@ -23,104 +26,188 @@ LOG = logging.getLogger("second-scheduler")
 UNDER_WAY = 512
 # How long a bind may take at the API server, in seconds, before the pod is asked what became of it.
 PATIENCE = 30.0
+# For how long after a bind was sent it may still be done, in seconds, though nobody answers: an API server gives a request 60 seconds, and
+# whatever stands before it may have held it back.
+LANDS = 75.0
+# The longest pause between two looks at a pod, in seconds.
+LONGEST_PAUSE = 10.0
 
 
 class Bind(NamedTuple):
     """A bind, and what became of it. `turn` is when the pod had its turn, `seconds` how long the bind took."""
 
-    pod: Pod
-    node: str
-    # which node of that name was meant
-    node_uid: str
+    meant: Meant
     ticket: int
     turn: float
     is_bound: bool = False
     is_posted: bool = True
     seconds: float = 0.0
 
+    @property
+    def pod(self) -> Pod:
+        return self.meant.pod
 
-class Newest:
-    """Which pods of one's own wait for a node, and which nodes there are, by the newest that was heard: told by the threads that hear of
-    them, before anyone else knows, and asked by those that bind."""
+    @property
+    def node(self) -> str:
+        return self.meant.node
 
-    def __init__(self) -> None:
-        self.uids: dict[str, str] = {}
-        self.nodes: dict[str, str] = {}
 
-    def hear(self, key: str, uid: str, seen: SeenPod | None) -> None:
-        """`seen` is None of a pod that is gone, or isn't ours."""
-        if seen and not seen.node and not seen.is_leaving:
-            self.uids[key] = uid
-        else:
-            # (a name belongs to one pod at a time, so whoever had it before is gone too)
-            self.uids.pop(key, None)
+class Became(enum.Enum):
+    """What the API server says of a pod whose bind had no good answer."""
 
-    def listed(self, uids: set[str]) -> None:
-        for key, uid in [*self.uids.items()]:
-            if uid not in uids:
-                self.uids.pop(key, None)
+    BOUND = "on the node"
+    ELSE = "gone, or on another node"
+    WAITS = "without a node"
+    UNKNOWN = "nobody says it"
+    HIDDEN = "it may not be asked for"
 
-    def hear_node(self, name: str, uid: str | None) -> None:
-        """`uid` is None of a node that is gone."""
-        if uid is None:
-            self.nodes.pop(name, None)
-        else:
-            self.nodes[name] = uid
 
-    def listed_nodes(self, names: set[str]) -> None:
-        for name in [it for it in self.nodes if it not in names]:
-            self.nodes.pop(name, None)
+class Doubt(NamedTuple):
+    """A bind that had no good answer. `until` is up to when it may still be done, 0 where the API server said that it wasn't."""
 
-    def holds(self, asked: Bind) -> bool:
-        """Whether the pod still waits, and the node that was meant is there."""
-        return self.uids.get(str(asked.pod)) == asked.pod.uid and self.nodes.get(asked.node) == asked.node_uid
+    bind: Bind
+    sent: float
+    until: float
+    pause: float
 
 
 class Binders:
     """Those that bind, so many at once. Each answer goes into the inbox, as `("bind", .., Bind)`."""
 
-    def __init__(self, api: Any, way: Way, count: int, newest: Newest, inbox: queue.SimpleQueue[Any], stopping: threading.Event) -> None:
-        self.api, self.newest, self.inbox, self.stopping = api, newest, inbox, stopping
+    def __init__(self, api: Any, way: Way, count: int, newest: Newest, metrics: Metrics, stopping: threading.Event) -> None:
+        self.api, self.newest, self.metrics, self.stopping = api, newest, metrics, stopping
         self.posts = Posts(way, count, "binds")
-        # those that look up what became of a bind, which are few
-        self.lookers = concurrent.futures.ThreadPoolExecutor(count, "look-up")
+        self.doubts = Doubts(self, count)
 
-    def bind(self, asked: Bind) -> None:
-        pod = asked.pod
-        body = {"metadata": {"name": pod.name, "namespace": pod.namespace, "uid": pod.uid}, "target": {"apiVersion": "v1", "kind": "Node", "name": asked.node}}
+    def bind(self, bind: Bind) -> None:
+        pod, meta = bind.pod, {"name": bind.pod.name, "namespace": bind.pod.namespace, "uid": bind.pod.uid}
+        if bind.meant.version:
+            # (API servers from 1.21 on bind no pod that has changed, and so none that was fenced)
+            meta["resourceVersion"] = bind.meant.version
+        body = {"metadata": meta, "target": {"apiVersion": "v1", "kind": "Node", "name": bind.node}}
         path = f"/api/v1/namespaces/{pod.namespace}/pods/{pod.name}/binding"
-        then, is_wanted = functools.partial(self.answered, asked), functools.partial(self.newest.holds, asked)
+        then, is_wanted = functools.partial(self.answered, bind), functools.partial(self.newest.may_bind, bind.meant)
         self.posts.send(Request("POST", path, json.dumps(body).encode(), JSON, PATIENCE, then, is_wanted))
 
-    def answered(self, asked: Bind, answer: Answer) -> None:
+    def answered(self, bind: Bind, answer: Answer) -> None:
         """(in the thread of the posts)"""
         if answer.is_good:
-            self.end(asked, answer, is_bound=True)
+            self.end(bind._replace(is_bound=True, seconds=answer.seconds))
         elif answer.status == UNWANTED:
             # an API server up to 1.20 would bind whatever has its name now
-            LOG.info("pod %s isn't bound to %s: one of them is gone or another by now, or the pod is bound", asked.pod, asked.node)
-            self.end(asked, answer, is_posted=False)
+            LOG.info("pod %s isn't bound to %s: one of them has changed or is gone, or the cluster isn't heard", bind.pod, bind.node)
+            self.end(bind._replace(is_posted=False))
         else:
-            LOG.warning("pod %s can't be bound to %s: %s", asked.pod, asked.node, message(answer.fault))
-            self.lookers.submit(self.look_up, asked, answer)
+            LOG.warning("pod %s can't be bound to %s: %s", bind.pod, bind.node, message(answer.fault))
+            sent = time.monotonic() - answer.seconds
+            # (what an API server answers for want of time, or one before it that gets no answer, says nothing of what is done yet)
+            self.doubts.begin(Doubt(bind, sent, 0.0 if 400 <= answer.status < 500 else sent + LANDS, FIRST_PAUSE))
 
-    def end(self, asked: Bind, answer: Answer, is_bound: bool = False, is_posted: bool = True) -> None:
-        self.inbox.put(("bind", "", asked._replace(is_bound=is_bound, is_posted=is_posted, seconds=answer.seconds)))
+    def end(self, bind: Bind) -> None:
+        self.newest.sent.discard(bind.pod.uid)
+        self.newest.inbox.put(("bind", "", bind))
 
-    def look_up(self, asked: Bind, answer: Answer) -> None:
-        """Where no answer tells what became of a bind, the pod itself is asked, until there is one."""
-        began, pause, is_bound = time.monotonic(), FIRST_PAUSE, self.ask(asked.pod, asked.node)
-        while is_bound is None and not (self.stopping.is_set() and pause > 2):
-            time.sleep(pause)
-            pause = min(2 * pause, LONGEST_PAUSE)
-            is_bound = self.ask(asked.pod, asked.node)
-        self.end(asked, answer._replace(seconds=answer.seconds + time.monotonic() - began), is_bound=bool(is_bound))
 
-    def ask(self, pod: Pod, node: str) -> bool | None:
+class Doubts:
+    """The binds of which it isn't known what became of them: each pod is asked for until that is known. One that may still be bound keeps its
+    place so long; and before that is given back the pod's version is moved, by a write of its condition: API servers from 1.21 on refuse
+    a bind that comes after it."""
+
+    def __init__(self, binders: Binders, count: int) -> None:
+        self.binders, self.api, self.newest, self.stopping = binders, binders.api, binders.newest, binders.stopping
+        self.lookers = concurrent.futures.ThreadPoolExecutor(count, "look-up")
+        self.later, self.count, self.bell = list[tuple[float, int, Doubt]](), itertools.count(), threading.Condition()
+        self.warned = False
+        threading.Thread(target=self.go, daemon=True, name="doubts").start()
+
+    def begin(self, doubt: Doubt) -> None:
+        self.binders.metrics.doubts.inc()
+        self.lookers.submit(self.look_up, doubt)
+
+    def go(self) -> None:
+        """Has each pod looked at when its pause is over, at the end of the process all at once."""
+        while True:
+            with self.bell:
+                self.bell.wait(0.2)
+                due = []
+                while self.later and (self.later[0][0] <= time.monotonic() or self.stopping.is_set()):
+                    due.append(heapq.heappop(self.later)[2])
+            for it in due:
+                self.lookers.submit(self.look_up, it)
+
+    def put_off(self, doubt: Doubt) -> None:
+        when = time.monotonic() + doubt.pause
+        if doubt.until > time.monotonic():
+            when = min(when, doubt.until)
+        with self.bell:
+            heapq.heappush(self.later, (when, next(self.count), doubt._replace(pause=min(2 * doubt.pause, LONGEST_PAUSE))))
+
+    def look_up(self, doubt: Doubt) -> None:
+        """(in a thread of the lookers)"""
+        try:
+            is_bound = self.known(doubt)
+        except Exception:  # pylint: disable=broad-except
+            # (its place would be kept for ever)
+            LOG.exception("pod %s: what became of its bind isn't known", doubt.bind.pod)
+            is_bound = None
+        if is_bound is None:
+            self.put_off(doubt)
+        else:
+            self.binders.metrics.doubts.dec()
+            self.binders.end(doubt.bind._replace(is_bound=is_bound, seconds=time.monotonic() - doubt.sent))
+
+    def known(self, doubt: Doubt) -> bool | None:
+        """Whether it was bound, None where that may still change."""
+        became, pod = self.ask(doubt.bind)
+        if became in (Became.BOUND, Became.ELSE):
+            return became is Became.BOUND
+        if became is Became.UNKNOWN or (time.monotonic() < doubt.until and not self.stopping.is_set()):
+            return None
+        if not doubt.until:
+            return False
+        if became is Became.HIDDEN:
+            LOG.error("pod %s: what became of its bind to %s can't be asked for, and its place is given back", doubt.bind.pod, doubt.bind.node)
+            return False
+        if not self.fence(doubt.bind, pod):
+            return None
+        became, _ = self.ask(doubt.bind)
+        return None if became is Became.UNKNOWN else became is Became.BOUND
+
+    def ask(self, bind: Bind) -> tuple[Became, dict[str, Any]]:
+        pod = bind.pod
         try:
             now = json.loads(self.api.read_namespaced_pod(pod.name, pod.namespace, _preload_content=False, _request_timeout=(5, 30)).data)
-            return bool(now["metadata"]["uid"] == pod.uid and now["spec"].get("nodeName") == node)
+            if now["metadata"]["uid"] != pod.uid:
+                return Became.ELSE, now
+            node = now["spec"].get("nodeName")
+            return (Became.WAITS if not node else Became.BOUND if node == bind.node else Became.ELSE), now
         except ApiException as other:
-            return False if other.status == 404 else None
-        except (*AWAY, ValueError):
-            return None
+            if other.status in (401, 403):
+                self.warn(other)
+            return {404: Became.ELSE, 403: Became.HIDDEN}.get(other.status, Became.UNKNOWN), {}
+        except (*AWAY, ValueError, LookupError, TypeError):
+            return Became.UNKNOWN, {}
+
+    def fence(self, bind: Bind, pod: dict[str, Any]) -> bool:
+        """Moves the version of a pod that has no node, so that a bind that comes late is refused where that is tested. False where the pod has
+        changed meanwhile, or nobody answers."""
+        now = time.strftime("%Y-%m-%dT%H:%M:%SZ", time.gmtime())
+        why = f"a bind to {bind.node} had no answer, and the pod is tried again"
+        condition = {"type": "PodScheduled", "status": "False", "reason": "SchedulerError", "message": why, "lastProbeTime": now, "lastTransitionTime": now}
+        meta = {"uid": bind.pod.uid, "resourceVersion": pod["metadata"].get("resourceVersion")}
+        body = {"metadata": meta, "status": {"conditions": [condition]}}
+        try:
+            self.api.patch_namespaced_pod_status(bind.pod.name, bind.pod.namespace, body, _preload_content=False, _request_timeout=(5, 30))
+            return True
+        except ApiException as other:
+            if other.status in (401, 403):
+                self.warn(other)
+            # (without the right to it the time that has passed has to do; one that went isn't bound any more)
+            return 400 <= other.status < 500 and other.status not in (401, 409, 429)
+        except AWAY:
+            return False
+
+    def warn(self, why: ApiException) -> None:
+        if not self.warned:
+            self.warned = True
+            LOG.error("what became of a bind without an answer can't be looked up: %s", message(why))

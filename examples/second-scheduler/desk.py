@@ -21,9 +21,9 @@ LOG = logging.getLogger("second-scheduler")
 class Desk(Nodes):
     """What was told, and what was heard. A pod is known by its uid, so none counts twice."""
 
-    def __init__(self, core: Core, telling: Telling, metrics: Metrics, labels: NodeLabels, share: Share = ALONE) -> None:
+    def __init__(self, core: Core, telling: Telling, metrics: Metrics, labels: NodeLabels, pods: dict[str, Pod], share: Share = ALONE) -> None:
         super().__init__(core, telling, metrics, labels, share)
-        self.pods: dict[str, Pod] = {}
+        self.pods = pods
         # the pods that ask for more labels of nodes than there is room for
         self.short: dict[Pod, SeenPod] = {}
         # own pods that are left alone, and those with a node that can't be read as a whole
@@ -56,7 +56,16 @@ class Desk(Nodes):
             why = f"not all that the pod asks for can be read, and it counts on {seen.node} as the most there can be: {', '.join(seen.left_out)}"
             LOG.error("pod %s: %s", pod, why)
             self.telling.warn(about_pod(pod), "NotCounted", why)
+        elif seen.is_whole and pod in self.unread:
+            self.unread.discard(pod)
+            self.telling.done(pod.uid, "NotCounted")
         is_new = (pod.node, pod.size) != (seen.node, seen.size)
+        if seen.size[0] > pod.size[0] or seen.size[1] > pod.size[1]:
+            # (what is decided of the node now knows of less)
+            self.changed.add(seen.node)
+        if pod.told is Told.PLACED and pod.place == seen.node and (seen.size[0] < pod.size[0] or seen.size[1] < pod.size[1]):
+            # (it makes room, for which those that have failed are tried again where a place goes)
+            self.untell(pod, is_outside=True)
         self.is_on(pod, seen.node)
         pod.size = seen.size
         self.tell_bound(pod, is_new)

@@ -19,6 +19,8 @@ class Health:
     def __init__(self) -> None:
         self.is_leader = self.is_listed = False
         self.beaten = time.monotonic()
+        # which kinds of object a leader isn't heard of
+        self.unheard: Callable[[], list[str]] = list
 
     def beat(self) -> None:
         self.beaten = time.monotonic()
@@ -27,7 +29,12 @@ class Health:
         return not self.is_leader or time.monotonic() - self.beaten < SILENCE
 
     def is_ready(self) -> bool:
-        return self.is_live() and (self.is_listed or not self.is_leader)
+        return self.is_live() and (not self.is_leader or (self.is_listed and not self.unheard()))
+
+    def why_not_ready(self) -> str:
+        if not self.is_live():
+            return "the main loop does nothing"
+        return f"nothing is heard of any {', of any '.join(self.unheard())}" if self.is_listed and self.unheard() else "not listed yet"
 
     def lead(self) -> None:
         self.beat()

@@ -1,19 +1,15 @@
 """What is heard of nodes and pods, in the threads of their watches: read there, and handed on as little as is needed."""
 from __future__ import annotations
 
-import queue
-from typing import Any, Sequence
+from typing import Sequence
 
-from binding import Newest
 from affinity import NodeLabels
 from claims import Claims
 from metrics import Metrics
+from newest import Newest
 from seen import ENDED, Reader, SeenPod
 from share import Share
 from translating import Json
-
-# A kind, an event, and what it is of.
-Inbox = queue.SimpleQueue[tuple[str, str, Any]]
 
 
 class Hearing:
@@ -21,8 +17,8 @@ class Hearing:
 
     kind = ""
 
-    def __init__(self, inbox: Inbox, metrics: Metrics, reader: Reader, newest: Newest, share: Share) -> None:
-        self.inbox, self.metrics, self.reader, self.newest, self.share = inbox, metrics, reader, newest, share
+    def __init__(self, metrics: Metrics, reader: Reader, newest: Newest, share: Share) -> None:
+        self.metrics, self.reader, self.newest, self.share, self.inbox = metrics, reader, newest, share, newest.inbox
 
     def failed(self) -> None:
         self.metrics.breaks.labels(self.kind).inc()
@@ -37,8 +33,8 @@ class NodeHearing(Hearing):
 
     kind = "node"
 
-    def __init__(self, inbox: Inbox, metrics: Metrics, reader: Reader, newest: Newest, share: Share, labels: NodeLabels) -> None:
-        super().__init__(inbox, metrics, reader, newest, share)
+    def __init__(self, metrics: Metrics, reader: Reader, newest: Newest, share: Share, labels: NodeLabels) -> None:
+        super().__init__(metrics, reader, newest, share)
         self.labels = labels
 
     def key(self, thing: Json) -> str:
@@ -48,12 +44,10 @@ class NodeHearing(Hearing):
         own = [it for it in things if self.share.has_node(self.key(it))]
         if event == "DELETED":
             for name in map(self.key, own):
-                self.newest.hear_node(name, None)
-                self.inbox.put((self.kind, event, name))
+                self.newest.hand_on_node((self.kind, event, name), name, None)
             return
         for seen in self.reader.nodes(own, self.labels):
-            self.newest.hear_node(seen.name, seen.uid)
-            self.inbox.put((self.kind, event, seen))
+            self.newest.hand_on_node((self.kind, event, seen), seen.name, seen)
 
     def listed(self, keys: set[str]) -> None:
         self.newest.listed_nodes(keys)
@@ -66,8 +60,8 @@ class PodHearing(Hearing):
 
     kind = "pod"
 
-    def __init__(self, inbox: Inbox, metrics: Metrics, reader: Reader, newest: Newest, share: Share, claims: Claims) -> None:
-        super().__init__(inbox, metrics, reader, newest, share)
+    def __init__(self, metrics: Metrics, reader: Reader, newest: Newest, share: Share, claims: Claims) -> None:
+        super().__init__(metrics, reader, newest, share)
         self.claims = claims
         claims.again = self.hear
 
@@ -90,14 +84,14 @@ class PodHearing(Hearing):
         """(one that isn't seen, and isn't gone, is another scheduler's to place)"""
         meta = pod["metadata"]
         self.claims.keep(pod, seen is not None and not seen.node)
-        self.newest.hear(f"{meta['namespace']}/{meta['name']}", meta["uid"], seen)
+        self.newest.hear_pod(f"{meta['namespace']}/{meta['name']}", meta["uid"], meta.get("resourceVersion") or "", seen)
         if seen:
-            self.inbox.put((self.kind, "MODIFIED", seen))
+            self.newest.hand_on_pod((self.kind, "MODIFIED", seen), seen)
         elif is_gone:
             self.inbox.put((self.kind, "DELETED", meta["uid"]))
 
     def listed(self, keys: set[str]) -> None:
-        self.newest.listed(keys)
+        self.newest.listed_pods(keys)
         with self.claims.lock:
             self.claims.listed(keys)
         super().listed(keys)

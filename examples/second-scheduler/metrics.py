@@ -26,7 +26,9 @@ class Metrics:
         self.places = Gauge("wsched_places", "Pods with a place in the desk.", ["state"], registry=it)
         self.under_way = Gauge("wsched_binds_under_way", "Binds that have no answer yet.", registry=it)
         self.not_bound = Counter("wsched_binds_failed_total", "Binds that came to nothing.", registry=it)
-        self.not_posted = Counter("wsched_binds_not_posted_total", "Binds not asked for: pod or node gone or made anew, or the pod bound.", registry=it)
+        why = "Binds not asked for: pod or node have changed or are gone, or nothing is heard."
+        self.not_posted = Counter("wsched_binds_not_posted_total", why, registry=it)
+        self.doubts = Gauge("wsched_binds_in_doubt", "Binds without a good answer, whose pods are looked up.", registry=it)
         self.left_out = Gauge("wsched_left_out", "Nodes that no line can say, and own pods that are left alone.", ["kind"], registry=it)
         self.unread = Gauge("wsched_pods_not_read", "Pods that have a node, and amounts that can't be read, which count as the most.", registry=it)
         self.refused = Counter("wsched_refused_for_room_total", "What the desk had no room for.", ["kind"], registry=it)
@@ -36,6 +38,7 @@ class Metrics:
         self.differences = Gauge("wsched_audit_differences", "Nodes of which the last audit found a difference.", registry=it)
         self.lists = Counter("wsched_lists_total", "Whole lists.", ["kind"], registry=it)
         self.breaks = Counter("wsched_watch_failures_total", "Lists and watches that were refused or broke.", ["kind"], registry=it)
+        self.shut = Gauge("wsched_watch_shut_seconds", "For how long nothing has been heard of a kind, 0 while its watch is open.", ["kind"], registry=it)
         self.untold = Counter("wsched_events_dropped_total", "Events and conditions put off: too many waited, or the API server refused.", registry=it)
         self.leader = Gauge("wsched_leader", "1 where this replica schedules.", registry=it)
         for result in ("scheduled", "unschedulable", "error"):
@@ -46,6 +49,7 @@ class Metrics:
             self.left_out.labels(kind)
             self.lists.labels(kind)
             self.breaks.labels(kind)
+            self.shut.labels(kind)
 
     def text(self) -> bytes:
         return bytes(generate_latest(self.registry))

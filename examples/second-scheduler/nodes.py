@@ -147,6 +147,9 @@ class Nodes:
             return
         if pod.told is Told.PLACED and not is_new:
             return
+        if pod.place != pod.node:
+            # (what is decided of the node now knows nothing of it)
+            self.changed.add(pod.node)
         pod.told, pod.place, pod.ticket = Told.PLACED, pod.node, None
         fields = f'"uid":{quoted(pod.uid)},"node":{quoted(pod.node)},{spelled(pod.size)}'
         self.open_places += 1

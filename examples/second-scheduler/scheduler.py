@@ -13,20 +13,21 @@ from typing import Any, Callable
 
 from affinity import NodeLabels
 from audit import Audit
-from binding import UNDER_WAY, Bind, Binders, Newest
+from binding import UNDER_WAY, Bind, Binders
 from claims import ClaimHearing, Claims, VolumeHearing, listed_after
 from core import MEANWHILE, PATIENCE, Core, command
 from desk import Desk
 from explaining import Explaining
 from health import Health
-from hearing import Inbox, NodeHearing, PodHearing
+from hearing import NodeHearing, PodHearing
 from metrics import Metrics
-from pods import Told
+from newest import Inbox, Meant, Newest
+from pods import Pod, Told
 from record import Record
 from seen import Reader
 from telling import Telling
 from verdicts import is_of_rules, said_of_no_node
-from watch import Watched
+from watch import QUIET, Watched
 from way import Way
 
 LOG = logging.getLogger("second-scheduler")
@@ -55,29 +56,56 @@ class Scheduler:
             LOG.info("the record is %s", record.path)
         self.core = Core(command(given.wsched, given.workers, given.spec), record, health.beat)
         health.watch_over(self.core.kill)
-        newest, self.share = Newest(), given.share
+        self.share = given.share
         self.whose = f" of share {self.share}" if self.share.count > 1 else ""
-        self.telling = Telling(way, given.scheduler, given.dry_run, metrics)
-        self.binders = Binders(api, way, given.binders, newest, self.inbox, self.stopping)
+        self.watches: list[Watched] = []
+        # whether what was heard has got here, and up to which change of a node
+        self.is_behind, self.heard = True, 0
+        pods: dict[str, Pod] = {}
+        self.newest = newest = Newest(self.inbox, pods, self.is_deaf)
+        self.telling = Telling(way, given.scheduler, given.dry_run, metrics, newest.waits)
+        self.binders = Binders(api, way, given.binders, newest, metrics, self.stopping)
         labels = NodeLabels(given.settings)
-        self.desk = Desk(self.core, self.telling, metrics, labels, self.share)
+        self.desk = Desk(self.core, self.telling, metrics, labels, pods, self.share)
         self.audit = Audit(self.desk, self.telling, metrics)
         self.explaining = Explaining([given.wsched, "explain", "--", *given.spec], self.desk, self.telling, self.inbox, self.whose)
         only = {"label_selector": given.nodes} if given.nodes else {}
         reader = Reader(given.wsched, given.scheduler)
-        Watched(api.list_node, NodeHearing(self.inbox, metrics, reader, newest, self.share, labels), **only)
+        nodes = NodeHearing(metrics, reader, newest, self.share, labels)
         claims = Claims(is_told=bool(given.node_affinity))
-        if given.node_affinity:
-            Watched(api.list_persistent_volume, VolumeHearing(claims, metrics))
-            Watched(api.list_persistent_volume_claim_for_all_namespaces, ClaimHearing(claims, metrics))
+        hearing = PodHearing(metrics, reader, newest, self.share, claims)
         phases = "status.phase!=Succeeded,status.phase!=Failed"
-        pods = PodHearing(self.inbox, metrics, reader, newest, self.share, claims)
-        Watched(listed_after(claims, api.list_pod_for_all_namespaces), pods, field_selector=phases)
+        self.watches += [Watched(api.list_node, nodes, **only), Watched(listed_after(claims, api.list_pod_for_all_namespaces), hearing, field_selector=phases)]
+        if given.node_affinity:
+            self.watches.append(Watched(api.list_persistent_volume, VolumeHearing(claims, metrics)))
+            self.watches.append(Watched(api.list_persistent_volume_claim_for_all_namespaces, ClaimHearing(claims, metrics)))
+        health.unheard = self.unheard
+
+    # What is heard.
+
+    def unheard(self) -> list[str]:
+        """The kinds of which more may have happened than was heard."""
+        now = time.monotonic()
+        return [it.ears.kind for it in self.watches if it.is_deaf(now)]
+
+    def is_deaf(self) -> bool:
+        """Whether what was heard is older than it may be, or hasn't got here: then nothing is decided, and no bind sent."""
+        return bool(self.unheard()) or self.is_behind
+
+    def look_whether_deaf(self) -> None:
+        """(with an empty inbox all has got here that was heard before)"""
+        unheard = self.unheard()
+        if unheard and not self.is_behind:
+            LOG.warning("nothing is decided: %s", ", ".join(f"nothing is heard of any {it}" for it in unheard))
+        if not unheard and self.is_behind and self.inbox.empty():
+            LOG.info("the cluster is heard")
+        self.is_behind = bool(unheard) or (self.is_behind and not self.inbox.empty())
 
     # Decisions.
 
     def can_decide(self) -> bool:
-        return self.desk.has_work and self.under_way < UNDER_WAY and not self.stopping.is_set()
+        self.look_whether_deaf()
+        return self.desk.has_work and not self.is_behind and self.under_way < UNDER_WAY and not self.stopping.is_set()
 
     def ask_for_cycles(self) -> None:
         """Asks for cycles for a tenth of a second: no more at once than take about that long, be the rules quick or slow."""
@@ -87,7 +115,7 @@ class Scheduler:
             self.desk.changed.clear()
             for _ in range(min(self.cycles, UNDER_WAY - self.under_way)):
                 # (what moves behind this line isn't known to this decision)
-                self.core.tell('{"op":"cycle"}', functools.partial(self.decided, self.desk.waiting.moves))
+                self.core.tell('{"op":"cycle"}', functools.partial(self.decided, self.desk.waiting.moves, self.heard))
             self.core.flush(functools.partial(self.hear_some, 0.0, MEANWHILE))
             now = time.monotonic()
             decided = self.counts["decided"] - before
@@ -103,7 +131,7 @@ class Scheduler:
         longest = self.fuel * len(self.desk.nodes) * UNIT
         return min(CYCLES, max(1, int(PATIENCE / 3 / longest))) if longest else CYCLES
 
-    def decided(self, moved: int, answer: str) -> None:
+    def decided(self, moved: int, known: int, answer: str) -> None:
         if answer == "idle":
             # (what was heard meanwhile is told next)
             self.desk.has_work = bool(self.core.waiting)
@@ -127,8 +155,8 @@ class Scheduler:
                 print(f"would bind {pod} to {node}", flush=True)
                 return
             self.under_way += 1
-            meant = self.desk.nodes.get(node)
-            bind = Bind(pod, node, meant.uid if meant else "", ticket, turn)
+            there = self.desk.nodes.get(node)
+            bind = Bind(Meant(pod, self.newest.version(pod), node, there.uid if there else "", known), ticket, turn)
             if node in self.desk.changed:
                 # (it was decided by what the node was before)
                 self.was_bound(bind._replace(is_posted=False))
@@ -169,6 +197,8 @@ class Scheduler:
             self.was_bound(what)
         elif kind == "explained":
             self.explaining.answered(what)
+        elif kind == "heard":
+            self.heard = what
         elif event == "LISTED":
             self.desk.hear_list(kind, what)
         elif event == "DELETED":
@@ -209,6 +239,8 @@ class Scheduler:
         it.left_out.labels("pod").set(len(self.desk.alone))
         it.unread.set(len(self.desk.unread))
         it.aside.set(len(self.desk.aside))
+        for watch in self.watches:
+            it.shut.labels(watch.ears.kind).set(watch.shut_for(now))
 
     def run(self) -> int:
         while self.desk.listed != {"node", "pod"} and not self.stopping.is_set():
@@ -230,7 +262,7 @@ class Scheduler:
             self.telling.tick()
             self.explaining.tick()
             # (with more to decide, only what is there already is taken)
-            self.take(0.0 if self.can_decide() else min(ticks, self.desk.waiting.next_wake(now)))
+            self.take(0.0 if self.can_decide() else min(ticks, now + QUIET) if self.is_behind else min(ticks, self.desk.waiting.next_wake(now)))
         return self.end()
 
     def end(self) -> int:

@@ -37,7 +37,7 @@ from health import Health
 from metrics import Metrics
 from scheduler import Scheduler, end_process
 from translating import words_of
-from way import NoWay, Way
+from way import OPTIONS, NoWay, Way
 
 LOG = logging.getLogger("second-scheduler")
 # The rule that --node-affinity asks, and the fuel of its calls: enough for any pod and node.
@@ -118,8 +118,10 @@ def connect(given: argparse.Namespace) -> tuple[Any, Way]:
     settings = client.Configuration.get_default_copy()
     settings.connection_pool_maxsize = given.binders + 16
     settings.retries = False
+    calls = client.ApiClient(settings)
+    calls.rest_client.pool_manager.connection_pool_kw["socket_options"] = OPTIONS
     try:
-        return client.CoreV1Api(client.ApiClient(settings)), Way(settings)
+        return client.CoreV1Api(calls), Way(settings)
     except (NoWay, OSError, ValueError) as why:
         sys.exit(f"second_scheduler.py: no way to the API server {settings.host}: {why}")
 

@@ -10,16 +10,19 @@ import functools
 import itertools
 import json
 import sys
-from typing import NamedTuple, Sequence
+from typing import Any, NamedTuple, Sequence
 
 import affinity
-from affinity import LABELS, Asked, NodeLabels, Volumes
-from translating import Answer, Json, Size, Translator, as_json, fields_of, size_of
+from affinity import LABELS, NAME, Asked, NodeLabels, Volumes
+from translating import EVERYTHING, Answer, Json, Size, Translator, as_json, fields_of, size_of
 
 ENDED = ("Succeeded", "Failed")
 # All of a pod's own data that matters to its line, but for its name; and what is long in a container, and doesn't matter.
 OF_PODS = ("labels", "deletionTimestamp")
 OF_CONTAINERS = frozenset(["env", "envFrom", "command", "args", "volumeMounts", "livenessProbe", "readinessProbe", "startupProbe", "lifecycle"])
+CONTAINERS = ("containers", "initContainers", "ephemeralContainers")
+# What the status of a pod on a node says of what it holds there, which may be more than it asks for by now; of its containers, and in all.
+STATUSES, HELD = ("containerStatuses", "initContainerStatuses", "ephemeralContainerStatuses"), ("allocatedResources", "resources")
 
 
 class SeenNode(NamedTuple):
@@ -99,7 +102,7 @@ def parts_of(node: Json) -> list[Json]:
 def seen_node(node: Json, answers: Sequence[Answer], labels: NodeLabels) -> SeenNode:
     name, lines = sys.intern(node["metadata"]["name"]), [it.line for it in answers if it.line]
     uid, left_out = node["metadata"].get("uid", name), tuple(dict.fromkeys(it for one in answers for it in one.left_out))
-    if not lines:
+    if len(lines) < len(answers):
         return SeenNode(name, uid, None, (0, 0, 0), left_out)
     own = [label for line in lines for label in line["labels"]]
     kept, gone = labels.kept(own)
@@ -120,18 +123,39 @@ def row_of(seen: SeenNode, labels: NodeLabels) -> str | None:
 def short(pod: Json) -> Json:
     """A pod that hasn't ended, without what no line tells of: so most pods are equal to what they were before, and to their like."""
     meta = {key: pod["metadata"][key] for key in OF_PODS if key in pod["metadata"]}
-    spec = {**pod["spec"], "containers": [{key: value for key, value in it.items() if key not in OF_CONTAINERS} for it in pod["spec"]["containers"]]}
+    spec = dict(pod["spec"])
+    for some in CONTAINERS:
+        if isinstance(spec.get(some), list):
+            spec[some] = [without(it, OF_CONTAINERS) for it in spec[some]]
     if spec.get("volumes"):
         # (each pod has one of its own name, with the token of its account)
         spec["volumes"] = [it for it in spec["volumes"] if "projected" not in it]
-    return {"kind": "Pod", "metadata": {"uid": "a-pod", **meta}, "spec": spec}
+    said = {"kind": "Pod", "metadata": {"uid": "a-pod", **meta}, "spec": spec}
+    held = held_by(pod) if spec.get("nodeName") else {}
+    return {**said, "status": held} if held else said
+
+
+def without(thing: Any, keys: frozenset[str]) -> Any:
+    """(whatever else stands there than an object is for `translate` to judge)"""
+    return {key: value for key, value in thing.items() if key not in keys} if isinstance(thing, dict) else thing
+
+
+def held_by(pod: Json) -> Json:
+    """What a pod's status says of what it holds, where it says anything."""
+    status = pod.get("status") or {}
+    held = {key: status[key] for key in HELD if status.get(key)}
+    for some in STATUSES:
+        listed = [it for it in status.get(some) or [] if isinstance(it, dict)]
+        if found := [{key: it[key] for key in ("name", *HELD) if key in it} for it in listed if any(it.get(key) for key in HELD)]:
+            held[some] = found
+    return held
 
 
 def seen_pod(pod: Json, asks: Asked, answer: Answer) -> SeenPod:
     meta, spec, line = pod["metadata"], pod["spec"], answer.line
     who, size = (sys.intern(meta["namespace"]), meta["name"], meta["uid"]), one_size(*size_of(line)) if line else (0, 0)
     if spec.get("nodeName"):
-        return SeenPod(*who, sys.intern(spec["nodeName"]), size, is_whole(answer), left_out=answer.left_out)
+        return on_node(SeenPod(*who, sys.intern(spec["nodeName"]), size, answer.is_whole, left_out=answer.left_out), answer)
     waits = SeenPod(*who, None, size, True, None, spec.get("priority") or 0, (), unscheduled(pod), bool(meta.get("deletionTimestamp")))
     waits = waits._replace(created=created_at(meta))
     if asks.why or not line:
@@ -141,10 +165,11 @@ def seen_pod(pod: Json, asks: Asked, answer: Answer) -> SeenPod:
     return waits._replace(row=row, left_out=(*asks.left_out, *answer.left_out, *gone), keys=asks.keys)
 
 
-def is_whole(bound: Answer) -> bool:
-    """Whether all that a pod asks for on its node could be read: whatever else is left out of its line is named as required. (It has none
-    only where its node's name is none of a script's, so that the node has none either.)"""
-    return not bound.line or all(it.startswith("required ") for it in bound.left_out)
+def on_node(seen: SeenPod, answer: Answer) -> SeenPod:
+    """A pod that has a node and no line counts as everything there. (Where the node's name is none of a script's, the node has no line either.)"""
+    if answer.line or not NAME.fullmatch(seen.node or ""):
+        return seen._replace(is_whole=answer.is_whole or not answer.line)
+    return seen._replace(size=one_size(*EVERYTHING), is_whole=False, left_out=answer.left_out or ("no line says it",))
 
 
 @functools.lru_cache(maxsize=8192)

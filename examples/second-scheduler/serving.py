@@ -36,7 +36,7 @@ def serve(where: tuple[str, int], health: Health, metrics: Metrics) -> None:
             if path in ("/healthz", "/livez"):
                 return self.say_whether(health.is_live(), "the main loop does nothing")
             if path == "/readyz":
-                return self.say_whether(health.is_ready(), "not listed yet, or the main loop does nothing")
+                return self.say_whether(health.is_ready(), health.why_not_ready())
             return self.say(404, b"not found\n")
 
         def say_whether(self, is_well: bool, why: str) -> None:

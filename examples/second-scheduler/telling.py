@@ -59,6 +59,8 @@ class Said:
         self.condition: tuple[str, str] | None = None
         self.asked_condition: tuple[str, str] | None = None
         self.is_condition: tuple[str, str] | None = None
+        # whether the condition alone is to be written, since it couldn't be when the event was
+        self.is_rest = False
 
     def due(self) -> float:
         is_same = self.wanted == self.said and self.condition in (None, self.asked_condition)
@@ -79,9 +81,11 @@ def stamp() -> str:
 
 
 class Telling:
-    """All that is told. Its calls are made by the main loop alone; writes are made by threads of its own."""
+    """All that is told. Its calls are made by the main loop alone; writes are made by threads of its own. `waits` says of a pod, by its
+    namespace and name and its uid, in which version it waits for a node, by the newest that was heard, and nothing where it doesn't."""
 
-    def __init__(self, way: Way, scheduler: str, is_silent: bool, metrics: Metrics) -> None:
+    def __init__(self, way: Way, scheduler: str, is_silent: bool, metrics: Metrics, waits: Callable[[str, str], str]) -> None:
+        self.waits = waits
         self.posts, self.scheduler, self.is_silent, self.metrics = Posts(way, LINES, "events"), scheduler, is_silent, metrics
         self.writers, self.room = concurrent.futures.ThreadPoolExecutor(WRITERS, "event"), threading.Semaphore(ROOM)
         self.notes, self.many = Posts(way, FEW, "scheduled"), threading.Semaphore(MANY)
@@ -90,6 +94,7 @@ class Telling:
         # what is due, and whose rules aren't known yet
         self.asked: dict[Key, None] = {}
         self.unwritten: queue.SimpleQueue[tuple[Key, Said]] = queue.SimpleQueue()
+        self.unconditioned: queue.SimpleQueue[tuple[Key, Said]] = queue.SimpleQueue()
         self.count = itertools.count()
         # how many things may be told now, and since when
         self.tokens, self.counted = BURST, time.monotonic()
@@ -169,6 +174,10 @@ class Telling:
             key, said = self.unwritten.get()
             said.said, said.text, said.at = "", "", now
             self.set_timer(key, said, now + BETWEEN)
+        while not self.unconditioned.empty():
+            key, said = self.unconditioned.get()
+            said.asked_condition, said.is_rest = None, True
+            self.set_timer(key, said, now + BETWEEN)
         while self.timers and self.timers[0][0] <= now:
             when, _, key, said = self.timers[0]
             is_due = self.things.get(key) is said and said.timer == when
@@ -188,6 +197,7 @@ class Telling:
     def write(self, key: Key, said: Said, now: float) -> None:
         message = said.named if said.is_of_rules and said.named else said.wanted
         is_same, said.text, said.named = message == said.text, message, None
+        is_rest, said.is_rest = said.is_rest and is_same, False
         said.said, said.at = said.wanted, now
         # (what lasts is said again, though nothing has happened)
         said.times = max(said.times, 1)
@@ -203,11 +213,15 @@ class Telling:
             fault: BaseException | None = None
             try:
                 if condition and condition != said.is_condition:
-                    self.patch_condition(said.about, condition, said.is_condition is None)
-                    said.is_condition = condition
+                    if self.patch_condition(said.about, condition, said.is_condition is None):
+                        said.is_condition = condition
+                    else:
+                        self.unconditioned.put((key, said))
             except AWAY as why:
                 fault = why
-            if not is_same or not said.event or not self.count_up(said, times):
+            if is_rest:
+                pass
+            elif not is_same or not said.event or not self.count_up(said, times):
                 said.event, said.counted = self.create_event(said.about, "Warning", said.reason, message), 1
             if fault:
                 raise fault
@@ -282,13 +296,23 @@ class Telling:
         said.counted += times
         return True
 
-    def patch_condition(self, about: Json, said: tuple[str, str], is_new: bool) -> None:
+    def patch_condition(self, about: Json, said: tuple[str, str], is_new: bool) -> bool:
+        """False where the pod doesn't wait by what is known, or is another by now: one that has a node isn't said to have none."""
+        version = self.waits(f"{about['namespace']}/{about['name']}", about["uid"])
+        if not version:
+            return False
         condition = {"type": "PodScheduled", "status": "False", "reason": said[0], "message": said[1]}
         # (the moment is that at which the status changed, and not that of another message)
         condition |= {"lastTransitionTime": stamp()} if is_new else {}
-        # (with the uid: another pod of that name is refused)
-        body = {"metadata": {"uid": about["uid"]}, "status": {"conditions": [condition]}}
-        self.patch(f"{about['namespace']}/pods/{about['name']}/status", body)
+        # (with the uid and the version: another pod of that name is refused, and so is one that was bound meanwhile)
+        body = {"metadata": {"uid": about["uid"], "resourceVersion": version}, "status": {"conditions": [condition]}}
+        try:
+            self.patch(f"{about['namespace']}/pods/{about['name']}/status", body)
+        except ApiException as why:
+            if why.status == 409:
+                return False
+            raise
+        return True
 
     def end(self, patience: float) -> None:
         """Waits until what is to be written has been, for so many seconds."""

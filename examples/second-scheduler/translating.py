@@ -8,7 +8,7 @@ import os
 import select
 import subprocess
 import threading
-from typing import Any, NamedTuple, Sequence
+from typing import Any, Iterable, Iterator, NamedTuple, Sequence
 
 from core import CoreFault
 
@@ -16,18 +16,27 @@ LOG = logging.getLogger("second-scheduler")
 Json = dict[str, Any]
 # Thousandths of a core, and bytes.
 Size = tuple[int, int]
-# How many objects are told at once, how much is written or read at once, and for how long an answer may be waited for, in seconds.
-AT_ONCE, PIECE, PATIENCE = 500, 65536, 15.0
-# Of how many objects the answers are kept. Most of what is heard is what was heard before but for what no line tells.
-KEPT = 4096
-spell = json.JSONEncoder(separators=(",", ":"), check_circular=False).encode
+# The most that a line can say, which is more than any node has: as that counts what can't be known to be less.
+EVERYTHING: Size = (2**30, 2**44)
+# How many objects are told at once, of how many bytes unless it is one; how much is written or read at once, and for how long an answer
+# may be waited for, in seconds.
+AT_ONCE, BYTES_AT_ONCE, PIECE, PATIENCE = 500, 2**22, 65536, 15.0
+# Of how many objects the answers are kept, of how many bytes in all, and of one. Most of what is heard is what was heard before but for
+# what no line tells.
+KEPT, KEPT_BYTES, KEPT_EACH = 4096, 2**24, 2**16
+# How many reasons are kept of one object.
+REASONS = 50
+spell = json.JSONEncoder(separators=(",", ":"), check_circular=False, ensure_ascii=False).encode
+spell_in_ascii = json.JSONEncoder(separators=(",", ":"), check_circular=False).encode
 
 
 class Answer(NamedTuple):
-    """An object's line, None where no line says it, and what was left out of it, or why it was."""
+    """An object's line, None where no line says it, and what was left out of it, or why it was. `is_whole`: all that it asks for is in the
+    line. What else is left out of a bound pod's line is named as required."""
 
     line: Json | None
     left_out: tuple[str, ...]
+    is_whole: bool = True
 
 
 class Ended(Exception):
@@ -39,6 +48,26 @@ def words_of(program: str, scheduler: str) -> list[str]:
     return [program, "translate", "--answers", "--by-uid", f"--scheduler={scheduler}"]
 
 
+def line_of(thing: Json) -> bytes:
+    """An object as a line. (A text that is half of a character, which no API server tells, has no bytes of its own.)"""
+    try:
+        return spell(thing).encode() + b"\n"
+    except UnicodeEncodeError:
+        return spell_in_ascii(thing).encode() + b"\n"
+
+
+def batches(lines: Iterable[bytes]) -> Iterator[list[bytes]]:
+    some, size = list[bytes](), 0
+    for line in lines:
+        if some and (len(some) >= AT_ONCE or size + len(line) > BYTES_AT_ONCE):
+            yield some
+            some, size = [], 0
+        some.append(line)
+        size += len(line)
+    if some:
+        yield some
+
+
 class Translator:
     """The child, which any thread may ask. Where it has died it is started again, and asked the same anew."""
 
@@ -46,21 +75,33 @@ class Translator:
         self.words, self.lock = words_of(program, scheduler), threading.Lock()
         self.child: subprocess.Popen[bytes] | None = None
         self.kept: dict[bytes, Answer] = {}
+        self.kept_bytes = 0
 
-    def ask(self, things: Sequence[Json]) -> list[Answer]:
+    def ask(self, things: Iterable[Json]) -> list[Answer]:
         """Of each object its answer, which is the same for equal ones."""
         found: list[Answer] = []
-        for k in range(0, len(things), AT_ONCE):
-            lines = [spell(it).encode() + b"\n" for it in things[k : k + AT_ONCE]]
+        for lines in batches(map(line_of, things)):
             with self.lock:
-                if new := [it for it in dict.fromkeys(lines) if it not in self.kept]:
-                    self.kept.update(zip(new, self.answers(new)))
-                found += [self.kept[it] for it in lines]
-                for line in [*itertools.islice(self.kept, max(0, len(self.kept) - KEPT))]:
-                    del self.kept[line]
+                new = [it for it in dict.fromkeys(lines) if it not in self.kept]
+                answers = dict(zip(new, self.answers(new)))
+                found += [answers[it] if it in answers else self.kept[it] for it in lines]
+                self.keep(answers)
         return found
 
+    def keep(self, answers: dict[bytes, Answer]) -> None:
+        """(an answer takes some times as much as its line at most, and few are of one that long)"""
+        for line, answer in answers.items():
+            if len(line) <= KEPT_EACH:
+                self.kept[line] = answer
+                self.kept_bytes += len(line)
+        while len(self.kept) > KEPT or self.kept_bytes > KEPT_BYTES:
+            oldest = next(iter(self.kept))
+            self.kept_bytes -= len(oldest)
+            del self.kept[oldest]
+
     def answers(self, lines: Sequence[bytes]) -> list[Answer]:
+        if not lines:
+            return []
         try:
             return self.exchange(lines)
         except Ended as why:
@@ -77,7 +118,7 @@ class Translator:
         self.child = child = self.child or start(self.words)
         assert child.stdin and child.stdout
         told, heard = child.stdin.fileno(), child.stdout.fileno()
-        unwritten, answers, rest = memoryview(b"".join(lines)), list[bytes](), b""
+        unwritten, answers, rest = memoryview(b"".join(lines)), list[bytes](), list[bytes]()
         ready = select.poll()
         ready.register(told, select.POLLOUT)
         ready.register(heard, select.POLLIN)
@@ -93,9 +134,11 @@ class Translator:
                 some = os.read(heard, PIECE)
                 if not some:
                     raise Ended(f"ended with status {child.wait()}")
-                *whole, rest = (rest + some).split(b"\n")
-                answers += whole
-        if len(answers) > len(lines) or rest:
+                rest.append(some)
+                if b"\n" in some:
+                    *whole, last = b"".join(rest).split(b"\n")
+                    answers, rest = answers + whole, [last]
+        if len(answers) > len(lines) or any(rest):
             raise Ended("says more than it is asked")
         return [*map(answer_of, answers)]
 
@@ -131,8 +174,12 @@ def written(told: int, piece: memoryview) -> int:
 def answer_of(line: bytes) -> Answer:
     try:
         said = json.loads(line)
-        return Answer(said["line"], tuple(said["left_out"]))
-    except (ValueError, LookupError, TypeError) as why:
+        # (of what may be a pod on a node, and can't be counted, there is no word on a line)
+        reasons = dict.fromkeys(said["uncounted"] if "uncounted" in said else said["left_out"])
+        is_whole = "uncounted" not in said and all(it.startswith("required ") for it in reasons)
+        more = (f"and {len(reasons) - REASONS} more",) if len(reasons) > REASONS else ()
+        return Answer(None if "uncounted" in said else said["line"], (*itertools.islice(reasons, REASONS), *more), is_whole)
+    except (ValueError, LookupError, TypeError, AttributeError) as why:
         raise Ended(f"says what is no answer ({why})") from why
 
 

@@ -1,13 +1,14 @@
 """Keeps one kind of object listed and watched, and hands on what it hears, each in the API server's order.
 
 A watch that ends, however it does, is taken up where it ended: only where the API server no longer has that (410) is everything listed
-anew. Of each object only what is read of it is kept.
+anew. Of each object only what is read of it is kept. While a kind isn't heard of, whoever decides is told so: it knows less than there is.
 """
 from __future__ import annotations
 
 import json
 import logging
 import os
+import random
 import threading
 import time
 from typing import Any, Callable, Iterator, Protocol, Sequence
@@ -23,11 +24,15 @@ LOG = logging.getLogger("second-scheduler")
 AWAY = (ApiException, urllib3.exceptions.HTTPError, OSError, ConfigException)
 # How many objects of a list are asked for at once.
 PAGE = 500
-# For how long a watch is asked for, in seconds, and how long one that says nothing is waited for: so one whose other end is gone is
-# seen after 30 seconds, whether or not the API server has anything to say.
-WATCH, SILENT = 25, 30
-# A watch that has held so long is a good one; after any other there is a pause, each twice the one before.
-HELD, FIRST_PAUSE, LONGEST_PAUSE = 5.0, 0.5, 10.0
+# For how long a watch is asked for, in seconds, at least and at most, so that those of several clients don't end together; and how long
+# one that says nothing is waited for: an API server has a bookmark each minute. (A machine that is gone is seen sooner, by `way`.)
+SHORTEST_WATCH, LONGEST_WATCH, SILENT = 300, 600, 120
+# A watch that has held so long is a good one; after any other there is a pause, each twice the one before, and each shortened at random
+# by up to a half, so that several clients don't come back together. The longest pause that an API server may ask for.
+HELD, FIRST_PAUSE, LONGEST_PAUSE, LONGEST_ASKED = 5.0, 0.5, 10.0, 60.0
+# For how long a kind may not be heard of, in seconds, before nothing more is decided. Once it is heard again it has told what happened
+# meanwhile when it has said nothing for so long, or has been open for so long.
+DEAF, QUIET, CAUGHT_UP = 2.0, 0.5, 5.0
 GONE = 410
 
 
@@ -39,6 +44,12 @@ def message(why: BaseException) -> str:
         except (TypeError, ValueError, KeyError):
             return f"{why.status} {why.reason}"
     return str(why).split("\n", maxsplit=1)[0]
+
+
+def asked_pause(why: BaseException) -> float:
+    """For how many seconds the API server asks to be left alone (RFC 9110, 10.2.3), where it does."""
+    text = str((getattr(why, "headers", None) or {}).get("Retry-After", ""))
+    return min(float(text), LONGEST_ASKED) if text.isdecimal() else 0.0
 
 
 class Expired(Exception):
@@ -67,6 +78,11 @@ class Watched:
         self.call, self.ears, self.only = call, ears, only
         self.version: str | None = None
         self.pause = self.opened = 0.0
+        # since when it is shut, None while it is open; whether it may not have told yet what happened while it was shut, whether
+        # something is being heard just now, and when that ended
+        self.shut: float | None = time.monotonic()
+        self.is_behind = self.is_hearing = False
+        self.heard, self.lock = 0.0, threading.Lock()
         threading.Thread(target=self.go, daemon=True, name=ears.kind).start()
 
     def go(self) -> None:
@@ -82,7 +98,7 @@ class Watched:
 
     def once(self) -> None:
         """Lists where there is no version to go on from, and watches until that ends; then the pause that is due."""
-        self.opened, why, was_kept = 0.0, "the watch ended at once", self.version is not None
+        self.opened, why, was_kept, asked = 0.0, "the watch ended at once", self.version is not None, 0.0
         try:
             if self.version is None:
                 self.list()
@@ -93,7 +109,7 @@ class Watched:
         except (*AWAY, ValueError) as other:
             if getattr(other, "status", None) == GONE:
                 self.version = None
-            why = message(other)
+            why, asked = message(other), asked_pause(other)
         if self.opened and time.monotonic() - self.opened >= HELD:
             self.pause = 0.0
             return
@@ -102,8 +118,9 @@ class Watched:
             # (after a list of just now the pause is due all the same)
             LOG.warning("%s: %s; listing anew", self.ears.kind, why)
             return
-        LOG.warning("%s: %s; again in %.1f s", self.ears.kind, why, self.pause)
-        time.sleep(self.pause)
+        pause = max(self.pause * random.uniform(0.5, 1.0), asked * random.uniform(1.0, 1.25))
+        LOG.warning("%s: %s; again in %.1f s", self.ears.kind, why, pause)
+        time.sleep(pause)
         self.pause = min(max(FIRST_PAUSE, 2 * self.pause), LONGEST_PAUSE)
 
     def list(self) -> None:
@@ -125,31 +142,63 @@ class Watched:
             watch=True,
             resource_version=self.version,
             allow_watch_bookmarks=True,
-            timeout_seconds=WATCH,
+            timeout_seconds=random.randint(SHORTEST_WATCH, LONGEST_WATCH),
             _preload_content=False,
             _request_timeout=(5, SILENT),
             **self.only,
         )
-        self.opened = time.monotonic()
+        self.is_open()
         try:
             for line in lines_of(answer):
-                event = json.loads(line)
-                thing = event["object"]
-                if event["type"] == "ERROR":
-                    if thing.get("code") == GONE:
-                        raise Expired(thing.get("message"))
-                    raise ValueError(f"the watch ended: {thing.get('message')}")
-                if event["type"] != "BOOKMARK":
-                    self.ears.hear(event["type"], [thing])
-                self.version = thing["metadata"]["resourceVersion"]
+                self.is_hearing = True
+                self.take(json.loads(line))
+                self.heard, self.is_hearing = time.monotonic(), False
             answer.release_conn()
         finally:
+            self.shut, self.is_hearing = time.monotonic(), False
             # (a connection that has been given back is none of this answer's any more)
             answer.close()
 
+    def take(self, event: dict[str, Any]) -> None:
+        thing = event["object"]
+        if event["type"] == "ERROR":
+            if thing.get("code") == GONE:
+                raise Expired(thing.get("message"))
+            raise ValueError(f"the watch ended: {thing.get('message')}")
+        if event["type"] != "BOOKMARK":
+            self.ears.hear(event["type"], [thing])
+        self.version = thing["metadata"]["resourceVersion"]
+
+    # For whoever decides.
+
+    def is_open(self) -> None:
+        """What happened while it was shut comes now."""
+        now = time.monotonic()
+        with self.lock:
+            self.is_behind = self.is_behind or self.shut_for(now) > DEAF
+            self.opened, self.heard, self.shut = now, now, None
+
+    def shut_for(self, now: float) -> float:
+        """For how many seconds nothing has been heard."""
+        shut = self.shut
+        return 0.0 if shut is None else now - shut
+
+    def is_deaf(self, now: float) -> bool:
+        """Whether more has happened by now than was heard, as far as that can be known: what was heard is on its way to whoever decides."""
+        with self.lock:
+            if self.shut is not None:
+                return self.is_behind or now - self.shut > DEAF
+            is_quiet = not self.is_hearing and now - self.heard >= QUIET
+            if is_quiet or now - self.opened >= CAUGHT_UP:
+                self.is_behind = False
+            return self.is_behind
+
 
 def lines_of(answer: Any) -> Iterator[bytes]:
-    rest = b""
+    rest: list[bytes] = []
     for some in answer.stream(1 << 16, decode_content=False):
-        *lines, rest = (rest + some).split(b"\n")
-        yield from (it for it in lines if it)
+        rest.append(some)
+        if b"\n" in some:
+            *lines, last = b"".join(rest).split(b"\n")
+            rest = [last]
+            yield from (it for it in lines if it)

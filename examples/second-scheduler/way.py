@@ -21,6 +21,15 @@ from kubernetes.config import ConfigException
 CONNECT, IDLE, PROBE, PROBES, UNHEARD = 5.0, 15, 5, 3, 15_000
 # (Linux's number, which the types of some versions lack)
 TCP_USER_TIMEOUT = 18
+# So a machine that is gone is seen within 30 seconds, also by a watch that has nothing to say.
+OPTIONS = [
+    (socket.IPPROTO_TCP, socket.TCP_NODELAY, 1),
+    (socket.SOL_SOCKET, socket.SO_KEEPALIVE, 1),
+    (socket.IPPROTO_TCP, socket.TCP_KEEPIDLE, IDLE),
+    (socket.IPPROTO_TCP, socket.TCP_KEEPINTVL, PROBE),
+    (socket.IPPROTO_TCP, socket.TCP_KEEPCNT, PROBES),
+    (socket.IPPROTO_TCP, TCP_USER_TIMEOUT, UNHEARD),
+]
 # How old a token may be that a request bears, in seconds, once there is a newer one.
 RENEWED = 1.0
 
@@ -52,14 +61,7 @@ class Way:
         else:
             sock = socket.create_connection((self.host, self.port), CONNECT)
         try:
-            for level, what, value in (
-                (socket.IPPROTO_TCP, socket.TCP_NODELAY, 1),
-                (socket.SOL_SOCKET, socket.SO_KEEPALIVE, 1),
-                (socket.IPPROTO_TCP, socket.TCP_KEEPIDLE, IDLE),
-                (socket.IPPROTO_TCP, socket.TCP_KEEPINTVL, PROBE),
-                (socket.IPPROTO_TCP, socket.TCP_KEEPCNT, PROBES),
-                (socket.IPPROTO_TCP, TCP_USER_TIMEOUT, UNHEARD),
-            ):
+            for level, what, value in OPTIONS:
                 sock.setsockopt(level, what, value)
             if self.tls:
                 sock = self.tls.wrap_socket(sock, server_hostname=self.name)

@@ -57,10 +57,13 @@ def replaced(thing: Thing, body: Thing, key: str) -> None:
 
 
 def patched(thing: Thing, body: Thing, key: str) -> None:
-    """Patches an object, but none of another uid."""
+    """Patches an object, but none of another uid, and none that has changed since the version that the patch names."""
     uid = body.get("metadata", {}).get("uid", thing["metadata"]["uid"])
     if uid != thing["metadata"]["uid"]:
         raise Conflict(409, f"{key}: the UID in the precondition ({uid}) does not match the UID in record ({thing['metadata']['uid']})")
+    version = body.get("metadata", {}).get("resourceVersion", thing["metadata"]["resourceVersion"])
+    if version != thing["metadata"]["resourceVersion"]:
+        raise Conflict(409, f"the object {key} has been modified")
     merge(thing, body)
 
 

@@ -19,9 +19,10 @@ def settled(site: Site) -> None:
 
 
 def bind_refused(site: Site) -> str:
-    """Binds are refused with 401, 403, 409, 410, 429, 500 and 503, three times each: each pod is asked for, and bound when it is tried again."""
+    """Binds are refused with 400, 401, 403, 409, 410, 422 and 429, three times each: each pod is asked for, and bound when it is tried again. (What
+    5xx says is `refused_late`'s.)"""
     settled(site)
-    statuses, times, seen = (401, 403, 409, 410, 429, 500, 503), 3, dict[int, int]()
+    statuses, times, seen = (400, 401, 403, 409, 410, 422, 429), 3, dict[int, int]()
 
     def refuse(asked: Asked) -> "tuple[int, str] | None":
         if asked.what != "pods/binding":
@@ -45,7 +46,8 @@ def bind_refused(site: Site) -> str:
 
 
 def bind_unanswered(site: Site) -> str:
-    """Some binds are made, others not, and neither is answered within 30 s: each pod is asked for then; new pods are bound meanwhile."""
+    """Some binds are made, others not, and neither is answered within 30 s: each pod is asked for then, and tried again once a bind can't be done
+    any more; new pods are bound meanwhile."""
     settled(site)
     silent, done = [f"default/silent-{i}" for i in range(4)], set[str]()
 
@@ -65,9 +67,9 @@ def bind_unanswered(site: Site) -> str:
     site.wait(lambda: len(done) == 4, 20, "four binds have no answer")
     site.pod("new")
     new = site.wait(lambda: site.place("new"), 10, "a new pod is bound meanwhile")
-    site.wait(lambda: site.placed() == 6, 60, "those that weren't bound are tried again")
+    site.wait(lambda: site.placed() == 6, 110, "those that weren't bound are tried again")
     taken = time.monotonic() - began
-    assert taken > 25, f"they were bound after {taken:.0f} s"
+    assert taken > 75, f"they were bound after {taken:.0f} s"
     asked = {it.key for it in site.server.all("get", "pods")}
     assert asked == set(silent), asked
     assert site.server.count("create", "pods/binding") == 1 + 4 + 1 + 2

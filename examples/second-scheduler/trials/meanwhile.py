@@ -99,4 +99,54 @@ def nodes_change(site: Site) -> str:
     return f"bound to the other node after: {', '.join(said)}; {site.check()}"
 
 
-TRIALS = [pods_change, nodes_change]
+def foreign(site: Site) -> str:
+    """While wsched decides on a pod of 600m, a pod of 600m comes to the node of a core that it chooses, or one that is there grows by so much: the
+    pod is bound to the other node."""
+    for name in ("left", "right"):
+        site.node(name, cpu="1")
+        site.pod(f"small-{name}", cpu="100m", on=name, scheduler="default-scheduler")
+    program = relayed(site)
+    (site.folder / "slow").write_text(str(SLOW), encoding="ascii")
+    site.start(*site.listening(), wsched=program)
+    site.wait(lambda: len(site.server.watches) >= 2, 20, "it watches")
+    time.sleep(1)
+
+    def grown(pod: Thing) -> None:
+        pod["spec"]["containers"][0]["resources"]["requests"]["cpu"] = "700m"
+
+    for what in ("comes", "grows"):
+        node = decided(site, site.pod(what, cpu="600m"))
+        if what == "comes":
+            site.pod("foreign", cpu="600m", on=node, scheduler="default-scheduler")
+        else:
+            site.store.change("pods", f"default/small-{node}", grown)
+        site.wait(lambda what=what: site.place(what), 4 * SLOW + 10, "the pod is bound")  # type: ignore[misc]
+        assert site.place(what) != node, f"{what}: bound to {node} by a decision that didn't know of it: {site.watcher().wrong}"
+        site.delete_pod(what)
+        if what == "comes":
+            site.delete_pod("foreign")
+        time.sleep(1)
+    return f"bound to the other node, whether one came or grew; {site.check()}"
+
+
+def foreign_queued(site: Site) -> str:
+    """A bind waits for its turn behind another that takes 3 s, when a pod comes to its node: it isn't asked for, and the pod is bound to the other."""
+    for name in ("left", "right", "third"):
+        site.node(name, cpu="1")
+    site.start("--binders", "1", wsched=relayed(site))
+    site.pod("before", cpu="900m")
+    site.wait(lambda: site.place("before"), 20, "it binds")
+    site.server.bind_takes = 3.0
+    first = site.pod("first", cpu="600m")
+    decided(site, first)
+    node = decided(site, site.pod("second", cpu="600m"))
+    site.pod("foreign", cpu="600m", on=node, scheduler="default-scheduler")
+    posted = len(site.server.all("create", "pods/binding"))
+    assert posted == 2, f"{posted} binds were asked for"
+    site.delete_pod("before")
+    site.wait(lambda: site.place("second"), 20, "the second is bound")
+    assert site.place("second") != node, f"bound to {node}: {site.watcher().wrong}"
+    return f"bound to {site.place('second')} and not to {node}; {site.check()}"
+
+
+TRIALS = [pods_change, nodes_change, foreign, foreign_queued]

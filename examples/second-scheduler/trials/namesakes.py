@@ -44,7 +44,8 @@ def namesakes(site: Site) -> str:
     """For 20 s pods go and come under their names, with one binder: no bind is posted of a pod that has been gone for more than a second."""
     for i in range(NODES):
         site.node(f"node-{i}", cpu="4")
-    site.server.tests_uid, site.server.bind_takes = False, 0.05
+    site.server.tests_uid = site.server.tests_version = False
+    site.server.bind_takes = 0.05
     churn = Churn(site)
     site.server.refuse = churn.note
     site.start("--binders", "1")

@@ -46,7 +46,11 @@ class Server:
         self.refuse: Callable[[Asked], Optional[tuple[int, str]]] = lambda asked: None
         # API servers up to 1.20 bind whatever pod has the name
         self.tests_uid = True
+        # and whatever version it has
+        self.tests_version = True
         self.bind_takes = 0.0
+        # what an answer of 429 asks for, in seconds
+        self.retry_after = 0
         # each answer ends its connection
         self.closes = False
         self.connections: set["Connection"] = set()
@@ -173,6 +177,8 @@ class Connection(http.server.BaseHTTPRequestHandler):
         self.send_response(status)
         self.send_header("Content-Type", "application/json")
         self.send_header("Content-Length", str(len(body)))
+        if status == 429 and self.server_stub.retry_after:
+            self.send_header("Retry-After", str(self.server_stub.retry_after))
         if self.server_stub.closes:
             self.send_header("Connection", "close")
         self.end_headers()
@@ -286,6 +292,9 @@ def bind(stub: Server, asked: Asked) -> None:
         pod, uid = stub.store.there("pods", asked.key), asked.body["metadata"].get("uid")
         if stub.tests_uid and uid and uid != pod["metadata"]["uid"]:
             raise Conflict(409, f"Precondition failed: UID in precondition: {uid}, UID in object meta: {pod['metadata']['uid']}")
+        version = asked.body["metadata"].get("resourceVersion")
+        if stub.tests_version and version and version != pod["metadata"]["resourceVersion"]:
+            raise Conflict(409, f"Precondition failed: ResourceVersion in precondition: {version}, in object meta: {pod['metadata']['resourceVersion']}")
         if pod["metadata"].get("deletionTimestamp"):
             raise Conflict(409, f"pod {asked.key} is being deleted, cannot be assigned to a host")
         if pod["spec"].get("nodeName"):

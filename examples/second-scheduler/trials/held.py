@@ -1,0 +1,118 @@
+"""Binds that come late: a place is kept for as long as its bind may still be done, and given back so that none that comes later is."""
+import sys
+import time
+
+from trials.metrics import scraped, value
+from trials.server import Asked
+from trials.site import Site
+from trials.store import Thing
+
+# For how long a place is kept from the sending of its bind on, in seconds.
+LANDS = 75.0
+# How it is started so that a bind lands, or doesn't, within seconds.
+HURRIED = """
+import sys
+sys.path.insert(0, {folder!r})
+sys.argv = sys.argv[1:]
+import binding
+binding.LANDS = 3.0
+import second_scheduler
+second_scheduler.main()
+"""
+
+
+class Held:
+    """Holds the first binds of some pods back, for so many seconds, and passes them on then."""
+
+    def __init__(self, seconds: float, *names: str) -> None:
+        self.seconds, self.names, self.when = seconds, {f"default/{it}" for it in names}, dict[str, float]()
+
+    def __call__(self, asked: Asked) -> None:
+        if asked.what == "pods/binding" and asked.key in self.names and asked.key not in self.when:
+            self.when[asked.key] = asked.when
+            time.sleep(self.seconds)
+
+
+def settled(site: Site) -> None:
+    """A scheduler runs, and has bound a pod; the API server tests no version, as those up to 1.20 don't."""
+    site.start(*site.listening())
+    site.pod("before", cpu="10m")
+    site.wait(lambda: site.place("before"), 20, "it binds")
+    site.server.tests_version = False
+
+
+def held(site: Site) -> str:
+    """A bind is held back for 36 s and then done: its place is kept meanwhile, so a second pod that has room only without it isn't bound."""
+    site.node("a", cpu="1")
+    settled(site)
+    site.server.refuse = Held(36, "first")
+    site.pod("first", cpu="600m")
+    site.wait(lambda: site.server.count("create", "pods/binding") == 2, 20, "the bind is under way")
+    site.pod("second", cpu="600m")
+    time.sleep(33)
+    assert value(scraped(site), "wsched_binds_in_doubt") == 1
+    took = site.wait(lambda: site.place("first"), 10, "the bind that was held is done")
+    site.wait(lambda: value(scraped(site), "wsched_binds_in_doubt") == 0, 20, "it is known to be done")
+    time.sleep(5)
+    assert site.place("second") is None, f"both are on the node: {site.watcher().wrong}"
+    return f"done {33 + took:.0f} s after it was sent, and the second pod waits; {site.check()}"
+
+
+def held_fenced(site: Site) -> str:
+    """A bind is held back for 100 s: 75 s after it was sent the pod's version is moved, then its place is given back and the pod placed again; what
+    comes late is refused."""
+    site.node("a", cpu="1")
+    settled(site)
+    site.server.tests_version = True
+    hold = Held(100, "first")
+    site.server.refuse = hold
+    site.pod("first", cpu="600m")
+    site.wait(lambda: hold.when, 20, "the bind is under way")
+    sent = hold.when["default/first"]
+    # (the node is to be another's when the place is given back)
+    site.node("b", cpu="1")
+    site.wait(lambda: site.place("first"), LANDS + 30, "the pod is placed again")
+    binds = [it for it in site.server.all("create", "pods/binding") if it.key == "default/first"]
+    fences = [it.when for it in site.server.all("patch", "pods/status") if it.key == "default/first" and sent + 1 < it.when < binds[-1].when]
+    assert len(binds) == 2 and fences, f"{len(binds)} binds, fences after {[f'{it - sent:.0f} s' for it in fences]}"
+    assert binds[1].when - sent > LANDS and fences[0] - sent >= LANDS, f"tried again {binds[1].when - sent:.1f} s after the bind was sent"
+    site.wait(lambda: binds[0].status, 60, "the bind that was held is answered")
+    assert binds[0].status == 409, f"the bind that came late was answered with {binds[0].status}"
+    return f"fenced after {fences[0] - sent:.1f} s, placed again after {binds[1].when - sent:.1f} s, and the first refused then; {site.check()}"
+
+
+def refused_late(site: Site) -> str:
+    """Binds are refused with 500, 502, 503 and 504, three times each, none of which says that nothing is done: with a client that gives binds 3 s
+    to be done in, each place is kept so long, and each pod is bound when it is tried again. One is done in spite of its 504."""
+    site.node("a", cpu="64")
+    site.start(words=[sys.executable, "-c", HURRIED.format(folder=str(site.programs.client)), "second_scheduler.py"])
+    site.pod("before", cpu="10m")
+    site.wait(lambda: site.place("before"), 20, "it binds")
+    statuses, seen = (500, 502, 503, 504), dict[str, list[float]]()
+
+    def bound(pod: Thing) -> None:
+        pod["spec"]["nodeName"] = "a"
+
+    def refuse(asked: Asked) -> "tuple[int, str] | None":
+        if asked.what != "pods/binding" or asked.key == "default/before":
+            return None
+        when = seen.setdefault(asked.key, [])
+        when.append(asked.when)
+        if asked.key == "default/done":
+            site.store.change("pods", asked.key, bound)
+            return 504, "request did not complete within the allotted timeout"
+        return (int(asked.key[-3:]), "it may be done or not") if len(when) <= 3 else None
+
+    site.server.refuse = refuse
+    for status in statuses:
+        site.pod(f"of-{status}")
+    site.pod("done")
+    site.wait(lambda: all(site.place(f"of-{status}") for status in statuses), 60, "all are bound in the end")
+    time.sleep(5)
+    gaps = [b - a for when in seen.values() for a, b in zip(when, when[1:])]
+    assert len(gaps) == 12 and min(gaps) >= 3.0, f"tried again after {min(gaps):.1f} s"
+    assert len(seen["default/done"]) == 1, "the one that was done was bound again"
+    return f"{len(gaps)} refused, tried again after {min(gaps):.1f} s at the earliest; {site.check()}"
+
+
+TRIALS = [held, held_fenced, refused_late]
