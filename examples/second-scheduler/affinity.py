@@ -7,6 +7,8 @@ import re
 from collections.abc import Iterable, Iterator, Mapping, Sequence
 from typing import Any, NamedTuple
 
+from rule_labels import Named
+
 Manifest = Mapping[str, Any]
 Row = list[str]
 # Labels of a row, bytes of a text, and the bytes of a key behind `/NN/`.
@@ -240,21 +242,24 @@ def with_own(entries: Sequence[tuple[str, str]], own: Sequence[Row]) -> tuple[li
 
 class NodeLabels:
     """Which labels of nodes the waiting pods ask for. They stay in each node's row, so there are no more at a time than a row has
-    room for beside the site's settings, which are labels of each node too."""
+    room for beside the site's settings, which are labels of each node too, and beside those that the site's rules read. `changes` counts
+    how often others were asked for."""
 
-    def __init__(self, settings: Sequence[tuple[str, str]] = ()):
-        self.settings, self.asking = [*settings], dict[str, set[str]]()
+    def __init__(self, settings: Sequence[tuple[str, str]] = (), named: Named = Named()):
+        self.settings, self.named, self.asking, self.changes = [*settings], named, dict[str, set[str]](), 0
 
     def take(self, uid: str, keys: frozenset[str]) -> str | None:
         """Keeps these labels for a pod, or says why there is no room for them. A label that nobody asks for any more stays until
         its room is wanted, so that rows needn't be told anew for each pod."""
         self.give_back(uid)
-        more = len(keys - self.asking.keys()) + len(self.asking) + len(self.settings) - LABELS
-        idle = [it for it, pods in self.asking.items() if not pods and it not in keys]
+        # (one that rules read is in each row anyway)
+        more = len(keys | self.asking.keys() | self.named.keys) + len(self.settings) - LABELS
+        idle = [it for it, pods in self.asking.items() if not pods and it not in keys and it not in self.named.keys]
         if more > len(idle):
             return f"other pods ask for so many node labels that there is no room for {', '.join(sorted(keys - self.asking.keys()))}"
         for it in idle[: max(0, more)]:
             del self.asking[it]
+        self.changes += bool(more > 0 or keys - self.asking.keys())
         for it in keys:
             self.asking.setdefault(it, set()).add(uid)
         return None
@@ -264,7 +269,12 @@ class NodeLabels:
             pods.discard(uid)
 
     def kept(self, own: Sequence[Row]) -> tuple[list[Row], list[str]]:
-        """A node's labels: the settings, those that are asked for, and as many others as there is room for; and what gave way."""
+        """A node's labels: the settings, those that rules read or that are asked for, and as many others as there is room for; and what gave way."""
         room = LABELS - len(self.settings)
-        first = sorted(own, key=lambda it: it[0] not in self.asking)
+        first = sorted(own, key=lambda it: (it[0] not in self.named.keys, it[0] not in self.asking))
         return [*([key, value] for key, value in self.settings), *sorted(first[:room])], [f"label {key}" for key, _ in first[room:]]
+
+    def why_not(self, keys: Sequence[str]) -> str | None:
+        """Why a node with these labels isn't used: where one would give way that a rule may read."""
+        room = LABELS - len(self.settings)
+        return None if self.named.chosen(keys, room) else self.named.why(len(keys), room, sorted(keys)[room:])

@@ -91,11 +91,12 @@ class Desk(Nodes):
 
     def hear_waiting(self, pod: Pod, seen: SeenPod) -> None:
         self.short.pop(pod, None)
+        changes = self.labels.changes
         why = self.labels.take(pod.uid, seen.keys) if seen.row else None
         if why:
             self.short[pod] = seen
             seen = seen._replace(row=None, left_out=(why,))
-        elif seen.keys:
+        elif self.labels.changes != changes:
             self.tell_labels()
         self.note(f"pod {pod}", seen.row is not None, seen.left_out)
         pod.size = seen.size

@@ -1,16 +1,22 @@
-"""A Lease as what the client's leader election locks, so that of several replicas one schedules."""
+"""A Lease that replicas share, so that one of them schedules: whoever has written its name there last, and goes on to.
+
+How long another has had it is reckoned by this machine's own clock, from when a change of it was read; the times that stand in it are for
+people.
+"""
 from __future__ import annotations
 
 import argparse
 import datetime
-import json
 import logging
+import os
+import random
+import secrets
+import socket
 import time
-import types
 from typing import Any, Callable
 
 from kubernetes import client
-from kubernetes.leaderelection.leaderelectionrecord import LeaderElectionRecord
+from kubernetes.client.rest import ApiException
 
 from watch import AWAY, message
 
@@ -27,65 +33,114 @@ def name_of(text: str) -> tuple[str, str]:
     return namespace, name
 
 
-class LeaseLock:
-    """No call of it raises: an election that ends so would leave a scheduler without a Lease behind."""
+def clock() -> float:
+    """Seconds that nobody sets, and that go on while the machine sleeps."""
+    return time.clock_gettime(time.CLOCK_BOOTTIME)
 
-    def __init__(self, namespace: str, name: str, identity: str, api: Any) -> None:
-        self.name, self.namespace, self.identity, self.leases = name, namespace, identity, client.CoordinationV1Api(api)
-        self.read: Any = None
-        self.renewed = time.monotonic()
 
-    def spec(self, record: Any) -> Any:
-        def stamp(text: str) -> datetime.datetime:
-            return datetime.datetime.fromisoformat(text).astimezone(datetime.timezone.utc)
+def stamp() -> datetime.datetime:
+    now = datetime.datetime.now(datetime.timezone.utc)
+    # (the API takes a time with its microseconds alone)
+    return now.replace(microsecond=max(1, now.microsecond))
 
-        seconds = int(float(record.lease_duration))
-        return client.V1LeaseSpec(
-            holder_identity=record.holder_identity,
-            lease_duration_seconds=seconds,
-            acquire_time=stamp(record.acquire_time),
-            renew_time=stamp(record.renew_time),
-        )
 
-    def get(self, name: str, namespace: str) -> tuple[bool, Any]:
+class Lease:
+    """No call of it raises."""
+
+    def __init__(self, namespace: str, name: str, api: Any) -> None:
+        self.namespace, self.name, self.leases = namespace, name, client.CoordinationV1Api(api)
+        # (processes of several machines or containers may have one number, and one name)
+        self.identity = f"{socket.gethostname()}_{secrets.token_hex(8)}_{os.getpid()}"
+        # what was read last, and since when it has been so; who has it by that
+        self.read: tuple[Any, ...] = ()
+        self.since, self.holder = 0.0, ""
+        # when it was renewed last, and what was said last of a failure
+        self.renewed, self.fault = float("-inf"), ""
+
+    def follow(self) -> None:
+        """Returns once this one has it."""
+        LOG.info("%s is a follower of %s/%s", self.identity, self.namespace, self.name)
+        while not self.take():
+            time.sleep(RETRY * random.uniform(1.0, 1.2))
+        LOG.info("%s has the lease %s/%s", self.identity, self.namespace, self.name)
+
+    def keep(self, lost: Callable[[str], None]) -> None:
+        """Renews it again and again, until that can't be done or another has it."""
+        while True:
+            time.sleep(RETRY)
+            if self.take():
+                continue
+            if self.holder not in ("", self.identity):
+                return lost(f"{self.holder} has it")
+            if clock() - self.renewed >= DEADLINE:
+                return lost(f"it couldn't be renewed for {DEADLINE} s")
+
+    def is_held(self) -> bool:
+        """Whether no other can have it yet, also where this process or its machine has been asleep."""
+        return clock() - self.renewed < SECONDS - 1
+
+    def guard(self, lost: Callable[[str], None]) -> None:
+        """A renewal that hangs, or a process that was asleep, may be past the time of its Lease."""
+        while self.is_held():
+            time.sleep(0.5)
+        lost("its time is over")
+
+    def take(self) -> bool:
+        """Takes or renews it, where no other has it."""
+        began = clock()
         try:
-            self.read = self.leases.read_namespaced_lease(name, namespace, _request_timeout=(2, 2))
+            try:
+                there = self.leases.read_namespaced_lease(self.name, self.namespace, _request_timeout=(2, 2))
+            except ApiException as why:
+                if why.status != 404:
+                    raise
+                there = None
+            if there and self.is_others(there.spec):
+                return False
+            self.write(there)
         except AWAY as why:
-            # (the election makes a Lease where the code in the body is 404, and waits at any other)
-            return False, types.SimpleNamespace(reason=message(why), body=json.dumps({"code": getattr(why, "status", None) or 503}))
-        it = self.read.spec
-        if not it.holder_identity or not it.renew_time or not it.acquire_time:
-            return True, None
-        return True, LeaderElectionRecord(it.holder_identity, str(it.lease_duration_seconds), str(it.acquire_time), str(it.renew_time))
+            self.failed(message(why))
+            return False
+        self.renewed, self.fault, self.holder = began, "", self.identity
+        return True
 
-    def create(self, name: str, namespace: str, election_record: Any) -> bool:
-        lease = client.V1Lease(metadata=client.V1ObjectMeta(name=name, namespace=namespace), spec=self.spec(election_record))
-        return self.tried(lambda: self.leases.create_namespaced_lease(namespace, lease, _request_timeout=(2, 2)))
+    def is_others(self, spec: Any) -> bool:
+        record = (spec.holder_identity, spec.renew_time, spec.acquire_time, spec.lease_duration_seconds)
+        if record != self.read:
+            self.read, self.since = record, clock()
+        self.holder = spec.holder_identity or ""
+        return self.holder not in ("", self.identity) and clock() < self.since + (spec.lease_duration_seconds or SECONDS)
 
-    def update(self, name: str, namespace: str, updated_record: Any) -> bool:
-        # with the version that was read: of two that take it at once, one is refused
-        self.read.spec = self.spec(updated_record)
-        return self.tried(lambda: self.leases.replace_namespaced_lease(name, namespace, self.read, _request_timeout=(2, 2)))
+    def write(self, there: Any) -> None:
+        """With the version that was read: of two that take it at once, one is refused."""
+        is_new = not there or there.spec.holder_identity != self.identity
+        had = there.spec if there else client.V1LeaseSpec()
+        spec = client.V1LeaseSpec(
+            holder_identity=self.identity,
+            lease_duration_seconds=SECONDS,
+            acquire_time=stamp() if is_new else had.acquire_time,
+            renew_time=stamp(),
+            lease_transitions=(had.lease_transitions or 0) + (1 if there and is_new else 0),
+        )
+        if there:
+            there.spec = spec
+            self.leases.replace_namespaced_lease(self.name, self.namespace, there, _request_timeout=(2, 2))
+        else:
+            lease = client.V1Lease(metadata=client.V1ObjectMeta(name=self.name, namespace=self.namespace), spec=spec)
+            self.leases.create_namespaced_lease(self.namespace, lease, _request_timeout=(2, 2))
+
+    def failed(self, why: str) -> None:
+        """(each once, and not each time that it is tried)"""
+        if why != self.fault:
+            LOG.warning("lease %s/%s: %s", self.namespace, self.name, why)
+        self.fault = why
 
     def release(self) -> None:
         """Gives it back at a clean end, so that another needn't wait until it has run out."""
-        _, record = self.get(self.name, self.namespace)
-        if getattr(record, "holder_identity", None) == self.identity:
-            self.read.spec.holder_identity = ""
-            self.tried(lambda: self.leases.replace_namespaced_lease(self.name, self.namespace, self.read, _request_timeout=(2, 2)))
-
-    def tried(self, call: Callable[[], object]) -> bool:
-        began = time.monotonic()
         try:
-            call()
-            self.renewed = began
-            return True
+            there = self.leases.read_namespaced_lease(self.name, self.namespace, _request_timeout=(2, 2))
+            if there.spec.holder_identity == self.identity:
+                there.spec.holder_identity = ""
+                self.leases.replace_namespaced_lease(self.name, self.namespace, there, _request_timeout=(2, 2))
         except AWAY as why:
-            LOG.warning("lease: %s", message(why))
-            return False
-
-    def guard(self, lost: Callable[[], None]) -> None:
-        """An election that hangs, or a process that was asleep, may be past the time of its Lease."""
-        while time.monotonic() - self.renewed < SECONDS - 1:
-            time.sleep(0.5)
-        lost()
+            self.failed(message(why))

@@ -14,20 +14,18 @@ from typing import Any, Callable
 from affinity import NodeLabels
 from audit import Audit
 from binding import UNDER_WAY, Bind, Binders
-from claims import ClaimHearing, Claims, VolumeHearing, listed_after
 from core import MEANWHILE, PATIENCE, Core, command
 from desk import Desk
 from explaining import Explaining
 from health import Health
-from hearing import NodeHearing, PodHearing
+from listening import Listening
 from metrics import Metrics
 from newest import Inbox, Meant, Newest
 from pods import Pod, Told
 from record import Record
-from seen import Reader
 from telling import Telling
 from verdicts import is_of_rules, said_of_no_node
-from watch import QUIET, Watched
+from watch import QUIET
 from way import Way
 
 LOG = logging.getLogger("second-scheduler")
@@ -40,9 +38,10 @@ AUDIT = 30.0
 
 
 class Scheduler:
-    """One that schedules: it has begun to list and watch once it is there, and `run` goes on until `stopping` is set."""
+    """One that schedules: it has begun to list and watch once it is there, and `run` goes on until `stopping` is set. `may_write` says whether no
+    other may schedule by now."""
 
-    def __init__(self, given: argparse.Namespace, api: Any, way: Way, metrics: Metrics, health: Health) -> None:
+    def __init__(self, given: argparse.Namespace, api: Any, way: Way, metrics: Metrics, health: Health, may_write: Callable[[], bool]) -> None:
         self.given, self.metrics, self.health = given, metrics, health
         self.inbox: Inbox = queue.SimpleQueue()
         self.stopping, self.is_audit_asked = threading.Event(), False
@@ -58,54 +57,24 @@ class Scheduler:
         health.watch_over(self.core.kill)
         self.share = given.share
         self.whose = f" of share {self.share}" if self.share.count > 1 else ""
-        self.watches: list[Watched] = []
-        # whether what was heard has got here, and up to which change of a node
-        self.is_behind, self.heard = True, 0
+        # up to which change of a node the main loop has heard
+        self.listening, self.heard = Listening(self.inbox), 0
         pods: dict[str, Pod] = {}
-        self.newest = newest = Newest(self.inbox, pods, self.is_deaf)
-        self.telling = Telling(way, given.scheduler, given.dry_run, metrics, newest.waits)
-        self.binders = Binders(api, way, given.binders, newest, metrics, self.stopping)
-        labels = NodeLabels(given.settings)
+        self.newest = Newest(self.inbox, pods, lambda: self.listening.is_deaf() or not may_write())
+        self.telling = Telling(way, given.scheduler, given.dry_run, metrics, self.newest.waits)
+        self.binders = Binders(api, way, given.binders, self.newest, metrics, self.stopping)
+        labels = NodeLabels(given.settings, given.read_labels)
         self.desk = Desk(self.core, self.telling, metrics, labels, pods, self.share)
         self.audit = Audit(self.desk, self.telling, metrics)
         self.explaining = Explaining([given.wsched, "explain", "--", *given.spec], self.desk, self.telling, self.inbox, self.whose)
-        only = {"label_selector": given.nodes} if given.nodes else {}
-        reader = Reader(given.wsched, given.scheduler)
-        nodes = NodeHearing(metrics, reader, newest, self.share, labels)
-        claims = Claims(is_told=bool(given.node_affinity))
-        hearing = PodHearing(metrics, reader, newest, self.share, claims)
-        phases = "status.phase!=Succeeded,status.phase!=Failed"
-        self.watches += [Watched(api.list_node, nodes, **only), Watched(listed_after(claims, api.list_pod_for_all_namespaces), hearing, field_selector=phases)]
-        if given.node_affinity:
-            self.watches.append(Watched(api.list_persistent_volume, VolumeHearing(claims, metrics)))
-            self.watches.append(Watched(api.list_persistent_volume_claim_for_all_namespaces, ClaimHearing(claims, metrics)))
-        health.unheard = self.unheard
-
-    # What is heard.
-
-    def unheard(self) -> list[str]:
-        """The kinds of which more may have happened than was heard."""
-        now = time.monotonic()
-        return [it.ears.kind for it in self.watches if it.is_deaf(now)]
-
-    def is_deaf(self) -> bool:
-        """Whether what was heard is older than it may be, or hasn't got here: then nothing is decided, and no bind sent."""
-        return bool(self.unheard()) or self.is_behind
-
-    def look_whether_deaf(self) -> None:
-        """(with an empty inbox all has got here that was heard before)"""
-        unheard = self.unheard()
-        if unheard and not self.is_behind:
-            LOG.warning("nothing is decided: %s", ", ".join(f"nothing is heard of any {it}" for it in unheard))
-        if not unheard and self.is_behind and self.inbox.empty():
-            LOG.info("the cluster is heard")
-        self.is_behind = bool(unheard) or (self.is_behind and not self.inbox.empty())
+        self.listening.begin(given, api, metrics, self.newest, labels)
+        health.unheard = self.listening.unheard
 
     # Decisions.
 
     def can_decide(self) -> bool:
-        self.look_whether_deaf()
-        return self.desk.has_work and not self.is_behind and self.under_way < UNDER_WAY and not self.stopping.is_set()
+        is_deaf = self.listening.look()
+        return self.desk.has_work and not is_deaf and self.under_way < UNDER_WAY and not self.stopping.is_set()
 
     def ask_for_cycles(self) -> None:
         """Asks for cycles for a tenth of a second: no more at once than take about that long, be the rules quick or slow."""
@@ -239,7 +208,7 @@ class Scheduler:
         it.left_out.labels("pod").set(len(self.desk.alone))
         it.unread.set(len(self.desk.unread))
         it.aside.set(len(self.desk.aside))
-        for watch in self.watches:
+        for watch in self.listening.watches:
             it.shut.labels(watch.ears.kind).set(watch.shut_for(now))
 
     def run(self) -> int:
@@ -262,7 +231,7 @@ class Scheduler:
             self.telling.tick()
             self.explaining.tick()
             # (with more to decide, only what is there already is taken)
-            self.take(0.0 if self.can_decide() else min(ticks, now + QUIET) if self.is_behind else min(ticks, self.desk.waiting.next_wake(now)))
+            self.take(0.0 if self.can_decide() else min(ticks, now + QUIET) if self.listening.is_behind else min(ticks, self.desk.waiting.next_wake(now)))
         return self.end()
 
     def end(self) -> int:

@@ -13,7 +13,6 @@ import logging
 import os
 import pathlib
 import signal
-import socket
 import sys
 import threading
 from typing import Any
@@ -21,7 +20,6 @@ from typing import Any
 import urllib3
 import yaml
 from kubernetes import client, config
-from kubernetes.leaderelection import electionconfig, leaderelection
 
 sys.path.append(str(pathlib.Path(__file__).resolve().parent.parent))
 
@@ -29,6 +27,7 @@ sys.path.append(str(pathlib.Path(__file__).resolve().parent.parent))
 from tools import rules
 
 import lease
+import rule_labels
 import serving
 import share
 import site_settings
@@ -71,13 +70,26 @@ def words() -> argparse.Namespace:
     said.add_argument("--plugins", metavar="FOLDER", help="where node_affinity.wasm is; else in the folder `plugins` beside this program's own")
     said.add_argument("--settings", metavar="FILE", help="settings of the rules, as lines NAME=VALUE: labels /cfg/NAME of each node's row")
     said.add_argument("--rules", metavar="FILE", help="rules, settings and node affinity in a file (examples/tools/rules.py has its form), before the SPECs")
+    said.add_argument(
+        "--labels",
+        type=rule_labels.words,
+        metavar="KEY,..",
+        help="the labels that rules read, of which none gives way where a pod or a node has more than a row has room for; others than modules name",
+    )
     said.add_argument("--lease", type=lease.name_of, metavar="NAMESPACE/NAME", help="a Lease that replicas share: only the one that holds it schedules")
     said.add_argument("--listen", type=serving.address, metavar="[HOST]:PORT", help="serve /metrics, /healthz, /livez and /readyz there")
+    said.add_argument("--tls-cert", metavar="FILE", help="serve them by TLS with this certificate, and what it is signed by behind it (PEM)")
+    said.add_argument("--tls-key", metavar="FILE", help="the certificate's key, where it doesn't stand in the same file")
+    said.add_argument("--token-file", metavar="FILE", help="/metrics is for those alone that bear the token that stands there")
     said.add_argument("--record", metavar="FILE", help="write every line that wsched is told and has answered to this file, compressed by gzip")
     said.add_argument("--verbose", action="store_true")
     given = said.parse_args()
     if given.binders < 1:
         said.error("argument --binders: at least 1")
+    if given.tls_key and not given.tls_cert:
+        said.error("argument --tls-key: without --tls-cert")
+    if (given.tls_cert or given.token_file) and not given.listen:
+        said.error("argument --tls-cert, --token-file: without --listen")
     given.share = dataclasses.replace(given.share, is_by_name=not given.nodes)
     if given.node_affinity:
         # the rule and what is told for it come together, so that no pod is told without the rule being asked
@@ -92,11 +104,11 @@ def words() -> argparse.Namespace:
     given.spec, given.settings = [*by.specs], [*by.labels]
     if given.rules and by.tells_affinity:
         given.node_affinity = True
+    given.read_labels = rule_labels.read_by(given.spec, given.labels, RULE if given.node_affinity else "")
     return given
 
 
 def log_to_standard_error(is_verbose: bool) -> None:
-    # (the client's leader election has set its own)
     logging.basicConfig(level=logging.DEBUG if is_verbose else logging.INFO, format="%(asctime)s %(message)s", force=True)
     for name in ("urllib3", "kubernetes"):
         logging.getLogger(name).setLevel(logging.ERROR)
@@ -134,13 +146,13 @@ class Replica:
         self.api, self.way = connect(given)
         self.health, self.metrics, self.stop = Health(), Metrics(given.scheduler), threading.Event()
         self.running: Scheduler | None = None
-        self.lock: lease.LeaseLock | None = None
-        for it in (signal.SIGTERM, signal.SIGINT):
+        self.lease: lease.Lease | None = None
+        for it in (signal.SIGTERM, signal.SIGINT, signal.SIGHUP):
             signal.signal(it, lambda *_: self.end())
         signal.signal(signal.SIGUSR1, lambda *_: self.audit())
         if given.listen:
             try:
-                serving.serve(given.listen, self.health, self.metrics)
+                serving.serve(given.listen, self.health, self.metrics, serving.Files(given.tls_cert, given.tls_key, given.token_file))
             except OSError as why:
                 sys.exit(f"second_scheduler.py: --listen: {why}")
 
@@ -157,16 +169,14 @@ class Replica:
     def lead(self) -> None:
         status = 1
         try:
-            if self.lock:
-                threading.Thread(target=self.lock.guard, args=(self.lost,), daemon=True).start()
             self.metrics.leader.set(1)
             self.health.lead()
-            self.running = Scheduler(self.given, self.api, self.way, self.metrics, self.health)
+            self.running = Scheduler(self.given, self.api, self.way, self.metrics, self.health, self.may_write)
             if self.stop.is_set():
                 self.running.stopping.set()
             status = self.running.run()
-            if self.lock:
-                self.lock.release()
+            if self.lease:
+                self.lease.release()
         except (CoreFault, OSError) as why:
             LOG.error("%s", why)
         except Exception:  # pylint: disable=broad-except
@@ -174,10 +184,24 @@ class Replica:
             LOG.exception("ended by a fault of its own")
         end_process(status)
 
-    def lost(self) -> None:
-        # another may schedule now, so nothing more is bound: whoever started this starts it again
-        LOG.error("the lease is lost")
-        end_process(1)
+    def may_write(self) -> bool:
+        """Whether no other may schedule yet."""
+        return not self.lease or self.lease.is_held()
+
+    def lost(self, why: str) -> None:
+        """Another may schedule now, so nothing more is bound, and this one follows anew: as a new process would, but that nobody has to start it
+        again, and waits longer each time."""
+        LOG.warning("the lease is lost: %s", why)
+        if self.stop.is_set():
+            end_process(0)
+        if self.running:
+            # (its input ends with this program, and so does that of the other children)
+            self.running.core.kill()
+        logging.shutdown()
+        try:
+            os.execv(sys.executable, sys.orig_argv)
+        finally:
+            os._exit(1)
 
     def end_follower(self) -> None:
         self.stop.wait()
@@ -186,16 +210,27 @@ class Replica:
 
     def follow(self) -> None:
         namespace, name = self.given.lease
-        name += self.given.share.suffix
-        self.lock = lease.LeaseLock(namespace, name, f"{socket.gethostname()}_{os.getpid()}", self.api.api_client)
+        self.lease = lease.Lease(namespace, name + self.given.share.suffix, self.api.api_client)
         # a follower ends at once
         threading.Thread(target=self.end_follower, daemon=True).start()
-        settings = electionconfig.Config(self.lock, lease.SECONDS, lease.DEADLINE, lease.RETRY, self.lead, self.lost)
-        leaderelection.LeaderElection(settings).run()
+        self.lease.follow()
+        for keeps in (self.lease.keep, self.lease.guard):
+            threading.Thread(target=keeps, args=(self.lost,), daemon=True).start()
+        self.lead()
+
+
+def reap() -> None:
+    """What this process had started before it lost its lease."""
+    try:
+        while os.waitpid(-1, os.WNOHANG)[0]:
+            pass
+    except ChildProcessError:
+        pass
 
 
 def main() -> None:
     given = words()
+    reap()
     # (the loop shares the interpreter with those that bind and tell, and after each answer of wsched it waits for its turn)
     sys.setswitchinterval(0.001)
     log_to_standard_error(given.verbose)

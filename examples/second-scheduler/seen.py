@@ -14,11 +14,12 @@ from typing import Any, NamedTuple, Sequence
 
 import affinity
 from affinity import LABELS, NAME, Asked, NodeLabels, Volumes
+from rule_labels import KEY, Named
 from translating import EVERYTHING, Answer, Json, Size, Translator, as_json, fields_of, size_of
 
 ENDED = ("Succeeded", "Failed")
 # All of a pod's own data that matters to its line, but for its name; and what is long in a container, and doesn't matter.
-OF_PODS = ("labels", "deletionTimestamp")
+OF_PODS = ("deletionTimestamp",)
 OF_CONTAINERS = frozenset(["env", "envFrom", "command", "args", "volumeMounts", "livenessProbe", "readinessProbe", "startupProbe", "lifecycle"])
 CONTAINERS = ("containers", "initContainers", "ephemeralContainers")
 # What the status of a pod on a node says of what it holds there, which may be more than it asks for by now; of its containers, and in all.
@@ -63,11 +64,19 @@ class SeenPod(NamedTuple):
         return f"{self.namespace}/{self.name}"
 
 
+class Own(NamedTuple):
+    """What a pod asks of nodes' labels, those of its own that are told of it, and those that gave way."""
+
+    asks: Asked = Asked()
+    labels: Json = {}
+    gone: tuple[str, ...] = ()
+
+
 class Reader:
     """Reads objects as they are heard, many at a time where many are."""
 
-    def __init__(self, program: str, scheduler: str) -> None:
-        self.translator, self.scheduler = Translator(program, scheduler), scheduler
+    def __init__(self, program: str, scheduler: str, named: Named = Named()) -> None:
+        self.translator, self.scheduler, self.named = Translator(program, scheduler), scheduler, named
 
     def nodes(self, things: Sequence[Json], labels: NodeLabels) -> list[SeenNode]:
         parts = [parts_of(it) for it in things]
@@ -78,9 +87,10 @@ class Reader:
         """By their uids, without those that another scheduler has to place and those that have ended. `there` is None where no rule is
         asked about selectors, affinity and volumes."""
         mine = [it for it in things if self.is_told(it)]
-        asks = [affinity.asked(it, there) if there and not it["spec"].get("nodeName") else None for it in mine]
-        answers = self.translator.ask([short(affinity.without(it) if own else it) for it, own in zip(mine, asks)])
-        return {it["metadata"]["uid"]: seen_pod(it, own or Asked(), answer) for it, own, answer in zip(mine, asks, answers)}
+        given = [affinity.asked(it, there) if there and not it["spec"].get("nodeName") else None for it in mine]
+        asks = [with_labels(it, own or Asked(), self.named) for it, own in zip(mine, given)]
+        things = [short(affinity.without(it) if there and not it["spec"].get("nodeName") else it, own.labels) for it, own in zip(mine, asks)]
+        return {it["metadata"]["uid"]: seen_pod(it, own, answer) for it, own, answer in zip(mine, asks, self.translator.ask(things))}
 
     def is_told(self, pod: Json) -> bool:
         spec = pod["spec"]
@@ -105,6 +115,8 @@ def seen_node(node: Json, answers: Sequence[Answer], labels: NodeLabels) -> Seen
     if len(lines) < len(answers):
         return SeenNode(name, uid, None, (0, 0, 0), left_out)
     own = [label for line in lines for label in line["labels"]]
+    if why := labels.why_not([key for key, _ in own]):
+        return SeenNode(name, uid, None, (0, 0, 0), (*left_out, why))
     kept, gone = labels.kept(own)
     row, many = as_json({**fields_of(lines[0]), "labels": kept}), tuple((key, value) for key, value in own) if gone else ()
     return SeenNode(name, uid, row, (*size_of(lines[0]), lines[0]["pods"]), (*left_out, *gone), many)
@@ -120,9 +132,25 @@ def row_of(seen: SeenNode, labels: NodeLabels) -> str | None:
 # Pods.
 
 
-def short(pod: Json) -> Json:
-    """A pod that hasn't ended, without what no line tells of: so most pods are equal to what they were before, and to their like."""
-    meta = {key: pod["metadata"][key] for key in OF_PODS if key in pod["metadata"]}
+def with_labels(pod: Json, asks: Asked, named: Named) -> Own:
+    """Which of its labels are told of a pod that waits. Those that no row can say at all no rule can read."""
+    labels = {} if pod["spec"].get("nodeName") else pod["metadata"].get("labels") or {}
+    room = LABELS - len(asks.entries)
+    if len(labels) <= room:
+        return Own(asks, labels)
+    can = sorted(it for it in labels if KEY.fullmatch(it))
+    chosen = named.chosen(can, room)
+    if not chosen:
+        return Own(asks._replace(why=(*asks.why, named.why(len(can), room, can[room:]))))
+    told, gone = chosen
+    gone = sorted([*gone, *(labels.keys() - set(can))])
+    return Own(asks, {it: labels[it] for it in told}, tuple(f"label {it}" for it in gone))
+
+
+def short(pod: Json, labels: Json) -> Json:
+    """A pod that hasn't ended, with these labels, without what no line tells of: so most pods are equal to what they were before, and to their
+    like."""
+    meta: Json = {key: pod["metadata"][key] for key in OF_PODS if key in pod["metadata"]} | ({"labels": labels} if labels else {})
     spec = dict(pod["spec"])
     for some in CONTAINERS:
         if isinstance(spec.get(some), list):
@@ -151,8 +179,8 @@ def held_by(pod: Json) -> Json:
     return held
 
 
-def seen_pod(pod: Json, asks: Asked, answer: Answer) -> SeenPod:
-    meta, spec, line = pod["metadata"], pod["spec"], answer.line
+def seen_pod(pod: Json, own: Own, answer: Answer) -> SeenPod:
+    meta, spec, line, asks = pod["metadata"], pod["spec"], answer.line, own.asks
     who, size = (sys.intern(meta["namespace"]), meta["name"], meta["uid"]), one_size(*size_of(line)) if line else (0, 0)
     if spec.get("nodeName"):
         return on_node(SeenPod(*who, sys.intern(spec["nodeName"]), size, answer.is_whole, left_out=answer.left_out), answer)
@@ -160,9 +188,9 @@ def seen_pod(pod: Json, asks: Asked, answer: Answer) -> SeenPod:
     waits = waits._replace(created=created_at(meta))
     if asks.why or not line:
         return waits._replace(left_out=(*asks.why, *(() if line else answer.left_out)))
-    labels, gone = affinity.with_own(asks.entries, line["labels"])
+    labels, _ = affinity.with_own(asks.entries, line["labels"])
     row = as_json({**fields_of(line), "labels": labels})
-    return waits._replace(row=row, left_out=(*asks.left_out, *answer.left_out, *gone), keys=asks.keys)
+    return waits._replace(row=row, left_out=(*asks.left_out, *answer.left_out, *own.gone), keys=asks.keys)
 
 
 def on_node(seen: SeenPod, answer: Answer) -> SeenPod:

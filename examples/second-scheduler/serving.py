@@ -1,11 +1,18 @@
-"""Metrics and health over HTTP: /metrics, /healthz, /livez and /readyz."""
+"""Metrics and health over HTTP, or over TLS: /metrics, /healthz, /livez and /readyz.
+
+Probes are answered to everyone, since a kubelet has no token; /metrics is to those that bear the token, where there is one.
+"""
 from __future__ import annotations
 
 import argparse
+import hmac
 import http.server
 import logging
+import os
 import socket
+import ssl
 import threading
+from typing import Any, NamedTuple
 
 from health import Health
 from metrics import Metrics
@@ -22,15 +29,84 @@ def address(text: str) -> tuple[str, int]:
     return host.strip("[]"), int(port)
 
 
-def serve(where: tuple[str, int], health: Health, metrics: Metrics) -> None:
+class Files(NamedTuple):
+    """A certificate and its key, and who may read the metrics: each a file, or None."""
+
+    cert: str | None = None
+    key: str | None = None
+    token: str | None = None
+
+
+class Certificate:
+    """What TLS says who this is. Files that have been renewed are read again."""
+
+    def __init__(self, files: Files) -> None:
+        self.files, self.times, self.tls = files, (0.0, 0.0), self.read()
+
+    def read(self) -> ssl.SSLContext:
+        """Raises OSError or ssl.SSLError, which is one, where the files are none of a certificate and its key."""
+        assert self.files.cert
+        tls = ssl.SSLContext(ssl.PROTOCOL_TLS_SERVER)
+        tls.minimum_version = ssl.TLSVersion.TLSv1_2
+        tls.load_cert_chain(self.files.cert, self.files.key)
+        self.times = self.written()
+        return tls
+
+    def written(self) -> tuple[float, float]:
+        assert self.files.cert
+        return os.stat(self.files.cert).st_mtime, os.stat(self.files.key or self.files.cert).st_mtime
+
+    def newest(self) -> ssl.SSLContext:
+        try:
+            if self.written() != self.times:
+                self.tls = self.read()
+        except OSError as why:
+            # (half of it may be written)
+            LOG.warning("the certificate of --listen stays as it was: %s", why)
+        return self.tls
+
+
+def token_in(file: str | None) -> str:
+    """What stands in the file now, without blanks around it; nothing where there is no file."""
+    if not file:
+        return ""
+    with open(file, encoding="utf-8") as it:
+        return it.read().strip()
+
+
+def serve(where: tuple[str, int], health: Health, metrics: Metrics, files: Files = Files()) -> None:
+    """Raises OSError where it can't be: for the address, the certificate or the token."""
+    certificate = Certificate(files) if files.cert else None
+    if files.token and not token_in(files.token):
+        raise OSError(f"{files.token} has no token")
+
     class Answer(http.server.BaseHTTPRequestHandler):
         """One request."""
 
         protocol_version = "HTTP/1.1"
         timeout = 30
 
+        def setup(self) -> None:
+            if certificate:
+                # (in the thread of this request: one that says nothing keeps no other waiting)
+                self.request.settimeout(self.timeout)
+                self.request = certificate.newest().wrap_socket(self.request, server_side=True)
+            super().setup()
+
+        def may_read(self) -> bool:
+            if not files.token:
+                return True
+            try:
+                wanted = f"Bearer {token_in(files.token)}"
+            except (OSError, ValueError) as why:
+                LOG.warning("the token of --listen can't be read: %s", why)
+                return False
+            return hmac.compare_digest((self.headers.get("Authorization") or "").encode(), wanted.encode())
+
         def do_GET(self) -> None:  # pylint: disable=invalid-name
             path = self.path.partition("?")[0]
+            if path == "/metrics" and not self.may_read():
+                return self.say(401, b"who are you?\n", more={"WWW-Authenticate": "Bearer"})
             if path == "/metrics":
                 return self.say(200, metrics.text(), FORM)
             if path in ("/healthz", "/livez"):
@@ -42,8 +118,10 @@ def serve(where: tuple[str, int], health: Health, metrics: Metrics) -> None:
         def say_whether(self, is_well: bool, why: str) -> None:
             self.say(200 if is_well else 503, b"ok" if is_well else why.encode() + b"\n")
 
-        def say(self, status: int, body: bytes, form: str = "text/plain; charset=utf-8") -> None:
+        def say(self, status: int, body: bytes, form: str = "text/plain; charset=utf-8", more: dict[str, str] | None = None) -> None:
             self.send_response(status)
+            for name, value in (more or {}).items():
+                self.send_header(name, value)
             self.send_header("Content-Type", form)
             self.send_header("Content-Length", str(len(body)))
             self.end_headers()
@@ -57,6 +135,10 @@ def serve(where: tuple[str, int], health: Health, metrics: Metrics) -> None:
 
         daemon_threads = True
         address_family = socket.AF_INET6 if ":" in where[0] or (not where[0] and socket.has_dualstack_ipv6()) else socket.AF_INET
+
+        def handle_error(self, request: Any, client_address: Any) -> None:
+            """(whoever speaks no TLS, or ends in the midst)"""
+            LOG.debug("%s was not answered", client_address, exc_info=True)
 
         def server_bind(self) -> None:
             if self.address_family == socket.AF_INET6:

@@ -10,6 +10,7 @@ from tools.program import WSCHED, Script, Untold, quoted
 from tools.rules import Rules
 
 from affinity import NodeLabels, Volumes
+from rule_labels import read_by
 from seen import Reader, SeenNode, SeenPod
 from translating import spelled
 
@@ -72,11 +73,12 @@ class Cluster:
     def __init__(self, found: Objects, scheduler: str, rules: Rules) -> None:
         claims = {key_of(it): it for it in found["PersistentVolumeClaim"]}
         there = Volumes(claims, {it["metadata"]["name"]: it for it in found["PersistentVolume"]}) if rules.tells_affinity else None
-        reader = Reader(WSCHED, scheduler)
+        named = read_by(rules.specs, None, "node_affinity")
+        reader = Reader(WSCHED, scheduler, named)
         self.pods = pods = [*reader.pods(found["Pod"], there).values()]
         self.waiting = sorted((it for it in pods if not it.node), key=lambda it: (-it.priority, it.created, it.uid))
         self.alone = {it.uid: ", ".join(it.left_out) for it in self.waiting if it.row is None}
-        labels = NodeLabels(rules.labels)
+        labels = NodeLabels(rules.labels, named)
         for pod in self.waiting:
             if pod.row is not None and (why := labels.take(pod.uid, pod.keys)):
                 self.alone[pod.uid] = why

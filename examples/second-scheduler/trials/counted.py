@@ -55,14 +55,13 @@ def counted_long(site: Site) -> str:
     it = site.start(*site.listening())
     site.pod("first", memory="1Mi")
     site.wait(lambda: site.place("first"), 20, "it binds")
-    site.pod("long", on="one", scheduler="default-scheduler", spec=with_init("c", "10Mi", LETTERS * "é"))
-    time.sleep(2)
+    site.pod("long", on="one", scheduler="default-scheduler", spec=with_init("c", "900Mi", LETTERS * "é"))
+    waits(site, it)
     before = peak_of(it.pid)
     for i in range(1, LONG):
-        site.pod(f"long-{i}", on="one", scheduler="default-scheduler", spec=with_init("c", "15Mi", f"{i}" + LETTERS * "é"))
-    site.wait(lambda: places(site, it) == LONG + 1, 60, "all are heard of")
+        site.pod(f"long-{i}", on="one", scheduler="default-scheduler", spec=with_init("c", "1Mi", f"{i}" + LETTERS * "é"))
+    site.wait(lambda: places(site, it) == LONG + 2, 60, "all are heard of")
     more = peak_of(it.pid) - before
-    waits(site, it)
     assert value(scraped(site), "wsched_pods_not_read") == 0
     assert more <= MOST, f"the client had {before} MiB, and {more} more with {LONG} such pods"
     return f"the client had {before} MiB with one, and {more} more with {LONG}; {site.check()}"

@@ -40,8 +40,8 @@ def apart(spec: Thing, container: Thing) -> None:
     terms: Any = spec["affinity"]["podAntiAffinity"]["requiredDuringSchedulingIgnoredDuringExecution"]
     assert [it["topologyKey"] for it in terms] == ["kubernetes.io/hostname"], terms
     assert spec["priorityClassName"] == "system-cluster-critical"
-    # (binds under way have ten seconds)
-    assert spec["terminationGracePeriodSeconds"] > 15
+    # what an end may take: a decision, binds under way, wsched's own end, and the Lease
+    assert spec["terminationGracePeriodSeconds"] >= 15 + 10 + 15 + 8
     ports = {it["name"]: it["containerPort"] for it in container["ports"]}
     words = container["args"]
     for it in ("livenessProbe", "readinessProbe"):
@@ -50,6 +50,21 @@ def apart(spec: Thing, container: Thing) -> None:
     assert container["securityContext"]["readOnlyRootFilesystem"] and "--record" not in words
     rule = next(it for it in words if re.match(r"\w+:\d+:\d+:", it))
     assert pathlib.Path(rule.rpartition(":")[2].replace(HERE, f"{TOP}/examples/plugins")).exists(), rule
+
+
+def deploy_rolls(site: Site) -> str:
+    """deploy.yaml rolls out where two nodes alone may have its replicas, which are kept apart; and what the level `restricted` of the pod security
+    standards asks for stands there."""
+    every: list[Thing] = [*yaml.safe_load_all((site.programs.client / "deploy.yaml").read_text(encoding="utf-8"))]
+    of = next(it for it in every if it["kind"] == "Deployment")["spec"]
+    rolling = of.get("strategy", {}).get("rollingUpdate", {})
+    assert of["replicas"] == 2 and (rolling.get("maxSurge"), rolling.get("maxUnavailable")) == (0, 1), rolling
+    spec, container = deployment(site)
+    has: Thing = (spec.get("securityContext") or {}) | container["securityContext"]
+    assert has["runAsNonRoot"] is True and has["runAsUser"] > 0 and has["allowPrivilegeEscalation"] is False, has
+    assert has["capabilities"] == {"drop": ["ALL"]} and has.get("seccompProfile") == {"type": "RuntimeDefault"}, has
+    assert not {"hostNetwork", "hostPID", "hostIPC"} & spec.keys() and "hostPort" not in str(container["ports"]) and not spec.get("volumes")
+    return "maxSurge 0, maxUnavailable 1; runAsNonRoot, no escalation, no capability, seccompProfile RuntimeDefault, nothing of the host's"
 
 
 def deploy(site: Site) -> str:
@@ -86,4 +101,4 @@ def deploy(site: Site) -> str:
     return f"the probe failed {failed:.1f} s after the stop, and the other had bound {time.monotonic() - began:.1f} s after it; {site.check()}"
 
 
-TRIALS = [deploy]
+TRIALS = [deploy, deploy_rolls]

@@ -46,6 +46,11 @@ def sigterm(site: Site) -> str:
     return ended_well(site, lambda it: os.kill(it.pid, signal.SIGTERM))
 
 
+def sighup(site: Site) -> str:
+    """SIGHUP to its whole process group, as a terminal sends it that is closed: the same."""
+    return ended_well(site, lambda it: os.killpg(it.pid, signal.SIGHUP))
+
+
 def unit(site: Site) -> str:
     """A systemd unit beside the client says KillMode=mixed: its default sends SIGTERM to wsched too, which would end first."""
     units = sorted(site.programs.client.glob("*.service"))
@@ -56,4 +61,4 @@ def unit(site: Site) -> str:
     return f"{units[0].relative_to(TOP) if units[0].is_relative_to(TOP) else units[0].name}: KillMode=mixed"
 
 
-TRIALS = [ctrl_c, sigterm_group, sigterm, unit]
+TRIALS = [ctrl_c, sigterm_group, sigterm, sighup, unit]

@@ -24,6 +24,8 @@ TOP = HERE.parent.parent
 RULE = f"keep_region:1:100000:{TOP}/examples/plugins/keep_region.wasm"
 REGION = "topology.kubernetes.io/region"
 MIB, GIB = 2**20, 2**30
+# How many times as long as said is waited for what is to come, on a machine that has much else to do. (What mustn't come is waited for as said.)
+PATIENCE = float(os.environ.get("PATIENCE", "1"))
 
 
 @dataclasses.dataclass(frozen=True)
@@ -220,7 +222,7 @@ def whom(event: Thing) -> Thing:
 
 def wait_for(what: Callable[[], Any], patience: float, why: str) -> float:
     """Waits until something is so, and gives the seconds that it took."""
-    began = time.monotonic()
+    began, patience = time.monotonic(), PATIENCE * patience
     while not what():
         if time.monotonic() > began + patience:
             raise Late(f"not within {patience:.0f} s: {why}")

@@ -3,14 +3,14 @@ import datetime
 import json
 
 from trials.server import Asked
-from trials.site import Scheduler, Site, wait_for
+from trials.site import PATIENCE, Scheduler, Site, wait_for
 
 LEASE = "kube-system/wsched"
 
 
 def ends(it: Scheduler, patience: float, *said: str) -> int:
     """It ends in that time with a status that isn't 0, says these texts, and has no traceback."""
-    status, log = it.wait(patience), it.log()
+    status, log = it.wait(PATIENCE * patience), it.log()
     assert status is not None, f"it hasn't ended within {patience:.0f} s"
     assert status != 0, "it ended with status 0"
     assert "Traceback" not in log, f"a traceback: {log.strip().splitlines()[-1][:200]}"
