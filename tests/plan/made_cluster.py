@@ -24,6 +24,8 @@ class MadeCluster:
     def __init__(self, nodes: int, pods: int, seed: int) -> None:
         self.dice = random.Random(seed)
         self.names: list[str] = []
+        # thousandths of a core that are free
+        self.free: dict[str, float] = {}
         self.items = [self.node(k, nodes) for k in range(nodes)]
         self.items += [self.pod(k) for k in range(pods)]
 
@@ -40,6 +42,7 @@ class MadeCluster:
         pool, cores = self.dice.choice(POOLS), self.dice.choice([4, 8, 16, 32])
         name = f"ip-10-{k // 250}-{k % 250}-{self.dice.randrange(255)}.eu-central-1.compute.internal" if of > 100 else f"{pool}-{k:03}"
         self.names.append(name)
+        self.free[name] = cores * 1000 - 90
         labels = {
             "kubernetes.io/arch": "arm64" if pool == "arm" else "amd64",
             "kubernetes.io/hostname": name,
@@ -68,12 +71,21 @@ class MadeCluster:
         if turn < 0.1:
             del spec["containers"][0]["resources"]
         if bound:
-            spec["nodeName"] = dice.choice(self.names)
+            spec["nodeName"] = self.place(spec)
         else:
             self.ask_more(spec, app, turn)
         phase = "Pending" if not bound else "Succeeded" if dice.random() < 0.05 else "Running"
         meta = self.meta(f"{app}-{dice.getrandbits(32):08x}-{k:05}", namespace=dice.choice(["shop", "infra", "batch"]), labels=labels)
         return {"apiVersion": "v1", "kind": "Pod", "metadata": meta, "spec": spec, "status": {"phase": phase}}
+
+    def place(self, spec: Json) -> str:
+        """Some node, and mostly one that has room: on a few there is more than that."""
+        asked = [it.get("resources", {}).get("requests", {}).get("cpu", "0") for it in spec["containers"]]
+        size = sum(float(it.removesuffix("m")) * (1 if it.endswith("m") else 1000) for it in asked)
+        tried = [self.dice.choice(self.names) for _ in range(4)]
+        name = next((it for it in tried if self.free[it] >= size), tried[0])
+        self.free[name] -= size
+        return name
 
     def ask_more(self, spec: Json, app: str, turn: float) -> None:
         """What some of the pods that wait ask for besides."""
