@@ -1,0 +1,63 @@
+#compdef wsched wsched-plan wsched-why wsched-what-if wsched-lint wsched-report
+# Completion of wsched and of the programs beside it, for zsh: /usr/share/zsh/vendor-completions/_wsched.
+
+# A module's file as the word of a plugin, NAME:1:100000:FILE, to be changed as wanted; behind three colons the file alone.
+_wsched_spec() {
+    if compset -P '*:*:*:'; then
+        _files -g '*.wasm'
+        return
+    fi
+    local -a modules specs
+    local it
+    modules=(${PREFIX}*.wasm(N) ${PREFIX}*/(N))
+    for it in $modules; do
+        [[ -d $it ]] && specs+=("$it/") || specs+=("${it:t:r}:1:100000:$it")
+    done
+    compadd -U -S '' -a specs
+}
+
+_wsched() {
+    local -a commands
+    commands=(
+        'run:read a script, and write the answers'
+        'explain:the same, and of each decision a line for each node'
+        'storm:have many threads work off a script, and audit what they come to'
+        'check:say whether a module would be accepted'
+        'translate:objects of the Kubernetes API as lines of a script'
+        'version:name, version and kit'
+    )
+    local rules=('--rules[a file of rules and settings]:file:_files') cluster=(
+        '--settings[the settings of the site]:file:_files'
+        '--from[what kubectl get -o json wrote]:file:_files'
+        '--nodes[only these nodes]:selector:'
+    )
+    case $service in
+        wsched-plan)
+            _arguments "$rules[@]" "$cluster[@]" '--scheduler[whose pods]:name:' '--json[one object]' '--help[the words]' '*:plugin:_wsched_spec' ;;
+        wsched-why)
+            _arguments "$rules[@]" "$cluster[@]" '(-n --namespace)'{-n,--namespace}'[of the pod]:namespace:' '--help[the words]' '1:pod:' '*:plugin:_wsched_spec' ;;
+        wsched-what-if)
+            _arguments '--page[write both runs to a page]:file:_files' "$rules[@]" '1:record:_files' '*:plugin:_wsched_spec' ;;
+        wsched-lint)
+            _arguments '--most[how many faults are told]:number:' '--help[the words]' '*:script:_files' ;;
+        wsched-report)
+            _arguments "$rules[@]" '--help[the words]' '1:script:_files' '2:output:_files' '*:plugin:_wsched_spec' ;;
+        wsched)
+            if (( CURRENT == 2 )); then
+                _describe command commands
+                return
+            fi
+            local command=$words[2]
+            shift words
+            (( CURRENT-- ))
+            case $command in
+                run | explain) _arguments '--workers[how many share a decision]:number:' '*:plugin:_wsched_spec' ;;
+                storm)
+                    _arguments '--cycles[threads that make cycles]:number:' '--binders[threads that bind]:number:' '--flaky[every third bind fails]' '*:plugin:_wsched_spec' ;;
+                check) _arguments '1:module:_files -g "*.wasm"' ;;
+                translate) _arguments '--scheduler[whose pods]:name:' '--by-uid[call pods by their uid]' '--answers[an object for each]' ;;
+            esac ;;
+    esac
+}
+
+_wsched "$@"
