@@ -4,6 +4,9 @@
 //   examples/plugins/build keep_off_spot.c
 #include "sched.h"
 
+READS_NO_LABEL
+REASON(3, "the pod doesn't tolerate the taint spot")
+
 FILTER
 {
     const struct pod *pod = read_pod2();

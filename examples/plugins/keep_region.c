@@ -3,6 +3,10 @@
 //   examples/plugins/build keep_region.c
 #include "sched.h"
 
+READS_LABEL("data-class")
+READS_LABEL("topology.kubernetes.io/region")
+REASON(3, "pods labelled data-class=personal run in the region eu-central-1 alone")
+
 FILTER
 {
     if (!is(pod_label(read_pod(), "data-class"), "personal"))

@@ -4,6 +4,8 @@
 //   examples/plugins/build least_pods.c
 #include "sched.h"
 
+READS_NO_LABEL
+
 SCORE
 {
     const struct pod *pod = read_pod();

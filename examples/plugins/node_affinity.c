@@ -4,34 +4,43 @@
 //   examples/plugins/build node_affinity.c
 #include "sched.h"
 
+// (the labels of nodes that a pod's entries name are known to whoever writes the entries)
+READS_NO_LABEL
+REASON(3, "the node isn't what the pod's node selector, its node affinity or its volumes ask for")
+
 // A part of a text.
 struct part { const u8 *at; u32 size; };
 
-// Eight bytes at a time, since keys are long and begin alike.
-static int same_bytes(const u8 *a, const u8 *b, u32 size)
-{
-    for (; size >= 8; a += 8, b += 8, size -= 8)
-        if (eight(a) != eight(b)) return 0;
-    for (; size; size--)
-        if (*a++ != *b++) return 0;
-    return 1;
-}
-static int is_same(struct part a, struct part b) { return a.size == b.size && same_bytes(a.at, b.at, a.size); }
-static struct part whole(const u8 *text) { return (struct part) { text + 1, *text }; }
-#define IS(text, literal) is_same(text, (struct part) { (const u8 *)literal, sizeof literal - 1 })
+static INLINED struct part whole(const u8 *text) { return (struct part) { text + 1, *text }; }
+static INLINED int is_same(struct part a, struct part b) { return a.size == b.size && same_bytes(a.at, b.at, a.size); }
+#define LITERAL(word) ((struct part) { (const u8 *)word, sizeof word - 1 })
+#define IS(text, word) is_same(text, LITERAL(word))
 
-// What stands in front of the first slash. What stands behind it stays, or null where there is none.
-static struct part cut(struct part *rest)
+// How many bytes stand in front of the first slash: eight are looked at at once. (Eight can be read behind each byte of a record, since
+// its buffer is longer than any record.)
+static INLINED u32 before_slash(struct part text)
 {
-    u32 size = 0;
-    while (size < rest->size && rest->at[size] != '/') size++;
-    struct part front = { rest->at, size };
-    if (size < rest->size)
-        rest->at += size + 1, rest->size -= size + 1;
-    else
-        rest->at = 0, rest->size = 0;
-    return front;
+    const u64 ones = 0x0101010101010101;
+    for (u32 i = 0; i < text.size; i += 8) {
+        // A byte is 0 where a slash stands, and the first of these has its highest bit set then.
+        u64 slashes = eight(text.at + i) ^ '/' * ones, found = (slashes - ones) & ~slashes & ones << 7;
+        if (!found) continue;
+        u32 at = i + (u32)__builtin_ctzll(found) / 8;
+        return at < text.size ? at : text.size;
+    }
+    return text.size;
 }
+// What stands behind so many bytes and a slash, or null where there is no slash.
+static INLINED struct part past(struct part text, u32 size)
+{
+    return size < text.size ? (struct part) { text.at + size + 1, text.size - size - 1 } : (struct part) { 0, 0 };
+}
+// Whether a text has this word in front of its first slash, or is it. The word has no slash.
+static INLINED int begins(struct part text, struct part word)
+{
+    return text.size >= word.size && same_bytes(text.at, word.at, word.size) && (text.size == word.size || text.at[word.size] == '/');
+}
+#define BEGINS(text, word) begins(text, LITERAL(word))
 
 // A whole number from 0 to 2^63 - 1 in digits alone; -1 for any other text.
 static long long number(struct part digits)
@@ -45,11 +54,15 @@ static long long number(struct part digits)
     return digits.size ? (long long)n : -1;
 }
 
-// The entries, one after the other: what the one at hand is, and the labels behind it.
+// The entry at hand, and the labels behind it. (What has a place of its own costs least to read and to write.)
 enum kind { LABEL, NAME, MORE, EITHER, OR, PREFER, END };
-struct entries { struct walk rest; enum kind kind; struct part key, value; };
+static struct { struct walk rest; enum kind kind; struct label label; } entry;
 
-static enum kind kind(struct part word)
+// Its key without `/NN/` or `/NN.`, and its value.
+static INLINED struct part key(void) { return (struct part) { entry.label.key + 5, *entry.label.key - 4u }; }
+static INLINED struct part value(void) { return whole(entry.label.value); }
+
+static INLINED enum kind kind(struct part word)
 {
     if (IS(word, "more")) return MORE;
     if (IS(word, "either")) return EITHER;
@@ -59,131 +72,127 @@ static enum kind kind(struct part word)
     __builtin_trap();
 }
 
-// Goes on to the next entry, past labels that are none.
-static void go_on(struct entries *it)
+// Whether these are `/NN/` or `/NN.`, lowest byte first: a slash, two digits, and a byte that is one of the two but for its last bit.
+static INLINED int is_front(u32 bytes)
 {
-    struct label label;
-    while (next_label(&it->rest, &label)) {
-        const u8 *key = label.key + 1;
-        if (*label.key < 2 || key[0] != '/' || (u8)(key[1] - '0') > 9) continue;
-        if (*label.key < 5 || (u8)(key[2] - '0') > 9 || (key[3] != '/' && key[3] != '.')) __builtin_trap();
-        it->key = (struct part) { key + 4, *label.key - 4u };
-        it->value = whole(label.value);
-        it->kind = key[3] == '/' ? LABEL : kind(it->key);
-        return;
-    }
-    it->kind = END;
+    return (bytes & 0xFEF0F0FF) == 0x2E30302F && ((bytes + 0x00060600) & 0x00F0F000) == 0x00303000;
 }
 
-// What the requirement at hand is about: the node's name, or its label, which it may not have.
-static int look_up(const struct entries *it, const struct node *node, struct part *found)
+// Goes on to the next entry, past labels that are none.
+static void go_on(void)
 {
-    if (it->kind == NAME) {
-        *found = whole(node_name(node));
-        return 1;
-    }
-    struct label label;
-    for (struct walk labels = node_labels(node); next_label(&labels, &label);)
-        if (is_same(whole(label.key), it->key)) {
-            *found = whole(label.value);
-            return 1;
+    while (next_label(&entry.rest, &entry.label)) {
+        const u8 *text = entry.label.key;
+        u32 front = four(text + 1);
+        if (*text >= 5 && is_front(front)) {
+            entry.kind = front >> 24 == '/' ? LABEL : kind(key());
+            return;
         }
-    return 0;
+        // (labels come in order: behind a greater key no entry comes)
+        if (*text && text[1] > '/') break;
+        if (*text >= 2 && text[1] == '/' && (u8)(text[2] - '0') <= 9) __builtin_trap();
+    }
+    entry.kind = END;
+}
+static INLINED int is_requirement(void) { return entry.kind == LABEL || entry.kind == NAME; }
+
+// What the requirement at hand is about: the node's name, or its label, which it may not have. Then it is null.
+static INLINED const u8 *look_up(const struct node *node)
+{
+    return entry.kind == NAME ? node_name(node) : find_label(node_labels(node).at - 1, key().at, key().size);
 }
 
 // Whether the values from `values` on, and of the entries that go on with them, have this one. There must be some.
-static int lists(struct entries *it, struct part values, const struct part *wanted)
+static INLINED int lists(struct part values, const u8 *wanted)
 {
     int listed = 0, any = values.at != 0;
     while (1) {
-        while (values.at) {
-            struct part value = cut(&values);
-            listed |= wanted && is_same(value, *wanted);
+        while (values.at && !listed) {
+            // (one that has a slash is none of them)
+            listed = wanted && begins(values, whole(wanted)) && before_slash(whole(wanted)) == *wanted;
+            values = past(values, before_slash(values));
         }
-        go_on(it);
-        if (it->kind != MORE) break;
-        values = it->value, any = 1;
+        go_on();
+        if (entry.kind != MORE) break;
+        values = value(), any = 1;
     }
     if (!any) __builtin_trap();
     return listed;
 }
 
 // Whether the requirement at hand holds. Goes on to the entry behind it.
-static int holds(struct entries *it, const struct node *node)
+static INLINED int holds(const struct node *node)
 {
-    struct part value, behind = it->value, how = cut(&behind);
-    int there = look_up(it, node, &value);
-    if (IS(how, "In")) return lists(it, behind, there ? &value : 0);
-    if (IS(how, "NotIn")) return !lists(it, behind, there ? &value : 0);
-    if (it->kind == NAME) __builtin_trap();
-    go_on(it);
-    if (IS(how, "Exists")) return there;
-    if (IS(how, "DoesNotExist")) return !there;
-    int above = IS(how, "Gt");
-    long long limit = number(behind), own = there ? number(value) : -1;
-    if ((!above && !IS(how, "Lt")) || limit < 0) __builtin_trap();
-    return own >= 0 && (above ? own > limit : own < limit);
+    const struct part how = value();
+    const u8 *own = look_up(node);
+    int is_in = BEGINS(how, "In");
+    if (is_in || BEGINS(how, "NotIn")) return lists(past(how, is_in ? 2 : 5), own) == is_in;
+    if (entry.kind == NAME) __builtin_trap();
+    go_on();
+    if (BEGINS(how, "Exists")) return own != 0;
+    if (BEGINS(how, "DoesNotExist")) return !own;
+    int above = BEGINS(how, "Gt");
+    long long limit = number(past(how, 2)), n = own ? number(whole(own)) : -1;
+    if ((!above && !BEGINS(how, "Lt")) || limit < 0) __builtin_trap();
+    return n >= 0 && (above ? n > limit : n < limit);
 }
 
-// Whether all requirements from here on hold. Goes on to what is none, and says whether there was any.
-static int all_hold(struct entries *it, const struct node *node, int *any)
+// Whether all requirements from here on hold. Goes on to what is none.
+static int all_hold(const struct node *node)
 {
     int hold = 1;
-    for (*any = 0; it->kind == LABEL || it->kind == NAME; *any = 1)
+    while (is_requirement())
         if (hold)
-            hold = holds(it, node);
+            hold = holds(node);
         else
-            do go_on(it);
-            while (it->kind == MORE);
+            do go_on();
+            while (entry.kind == MORE);
     return hold;
 }
 // The term that begins behind the entry at hand: one without requirements matches nothing.
-static int term_holds(struct entries *it, const struct node *node)
+static int term_holds(const struct node *node)
 {
-    int any;
-    go_on(it);
-    return all_hold(it, node, &any) && any;
+    go_on();
+    return is_requirement() && all_hold(node);
 }
 
-static struct entries first(void)
+static void first(void)
 {
-    struct entries it = { .rest = pod_labels(read_pod()) };
-    go_on(&it);
-    return it;
+    entry.rest = pod_labels(read_pod());
+    go_on();
 }
 
 // Whatever pods come and go, the node keeps its labels: a node that is rejected is so for good.
 FILTER
 {
-    struct entries it = first();
-    if (it.kind == END) return PASS;
+    first();
+    if (entry.kind == END) return PASS;
     const struct node *node = read_node();
-    int any;
-    if (!all_hold(&it, node, &any)) return UNSCHEDULABLE_AND_UNRESOLVABLE;
-    while (it.kind == EITHER) {
-        int one = term_holds(&it, node);
-        while (it.kind == OR)
-            one |= term_holds(&it, node);
+    if (!all_hold(node)) return UNSCHEDULABLE_AND_UNRESOLVABLE;
+    while (entry.kind == EITHER) {
+        int one = term_holds(node);
+        while (entry.kind == OR)
+            one |= term_holds(node);
         if (!one) return UNSCHEDULABLE_AND_UNRESOLVABLE;
     }
-    if (it.kind != PREFER && it.kind != END) __builtin_trap();
+    if (entry.kind != PREFER && entry.kind != END) __builtin_trap();
     return PASS;
 }
 
 SCORE
 {
-    struct entries it = first();
-    while (it.kind != PREFER && it.kind != END)
-        go_on(&it);
-    if (it.kind == END) return 0;
+    first();
+    while (entry.kind != PREFER && entry.kind != END)
+        go_on();
+    if (entry.kind == END) return 0;
     const struct node *node = read_node();
     u32 matched = 0, all = 0;
-    while (it.kind == PREFER) {
-        u64 weight = (u64)number(it.value);
+    while (entry.kind == PREFER) {
+        u64 weight = (u64)number(value());
         if (weight - 1 > 99) __builtin_trap();
         all += (u32)weight;
-        if (term_holds(&it, node)) matched += (u32)weight;
+        if (term_holds(node)) matched += (u32)weight;
     }
-    if (it.kind != END) __builtin_trap();
+    if (entry.kind != END) __builtin_trap();
     return 100 * matched / all;
 }

@@ -3,11 +3,15 @@
 //   examples/plugins/build prefer_zone.c
 #include "sched.h"
 
+READS_LABEL("wished-zone")
+READS_LABEL("topology.kubernetes.io/zone")
+
 SCORE
 {
-    const struct node *node = read_node();
+    // The wish comes first: most pods have none, and then no label of the node is read.
     const u8 *wish = pod_label(read_pod(), "wished-zone");
-    int there = same(wish, node_label(node, "topology.kubernetes.io/zone"));
+    const struct node *node = read_node();
+    int there = wish && same(wish, node_label(node, "topology.kubernetes.io/zone"));
     // A score is asked of nodes that pass every filter, so there is room for this pod.
     u32 pods = node_pods(node), left = pods - node_used_pods(node) - 1;
     return (there ? 50 : 0) + 50 * left / pods;

@@ -15,14 +15,31 @@ enum { PASS = 0, UNSCHEDULABLE = 2, UNSCHEDULABLE_AND_UNRESOLVABLE = 3 };
 #define EXPORTED(name) __attribute__((export_name(name)))
 #define IMPORTED(name) __attribute__((import_module("sched"), import_name(name)))
 #define IMPORTED2(name) __attribute__((import_module("sched2"), import_name(name)))
+#define SECTION(name, text) __asm__(".section .custom_section." name ",\"\",@\n.ascii " text "\n");
 #else
 // On a machine of its own a plugin is an ordinary program, and its test gives the two records: see keep_region_test.c.
 #define EXPORTED(name)
 #define IMPORTED(name)
 #define IMPORTED2(name)
+#define SECTION(name, text)
 #endif
 #define FILTER EXPORTED("filter") int filter(void)
 #define SCORE EXPORTED("score") long long score(void)
+#define INLINED inline __attribute__((always_inline))
+
+// What a rule says of itself beside its code, in custom sections of the module. They cost nothing and are kept by --strip-all.
+//
+//     REASON(2, "two pods are there already")      why a node is rejected: for people, where an answer is shown
+//     READS_LABEL("data-class")                    a key that it reads, of a pod or a node; one for each
+//     READS_NO_LABEL                               it reads none
+//
+// A row has 32 labels. Of a pod or a node with more, those that the rules name are told first: so a label that a rule reads and doesn't
+// name may be missing. A reason has up to 200 bytes; its code is 2 or 3.
+#define REASON(code, text) REASON_##code(#text) typedef char reason_##code##_has_1_to_200_bytes[sizeof text > 1 && sizeof text <= 201 ? 1 : -1];
+#define REASON_2(text) SECTION("wsched.reason.2", text)
+#define REASON_3(text) SECTION("wsched.reason.3", text)
+#define READS_LABEL(key) SECTION("wsched.labels", #key "\n.ascii \"\\n\"")
+#define READS_NO_LABEL SECTION("wsched.labels", "\"\\n\"")
 
 // Each writes its record, where that has at most `limit` bytes, and answers how many it has.
 IMPORTED("pod") u32 sched_pod(void *to, u32 limit);
@@ -70,6 +87,52 @@ static inline const struct node *read_node2(void)
 static inline u32 four(const u8 *at) { u32 n; __builtin_memcpy(&n, at, 4); return n; }
 static inline u64 eight(const u8 *at) { u64 n; __builtin_memcpy(&n, at, 8); return n; }
 
+#ifdef __wasm__
+// What a compiler calls for `u8 seen[200] = { 0 }` and `copy = *read_node()`. There is no C library; one that is linked in comes first,
+// and a module that needs none of these has none.
+#define OF_C __attribute__((weak, no_builtin))
+#ifdef __cplusplus
+extern "C" {
+#endif
+OF_C void *memcpy(void *to, const void *from, __SIZE_TYPE__ size)
+{
+    u8 *at = (u8 *)to;
+    const u8 *next = (const u8 *)from;
+    for (; size >= 8; at += 8, next += 8, size -= 8) {
+        u64 n = eight(next);
+        __builtin_memcpy(at, &n, 8);
+    }
+    for (; size; size--) *at++ = *next++;
+    return to;
+}
+OF_C void *memmove(void *to, const void *from, __SIZE_TYPE__ size)
+{
+    u8 *at = (u8 *)to;
+    const u8 *next = (const u8 *)from;
+    if (at <= next || at >= next + size) return memcpy(to, from, size);
+    while (size--) at[size] = next[size];
+    return to;
+}
+OF_C void *memset(void *to, int byte, __SIZE_TYPE__ size)
+{
+    u8 *at = (u8 *)to;
+    const u64 n = 0x0101010101010101 * (u8)byte;
+    for (; size >= 8; at += 8, size -= 8) __builtin_memcpy(at, &n, 8);
+    for (; size; size--) *at++ = (u8)byte;
+    return to;
+}
+OF_C int memcmp(const void *a, const void *b, __SIZE_TYPE__ size)
+{
+    const u8 *one = (const u8 *)a, *other = (const u8 *)b;
+    for (; size; size--, one++, other++)
+        if (*one != *other) return *one - *other;
+    return 0;
+}
+#ifdef __cplusplus
+}
+#endif
+#endif
+
 // The fields behind the uid or the name, which is a text at offset 2.
 static inline const u8 *fields(const u8 *record) { return record + 3 + record[2]; }
 
@@ -85,37 +148,54 @@ static inline u64 node_used_cpu(const struct node *n) { return eight(fields(n->b
 static inline u64 node_used_memory(const struct node *n) { return eight(fields(n->bytes) + 29); }
 static inline u32 node_used_pods(const struct node *n) { return four(fields(n->bytes) + 37); }
 
-// A text is its length in one byte and its bytes, none of them 0. Null is no text, and equals nothing.
-static inline int is(const u8 *text, const char *word)
+// Whether two places have the same bytes: eight at once, the last of them first, since keys are long and begin alike.
+static inline int same_bytes(const u8 *a, const u8 *b, u32 size)
 {
-    if (!text) return 0;
-    for (u32 i = 1; i <= *text; i++)
-        if (text[i] != (u8)*word++) return 0;
-    return !*word;
-}
-static inline int same(const u8 *a, const u8 *b)
-{
-    if (!a || !b || *a != *b) return 0;
-    for (u32 i = 1; i <= *a; i++)
-        if (a[i] != b[i]) return 0;
+    if (size >= 8) {
+        if (eight(a + size - 8) != eight(b + size - 8)) return 0;
+        for (u32 i = 0; i < size - 8; i += 8)
+            if (eight(a + i) != eight(b + i)) return 0;
+        return 1;
+    }
+    if (size >= 4) return four(a) == four(b) && four(a + size - 4) == four(b + size - 4);
+    for (; size; size--)
+        if (*a++ != *b++) return 0;
     return 1;
 }
+// How long a word is: for one that stands in the source the compiler knows it.
+static INLINED u32 length(const char *word)
+{
+    u32 size = 0;
+    while (word[size]) size++;
+    return size;
+}
+
+// A text is its length in one byte and its bytes, none of them 0. Null is no text, and equals nothing.
+static INLINED int is_word(const u8 *text, const char *word, u32 size)
+{
+    return *text == size && same_bytes(text + 1, (const u8 *)word, size);
+}
+static INLINED int is(const u8 *text, const char *word) { return text && is_word(text, word, length(word)); }
+static inline int same(const u8 *a, const u8 *b) { return a && b && *a == *b && same_bytes(a + 1, b + 1, *a); }
 
 // The value of the label with this key, a text, or null.
-static inline const u8 *label(const u8 *labels, const char *key)
+static INLINED const u8 *find_label(const u8 *labels, const u8 *key, u32 size)
 {
-    for (u32 left = *labels++; left; left--) {
-        const u8 *value = labels + 1 + *labels;
-        if (is(labels, key)) return value;
+    u32 left = *labels++;
+    for (; left; left--) {
+        u32 length_of_key = *labels++;
+        const u8 *value = labels + length_of_key;
+        if (length_of_key == size && same_bytes(labels, key, size)) return value;
         labels = value + 1 + *value;
     }
     return 0;
 }
-static inline const u8 *pod_label(const struct pod *p, const char *key)
+static INLINED const u8 *label(const u8 *labels, const char *key) { return find_label(labels, (const u8 *)key, length(key)); }
+static INLINED const u8 *pod_label(const struct pod *p, const char *key)
 {
     return label(fields(p->bytes) + 20, key);
 }
-static inline const u8 *node_label(const struct node *n, const char *key)
+static INLINED const u8 *node_label(const struct node *n, const char *key)
 {
     return label(fields(n->bytes) + 41, key);
 }
@@ -151,22 +231,18 @@ static inline int next_label(struct walk *labels, struct label *next)
 }
 
 // A site's setting, which the script tells as the node's label `/cfg/NAME`: a text, or null where there is none.
-static inline const u8 *setting(const struct node *n, const char *name)
+static INLINED const u8 *setting(const struct node *n, const char *name)
 {
-    static const char front[] = "/cfg/";
+    const u32 size = length(name);
     struct label it;
-    for (struct walk labels = node_labels(n); next_label(&labels, &it);) {
-        const char *word = name;
-        u32 i = 0;
-        while (i < *it.key && it.key[1 + i] == (u8)(i < 5 ? front[i] : *word))
-            if (i++ >= 5) word++;
-        if (i == *it.key && i > 5 && !*word) return it.value;
-    }
+    for (struct walk labels = node_labels(n); next_label(&labels, &it);)
+        if (size && *it.key == 5 + size && same_bytes(it.key + 6, (const u8 *)name, size) && same_bytes(it.key + 1, (const u8 *)"/cfg/", 5))
+            return it.value;
     return 0;
 }
 // A setting that is a number in digits alone, at most 2^63 - 1, and `otherwise` where there is none. A text that is no such
 // number traps: a slip of the site's must not pass for a setting.
-static inline u64 setting_number(const struct node *n, const char *name, u64 otherwise)
+static INLINED u64 setting_number(const struct node *n, const char *name, u64 otherwise)
 {
     const u8 *text = setting(n, name);
     if (!text) return otherwise;

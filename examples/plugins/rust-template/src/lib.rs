@@ -5,6 +5,9 @@ mod sched;
 
 use sched::{Node, PASS, UNSCHEDULABLE, node};
 
+sched::reads_no_label!();
+sched::reason!(2, "as many pods are there as may be");
+
 #[unsafe(no_mangle)]
 pub extern "C" fn filter() -> i32 {
     rule(node())

@@ -13,12 +13,79 @@
 //! core library come along. This crate is one to start from, whose tests `cargo test` runs on this machine.
 //!
 //! Every edition from 2021 on takes it. Compilers before 1.82 have no `unsafe extern`: they are told `--cfg before_rustc_1_82`.
-#![allow(dead_code, unknown_lints, unexpected_cfgs)]
+#![allow(dead_code, unknown_lints, unexpected_cfgs, unused_imports, unused_macros)]
 
 /// What a filter answers; any other number is an error. A score answers 0 to 100.
 pub const PASS: i32 = 0;
 pub const UNSCHEDULABLE: i32 = 2;
 pub const UNSCHEDULABLE_AND_UNRESOLVABLE: i32 = 3;
+
+/// What a rule says of itself beside its code, in custom sections of the module. They cost nothing and are kept when it is stripped.
+///
+///     sched::reason!(2, "two pods are there already");    // why a node is rejected: for people, where an answer is shown
+///     sched::reads_label!("data-class");                  // a key that it reads, of a pod or a node; one for each
+///     sched::reads_no_label!();                           // it reads none
+///
+/// A row has 32 labels. Of a pod or a node with more, those that the rules name are told first: so a label that a rule reads and doesn't
+/// name may be missing. A reason has up to 200 bytes; its code is 2 or 3.
+macro_rules! reason {
+    (2, $text:literal) => {
+        $crate::sched::reason!("wsched.reason.2", $text);
+    };
+    (3, $text:literal) => {
+        $crate::sched::reason!("wsched.reason.3", $text);
+    };
+    ($section:literal, $text:literal) => {
+        const _: () = assert!(!$text.is_empty() && $text.len() <= 200, "a reason has 1 to 200 bytes");
+        $crate::sched::section!($section, $text);
+    };
+}
+macro_rules! reads_label {
+    ($key:literal) => {
+        $crate::sched::section!("wsched.labels", concat!($key, "\n"));
+    };
+}
+macro_rules! reads_no_label {
+    () => {
+        $crate::sched::section!("wsched.labels", "\n");
+    };
+}
+
+// A static that is a part of a custom section.
+#[cfg(all(target_arch = "wasm32", not(before_rustc_1_82)))]
+macro_rules! section {
+    ($name:literal, $text:expr) => {
+        const _: () = {
+            #[used]
+            #[unsafe(link_section = $name)]
+            static PART: [u8; $text.len()] = $crate::sched::bytes($text);
+        };
+    };
+}
+#[cfg(all(target_arch = "wasm32", before_rustc_1_82))]
+macro_rules! section {
+    ($name:literal, $text:expr) => {
+        const _: () = {
+            #[used]
+            #[link_section = $name]
+            static PART: [u8; $text.len()] = $crate::sched::bytes($text);
+        };
+    };
+}
+#[cfg(not(target_arch = "wasm32"))]
+macro_rules! section {
+    ($name:literal, $text:expr) => {};
+}
+pub(crate) use {reads_label, reads_no_label, reason, section};
+
+pub(crate) const fn bytes<const N: usize>(text: &str) -> [u8; N] {
+    let (mut bytes, mut at) = ([0; N], 0);
+    while at < N {
+        bytes[at] = text.as_bytes()[at];
+        at += 1;
+    }
+    bytes
+}
 
 /// The functions by which wsched hands records over.
 #[cfg(target_arch = "wasm32")]
@@ -284,8 +351,15 @@ fn labels(record: &'static [u8], between: usize) -> Labels {
 }
 
 // The value of the label with this key.
+#[inline(always)]
 fn label(record: &'static [u8], between: usize, key: &str) -> Option<&'static [u8]> {
     labels(record, between).find(|(name, _)| is(name, key)).map(|(_, value)| value)
+}
+
+// Whether a key is `/cfg/` and this name.
+#[inline(always)]
+fn is_setting(key: &[u8], name: &str) -> Option<bool> {
+    Some(key.len() == 5 + name.len() && is(key.get(5..)?, name) && is(key.get(..5)?, "/cfg/"))
 }
 
 // The list behind the labels, as how many there are and the items. Version 1 has none, so it traps there.
@@ -360,14 +434,29 @@ impl Iterator for Tolerations {
     }
 }
 
-/// Whether a text is this word; byte by byte, so that nothing of the compiled core library is called.
+/// Whether a text is this word.
+#[inline(always)]
 pub fn is(text: &[u8], word: &str) -> bool {
-    text.iter().eq(word.as_bytes())
+    same(text, word.as_bytes())
 }
 
-/// Whether two texts are the same.
+/// Whether two texts are the same: of one length, and then eight bytes at once, the last of them first, since keys are long and begin
+/// alike. (By `==` the compiled core library would be called.)
+#[inline(always)]
 pub fn same(a: &[u8], b: &[u8]) -> bool {
-    a.iter().eq(b)
+    if a.len() != b.len() {
+        return false;
+    }
+    match (first(a), first(b)) {
+        (Some(front), Some(other)) => a.rchunks_exact(8).zip(b.rchunks_exact(8)).all(|(a, b)| first(a) == first(b)) && front == other,
+        _ => a.iter().zip(b).all(|(a, b)| a == b),
+    }
+}
+
+// The first eight bytes as a number.
+#[inline(always)]
+fn first(bytes: &[u8]) -> Option<u64> {
+    bytes.get(..8)?.try_into().ok().map(u64::from_le_bytes)
 }
 
 /// CPU is in thousandths of a core, memory in bytes.
@@ -384,6 +473,7 @@ impl Pod {
     pub fn memory(self) -> u64 {
         number(self.0, 12, 8)
     }
+    #[inline(always)]
     pub fn label(self, key: &str) -> Option<&'static [u8]> {
         label(self.0, 20, key)
     }
@@ -433,6 +523,7 @@ impl Node {
     pub fn used_pods(self) -> u64 {
         number(self.0, 37, 4)
     }
+    #[inline(always)]
     pub fn label(self, key: &str) -> Option<&'static [u8]> {
         label(self.0, 41, key)
     }
@@ -440,11 +531,13 @@ impl Node {
         labels(self.0, 41)
     }
     /// A site's setting, which the script tells as the node's label `/cfg/NAME`.
+    #[inline(always)]
     pub fn setting(self, name: &str) -> Option<&'static [u8]> {
-        self.labels().find(|(key, _)| key.iter().eq(b"/cfg/".iter().chain(name.as_bytes()))).map(|(_, value)| value)
+        self.labels().find(|(key, _)| is_setting(key, name).unwrap_or(false)).map(|(_, value)| value)
     }
     /// A setting that is a number in digits alone, at most 2^63 - 1, and `otherwise` where there is none. A text that is no such
     /// number traps: a slip of the site's must not pass for a setting.
+    #[inline(always)]
     pub fn setting_number(self, name: &str, otherwise: u64) -> u64 {
         let digits = match self.setting(name) {
             Some(digits) => digits,

@@ -1,0 +1,9 @@
+// It doesn't link: there is no C library.
+#include "sched.h"
+
+extern int printf(const char *, ...);
+
+FILTER
+{
+    return printf("asked\n") ? PASS : UNSCHEDULABLE;
+}
