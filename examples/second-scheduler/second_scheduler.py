@@ -3,7 +3,7 @@
 
 It lists and watches nodes and pods, writes them as lines to wsched, asks for a cycle while pods wait, binds each pod that has got
 its place, and tells wsched what became of it. It takes the pods whose `spec.schedulerName` is its own. Credentials come as
-everywhere: a kubeconfig, or the account of the pod that it runs in. README.md beside this says how to use it.
+everywhere: a kubeconfig, or the account of the pod that it runs in. docs/OPERATING.md says how to use it.
 """
 from __future__ import annotations
 

@@ -48,7 +48,7 @@ def advice(site: Site) -> str:
     deploy = (site.programs.client / "deploy.yaml").read_text(encoding="utf-8")
     args = next(iter(re.findall(r"^ *args: (.*(?:\n {12,}.*)*)", deploy, re.M)), "")
     assert "--nodes" in args, f"deploy.yaml's args have no --nodes: {args[:100]}"
-    page = (site.programs.client / "README.md").read_text(encoding="utf-8")
+    page = (TOP / "docs/OPERATING.md").read_text(encoding="utf-8")
     commands = [it for it in page.splitlines() if it.startswith("    ") and "second_scheduler.py" in it]
     assert any("--nodes" in it for it in commands), "no command of the page has --nodes"
     return f"args {args.strip()[:100]}; {sum('--nodes' in it for it in commands)} of {len(commands)} commands; {TOP.name}"
