@@ -11,16 +11,16 @@ Json = dict[str, Any]
 
 
 class Run(NamedTuple):
-    """What the page is told of a run; of each rule its name, weight, fuel and reasons."""
+    """What the page is told of a run; of each rule its name, weight, fuel and reasons, and None where it isn't known which these were."""
 
     name: str
     script: str
     output: str
-    rules: list[Json]
+    rules: list[Json] | None
 
 
-def run_of(name: str, script: str, output: str, specs: Sequence[str]) -> Run:
-    return Run(name, script, output, [*map(rule_of, specs)])
+def run_of(name: str, script: str, output: str, specs: Sequence[str] | None) -> Run:
+    return Run(name, script, output, None if specs is None else [*map(rule_of, specs)])
 
 
 def rule_of(spec: str) -> Json:
