@@ -12,6 +12,8 @@ from .machine import Outcome, Store
 from .module import GLOBAL, Module, function_names
 
 CODE = 10
+# A name that is longer is cut: generic functions have names of hundreds of letters.
+LONGEST_NAME = 60
 
 
 class BadBuffer(Exception):
@@ -53,7 +55,8 @@ class Source:
         line = self.debug.line_at(place - self.code)
         found: list[tuple[str, Line | None]] = []
         for it in self.debug.scopes_at(place - self.code):
-            found.append((it.name or self.function(function), line))
+            name = it.name or self.function(function)
+            found.append((name if len(name) <= LONGEST_NAME else f"{name[:LONGEST_NAME - 2]}..", line))
             line = it.called
         return found or [(self.function(function), line)]
 
