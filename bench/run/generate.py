@@ -7,7 +7,7 @@ import sys
 
 
 def nodes(count):
-    """Nodes that take every pod, each with ten labels, the one that the filter one_label.c reads among them."""
+    """Nodes that take every pod, each with ten labels."""
     for n in range(count):
         labels = [
             ["beta.kubernetes.io/arch", "amd64"],

@@ -1,9 +1,10 @@
 """Times a program `wsched run` by scripts that generate.py makes, and prints a table.
 
     measure.py PROGRAM FOLDER [ROUNDS [OTHER]]
+    measure.py --site PROGRAM ROUNDS [OTHER]
 
-FOLDER has the plugins one_label.wasm and loop.wasm, and room for scripts. OTHER is another build of the program, whose cycles by
-one worker are compared with PROGRAM's.
+FOLDER has the plugin loop.wasm, and room for scripts. OTHER is another build of the program, whose cycles by one worker are compared
+with PROGRAM's; with --site a site's with rules that ship are, and nothing else.
 
 A span is a number of cycles that are handed to the program at once, when it has answered everything before; it answers once it
 has done them all. So a span is the reading of its lines, the cycles, and the writing of their answers, and nothing else. It is
@@ -19,8 +20,12 @@ import threading
 import time
 
 import generate
+import site_script
 
 NODES = 1_000
+PLUGINS = os.path.join(os.path.dirname(os.path.abspath(__file__)), "../../examples/plugins")
+# The rules of a site: each alone, and all of them.
+SITES = [["keep_region"], ["node_affinity"], ["prefer_zone"], ["keep_region", "prefer_zone", "node_affinity"]]
 
 CYCLE = b'{"op":"cycle"}'
 
@@ -100,9 +105,22 @@ class Times:
 
 def spans(times, program, words, placed, pods, length):
     """Adds the processor time of a cycle for each span of so many, until all of so many pods are placed."""
-    with Run(program, words, generate.script(NODES, placed, pods, 0)) as run:
+    spans_of(times, program, words, generate.script(NODES, placed, pods, 0), pods, length)
+
+
+def spans_of(times, program, words, lines, pods, length):
+    """The same of a script of one's own, in which so many pods wait."""
+    with Run(program, words, lines) as run:
         for _ in range(pods // length):
             times.add(run.span(length)[1] / length)
+
+
+def rules(names):
+    return [f"{it}:1:500000:{PLUGINS}/{it}.wasm" for it in names]
+
+
+def site_lines(pods):
+    return [*site_script.nodes(), *site_script.pods(pods)]
 
 
 def whole(program, path):
@@ -211,29 +229,42 @@ def beside(program, other, rounds):
         spans(this, program, [], 0, 5_000, 100)
         spans(that, other, [], 0, 5_000, 100)
     row("a cycle over 1,000 nodes without plugins by one worker", f"{this}")
+    compared(this, that)
+
+
+def compared(this, that):
     row("the same by the other build", f"{that}")
     row("the first to the second", f"{this.least() / that.least():.2f}, median {this.median() / that.median():.2f}", "1.0")
 
 
-def verdicts(program, folder, rounds):
-    """A filter that reads one label."""
-    plugin = f"one-label:1:100000:{folder}/one_label.wasm"
-    without, with_it = Times(), Times()
+def sites(program, _folder, rounds, other=None):
+    """What rules that ship cost a site, in turn with another build where there is one. The mean of all pods is told, since a rule does much
+    for few of them and nothing for others."""
+    pods = 500
+    found = {(build, tuple(names)): Times() for build in (program, other) if build for names in ([], *SITES)}
     for _ in range(rounds):
-        spans(without, program, [], 0, 500, 10)
-        spans(with_it, program, [plugin], 0, 500, 10)
-    least = (with_it.least() - without.least()) / NODES
-    median = (with_it.median() - without.median()) / NODES
-    row("a verdict of a filter that reads one label of ten", f"{least * 1e6:.2f} µs, median {median * 1e6:.2f}", "2 µs")
+        for (build, names), times in found.items():
+            spans_of(times, build, rules(names), site_lines(pods), pods, pods)
+    without = found[program, ()]
+    for names in ([], *SITES):
+        times = found[program, tuple(names)]
+        more = f"; {(times.least() - without.least()) / NODES * 1e6:.2f} µs a node for the rule" if len(names) == 1 else ""
+        row(f"a pod of a site of 1,000 nodes and 50 deployments, rules: {', '.join(names) or 'none'}", f"{times}{more}", "120 µs" if len(names) > 1 else "")
+        if other:
+            compared(times, found[other, tuple(names)])
 
 
 def main():
+    print("| What | Figure | Target |\n|---|---|---|")
+    if sys.argv[1] == "--site":
+        program, rounds, *other = sys.argv[2:]
+        sites(program, None, int(rounds), *other)
+        return
     program, folder = sys.argv[1:3]
     rounds = int(sys.argv[3]) if len(sys.argv) > 3 else 5
-    print("| What | Figure | Target |\n|---|---|---|")
     if len(sys.argv) > 4:
         beside(program, sys.argv[4], rounds)
-    for figure in (decisions, one_run, workers, few_nodes, verdicts):
+    for figure in (decisions, one_run, workers, few_nodes, sites):
         figure(program, folder, rounds)
         print(f"load of the machine: {', '.join(f'{load:.1f}' for load in os.getloadavg())}", file=sys.stderr)
 
