@@ -1,6 +1,6 @@
 """Compares the desk with what the client itself was told: of each node what is used of it, and what it has.
 
-The sums are made anew each time, from the pods that the API server says are on the node and those with a bind under way.
+That is what the pods take that the API server says are on the node, kept with each change, and those with a bind under way.
 """
 from __future__ import annotations
 
@@ -10,6 +10,7 @@ from typing import NamedTuple
 
 from desk import Desk
 from metrics import Metrics
+from nodes import On
 from pods import Turn
 from telling import Telling, about_node
 
@@ -31,11 +32,13 @@ class Room(NamedTuple):
 
 
 def heard(desk: Desk) -> dict[str, Room]:
-    sums = {name: [0, 0, 0] for name in desk.nodes}
-    pods = [(name, pod) for name in sums for pod in desk.on.get(name, ())]
-    pods += [(pod.place, pod) for pod in desk.waiting.of[Turn.BINDING] if pod.place in sums]
-    for name, pod in pods:
-        its = sums[name]
+    nobody = On()
+    there = {name: desk.on.get(name, nobody) for name in desk.nodes}
+    sums = {name: [*its.used, len(its)] for name, its in there.items()}
+    for pod in desk.waiting.of[Turn.BINDING]:
+        if pod.place not in sums:
+            continue
+        its = sums[pod.place]
         its[0], its[1], its[2] = its[0] + pod.size[0], its[1] + pod.size[1], its[2] + 1
     return {name: Room((its[0], its[1], its[2]), desk.nodes[name].room) for name, its in sums.items()}
 

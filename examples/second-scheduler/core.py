@@ -3,7 +3,6 @@ from __future__ import annotations
 
 import collections
 import json
-import logging
 import os
 import select
 import subprocess
@@ -12,7 +11,6 @@ from typing import Callable, NamedTuple
 
 from record import Record
 
-LOG = logging.getLogger("second-scheduler")
 # Few enough lines and bytes at once that a pipe takes them all: so no write ever waits.
 LINES, BYTES = 100, 32768
 # For how long an answer may be waited for, in seconds: no cycle is so dear. And for how long before something else is done meanwhile,
@@ -75,12 +73,7 @@ class Core:
             return
         # what was answered is in the record before anything is made of it
         answers = [self.answer(it) for it in some]
-        try:
-            self.record.write(lines)
-        except OSError as why:
-            # (pods go on being placed, which is what this is for)
-            LOG.error("the record %s ends here: %s", self.record.path, why)
-            self.record = None
+        self.record.write(lines)
         for it, answer in zip(some, answers):
             it.then(answer)
 
@@ -127,6 +120,8 @@ class Core:
     def end(self) -> int:
         """Ends its input, and waits for its status."""
         assert self.child.stdin
+        if self.record:
+            self.record.flush()
         self.child.stdin.close()
         try:
             return self.child.wait(PATIENCE)

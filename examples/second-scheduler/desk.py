@@ -66,15 +66,15 @@ class Desk(Nodes):
         if pod.told is Told.PLACED and pod.place == seen.node and (seen.size[0] < pod.size[0] or seen.size[1] < pod.size[1]):
             # (it makes room, for which those that have failed are tried again where a place goes)
             self.untell(pod, is_outside=True)
-        self.is_on(pod, seen.node)
+        self.leave_node(pod)
         pod.size = seen.size
+        self.is_on(pod, seen.node)
         self.tell_bound(pod, is_new)
 
     def is_on(self, pod: Pod, node: str) -> None:
-        if pod.node and pod.node != node:
-            self.on[pod.node].discard(pod)
+        self.leave_node(pod)
         pod.node = node
-        self.on[node].add(pod)
+        self.on[node].put(pod)
         self.waiting.drop(pod, time.monotonic())
         self.alone.discard(pod)
         self.give_back(pod)
@@ -128,10 +128,14 @@ class Desk(Nodes):
             self.noted.pop(f"pod {pod}", None)
             for reason in ("FailedScheduling", "NotCounted"):
                 self.telling.done(uid, reason)
-            if pod.node:
-                self.on[pod.node].discard(pod)
-                if not self.on[pod.node]:
-                    del self.on[pod.node]
+            self.leave_node(pod)
+
+    def leave_node(self, pod: Pod) -> None:
+        """(nothing is kept of a node that nobody is on)"""
+        if pod.node and pod.node in self.on:
+            self.on[pod.node].take(pod)
+            if not self.on[pod.node]:
+                del self.on[pod.node]
 
     def hear_list(self, kind: str, keys: set[str]) -> None:
         """After a new list: what isn't in it went while nobody watched."""

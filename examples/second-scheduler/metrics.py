@@ -36,6 +36,7 @@ class Metrics:
         self.handed_on = Counter("wsched_handed_on_total", "Pods in the desk that became another instance's to place.", registry=it)
         self.audits = Counter("wsched_audits_total", "Audits of the desk against the watch.", registry=it)
         self.differences = Gauge("wsched_audit_differences", "Nodes of which the last audit found a difference.", registry=it)
+        self.unrecorded = Gauge("wsched_record_stands_still", "1 where the record can't be written.", registry=it)
         self.lists = Counter("wsched_lists_total", "Whole lists.", ["kind"], registry=it)
         self.breaks = Counter("wsched_watch_failures_total", "Lists and watches that were refused or broke.", ["kind"], registry=it)
         self.shut = Gauge("wsched_watch_shut_seconds", "For how long nothing has been heard of a kind, 0 while its watch is open.", ["kind"], registry=it)

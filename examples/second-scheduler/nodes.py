@@ -24,6 +24,24 @@ def nothing(_: str) -> None:
     """An answer that changes nothing: what was told is so, or was so before."""
 
 
+class On(set[Pod]):
+    """The pods on a node, and what they take of it: kept with each change, so that an audit needn't add it up."""
+
+    def __init__(self) -> None:
+        super().__init__()
+        self.used = (0, 0)
+
+    def put(self, pod: Pod) -> None:
+        if pod not in self:
+            super().add(pod)
+            self.used = self.used[0] + pod.size[0], self.used[1] + pod.size[1]
+
+    def take(self, pod: Pod) -> None:
+        if pod in self:
+            super().discard(pod)
+            self.used = self.used[0] - pod.size[0], self.used[1] - pod.size[1]
+
+
 class Nodes:
     """Each node that was heard of, the pods on it, and whether there is room for it and for them. Desk has the pods that come and go."""
 
@@ -37,7 +55,7 @@ class Nodes:
         self.aside: dict[str, SeenNode] = {}
         # the nodes that have changed since cycles were asked for: what is decided of them knows nothing of it
         self.changed: set[str] = set()
-        self.on: collections.defaultdict[str, set[Pod]] = collections.defaultdict(set)
+        self.on: collections.defaultdict[str, On] = collections.defaultdict(On)
         self.noted: dict[str, tuple[str, ...]] = {}
         self.version, self.has_work = 0, False
         # how many lines of new nodes and of places have no answer yet, and how many of them the desk had when it had no room for more
@@ -63,7 +81,7 @@ class Nodes:
         self.note(f"node {seen.name}", seen.row is not None, seen.left_out)
         seen = seen._replace(row=row_of(seen, self.labels))
         if seen.row is None:
-            self.lose_node(seen.name)
+            self.stop_using(seen.name)
             self.unsaid[seen.name] = seen
             return
         self.unsaid.pop(seen.name, None)
@@ -121,6 +139,10 @@ class Nodes:
                 self.set_node(seen)
 
     def lose_node(self, name: str) -> None:
+        self.stop_using(name)
+        self.noted.pop(f"node {name}", None)
+
+    def stop_using(self, name: str) -> None:
         self.unsaid.pop(name, None)
         seen = self.aside.pop(name, None)
         if seen:

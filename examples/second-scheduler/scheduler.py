@@ -18,11 +18,11 @@ from core import MEANWHILE, PATIENCE, Core, command
 from desk import Desk
 from explaining import Explaining
 from health import Health
+from itself import Itself
 from listening import Listening
 from metrics import Metrics
 from newest import Inbox, Meant, Newest
 from pods import Pod, Told
-from record import Record
 from telling import Telling
 from verdicts import is_of_rules, said_of_no_node
 from watch import QUIET
@@ -50,10 +50,8 @@ class Scheduler:
         self.cycles, self.dearest = 1, 0.0
         self.fuel = sum(2 * int(it.split(":")[2]) for it in given.spec)
         self.under_way, self.began, self.last = 0, time.monotonic(), 0.0
-        record = Record(given.record) if given.record else None
-        if record:
-            LOG.info("the record is %s", record.path)
-        self.core = Core(command(given.wsched, given.workers, given.spec), record, health.beat)
+        self.itself = Itself(given)
+        self.core = Core(command(given.wsched, given.workers, given.spec), self.itself.record(), health.beat)
         health.watch_over(self.core.kill)
         self.share = given.share
         self.whose = f" of share {self.share}" if self.share.count > 1 else ""
@@ -199,6 +197,7 @@ class Scheduler:
         self.core.flush()
         self.desk.has_work = True
         self.desk.try_short()
+        self.itself.tell(self.desk, self.telling, self.metrics)
         it, now = self.metrics, time.monotonic()
         for turn, count in self.desk.waiting.pending(now).items():
             it.pending.labels(turn).set(count)

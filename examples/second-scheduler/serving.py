@@ -41,7 +41,8 @@ class Certificate:
     """What TLS says who this is. Files that have been renewed are read again."""
 
     def __init__(self, files: Files) -> None:
-        self.files, self.times, self.tls = files, (0.0, 0.0), self.read()
+        self.files, self.times = files, (0.0, 0.0)
+        self.tls = self.read()
 
     def read(self) -> ssl.SSLContext:
         """Raises OSError or ssl.SSLError, which is one, where the files are none of a certificate and its key."""

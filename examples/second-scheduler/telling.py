@@ -76,6 +76,13 @@ def about_node(name: str, uid: str) -> Json:
     return {"apiVersion": "v1", "kind": "Node", "namespace": "default", "name": name, "uid": uid}
 
 
+def about_itself(lease: tuple[str, str] | None) -> Json:
+    """What an event is of that is of the scheduler itself: the Lease of its replicas, or where there is none the namespace `default`."""
+    if lease:
+        return {"apiVersion": "coordination.k8s.io/v1", "kind": "Lease", "namespace": lease[0], "name": lease[1], "uid": ""}
+    return {"apiVersion": "v1", "kind": "Namespace", "namespace": "default", "name": "default", "uid": ""}
+
+
 def stamp() -> str:
     return datetime.datetime.now(datetime.timezone.utc).strftime("%Y-%m-%dT%H:%M:%SZ")
 

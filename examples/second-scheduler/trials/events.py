@@ -3,6 +3,7 @@ import sys
 import time
 from typing import Optional
 
+from trials.server import Asked
 from trials.site import REGION, RULE, TOP, Site
 from trials.store import Thing
 
@@ -66,6 +67,37 @@ def conditions(site: Site) -> str:
     site.wait(lambda: all(site.place(f"waits-{i}") for i in range(3)), 20, "all three are bound when there is room")
     time.sleep(2)
     assert all((condition(site, f"waits-{i}") or {}).get("status") == "True" for i in range(3)), "PodScheduled=False of a pod that is bound"
+    return site.check()
+
+
+def conditions_late(site: Site) -> str:
+    """The condition of a pod that fits nowhere is held back on its way, and meanwhile there is room and the pod is bound: it isn't said of a pod that has
+    a node that it has none. One whose version moved for another reason has its condition once the next is due."""
+    site.node("a", cpu="1")
+    site.pod("runs", cpu="900m", on="a", scheduler="default-scheduler")
+    held = list[str]()
+
+    def hold(asked: Asked) -> None:
+        if asked.what == "pods/status" and asked.key not in held:
+            held.append(asked.key)
+            time.sleep(6)
+
+    site.server.refuse = hold
+    site.start()
+    site.pod("waits", cpu="500m")
+    site.wait(lambda: held, 30, "its condition is on its way")
+    site.delete_pod("runs")
+    site.wait(lambda: site.place("waits"), 5, "it is bound when there is room")
+    time.sleep(8)
+    assert (condition(site, "waits") or {}).get("status") == "True", f"PodScheduled=False of a pod that is bound: {condition(site, 'waits')}"
+    site.pod("big", cpu="2")
+    site.wait(lambda: len(held) == 2, 30, "the condition of the next is on its way")
+
+    def labelled(pod: Thing) -> None:
+        pod["metadata"]["labels"] = {"a": "b"}
+
+    site.store.change("pods", "default/big", labelled)
+    site.wait(lambda: condition(site, "big"), 60, "it has its condition in the end")
     return site.check()
 
 
@@ -190,4 +222,4 @@ def many_rejected(site: Site) -> str:
     return f"400 events after {time.monotonic() - began:.0f} s; {len(waited)} new pods meanwhile waited {max(waited):.1f} s at most"
 
 
-TRIALS = [left_alone, conditions, measure, counted_up, few_events, by_rules, unexplained, many_rejected]
+TRIALS = [left_alone, conditions, conditions_late, measure, counted_up, few_events, by_rules, unexplained, many_rejected]

@@ -115,4 +115,31 @@ def refused_late(site: Site) -> str:
     return f"{len(gaps)} refused, tried again after {min(gaps):.1f} s at the earliest; {site.check()}"
 
 
-TRIALS = [held, held_fenced, refused_late]
+def hidden(site: Site) -> str:
+    """Pods may not be asked for, and binds are refused, one with 409, one with 503: each is given back all the same, at once and after the 3 s in which it
+    may be done, the log says which right is missing, and both pods are bound when they are tried again."""
+    site.node("a", cpu="64")
+    it = site.start(words=[sys.executable, "-c", HURRIED.format(folder=str(site.programs.client)), "second_scheduler.py"])
+    site.pod("before", cpu="10m")
+    site.wait(lambda: site.place("before"), 20, "it binds")
+    seen = dict[str, list[float]]()
+
+    def refuse(asked: Asked) -> "tuple[int, str] | None":
+        if (asked.verb, asked.what) == ("get", "pods"):
+            return 403, 'User "x" cannot get resource "pods"'
+        if asked.what == "pods/binding" and asked.key != "default/before":
+            seen.setdefault(asked.key, []).append(asked.when)
+            return (int(asked.key[-3:]), "not now") if len(seen[asked.key]) == 1 else None
+        return None
+
+    site.server.refuse = refuse
+    for status in (409, 503):
+        site.pod(f"of-{status}")
+    site.wait(lambda: site.place("of-409") and site.place("of-503"), 30, "both are bound")
+    late = seen["default/of-503"][1] - seen["default/of-503"][0]
+    assert late >= 3.0, f"the place of one that might be done was given back after {late:.1f} s"
+    assert 'cannot get resource "pods"' in it.log() and "of-503: what became of its bind" in it.log()
+    return f"tried again after {late:.1f} s; {site.check()}"
+
+
+TRIALS = [hidden, held, held_fenced, refused_late]

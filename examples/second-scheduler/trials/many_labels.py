@@ -20,14 +20,15 @@ def selectors(site: Site) -> str:
     for i in range(NODES):
         site.node(f"node-{i:03}", labels=labels)
     it = site.start("--node-affinity", "2", "--plugins", PLUGINS, wsched=relayed(site))
-    site.pod("first", spec={"nodeSelector": {"label-40": "x"}})
-    site.wait(lambda: site.place("first"), 30, "it binds")
+    for i in range(3):
+        site.pod(f"first-{i}", spec={"nodeSelector": {f"label-{38 + i}": "x"}})
+    site.wait(lambda: site.placed() == 3, 30, "it binds")
     took: list[float] = []
     for turn, keys in enumerate(((), ("label-38", "label-39"))):
         before = spent(it.pid)
         for i in range(PODS):
             site.pod(f"pod-{turn}-{i}", spec={"nodeSelector": {keys[i % 2]: "x"}} if keys else {})
-        site.wait(lambda turn=turn: site.placed() == PODS * (turn + 1) + 1, 120, "all are bound")  # type: ignore[misc]
+        site.wait(lambda turn=turn: site.placed() == PODS * (turn + 1) + 3, 120, "all are bound")  # type: ignore[misc]
         took.append(1000 * (spent(it.pid) - before) / PODS)
     told = (site.folder / "told").read_text(encoding="utf-8").count('"op":"node"')
     shown = f"{took[0]:.1f} ms of the client's processor time a pod without a selector, {took[1]:.1f} with one, {told} rows told"

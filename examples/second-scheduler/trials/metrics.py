@@ -1,6 +1,8 @@
 """Metrics and health, by a scrape."""
 import os
 import signal
+import socket
+import ssl
 import time
 import urllib.error
 import urllib.request
@@ -8,7 +10,9 @@ from typing import Any
 
 from prometheus_client.parser import text_string_to_metric_families
 
+from trials.certificates import certificate
 from trials.site import Site, whom
+from trials.start import ends
 
 Found = dict[tuple[str, tuple[tuple[str, str], ...]], float]
 
@@ -100,4 +104,44 @@ def health(site: Site) -> str:
     return f"before the lists {statuses}; it ended {time.monotonic() - began:.1f} s after wsched was stopped, and answered {sorted(seen)} till then"
 
 
-TRIALS = [metrics, health]
+def asked_by_tls(site: Site, cert: str, path: str, token: str = "") -> tuple[int, str]:
+    """The same by TLS, with this certificate alone to be trusted."""
+    tls = ssl.create_default_context(cafile=cert)
+    request = urllib.request.Request(f"https://127.0.0.1:{site.listens}{path}", headers={"Authorization": f"Bearer {token}"} if token else {})
+    try:
+        with urllib.request.urlopen(request, timeout=10, context=tls) as answer:
+            return answer.status, answer.read().decode()
+    except urllib.error.HTTPError as why:
+        return why.code, why.read().decode()
+    except OSError:
+        return 0, ""
+
+
+def tls(site: Site) -> str:
+    """--tls-cert, --tls-key and --token-file: probes are answered by TLS to all, /metrics to those that bear the token alone; one that says nothing keeps
+    nobody waiting, and a certificate and a token that are renewed are those that count from then on. Files that are none are told at the start."""
+    site.node("a")
+    (cert, key), token = certificate(site, "listen"), site.folder / "token"
+    token.write_text("secret\n", encoding="utf-8")
+    words = ["--tls-cert", cert, "--tls-key", key, "--token-file", str(token)]
+    it = site.start(*site.listening(), *words)
+    site.wait(lambda: asked_by_tls(site, cert, "/readyz")[0] == 200, 30, "it is ready, by TLS")
+    silent = socket.create_connection(("127.0.0.1", site.listens))
+    statuses = [asked_by_tls(site, cert, "/metrics", bears)[0] for bears in ("", "other", "secret")]
+    assert statuses == [401, 401, 200], statuses
+    assert got(site, "/livez")[0] == 0, "it is answered without TLS"
+    token.write_text("new", encoding="utf-8")
+    assert [asked_by_tls(site, cert, "/metrics", bears)[0] for bears in ("secret", "new")] == [401, 200]
+    other = certificate(site, "renewed")
+    for old, new in zip((cert, key), other):
+        os.replace(new, old)
+    site.wait(lambda: asked_by_tls(site, cert, "/livez")[0] == 200, 10, "it has the certificate that was renewed")
+    silent.close()
+    assert it.runs() and "Traceback" not in it.log()
+    it.end()
+    site.schedulers.remove(it)
+    told = [ends(site.start(*site.listening(), *bad, name=f"bad-{i}"), 15, "--listen") for i, bad in enumerate((["--tls-cert", str(token)], ["--token-file", "/no"]))]
+    return f"/metrics without a token, with another, with it: {statuses}; files that are none: statuses {told}"
+
+
+TRIALS = [metrics, health, tls]

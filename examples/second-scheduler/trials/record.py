@@ -3,12 +3,14 @@ import gzip
 import json
 import pathlib
 import re
+import resource
 import shutil
 import signal
 import subprocess
 import time
 
 from trials.audit import relayed
+from trials.metrics import scraped, value
 from trials.site import REGION, RULE, TOP, Site
 
 PLACE = re.compile(r"(\S+) on (\S+) total \d+ ticket \d+")
@@ -164,4 +166,38 @@ def drawn(site: Site, script: str, output: str) -> str:
     return f"a page of {len(page)} bytes, which has what {dumps} dumps say"
 
 
-TRIALS = [record, record_killed, record_again, record_drawn]
+def record_full(site: Site) -> str:
+    """There is no more room for the record, while pods are placed: a metric, an event and the log say so; when there is room again it goes on, and
+    replays to every bind that was made."""
+    site.node("a", cpu="64", pods=1000)
+    file = site.folder / "full.jsonl.gz"
+    it = site.start("--record", str(file), *site.listening(), name="full")
+
+    def placed(name: str, count: int) -> None:
+        before = site.placed()
+        for i in range(count):
+            site.pod(f"{name}-{i}", cpu="10m", memory="1Mi")
+        site.wait(lambda: site.placed() == before + count, 60, f"pods {name} are bound")
+
+    placed("first", 100)
+    # (the log, which has no room either, is shorter)
+    resource.prlimit(it.pid, resource.RLIMIT_FSIZE, (file.stat().st_size + 300, resource.RLIM_INFINITY))
+    placed("unwritten", 100)
+    site.wait(lambda: value(scraped(site), "wsched_record_stands_still") == 1, 20, "a metric says that it stands still")
+    site.wait(lambda: [one for one in site.store.all("events") if one["reason"] == "RecordStandsStill"], 20, "an event says so")
+    whole = subprocess.run(["gzip", "-t", str(file)], check=False).returncode
+    assert whole == 0, "it isn't whole while there is no room"
+    placed("more", 50)
+    resource.prlimit(it.pid, resource.RLIMIT_FSIZE, (resource.RLIM_INFINITY, resource.RLIM_INFINITY))
+    site.wait(lambda: value(scraped(site), "wsched_record_stands_still") == 0, 20, "it goes on")
+    placed("last", 10)
+    assert it.end() == 0
+    site.schedulers.remove(it)
+    ran = subprocess.run([site.programs.wsched, "run"], input=gzip.decompress(file.read_bytes()), stdout=subprocess.PIPE, check=True)
+    bound = {uid for uid, _ in site.watcher().binds}
+    missing = bound - {uid for uid, _ in places_in(ran.stdout.decode())}
+    assert len(bound) == 260 and not missing, f"{len(missing)} of {len(bound)} binds aren't in the record"
+    return f"{len(bound)} binds, each in it; {site.check()}"
+
+
+TRIALS = [record_full, record, record_killed, record_again, record_drawn]

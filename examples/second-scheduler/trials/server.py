@@ -104,6 +104,13 @@ class Server:
             if not it.is_asked:
                 it.connection.shutdown(socket.SHUT_RDWR)
 
+    def done_without_answer(self, asked: Asked) -> None:
+        """Binds, and whoever asked for it is told something else."""
+        try:
+            bind(self, asked)
+        except Conflict:
+            pass
+
     def count(self, verb: str, what: str, since: float = 0.0) -> int:
         """How many such requests were asked; a list counts once, however many pages it has."""
         with self.lock:

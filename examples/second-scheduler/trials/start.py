@@ -1,6 +1,7 @@
 """What is wrong from the start is told at the start: a plugin, a kubeconfig, a word; and which right is missing."""
 import datetime
 import json
+import time
 
 from trials.server import Asked
 from trials.site import PATIENCE, Scheduler, Site, wait_for
@@ -87,4 +88,24 @@ def missing_right(site: Site) -> str:
     return f"named: {', '.join(shown)}"
 
 
-TRIALS = [typo, typo_follower, no_kubeconfig, bad_lease, missing_right]
+def no_nodes(site: Site) -> str:
+    """--nodes that no node has: the log and an event of the Lease say so, once, and no more once there is one."""
+    site.node("a", labels={"pool": "a"})
+    it = site.start("--nodes", "pool=b", "--lease", LEASE)
+
+    def told() -> "list[str]":
+        return [event["message"] for event in site.store.all("events") if event["reason"] == "NoNodes"]
+
+    site.wait(told, 30, "an event says that no node is used")
+    assert "pool=b" in told()[0] and it.log().count("no node is used") == 1, told()
+    site.node("b", labels={"pool": "b"})
+    site.pod("first")
+    site.wait(lambda: site.place("first") == "b", 20, "it is bound once there is a node")
+    # (what is so for less than a second isn't looked at)
+    time.sleep(3)
+    site.delete_node("b")
+    site.wait(lambda: it.log().count("no node is used") == 2, 20, "it is told again")
+    return f"{told()[0]}; {site.check()}"
+
+
+TRIALS = [no_nodes, typo, typo_follower, no_kubeconfig, bad_lease, missing_right]
