@@ -104,7 +104,7 @@ def words() -> argparse.Namespace:
     given.spec, given.settings = [*by.specs], [*by.labels]
     if given.rules and by.tells_affinity:
         given.node_affinity = True
-    given.read_labels = rule_labels.read_by(given.spec, given.labels, RULE if given.node_affinity else "")
+    given.read_labels = rule_labels.read_by(given.spec, by.keys, RULE if given.node_affinity else "")
     return given
 
 

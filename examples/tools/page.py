@@ -5,6 +5,8 @@ import json
 import pathlib
 from typing import Any, NamedTuple, Sequence
 
+from tools.wasm_sections import of_spec
+
 TEMPLATE = pathlib.Path(__file__).resolve().parent.parent / "report/report.html"
 PLACE = '<script id="data" type="application/json">null</script>'
 Json = dict[str, Any]
@@ -24,11 +26,11 @@ def run_of(name: str, script: str, output: str, specs: Sequence[str] | None) -> 
 
 
 def rule_of(spec: str) -> Json:
-    """What a word NAME:WEIGHT:FUEL:FILE says of a rule."""
+    """What a word NAME:WEIGHT:FUEL:FILE says of a rule, and what that says of its rejections."""
     parts = spec.split(":", maxsplit=3)
     if len(parts) < 4 or not parts[1].isdecimal() or not parts[2].isdecimal():
         raise ValueError(f"{spec} is no rule: NAME:WEIGHT:FUEL:FILE")
-    return {"name": parts[0], "weight": int(parts[1]), "fuel": int(parts[2])}
+    return {"name": parts[0], "weight": int(parts[1]), "fuel": int(parts[2]), "reasons": of_spec(spec).reasons}
 
 
 def page(runs: Sequence[Run]) -> str:

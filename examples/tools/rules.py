@@ -2,6 +2,7 @@
 
     node_affinity: 2                 # tell selectors, node affinity and volumes' zones, and ask the rule node_affinity with this weight
     settings: {few_pods.limit: 3}    # the site's settings, at most 8
+    labels: [tier, zone]             # labels that rules read whose modules don't name them: none of these gives way in a row
     rules:                           # in the order in which they are asked
     - file: few_pods.wasm            # beside this file
     - {name: spread, file: /srv/rules/least_pods.wasm, weight: 10, fuel: 1000}
@@ -16,6 +17,7 @@ import pathlib
 import re
 from typing import Any, Iterator, NamedTuple, Sequence
 
+import rule_labels
 import site_settings
 
 AFFINITY, AFFINITY_FUEL = "node_affinity", 500000
@@ -23,7 +25,7 @@ SHIPPED = pathlib.Path(__file__).resolve().parent.parent / "plugins"
 NAME = re.compile(r"[A-Za-z0-9._/-]{1,63}")
 MOST_RULES, MOST_WEIGHT, MOST_FUEL = 16, 10, 10**9
 WEIGHT, FUEL = 1, 100000
-PARTS, OF_RULE = ("node_affinity", "settings", "rules"), ("name", "file", "weight", "fuel")
+PARTS, OF_RULE = ("node_affinity", "settings", "labels", "rules"), ("name", "file", "weight", "fuel")
 
 
 class BadRules(Exception):
@@ -44,15 +46,22 @@ class Rule(NamedTuple):
 
 
 class Rules(NamedTuple):
-    """The words that the program is given, and the settings as labels of each node's row; None where no file says any."""
+    """The words that the program is given, the settings as labels of each node's row, and the labels that rules read beside those that their
+    modules name; None where no file says any."""
 
     specs: tuple[str, ...] = ()
     settings: tuple[tuple[str, str], ...] | None = None
+    keys: tuple[str, ...] | None = None
 
     @property
     def tells_affinity(self) -> bool:
         """Whether pods' selectors, node affinity and volumes are told: a rule of this name is asked about them."""
         return any(it.startswith(f"{AFFINITY}:") for it in self.specs)
+
+    @property
+    def named(self) -> rule_labels.Named:
+        """The labels that rules read, and the rules that don't say which."""
+        return rule_labels.read_by(self.specs, self.keys, AFFINITY if self.tells_affinity else "")
 
     @property
     def labels(self) -> tuple[tuple[str, str], ...]:
@@ -63,12 +72,15 @@ def add_words(said: argparse.ArgumentParser) -> None:
     """The words by which a program is told its rules."""
     said.add_argument("--rules", metavar="FILE")
     said.add_argument("--settings", metavar="FILE")
+    said.add_argument("--labels", type=rule_labels.words, metavar="KEY,..")
     said.add_argument("spec", nargs="*")
 
 
 def given_by(given: argparse.Namespace) -> Rules:
     """What these words come to."""
     found = taken(given.rules, given.spec)
+    if given.labels is not None:
+        found = found._replace(keys=tuple(given.labels))
     if not given.settings:
         return found
     if found.settings is not None:
@@ -80,12 +92,19 @@ def taken(file: str | None, specs: Sequence[str]) -> Rules:
     """A file's rules, if there is one, and behind them those of the words."""
     if not file:
         return Rules(tuple(specs))
-    rules, settings = read(file)
-    return Rules((*(it.spec for it in rules), *specs), settings)
+    found = read(file)
+    return Rules((*(it.spec for it in found.rules), *specs), found.settings, found.keys)
 
 
-def read(file: str) -> tuple[list[Rule], tuple[tuple[str, str], ...] | None]:
-    """A file's rules in their order, and its settings as labels, None where it has none."""
+class Read(NamedTuple):
+    """A file's rules in their order, its settings as labels, and the labels that it names; None where it has none."""
+
+    rules: list[Rule]
+    settings: tuple[tuple[str, str], ...] | None
+    keys: tuple[str, ...] | None
+
+
+def read(file: str) -> Read:
     said = loaded(file)
     if not isinstance(said, dict):
         raise BadRules(f"{file}: it is no mapping of {', '.join(PARTS)}")
@@ -103,7 +122,17 @@ def read(file: str) -> tuple[list[Rule], tuple[tuple[str, str], ...] | None]:
             raise BadRules(f"{file}: two rules are called {name}: give one another `name`")
     if len(rules) > MOST_RULES:
         raise BadRules(f"{file}: {len(rules)} rules, and there is room for {MOST_RULES}")
-    return rules, None if said.get("settings") is None else settings_of(f"{file}: settings", said["settings"])
+    settings = None if said.get("settings") is None else settings_of(f"{file}: settings", said["settings"])
+    return Read(rules, settings, None if said.get("labels") is None else keys_of(f"{file}: labels", said["labels"]))
+
+
+def keys_of(where: str, said: Any) -> tuple[str, ...]:
+    if not isinstance(said, list):
+        raise BadRules(f"{where}: this is no list of labels' keys")
+    for it in said:
+        if not isinstance(it, str) or not rule_labels.KEY.fullmatch(it):
+            raise BadRules(f"{where}: {it!r} is no label's key of 1 to 63 letters, digits, -, ., _ and /")
+    return tuple(said)
 
 
 def loaded(file: str) -> Any:

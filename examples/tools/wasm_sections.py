@@ -12,7 +12,7 @@ from __future__ import annotations
 
 import os
 import re
-from typing import Iterator, NamedTuple
+from typing import Iterator, NamedTuple, Sequence
 
 LABELS, REASON = "wsched.labels", "wsched.reason."
 # How long they may be, in bytes: a label's key as in a row, and a reason.
@@ -141,6 +141,6 @@ def of_spec(spec: str) -> Said:
         return NOTHING
 
 
-def reasons_by_name(specs: list[str]) -> dict[str, dict[int, str]]:
+def reasons_by_name(specs: Sequence[str]) -> dict[str, dict[int, str]]:
     """Of each word NAME:WEIGHT:FUEL:FILE the reasons of its rule, by the rule's name."""
     return {spec.split(":", 1)[0]: of_spec(spec).reasons for spec in specs}

@@ -53,11 +53,11 @@ _wsched_beside() {
     COMPREPLY=()
     case $prev in
         --rules | --settings | --from | --page) _wsched_files "$cur"; return ;;
-        --scheduler | --nodes | --most | -n | --namespace) return ;;
+        --scheduler | --nodes | --labels | --most | -n | --namespace) return ;;
     esac
     case $name in
-        wsched-plan) options="--json --rules --settings --scheduler --from --nodes --help" ;;
-        wsched-why) options="--namespace --rules --settings --from --nodes --help" ;;
+        wsched-plan) options="--json --rules --settings --labels --scheduler --from --nodes --help" ;;
+        wsched-why) options="--namespace --rules --settings --labels --from --nodes --help" ;;
         wsched-what-if) options="--page --rules --" ;;
         wsched-lint) options="--most --help" ;;
         wsched-report) options="--rules -- --help" ;;

@@ -30,6 +30,7 @@ _wsched() {
         '--settings[the settings of the site]:file:_files'
         '--from[what kubectl get -o json wrote]:file:_files'
         '--nodes[only these nodes]:selector:'
+        '--labels[the labels that rules read]:keys:'
     )
     case $service in
         wsched-plan)
