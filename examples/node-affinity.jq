@@ -4,7 +4,7 @@
 #
 # Each node and each pod is one line.
 # Of each pod without a node, its node selector, its node affinity and its claims are taken away, and stand among its labels as the
-# entries of docs/PLUGINS.md, "Node selectors, affinity and the zones of volumes". Of a node with more than 32 labels those stay that
+# entries of docs/NODE-AFFINITY.md. Of a node with more than 32 labels those stay that
 # some pod asks for. A pod whose demands pass the limits there is left as it is, so that `translate` leaves it out, and why is said
 # on standard error. A script that was made so is run by `node_affinity:WEIGHT:500000:examples/plugins/node_affinity.wasm`.
 #

@@ -1,7 +1,7 @@
 """What a pod asks of its node's labels and name, as the labels of its row that the plugin node_affinity reads.
 
-That is its node selector, its node affinity, and the node affinity of the volumes that its claims are bound to. "Node selectors,
-affinity and the zones of volumes" in docs/PLUGINS.md has the spelling and the limits.
+That is its node selector, its node affinity, and the node affinity of the volumes that its claims are bound to. docs/NODE-AFFINITY.md
+has the spelling and the limits.
 """
 import re
 from collections.abc import Iterable, Iterator, Mapping, Sequence
