@@ -9,6 +9,7 @@ import re
 from typing import NamedTuple
 
 from desk import Desk
+from listed import Listing
 from metrics import Metrics
 from nodes import On
 from pods import Turn
@@ -52,10 +53,11 @@ def dumped(answer: str) -> dict[str, Room]:
 
 
 class Audit:
-    """`run` asks for a dump and compares; what differs is logged, counted and told as an event of the node, each with both numbers."""
+    """`run` asks for a dump and compares; what differs is logged, counted and told as an event of the node, each with both numbers. `listing` is the
+    third side."""
 
-    def __init__(self, desk: Desk, telling: Telling, metrics: Metrics) -> None:
-        self.desk, self.telling, self.metrics = desk, telling, metrics
+    def __init__(self, desk: Desk, telling: Telling, metrics: Metrics, listing: Listing) -> None:
+        self.desk, self.telling, self.metrics, self.listing = desk, telling, metrics, listing
         self.differing: set[str] = set()
 
     def run(self) -> None:

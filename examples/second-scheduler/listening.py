@@ -12,11 +12,9 @@ from hearing import NodeHearing, PodHearing
 from metrics import Metrics
 from newest import Inbox, Newest
 from seen import Reader
-from watch import Watched
+from watch import PHASES, Watched
 
 LOG = logging.getLogger("second-scheduler")
-# Pods that have ended take no room.
-PHASES = "status.phase!=Succeeded,status.phase!=Failed"
 
 
 class Listening:

@@ -36,6 +36,8 @@ class Metrics:
         self.handed_on = Counter("wsched_handed_on_total", "Pods in the desk that became another instance's to place.", registry=it)
         self.audits = Counter("wsched_audits_total", "Audits of the desk against the watch.", registry=it)
         self.differences = Gauge("wsched_audit_differences", "Nodes of which the last audit found a difference.", registry=it)
+        self.list_audits = Counter("wsched_list_audits_total", "Comparisons with the API server's own list of pods.", registry=it)
+        self.list_differences = Gauge("wsched_list_differences", "Nodes on which the last list had a pod that counts for less.", registry=it)
         self.unrecorded = Gauge("wsched_record_stands_still", "1 where the record can't be written.", registry=it)
         self.lists = Counter("wsched_lists_total", "Whole lists.", ["kind"], registry=it)
         self.breaks = Counter("wsched_watch_failures_total", "Lists and watches that were refused or broke.", ["kind"], registry=it)

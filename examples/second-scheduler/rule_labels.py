@@ -8,7 +8,7 @@ from __future__ import annotations
 import argparse
 import logging
 import re
-from typing import Callable, NamedTuple, Sequence
+from typing import NamedTuple, Sequence
 
 LOG = logging.getLogger("second-scheduler")
 # What a row can say as a label's key.
@@ -43,10 +43,9 @@ class Named(NamedTuple):
 def read_by(specs: Sequence[str], named: Sequence[str] | None, is_ours: str) -> Named:
     """What the rules of these words read; `named` are the keys of --labels, if there were any. What the rule `is_ours` reads is known anyway."""
     said, silent = set(named or ()), list[str]()
-    read = reader()
     for spec in specs:
         name = spec.partition(":")[0]
-        its = read(spec)
+        its = named_by(spec)
         if its is not None:
             said |= {*its}
         elif name != is_ours and named is None:
@@ -54,22 +53,15 @@ def read_by(specs: Sequence[str], named: Sequence[str] | None, is_ours: str) -> 
     return Named(frozenset(said), tuple(silent))
 
 
-def reader() -> Callable[[str], Sequence[str] | None]:
-    """Gives the keys that the module of a word NAME:WEIGHT:FUEL:FILE names, None where it names none. (Where nothing reads its sections no rule says
-    anything.)"""
-    try:
-        from tools.wasm_sections import of_spec  # pylint: disable=import-outside-toplevel
-    except ImportError:
-        return lambda spec: None
+def named_by(spec: str) -> Sequence[str] | None:
+    """The keys that the module of a word NAME:WEIGHT:FUEL:FILE names, None where it names none."""
+    # (whoever reads no module needs no tools beside this folder)
+    from tools.wasm_sections import of_spec  # pylint: disable=import-outside-toplevel
 
-    def read(spec: str) -> Sequence[str] | None:
-        said = of_spec(spec)
-        for fault in said.faults:
-            LOG.warning("rule %s: %s", spec.partition(":")[0], fault)
-        keys: Sequence[str] | None = said.labels
-        return keys
-
-    return read
+    said = of_spec(spec)
+    for fault in said.faults:
+        LOG.warning("rule %s: %s", spec.partition(":")[0], fault)
+    return said.labels
 
 
 def words(text: str) -> list[str]:

@@ -19,6 +19,7 @@ from desk import Desk
 from explaining import Explaining
 from health import Health
 from itself import Itself
+from listed import Listing
 from listening import Listening
 from metrics import Metrics
 from newest import Inbox, Meant, Newest
@@ -63,7 +64,7 @@ class Scheduler:
         self.binders = Binders(api, way, given.binders, self.newest, metrics, self.stopping)
         labels = NodeLabels(given.settings, given.read_labels)
         self.desk = Desk(self.core, self.telling, metrics, labels, pods, self.share)
-        self.audit = Audit(self.desk, self.telling, metrics)
+        self.audit = Audit(self.desk, self.telling, metrics, Listing(api, self.newest, self.desk, self.telling, metrics))
         self.explaining = Explaining([given.wsched, "explain", "--", *given.spec], self.desk, self.telling, self.inbox, self.whose)
         self.listening.begin(given, api, metrics, self.newest, labels)
         health.unheard = self.listening.unheard
@@ -166,6 +167,8 @@ class Scheduler:
             self.explaining.answered(what)
         elif kind == "heard":
             self.heard = what
+        elif kind == "listed":
+            self.audit.listing.hear(event, what)
         elif event == "LISTED":
             self.desk.hear_list(kind, what)
         elif event == "DELETED":

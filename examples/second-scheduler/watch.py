@@ -22,8 +22,8 @@ from core import CoreFault
 LOG = logging.getLogger("second-scheduler")
 # What a call to the API server may end with when it is away, or has another opinion, or when nobody says who this is.
 AWAY = (ApiException, urllib3.exceptions.HTTPError, OSError, ConfigException)
-# How many objects of a list are asked for at once.
-PAGE = 500
+# How many objects of a list are asked for at once. Pods that have ended take no room.
+PAGE, PHASES = 500, "status.phase!=Succeeded,status.phase!=Failed"
 # For how long a watch is asked for, in seconds, at least and at most, so that those of several clients don't end together; and how long
 # one that says nothing is waited for: an API server has a bookmark each minute. (A machine that is gone is seen sooner, by `way`.)
 SHORTEST_WATCH, LONGEST_WATCH, SILENT = 300, 600, 120

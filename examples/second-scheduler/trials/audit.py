@@ -3,10 +3,11 @@ import os
 import pathlib
 import re
 import signal
+import sys
 import time
 
 from trials.limits import of_nodes
-from trials.metrics import scraped, value
+from trials.metrics import got, scraped, value
 from trials.site import Site, wait_for, whom
 
 
@@ -85,4 +86,64 @@ def audit_quiet(site: Site) -> str:
     return f"{audits:.0f} audits without a difference; {seen.bound} bound, no node over its room, no pod moved"
 
 
-TRIALS = [audit, audit_quiet]
+LISTING = '''
+import sys
+sys.path.insert(0, {folder!r})
+sys.argv = sys.argv[1:]
+import listed
+listed.EVERY, listed.AGAIN = 4.0, 2.0
+import second_scheduler
+second_scheduler.main()
+'''
+# A `translate` that has each pod on a node ask for less than it does.
+LESS = '''#!{python}
+import os, sys, subprocess
+program = {program!r}
+if sys.argv[1] != "translate":
+    os.execv(program, [program, *sys.argv[1:]])
+child = subprocess.Popen([program, *sys.argv[1:]], stdin=subprocess.PIPE, stdout=subprocess.PIPE)
+for line in sys.stdin.buffer:
+    child.stdin.write(line)
+    child.stdin.flush()
+    answer = child.stdout.readline()
+    if b'"op":"bound"' in answer.replace(b" ", b""):
+        answer = answer.replace(b'"1500m"', b'"150m"')
+    sys.stdout.buffer.write(answer)
+    sys.stdout.buffer.flush()
+'''
+
+
+def audit_list(site: Site) -> str:
+    """Pods on nodes are read as less than they ask for, so that the desk and the client agree: the API server's own list, which is looked at every 4 s
+    here and each ten minutes else, says so by a log line, an event of the node and a metric; and nothing once they are read right, in spite of all that
+    comes and goes."""
+    program = site.folder / "less"
+    program.write_text(LESS.format(python=sys.executable, program=site.programs.wsched), encoding="utf-8")
+    program.chmod(0o755)
+    code = LISTING.format(folder=str(site.programs.client))
+    site.node("a", cpu="64", pods=500)
+    site.pod("big", cpu="1500m", on="a", scheduler="default-scheduler")
+    words = [sys.executable, "-c", code, "second_scheduler.py"]
+    it = site.start(*site.listening(), words=words, wsched=str(program))
+    site.wait(lambda: got(site, "/readyz")[0] == 200, 30, "it is ready")
+    site.wait(lambda: value(scraped(site), "wsched_list_differences") == 1, 40, "the metric says that a node differs")
+    said = [event["message"] for event in of_nodes(site) if event["reason"] == "ListDifference"]
+    site.wait(lambda: [event for event in of_nodes(site) if event["reason"] == "ListDifference"], 10, "an event of the node says so")
+    assert "default/big counts for cpu 150m" in it.log(), it.log()[-300:]
+    assert value(scraped(site), "wsched_audit_differences") == 0, "the audit of the desk says so too"
+    it.end()
+    site.schedulers.remove(it)
+    again = site.start(*site.listening(), words=words, name="again")
+    site.wait(lambda: got(site, "/readyz")[0] == 200, 30, "it is ready")
+    for turn in range(20):
+        for i in range(10):
+            site.pod(f"pod-{turn}-{i}", cpu="10m", memory="1Mi")
+        time.sleep(0.7)
+        for i in range(10 if turn else 0):
+            site.delete_pod(f"pod-{turn - 1}-{i}")
+    site.wait(lambda: value(scraped(site), "wsched_list_audits_total") >= 2, 30, "it has compared")
+    assert value(scraped(site), "wsched_list_differences") == 0 and "by the API server's list" not in again.log(), again.log()[-300:]
+    return f"{said[:1]}; {site.check()}"
+
+
+TRIALS = [audit_list, audit, audit_quiet]
