@@ -109,7 +109,8 @@ def tell_bound(script: Script, pod: SeenPod, node: str) -> int:
 
 
 def tell_waiting(script: Script, pod: SeenPod) -> int:
-    return script.event("pod", f'"uid":{quoted(pod.uid)},{pod.row}')
+    # (the program passes over the key `called`; a page of the run shows it)
+    return script.event("pod", f'"uid":{quoted(pod.uid)},"called":{quoted(pod.key)},{pod.row}')
 
 
 def names(nodes: Iterable[SeenNode]) -> list[str]:

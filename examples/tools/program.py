@@ -42,6 +42,8 @@ class Script:
         self.lines: list[str] = []
         self.dumps: set[int] = set()
         self.version = 0
+        # what was written when it was run last
+        self.output = ""
 
     def event(self, op: str, fields: str) -> int:
         """Adds a watch event, whose fields behind the version are JSON; and gives the number of its answer."""
@@ -64,8 +66,12 @@ class Script:
 
     def answers(self, what: str, specs: Sequence[str]) -> list[Answer]:
         """Of each line its answer, by `run` or by `explain`."""
-        told = ran([what, "--", *specs], "\n".join(self.lines) + "\n")
-        return [*self.paired(iter(told.splitlines()))]
+        self.output = ran([what, "--", *specs], self.text)
+        return [*self.paired(iter(self.output.splitlines()))]
+
+    @property
+    def text(self) -> str:
+        return "\n".join(self.lines) + "\n"
 
     def paired(self, output: Iterator[str]) -> Iterator[Answer]:
         for k in range(len(self.lines)):

@@ -52,11 +52,11 @@ _wsched_beside() {
     local cur=${COMP_WORDS[COMP_CWORD]} prev=${COMP_WORDS[COMP_CWORD - 1]} name=${COMP_WORDS[0]##*/} options=
     COMPREPLY=()
     case $prev in
-        --rules | --settings | --from | --page) _wsched_files "$cur"; return ;;
+        --rules | --settings | --from | --page | --script) _wsched_files "$cur"; return ;;
         --scheduler | --nodes | --labels | --most | -n | --namespace) return ;;
     esac
     case $name in
-        wsched-plan) options="--json --rules --settings --labels --scheduler --from --nodes --help" ;;
+        wsched-plan) options="--json --script --page --rules --settings --labels --scheduler --from --nodes --help" ;;
         wsched-why) options="--namespace --rules --settings --labels --from --nodes --help" ;;
         wsched-what-if) options="--page --rules --" ;;
         wsched-lint) options="--most --help" ;;

@@ -34,7 +34,7 @@ _wsched() {
     )
     case $service in
         wsched-plan)
-            _arguments "$rules[@]" "$cluster[@]" '--scheduler[whose pods]:name:' '--json[one object]' '--help[the words]' '*:plugin:_wsched_spec' ;;
+            _arguments "$rules[@]" "$cluster[@]" '--scheduler[whose pods]:name:' '--json[one object]' '--script[write the script]:file:_files' '--page[write a page]:file:_files' '--help[the words]' '*:plugin:_wsched_spec' ;;
         wsched-why)
             _arguments "$rules[@]" "$cluster[@]" '(-n --namespace)'{-n,--namespace}'[of the pod]:namespace:' '--help[the words]' '1:pod:' '*:plugin:_wsched_spec' ;;
         wsched-what-if)
