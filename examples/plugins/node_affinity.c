@@ -107,11 +107,12 @@ static INLINED int lists(struct part values, const u8 *wanted)
 {
     int listed = 0, any = values.at != 0;
     while (1) {
-        while (values.at && !listed) {
-            // (one that has a slash is none of them)
-            listed = wanted && begins(values, whole(wanted)) && before_slash(whole(wanted)) == *wanted;
-            values = past(values, before_slash(values));
-        }
+        for (; wanted && values.at && !listed; values = past(values, before_slash(values)))
+            if (begins(values, whole(wanted))) {
+                // (one that has a slash is none of them)
+                listed = before_slash(whole(wanted)) == *wanted;
+                break;
+            }
         go_on();
         if (entry.kind != MORE) break;
         values = value(), any = 1;
