@@ -48,12 +48,12 @@ const EMPTY_BEHIND_1023: &[u8] = b"\x0A\x0C\x02\x04\x00\x41\x00\x0B\x05\x01\xFF\
 const EMPTY_BEHIND_1024: &[u8] = b"\x0A\x0C\x02\x04\x00\x41\x00\x0B\x05\x01\x80\x08\x7E\x0B";
 
 // Imports of the functions `sched.pod` and `sched2.node` of the first type, of `sched.pod` of the second, and of the functions
-// `sched.pods` and `sched3.pod`.
+// `sched.pods` and `sched4.pod`.
 const IMPORTS_POD: &[u8] = b"\x02\x0D\x01\x05sched\x03pod\x00\x00";
 
 const IMPORTS_NODE_2: &[u8] = b"\x02\x0F\x01\x06sched2\x04node\x00\x00";
 
-const IMPORTS_POD_3: &[u8] = b"\x02\x0E\x01\x06sched3\x03pod\x00\x00";
+const IMPORTS_POD_4: &[u8] = b"\x02\x0E\x01\x06sched4\x03pod\x00\x00";
 
 const IMPORTS_POD_OF_SECOND: &[u8] = b"\x02\x0D\x01\x05sched\x03pod\x00\x01";
 
@@ -120,7 +120,7 @@ const ACCEPTED: Modules = &[
 const BAD_IMPORTS: Modules = &[
     &[
         HOST_AND_FILTER,
-        IMPORTS_POD_3,
+        IMPORTS_POD_4,
         FUNCTION_OF_SECOND,
         FILTER_BEHIND_IMPORT,
         ZERO,
