@@ -30,7 +30,8 @@ static void compare(const u8 *a, const u8 *b)
 
 static void settings(void)
 {
-    ask_about((struct test_pod) { .uid = "p" }, (struct test_node) { .name = "a", .labels = { "/cfg", "0", "/cfg/", "1", "/cfg/few", "2", "/cfg/few.limit", "20", "cfg/few", "3" } });
+    const struct test_node it = { .name = "a", .labels = { "/aaa/few", "0", "/cfg", "0", "/cfg/", "1", "/cfg/fee", "4", "/cfg/few", "2", "/cfg/few.limit", "20", "cfg/few", "3" } };
+    ask_about((struct test_pod) { .uid = "p" }, it);
     const struct node *node = read_node();
     assert(is(setting(node, "few"), "2") && is(setting(node, "few.limit"), "20") && !setting(node, "") && !setting(node, "fe") && !setting(node, "few."));
     assert(setting_number(node, "few.limit", 7) == 20 && setting_number(node, "limit", 7) == 7);

@@ -23,7 +23,7 @@ fn texts_of_each_length() {
 
 #[test]
 fn settings_by_their_names() {
-    let labels = [("/cfg", "0"), ("/cfg/few", "2"), ("/cfg/few.limit", "20"), ("cfg/few", "3")];
+    let labels = [("/aaa/few", "0"), ("/cfg", "0"), ("/cfg/fee", "4"), ("/cfg/few", "2"), ("/cfg/few.limit", "20"), ("cfg/few", "3")];
     ask_about(&PodRow::default(), &NodeRow { name: "a", labels: &labels, ..NodeRow::default() });
     assert_eq!(node().setting("few"), Some(&b"2"[..]));
     assert_eq!(node().setting_number("few.limit", 7), 20);
