@@ -170,7 +170,8 @@ static INLINED u32 length(const char *word)
     return size;
 }
 
-// A text is its length in one byte and its bytes, none of them 0. Null is no text, and equals nothing.
+// A text is its length in one byte and its bytes, none of them 0. Null is no text, and equals nothing. What a rule reads through null by
+// itself is no fault: address 0 is memory like all other.
 static INLINED int is_word(const u8 *text, const char *word, u32 size)
 {
     return *text == size && same_bytes(text + 1, (const u8 *)word, size);
