@@ -121,7 +121,7 @@ class Doubts:
         threading.Thread(target=self.go, daemon=True, name="doubts").start()
 
     def begin(self, doubt: Doubt) -> None:
-        self.binders.metrics.doubts.inc()
+        self.binders.metrics.trouble.doubts.inc()
         self.lookers.submit(self.look_up, doubt)
 
     def go(self) -> None:
@@ -153,7 +153,7 @@ class Doubts:
         if is_bound is None:
             self.put_off(doubt)
         else:
-            self.binders.metrics.doubts.dec()
+            self.binders.metrics.trouble.doubts.dec()
             self.binders.end(doubt.bind._replace(is_bound=is_bound, seconds=time.monotonic() - doubt.sent))
 
     def known(self, doubt: Doubt) -> bool | None:

@@ -40,7 +40,7 @@ class Itself:
         elif why is not None:
             telling.done("", STILL)
         if why is not None:
-            metrics.unrecorded.set(1 if why else 0)
+            metrics.trouble.unrecorded.set(1 if why else 0)
         self.tell_nodes(not (desk.nodes or desk.aside or desk.unsaid), telling)
 
     def tell_nodes(self, has_none: bool, telling: Telling) -> None:

@@ -140,5 +140,5 @@ class Listing:
         for uid in self.told - still:
             self.telling.done(uid, "ListDifference")
         self.told = still
-        self.metrics.list_audits.inc()
-        self.metrics.list_differences.set(len(still))
+        self.metrics.trouble.list_audits.inc()
+        self.metrics.trouble.list_differences.set(len(still))

@@ -10,6 +10,20 @@ from prometheus_client import CollectorRegistry, Counter, Gauge, Histogram, gene
 SECONDS = [0.001 * 2**k for k in range(15)]
 
 
+class Trouble:
+    """What isn't as it should be, while it is so: nothing heard, nobody answering, no room for the record, and pods that count for less."""
+
+    def __init__(self, registry: CollectorRegistry) -> None:
+        it = registry
+        self.shut = Gauge("wsched_watch_shut_seconds", "For how long nothing has been heard of a kind, 0 while its watch is open.", ["kind"], registry=it)
+        self.doubts = Gauge("wsched_binds_in_doubt", "Binds without a good answer, whose pods are looked up.", registry=it)
+        self.unrecorded = Gauge("wsched_record_stands_still", "1 where the record can't be written.", registry=it)
+        self.list_audits = Counter("wsched_list_audits_total", "Comparisons with the API server's own list of pods.", registry=it)
+        self.list_differences = Gauge("wsched_list_differences", "Nodes on which the last list had a pod that counts for less.", registry=it)
+        for kind in ("node", "pod"):
+            self.shut.labels(kind)
+
+
 class Metrics:
     """Each is named for what it counts."""
 
@@ -28,7 +42,6 @@ class Metrics:
         self.not_bound = Counter("wsched_binds_failed_total", "Binds that came to nothing.", registry=it)
         why = "Binds not asked for: pod or node have changed or are gone, or nothing is heard."
         self.not_posted = Counter("wsched_binds_not_posted_total", why, registry=it)
-        self.doubts = Gauge("wsched_binds_in_doubt", "Binds without a good answer, whose pods are looked up.", registry=it)
         self.left_out = Gauge("wsched_left_out", "Nodes that no line can say, and own pods that are left alone.", ["kind"], registry=it)
         self.unread = Gauge("wsched_pods_not_read", "Pods that have a node, and amounts that can't be read, which count as the most.", registry=it)
         self.refused = Counter("wsched_refused_for_room_total", "What the desk had no room for.", ["kind"], registry=it)
@@ -36,13 +49,10 @@ class Metrics:
         self.handed_on = Counter("wsched_handed_on_total", "Pods in the desk that became another instance's to place.", registry=it)
         self.audits = Counter("wsched_audits_total", "Audits of the desk against the watch.", registry=it)
         self.differences = Gauge("wsched_audit_differences", "Nodes of which the last audit found a difference.", registry=it)
-        self.list_audits = Counter("wsched_list_audits_total", "Comparisons with the API server's own list of pods.", registry=it)
-        self.list_differences = Gauge("wsched_list_differences", "Nodes on which the last list had a pod that counts for less.", registry=it)
-        self.unrecorded = Gauge("wsched_record_stands_still", "1 where the record can't be written.", registry=it)
         self.lists = Counter("wsched_lists_total", "Whole lists.", ["kind"], registry=it)
         self.breaks = Counter("wsched_watch_failures_total", "Lists and watches that were refused or broke.", ["kind"], registry=it)
-        self.shut = Gauge("wsched_watch_shut_seconds", "For how long nothing has been heard of a kind, 0 while its watch is open.", ["kind"], registry=it)
         self.untold = Counter("wsched_events_dropped_total", "Events and conditions put off: too many waited, or the API server refused.", registry=it)
+        self.trouble = Trouble(it)
         self.leader = Gauge("wsched_leader", "1 where this replica schedules.", registry=it)
         for result in ("scheduled", "unschedulable", "error"):
             self.attempts.labels(scheduler, result)
@@ -52,7 +62,6 @@ class Metrics:
             self.left_out.labels(kind)
             self.lists.labels(kind)
             self.breaks.labels(kind)
-            self.shut.labels(kind)
 
     def text(self) -> bytes:
         return bytes(generate_latest(self.registry))

@@ -211,7 +211,7 @@ class Scheduler:
         it.unread.set(len(self.desk.unread))
         it.aside.set(len(self.desk.aside))
         for watch in self.listening.watches:
-            it.shut.labels(watch.ears.kind).set(watch.shut_for(now))
+            it.trouble.shut.labels(watch.ears.kind).set(watch.shut_for(now))
 
     def run(self) -> int:
         while self.desk.listed != {"node", "pod"} and not self.stopping.is_set():
