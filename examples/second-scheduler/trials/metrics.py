@@ -140,7 +140,8 @@ def tls(site: Site) -> str:
     assert it.runs() and "Traceback" not in it.log()
     it.end()
     site.schedulers.remove(it)
-    told = [ends(site.start(*site.listening(), *bad, name=f"bad-{i}"), 15, "--listen") for i, bad in enumerate((["--tls-cert", str(token)], ["--token-file", "/no"]))]
+    bad = {"no-cert": ["--tls-cert", str(token)], "no-token": ["--token-file", "/no"]}
+    told = [ends(site.start(*site.listening(), *some, name=name), 15, "--listen") for name, some in bad.items()]
     return f"/metrics without a token, with another, with it: {statuses}; files that are none: statuses {told}"
 
 
