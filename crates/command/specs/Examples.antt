@@ -1,6 +1,6 @@
 -- What words ask for at worked examples.
 use Rattle.std.specs.Prelude.{◌≡◌, ℕ, ◌^◌, true, false, List, [], ◌∷◌, map, codes, Some, None}
-use Rattle.command.specs.Words.{SpecSyntax, check, explain, meaning, run, storm, translate}
+use Rattle.command.specs.Words.{SpecSyntax, check, explain, meaning, run, storm, translate, version}
 use Rattle.command.specs.declared.count.Count.TheVariants.{Workers, Cycles, Binders}
 use Rattle.command.specs.declared.misuse.Misuse.TheVariants.{Command, Number, Plugin, Scheduler, Unknown, Together}
 use Rattle.command.specs.declared.misuse.Part.TheVariants.{Spec, Name, Weight, Fuel}
@@ -94,12 +94,17 @@ pub record WorkedExamples : Type 0 where
   pub an_option_of_a_translation_behind_the_end : meaning (codes "translate" ∷ codes "--" ∷ codes "--by-uid" ∷ []) ≡ None
   pub help_on_a_translation : meaning (codes "translate" ∷ codes "--help" ∷ []) ≡ None
   pub answers_of_a_run : meaning (codes "run" ∷ codes "--answers" ∷ []) ≡ None
+  -- which program this is
+  pub a_version : meaning (codes "version" ∷ []) ≡ Some version
+  pub version_behind_the_end : meaning (codes "version" ∷ codes "--" ∷ []) ≡ Some version
+  pub a_version_of_a_word : meaning (codes "version" ∷ codes "a" ∷ []) ≡ None
+  pub help_on_a_version : meaning (codes "version" ∷ codes "--help" ∷ []) ≡ None
   -- no command, and requests for help
   pub nothing : meaning [] ≡ None
   pub help : meaning (codes "help" ∷ []) ≡ None
   pub help_option : meaning (codes "--help" ∷ []) ≡ None
   pub help_on_a_run : meaning (codes "run" ∷ codes "--help" ∷ []) ≡ None
-  pub version : meaning (codes "--version" ∷ []) ≡ None
+  pub version_option : meaning (codes "--version" ∷ []) ≡ None
   pub end_of_options : meaning (codes "--" ∷ codes "run" ∷ []) ≡ None
   pub another_command : meaning (codes "runs" ∷ []) ≡ None
   pub hyphened_behind_the_end : meaning (codes "run" ∷ codes "--" ∷ codes "-a:1:1:f" ∷ []) ≡ Some (run 1 (plugin (codes "-a") 1 1 (codes "f") ∷ []))
@@ -109,6 +114,7 @@ pub record WorkedExamples : Type 0 where
   pub of_nothing : misuse_of [] ≡ Command
   pub of_help : misuse_of (codes "--help" ∷ []) ≡ Command
   pub of_a_check : misuse_of (codes "check" ∷ []) ≡ Together
+  pub of_a_version : misuse_of (codes "version" ∷ codes "a" ∷ []) ≡ Together
   pub of_two_names : misuse_of (codes "run" ∷ codes "a:1:1:f" ∷ codes "a:2:2:g" ∷ []) ≡ Together
   pub of_workers : misuse_of (codes "run" ∷ codes "--workers" ∷ codes "65" ∷ []) ≡ Number Workers 3
   pub of_workers_at_once : misuse_of (codes "run" ∷ codes "--workers=0" ∷ []) ≡ Number Workers 2

@@ -107,5 +107,5 @@ misuse_of (command ∷ rest) =
     if bytes_eq command (codes "run") || bytes_eq command (codes "explain") then misuse_in false 2 Anything rest
     else if bytes_eq command (codes "storm") then misuse_in true 2 Anything rest
     else if bytes_eq command (codes "translate") then wrong_among 2 next_word.Anything rest
-    else if bytes_eq command (codes "check") then Together
+    else if bytes_eq command (codes "check") || bytes_eq command (codes "version") then Together
     else Command

@@ -1,5 +1,5 @@
 -- What the program's words ask for: `run [--workers N] [SPEC]...`, `explain` with the same words behind it, `storm [--cycles C] [--binders B] [--flaky] [SPEC]...`, where
--- a SPEC is `NAME:WEIGHT:FUEL:FILE`, `check MODULE`, or `translate [--scheduler NAME] [--by-uid] [--answers]`.
+-- a SPEC is `NAME:WEIGHT:FUEL:FILE`, `check MODULE`, `translate [--scheduler NAME] [--by-uid] [--answers]`, or `version`.
 use Rattle.std.specs.Prelude.{ℕ, ◌+◌, ◌==◌, ◌&&◌, nat_le, not, Bool, true, false, List, [], ◌∷◌, take, drop, length, map, codes, bytes_eq, Option, Some, None, option_map, option_and_then, unwrap_or, Result, Ok, Err, if◌then◌else◌}
 use Rattle.std.specs.List.{list_any, position}
 use Rattle.clap.specs.declared.builder.action.ArgAction.TheVariants.{Set, SetTrue, Append}
@@ -11,7 +11,7 @@ use Rattle.command.specs.declared.asked.StormPlan.{StormPlan}
 use Rattle.command.specs.declared.asked.TranslatePlan.{TranslatePlan}
 use Rattle.command.specs.declared.asked.Spec.{Spec}
 use Rattle.command.specs.declared.asked.Words.{Words}
-use Rattle.command.specs.declared.asked.Words.TheVariants.{Run, Explain, Storm, Check, Translate}
+use Rattle.command.specs.declared.asked.Words.TheVariants.{Run, Explain, Storm, Check, Translate, Version}
 use Rattle.command.specs.declared.count.Count.{Count}
 use Rattle.command.specs.declared.count.Count.TheVariants.{Workers, Cycles, Binders}
 use Rattle.command.specs.Count.{name_of, number_for, number_up_to}
@@ -26,13 +26,14 @@ pub record SpecSyntax : Type 0 where
 
 -- what the program can be asked for: a run by so many workers with these plugins, or what explains one, a storm of so many threads that run cycles and so
 -- many that bind pods, of which every third bind fails or not, to check the module in the file of this name, or to translate objects for this
--- scheduler, with pods called by their uid or not, and with answers that also say what is left out or not
+-- scheduler, with pods called by their uid or not, and with answers that also say what is left out or not, or which program this is
 pub data Asked : Type 0 where
   run : (workers : ℕ) → (specs : List SpecSyntax) → Asked
   explain : (workers : ℕ) → (specs : List SpecSyntax) → Asked
   storm : (cycles binders : ℕ) → (is_flaky : Bool) → (specs : List SpecSyntax) → Asked
   check : (file : List ℕ) → Asked
   translate : (scheduler : List ℕ) → (by_uid answers : Bool) → Asked
+  version : Asked
 
 -- the same, as the code has it
 abbrev pub syntax_of : Spec → SpecSyntax
@@ -50,6 +51,7 @@ asked_of (Explain plan) = explain plan.workers (map syntax_of plan.specs.items)
 asked_of (Storm plan) = storm_planned plan
 asked_of (Check file) = check file.now
 asked_of (Translate plan) = translate_planned plan
+asked_of Version = version
 
 -- ---- a plugin, as a word spells it
 
@@ -133,6 +135,7 @@ found (Some command) =
     else if bytes_eq command.0 (codes "explain") then option_map (λ plan. explain plan.0 plan.1) (plan_found command.1)
     else if bytes_eq command.0 (codes "storm") then storm_found command.1
     else if bytes_eq command.0 (codes "translate") then Some (translate_found command.1)
+    else if bytes_eq command.0 (codes "version") then Some version
     else option_map check (first_of (codes "MODULE") command.1)
 
 -- ---- the words
@@ -168,6 +171,9 @@ abbrev pub translate_command : App
 translate_command =
     with_rule (with_rule (with_rule (new_app (codes "translate")) (option_rule (codes "scheduler"))) (flag_rule (codes "by-uid"))) (flag_rule (codes "answers"))
 
+abbrev pub version_command : App
+version_command = new_app (codes "version")
+
 -- the program, of which a command is wanted and which answers no request for help
 abbrev pub program : App
 program = on_top (λ s. record s {
@@ -180,8 +186,8 @@ program = on_top (λ s. record s {
 -- the command line as `clap` sees it
 abbrev pub command_line : App
 command_line =
-    with_subcommand (with_subcommand (with_subcommand (with_subcommand (with_subcommand program (run_command (codes "run")).top)
-    (run_command (codes "explain")).top) storm_command.top) check_command.top) translate_command.top
+    with_subcommand (with_subcommand (with_subcommand (with_subcommand (with_subcommand (with_subcommand program (run_command (codes "run")).top)
+    (run_command (codes "explain")).top) storm_command.top) check_command.top) translate_command.top) version_command.top
 
 -- `clap` takes the words for the command line
 abbrev pub are_taken : List (List ℕ) → Bool

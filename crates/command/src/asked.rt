@@ -61,4 +61,6 @@ pub enum Words<'a> {
     Check(&'a str),
     /// To read objects of the Kubernetes API from standard input, and to write the lines of a script that they give.
     Translate(TranslatePlan<'a>),
+    /// To say which program this is, and its version.
+    Version,
 }

@@ -2,7 +2,7 @@
 ghost use Rattle.std.specs.Prelude.{◌≡◌, ◌≤◌, Some, None, Err, true, false, map, option_map, IfErr, IfOk};
 ghost use Rattle.clap.specs.Words.{app_of, found_of, rows_of, rule_of, subcommand_of, subcommand_rows_of, with_rule, with_subcommand};
 ghost use Rattle.command.specs.Count.{most_of};
-ghost use Rattle.command.specs.Words.{are_taken, asked_of, check_command, command_line, file_rule, flag_rule, found, is_told, meaning, number_found, option_rule, plan_found, program, run_command, scheduler_found, specs_found, specs_rule, storm_command, storm_found, storm_planned, syntax_of, translate_command, translate_found, translate_planned};
+ghost use Rattle.command.specs.Words.{are_taken, asked_of, check_command, command_line, file_rule, flag_rule, found, is_told, meaning, number_found, option_rule, plan_found, program, run_command, scheduler_found, specs_found, specs_rule, storm_command, storm_found, storm_planned, syntax_of, translate_command, translate_found, translate_planned, version_command};
 ghost use Rattle.command.specs.inside.Words.{IsLocal, planned};
 ghost use Rattle.command.specs.Within.{AreWithinLimits, IsPlan, IsStormPlan, IsWithin};
 
@@ -107,6 +107,14 @@ fn translate_command<'a>(alloc: Global) -> Result<Command<'a>, AllocError>
     with_argument(translate, flag(alloc, "answers"))
 }
 
+// The command `version`, behind which nothing stands.
+fn version_command<'a>(alloc: Global) -> Command<'a>
+    ensures shape { app_of result ≡ version_command }
+    ensures local { IsLocal result }
+{
+    Command::new(alloc, "version")
+}
+
 // The program, of which one of its commands is wanted.
 fn program<'a>(alloc: Global) -> Command<'a>
     ensures { app_of result ≡ program }
@@ -131,7 +139,8 @@ fn command_line<'a>(alloc: Global) -> Result<Command<'a>, AllocError>
     let check = check_command(alloc)?;
     let line = with_command(line, check)?;
     let translate = translate_command(alloc)?;
-    with_command(line, translate)
+    let line = with_command(line, translate)?;
+    with_command(line, version_command(alloc))
 }
 
 // The plugins that were found behind a command.
@@ -238,6 +247,9 @@ fn words_of<'a>(alloc: Global, matches: &ArgMatches<'a>) -> Result<Words<'a>, Wo
     if name == "translate" {
         return Ok(Words::Translate(translate_of(behind)));
     }
+    if name == "version" {
+        return Ok(Words::Version);
+    }
     match behind.get_str("MODULE") {
         Some(file) => Ok(Words::Check(file)),
         None => Err(WordFault::BadWords),
@@ -264,12 +276,13 @@ fn found_in<'a, S: AsStr>(alloc: Global, args: &'a [S]) -> Result<ArgMatches<'a>
 }
 
 /// Reads the words that follow the program's name: `run [--workers N] [SPEC]...`, `explain` with the same words behind it,
-/// `storm [--cycles C] [--binders B] [--flaky] [SPEC]...`, `check MODULE` or `translate [--scheduler NAME] [--by-uid] [--answers]`.
+/// `storm [--cycles C] [--binders B] [--flaky] [SPEC]...`, `check MODULE`, `translate [--scheduler NAME] [--by-uid] [--answers]` or
+/// `version`.
 ///
 /// N is a whole number from 1 to 64, and 1 where it isn't told; C and B are from 1 to 8, and 2 where they aren't. A SPEC is `NAME:WEIGHT:FUEL:FILE`,
 /// cut at its first three colons: a name of its own, a weight from 1 to 10 and fuel from 1 to 10^9 in
 /// digits alone, and a file. There are at most 16. A scheduler's NAME is any text, and `default-scheduler` where it isn't told. A
-/// `--` ends the options. No command, and a request for help or for the version, are bad words.
+/// `--` ends the options. No command, a request for help, and `--version` are bad words.
 ///
 /// Errors: `BadWords`, and `NoMemory`, which says nothing of the words.
 pub fn words<'a, S: AsStr>(alloc: Global, args: &'a [S]) -> Result<Words<'a>, WordFault>

@@ -45,7 +45,7 @@ pub enum Misuse {
     #[error(" OPTION of word {0}")]
     Unknown(usize),
     /// Each word may stand where it does, but not all: an option or a name comes twice, there are more than 16 plugins, or
-    /// `check` has another number of words than one.
+    /// `check` has another number of words than one, or `version` one at all.
     #[error("")]
     Together,
 }
@@ -239,7 +239,7 @@ pub fn misuse_of<S: AsStr>(args: &[S]) -> Misuse
     if command.as_str() == "translate" {
         return misuse_among(args);
     }
-    if command.as_str() == "check" {
+    if command.as_str() == "check" || command.as_str() == "version" {
         return Misuse::Together;
     }
     Misuse::Command

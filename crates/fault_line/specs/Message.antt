@@ -61,9 +61,9 @@ misuse_text (misuse.Scheduler number) = codes " NAME of word " ++ decimal number
 misuse_text (misuse.Unknown number) = codes " OPTION of word " ++ decimal number
 misuse_text misuse.Together = []
 
--- what the words may be
+-- what the words may be, a command a line
 abbrev pub usage : List ℕ
-usage = codes "; usage: wsched run [--workers N] [SPEC]... or wsched explain [--workers N] [SPEC]... or wsched storm [--cycles C] [--binders B] [--flaky] [SPEC]... or wsched check MODULE or wsched translate [--scheduler NAME] [--by-uid] [--answers]; a SPEC is NAME:WEIGHT:FUEL:FILE"
+usage = codes "\nusage: wsched run [--workers N] [SPEC]...\n       wsched explain [--workers N] [SPEC]...\n       wsched storm [--cycles C] [--binders B] [--flaky] [SPEC]...\n       wsched check MODULE\n       wsched translate [--scheduler NAME] [--by-uid] [--answers]\n       wsched version\na SPEC is NAME:WEIGHT:FUEL:FILE"
 
 -- why the program ended early
 abbrev pub text_of : Fault → List ℕ

@@ -19,9 +19,9 @@ use quant::Name;
 // key up to 13, and a plugin's name up to 63. Each `push_..` says how much of the room it wants at most.
 const MAX_MESSAGE: usize = 400;
 
-// What the program's words may be.
+// What the program's words may be, a command a line.
 const USAGE: &[u8] =
-    b"; usage: wsched run [--workers N] [SPEC]... or wsched explain [--workers N] [SPEC]... or wsched storm [--cycles C] [--binders B] [--flaky] [SPEC]... or wsched check MODULE or wsched translate [--scheduler NAME] [--by-uid] [--answers]; a SPEC is NAME:WEIGHT:FUEL:FILE";
+    b"\nusage: wsched run [--workers N] [SPEC]...\n       wsched explain [--workers N] [SPEC]...\n       wsched storm [--cycles C] [--binders B] [--flaky] [SPEC]...\n       wsched check MODULE\n       wsched translate [--scheduler NAME] [--by-uid] [--answers]\n       wsched version\na SPEC is NAME:WEIGHT:FUEL:FILE";
 
 /// A line that is made without memory, so that want of memory can be told.
 pub type Message = ArrayVec<u8, MAX_MESSAGE>;
@@ -145,9 +145,9 @@ fn push_misuse(message: &mut Message, misuse: Misuse)
 
 // Adds that words ask for nothing, what is wrong with them, and what they may be.
 fn push_words_fault(message: &mut Message, misuse: Misuse)
-    requires { length message.old.items + 355 ≤ 400 }
+    requires { length message.old.items + 375 ≤ 400 }
     ensures text { message.new.items ≡ message.old.items ++ text_of (Misused misuse) }
-    ensures len { length message.new.items ≤ length message.old.items + 355 }
+    ensures len { length message.new.items ≤ length message.old.items + 375 }
 {
     let fault = WordFault::BadWords;
     push_fault(message, fault.number(), fault.name());

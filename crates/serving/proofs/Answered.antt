@@ -3,7 +3,7 @@ use Rattle.std.proofs.Common.{◌≡◌, ◌≢◌, ◌⊎◌, ◌∙◌, ◌<�
 use Rattle.std.specs.Prelude.{IfErr}
 use Rattle.engine.specs.Device.{DeviceUse}
 use Rattle.engine.specs.declared.fault.RunFault.TheVariants as run_fault
-use Rattle.command.specs.Words.{Asked, asked_by, run, explain, check, storm, translate}
+use Rattle.command.specs.Words.{Asked, asked_by, run, explain, check, storm, translate, version}
 use Rattle.command.specs.declared.fault.WordFault.{WordFault}
 use Rattle.command.specs.declared.fault.WordFault.TheVariants as word_fault
 use Rattle.fault_line.specs.declared.fault.Fault.{Fault}
@@ -69,6 +69,18 @@ module _ (Unkeyed : Type 0) (files : FilesUse) (source out err : DeviceUse) (end
   wanting (Some (translate scheduler by_uid answers)) fault three tells h = record {
     translated = nothing_translated _ source out err ended three (rw no_memory_told at tells) h.same h.reads h.writes;
     unopened = h.unopened;
+  }
+  wanting (Some version) fault three tells h = record {
+    tells = record {
+      status = inr (inl three);
+      told = λ zero. absurd (omega (arith, zero, three));
+      room = λ _. (rw no_memory_told at tells, h.unwritten);
+      failed = λ four. absurd (omega (arith, four, three));
+      failures_told = λ _. h.writes;
+      front = inl h.unwritten;
+    };
+    unopened = h.unopened;
+    unread = h.unread;
   }
 
   module _ {V : Type 0} (texts : V → List (List ℕ)) (args : Result V WordFault) where

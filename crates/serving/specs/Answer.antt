@@ -2,7 +2,7 @@
 use Rattle.std.specs.Prelude.{◌≡◌, ◌≢◌, ◌⊎◌, ◌<◌, ◌≤◌, ⊤, ℕ, Bool, true, false, List, Option, Some, None, Result, IfErr}
 use Rattle.engine.specs.Device.{DeviceUse}
 use Rattle.engine.specs.declared.fault.RunFault.TheVariants as run_fault
-use Rattle.command.specs.Words.{Asked, SpecSyntax, asked_by, run, explain, check, storm, translate}
+use Rattle.command.specs.Words.{Asked, SpecSyntax, asked_by, run, explain, check, storm, translate, version}
 use Rattle.command.specs.declared.fault.WordFault.{WordFault}
 use Rattle.fault_line.specs.declared.fault.Fault.{Fault}
 use Rattle.fault_line.specs.declared.fault.Fault.TheVariants.{Run, Words}
@@ -12,6 +12,7 @@ use Rattle.serving.specs.Check.{IsCheck}
 use Rattle.serving.specs.Run.{IsSiteRun, TellsFailures, TellsFault, told_of}
 use Rattle.serving.specs.Site.{AreFromFiles, UnreadPlugin}
 use Rattle.serving.specs.Storm.{IsSiteStorm}
+use Rattle.serving.specs.Version.{TellsVersion}
 
 -- What a call makes of the files: what each has before it, where that is known, and how many couldn't be opened or read, before and after.
 pub record FilesUse : Type 1 where
@@ -51,6 +52,12 @@ pub record IsTranslation (manner : Manner) (files : FilesUse) (source out err : 
   pub translated : IsTranslated manner source out err ended
   pub unopened : files.IsUntouched
 
+-- which program this is was told, or not, with this status, and the files and the source are as they were
+pub record IsVersionTold (files : FilesUse) (source out err : DeviceUse) (ended : ℕ) : Type 0 where
+  pub tells : TellsVersion out err ended
+  pub unopened : files.IsUntouched
+  pub unread : source.IsUntouched
+
 -- nothing was asked for: this fault is told, or that memory was wanting, and nothing is read or written
 pub record IsIdle (fault : Fault) (files : FilesUse) (source out err : DeviceUse) (ended : ℕ) : Type 0 where
   pub status : (ended ≡ 2) ⊎ (ended ≡ 3)
@@ -69,6 +76,7 @@ IsDone (Some (check file)) fault Unkeyed files source out err ended = IsFileChec
 IsDone (Some (storm cycles binders flaky specs)) fault Unkeyed files source out err ended = IsPlannedStorm cycles binders specs Unkeyed files source out err ended
 IsDone (Some (translate scheduler by_uid answers)) fault Unkeyed files source out err ended =
     IsTranslation (record { scheduler = scheduler; by_uid = by_uid; answers = answers }) files source out err ended
+IsDone (Some version) fault Unkeyed files source out err ended = IsVersionTold files source out err ended
 
 -- The program's words, which could perhaps not be read, were answered with this status.
 pub record IsAnswer {V : Type 0} (texts : V → List (List ℕ)) (args : Result V WordFault) (Unkeyed : Type 0) (files : FilesUse) (source out err : DeviceUse) (ended : ℕ) : Type 0 where

@@ -6,4 +6,5 @@ pub mod Run
 pub mod Site
 pub mod Storm
 pub mod Verdict
+pub mod Version
 pub mod inside

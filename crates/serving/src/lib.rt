@@ -5,7 +5,7 @@
 //! - `site`: a site's plugins, from what the words configure and the files have to kits.
 //! - `with_kits`: a run by a pool of kits, which lives as long as the run.
 //! - `stand_in`: binders that stand in for a cluster.
-//! - `verdict`: what is found of a module, and the line that tells it.
+//! - `verdict`: what is found of a module, and the line that tells it; `version`: which program this is.
 //! - `device`, `folder`: standard input and output, and files, as the engine reads and writes.
 //! - `laws`: that a site's script has one output, and that what is decided is decided by the plugins' calls.
 #![tactic(auto)]
@@ -20,6 +20,7 @@ mod site_run;
 mod stand_in;
 mod storm_run;
 mod verdict;
+mod version;
 mod with_kits;
 
 pub use check::{check_file, check_module};

@@ -7,6 +7,7 @@ use crate::check::check_file;
 use crate::folder::Files;
 use crate::site_run::serve_plan;
 use crate::storm_run::storm_plan;
+use crate::version::tell_version;
 use command::{WordFault, Words, misuse_of, words};
 use engine::{Sink, Source};
 use fault_line::{Fault, report};
@@ -20,7 +21,8 @@ use translator::serve_translation;
 /// Does what the words that follow the program's name ask for, and gives the exit status. Words that
 /// could not be read, or that ask for nothing, are told on `err`, and nothing is read or written.
 /// For `run` and `explain` it is what `serve_plan` does under the keys, for `storm` what `storm_plan` does, for
-/// `check` what `check_file` does, and for `translate` what `serve_translation` does.
+/// `check` what `check_file` does, for `translate` what `serve_translation` does, and for `version` what `tell_version`
+/// does.
 pub fn answer<
     T: Wait + Threads + Copy + Send + Sync + 'static,
     S: AsStr + Drop,
@@ -59,6 +61,7 @@ pub fn answer<
             Ok(Words::Storm(plan)) => storm_plan(rt, alloc, keys, &plan, files, source, out, err),
             Ok(Words::Check(file)) => check_file(alloc, file, files, out, err),
             Ok(Words::Translate(plan)) => serve_translation(alloc, &plan, source, out, err),
+            Ok(Words::Version) => tell_version(out, err),
             Err(WordFault::BadWords) => report(Fault::Misused(misuse_of(args.as_slice())), err),
             Err(WordFault::NoMemory) => report(Fault::Words(WordFault::NoMemory), err),
         },

@@ -1,4 +1,4 @@
-use Rattle.std.proofs.Common.{◌∙◌, map, refl, ap}
+use Rattle.std.proofs.Common.{◌∙◌, map, refl, ap, inl, inr, arith}
 use Rattle.command.specs.Words.{asked_by}
 use Rattle.serving.proofs.Answered.{done, misused, unread, wanting_words}
 use Rattle.serving.proofs.program.answer.Goals as goal
@@ -40,6 +40,30 @@ returns-in-Ok-Translate g c =
     done _ _ _ _ _ _ (λ given. map g.S.AsStr.text given.items) _ _ _ c.in-Ok.is asked (record {
       translated = c.serve_translation.ensures;
       unopened = refl;
+    })
+
+pub returns-in-Ok-Version : goal.returns-in-Ok-Version
+returns-in-Ok-Version g c =
+    let read = rw (c.as_slice.ensures.value, c.in-Ok-Version.field-0-is) at c.in-Ok-Version.ensures.ok in
+    let asked = ap (asked_by (λ given. map g.S.AsStr.text given.items)) c.in-Ok.is ∙ read in
+    let tells = c.tell_version.ensures in
+    done _ _ _ _ _ _ (λ given. map g.S.AsStr.text given.items) _ _ _ c.in-Ok.is asked (record {
+      tells = record {
+        status = elim tells.status [
+          | inl zero ↦ inl zero
+          | inr four ↦ inr (inr four)
+        ];
+        told = tells.told;
+        room = λ three. elim tells.status [
+          | inl zero ↦ absurd (omega (arith, zero, three))
+          | inr four ↦ absurd (omega (arith, four, three))
+        ];
+        failed = tells.failed;
+        failures_told = tells.failures_told;
+        front = inr tells.front;
+      };
+      unopened = refl;
+      unread = refl;
     })
 
 -- ---- memory was wanting for the words, or they couldn't be read
