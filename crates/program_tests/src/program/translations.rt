@@ -114,7 +114,7 @@ const ROWS: &[Row] = &[
         (
             2,
             "",
-            "wsched: 1 BadWords NAME of word 2; usage: wsched run [--workers N] [SPEC]... or wsched explain [--workers N] [SPEC]... or wsched storm [--cycles C] [--binders B] [--flaky] [SPEC]... or wsched check MODULE or wsched translate [--scheduler NAME] [--by-uid] [--answers]; a SPEC is NAME:WEIGHT:FUEL:FILE\n",
+            "wsched: 1 BadWords NAME of word 2\nusage: wsched run [--workers N] [SPEC]...\n       wsched explain [--workers N] [SPEC]...\n       wsched storm [--cycles C] [--binders B] [--flaky] [SPEC]...\n       wsched check MODULE\n       wsched translate [--scheduler NAME] [--by-uid] [--answers]\n       wsched version\na SPEC is NAME:WEIGHT:FUEL:FILE\n",
         ),
     ),
     (
@@ -123,7 +123,7 @@ const ROWS: &[Row] = &[
         (
             2,
             "",
-            "wsched: 1 BadWords OPTION of word 3; usage: wsched run [--workers N] [SPEC]... or wsched explain [--workers N] [SPEC]... or wsched storm [--cycles C] [--binders B] [--flaky] [SPEC]... or wsched check MODULE or wsched translate [--scheduler NAME] [--by-uid] [--answers]; a SPEC is NAME:WEIGHT:FUEL:FILE\n",
+            "wsched: 1 BadWords OPTION of word 3\nusage: wsched run [--workers N] [SPEC]...\n       wsched explain [--workers N] [SPEC]...\n       wsched storm [--cycles C] [--binders B] [--flaky] [SPEC]...\n       wsched check MODULE\n       wsched translate [--scheduler NAME] [--by-uid] [--answers]\n       wsched version\na SPEC is NAME:WEIGHT:FUEL:FILE\n",
         ),
     ),
 ];
