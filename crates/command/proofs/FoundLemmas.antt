@@ -6,7 +6,7 @@ use Rattle.clap.specs.Words.{Row, Text, first_of, subcommand_name_of, subcommand
 use Rattle.clap.specs.declared.parser.matches.ArgMatches.{ArgMatches}
 use Rattle.clap.specs.declared.parser.matches.ArgMatches.TheViews.{out-ArgMatches}
 use Rattle.command.specs.declared.count.Count.TheVariants.{Workers, Cycles, Binders}
-use Rattle.command.specs.Words.{SpecSyntax, are_taken, check, command_line, explain, found, is_told, meaning, number_found, plan_found, run, scheduler_found, specs_found, storm, storm_found, translate, translate_found, version}
+use Rattle.command.specs.Words.{SpecSyntax, are_taken, check, command_line, explain, found, is_told, labels_found, meaning, number_found, plan_found, run, scheduler_found, specs_found, storm, storm_found, translate, translate_found, version}
 
 -- the number of workers and the plugins of a run
 pub plan_is : (rows : List Row) (workers : ℕ) (specs : List SpecSyntax) → number_found Workers rows ≡ Some workers
@@ -38,10 +38,10 @@ pub no_storm_specs : (rows : List Row) (cycles binders : ℕ) → number_found C
 no_storm_specs rows cycles binders first second none = rw (first, second, none) refl
 
 -- the scheduler and the flags of a translation
-pub translate_is : (rows : List Row) (scheduler : List ℕ) (by_uid answers : Bool) → scheduler ≡ scheduler_found rows
-    → by_uid ≡ is_told (first_of (codes "by-uid") rows) → answers ≡ is_told (first_of (codes "answers") rows)
-    → translate scheduler by_uid answers ≡ translate_found rows
-translate_is rows scheduler by_uid answers first second third = λ i. translate (first i) (second i) (third i)
+pub translate_is : (rows : List Row) (scheduler labels : List ℕ) (by_uid answers : Bool) → scheduler ≡ scheduler_found rows
+    → labels ≡ labels_found rows → by_uid ≡ is_told (first_of (codes "by-uid") rows) → answers ≡ is_told (first_of (codes "answers") rows)
+    → translate scheduler labels by_uid answers ≡ translate_found rows
+translate_is rows scheduler labels by_uid answers first second third fourth = λ i. translate (first i) (second i) (third i) (fourth i)
 
 -- the texts that stand there, or none
 pub texts_or_none : (r : Option (Bor (List (Bor (List ℕ))))) (d : Bor (List (Bor (List ℕ)))) → d.now ≡ []

@@ -1,12 +1,8 @@
 -- What is wrong with words that ask for nothing.
-use Rattle.std.proofs.Common.{◌≡◌, ◌∙◌, ◌+◌, ◌<◌, ◌==◌, ℕ, suc, add-one, get_or, drop, Bool, true, false, List, [], ◌∷◌, length, map, Option, Some, None, option_map, refl, sym, ap, arith, nat_lt, Bor}
-use Rattle.std.specs.Prelude.{unwrap_or}
+use Rattle.std.proofs.Common.{◌≡◌, ◌==◌, ℕ, false, List, length, Option, Some, None, option_map, refl, arith, nat_lt, Bor}
 use Rattle.std.specs.List.{position_or_len}
 use Rattle.std.proofs.lemmas.Bool.{lt-ltb}
 use Rattle.std.proofs.lemmas.Str.Pattern.{IsSplitOnceResult, split_once_first}
-use Rattle.std.proofs.Math.Seq.{drop-cons}
-use Rattle.command.specs.declared.misuse.Misuse.{Misuse}
-use Rattle.command.specs.declared.misuse.Part.{Part}
 use Rattle.command.specs.declared.misuse.Part.TheVariants.{Spec}
 use Rattle.command.specs.Words.{cut}
 use Rattle.command.specs.Misuse.{at_equals, part_of, wrong_part}

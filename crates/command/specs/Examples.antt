@@ -79,14 +79,18 @@ pub record WorkedExamples : Type 0 where
   pub no_module : meaning (codes "check" ∷ []) ≡ None
   pub two_modules : meaning (codes "check" ∷ codes "f" ∷ codes "g" ∷ []) ≡ None
   -- a translation
-  pub a_translation : meaning (codes "translate" ∷ []) ≡ Some (translate (codes "default-scheduler") false false)
+  pub a_translation : meaning (codes "translate" ∷ []) ≡ Some (translate (codes "default-scheduler") [] false false)
   pub all_of_a_translation : meaning (codes "translate" ∷ codes "--answers" ∷ codes "--scheduler" ∷ codes "a b" ∷ codes "--by-uid" ∷ [])
-      ≡ Some (translate (codes "a b") true true)
-  pub scheduler_at_once : meaning (codes "translate" ∷ codes "--scheduler=-a=b" ∷ codes "--" ∷ []) ≡ Some (translate (codes "-a=b") false false)
-  pub empty_scheduler : meaning (codes "translate" ∷ codes "--scheduler" ∷ [] ∷ codes "--by-uid" ∷ []) ≡ Some (translate [] true false)
-  pub a_hyphen_as_a_scheduler : meaning (codes "translate" ∷ codes "--scheduler" ∷ codes "-" ∷ []) ≡ Some (translate (codes "-") false false)
+      ≡ Some (translate (codes "a b") [] true true)
+  pub scheduler_at_once : meaning (codes "translate" ∷ codes "--scheduler=-a=b" ∷ codes "--" ∷ []) ≡ Some (translate (codes "-a=b") [] false false)
+  pub empty_scheduler : meaning (codes "translate" ∷ codes "--scheduler" ∷ [] ∷ codes "--by-uid" ∷ []) ≡ Some (translate [] [] true false)
+  pub a_hyphen_as_a_scheduler : meaning (codes "translate" ∷ codes "--scheduler" ∷ codes "-" ∷ []) ≡ Some (translate (codes "-") [] false false)
   pub no_scheduler : meaning (codes "translate" ∷ codes "--scheduler" ∷ []) ≡ None
   pub an_option_as_a_scheduler : meaning (codes "translate" ∷ codes "--scheduler" ∷ codes "--by-uid" ∷ []) ≡ None
+  pub labels_of_a_site : meaning (codes "translate" ∷ codes "--labels" ∷ codes "zone,tier" ∷ [])
+      ≡ Some (translate (codes "default-scheduler") (codes "zone,tier") false false)
+  pub labels_at_once : meaning (codes "translate" ∷ codes "--labels=-a" ∷ []) ≡ Some (translate (codes "default-scheduler") (codes "-a") false false)
+  pub labels_twice : meaning (codes "translate" ∷ codes "--labels=a" ∷ codes "--labels=b" ∷ []) ≡ None
   pub scheduler_twice : meaning (codes "translate" ∷ codes "--scheduler=a" ∷ codes "--scheduler=a" ∷ []) ≡ None
   pub by_uid_twice : meaning (codes "translate" ∷ codes "--by-uid" ∷ codes "--by-uid" ∷ []) ≡ None
   pub answers_with_a_value : meaning (codes "translate" ∷ codes "--answers=true" ∷ []) ≡ None
@@ -140,6 +144,8 @@ pub record WorkedExamples : Type 0 where
   pub of_one_name_twice_behind_the_end : misuse_of (codes "run" ∷ codes "--" ∷ codes "a:1:1:f" ∷ codes "a:2:2:g" ∷ []) ≡ Together
   pub of_a_scheduler : misuse_of (codes "translate" ∷ codes "--by-uid" ∷ codes "--scheduler" ∷ []) ≡ Scheduler 3
   pub of_an_option_as_a_scheduler : misuse_of (codes "translate" ∷ codes "--scheduler" ∷ codes "--by-uid" ∷ []) ≡ Scheduler 3
+  pub of_labels : misuse_of (codes "translate" ∷ codes "--labels=a" ∷ codes "--labels" ∷ []) ≡ Scheduler 3
+  pub of_labels_twice : misuse_of (codes "translate" ∷ codes "--labels=a" ∷ codes "--labels" ∷ codes "b" ∷ []) ≡ Together
   pub of_a_scheduler_twice : misuse_of (codes "translate" ∷ codes "--scheduler=a" ∷ codes "--scheduler" ∷ codes "a" ∷ []) ≡ Together
   pub of_answers_with_a_value : misuse_of (codes "translate" ∷ codes "--scheduler" ∷ codes "-" ∷ codes "--answers=true" ∷ []) ≡ Unknown 4
   pub of_a_plugin_of_a_translation : misuse_of (codes "translate" ∷ codes "a:1:1:f" ∷ []) ≡ Unknown 2

@@ -6,9 +6,9 @@ use Rattle.command.specs.declared.misuse.Misuse.TheVariants.{Scheduler, Unknown,
 use Rattle.command.specs.declared.translate_misuse.NextWord.{NextWord}
 use Rattle.command.specs.declared.translate_misuse.NextWord.TheVariants.{Anything, Name, Nothing}
 
--- a word asks for a name behind it
+-- a word asks for a name, or names, behind it
 abbrev pub asks_name : (word : List ℕ) → Bool
-asks_name word = bytes_eq word (codes "--scheduler")
+asks_name word = bytes_eq word (codes "--scheduler") || bytes_eq word (codes "--labels")
 
 -- a word ends the options
 abbrev pub ends_options : (word : List ℕ) → Bool
@@ -17,8 +17,8 @@ ends_options word = bytes_eq word (codes "--")
 -- a word is an option, or it ends the options
 abbrev pub is_option : (word : List ℕ) → Bool
 is_option word =
-    asks_name word || starts_with nat_eq word (codes "--scheduler=") || bytes_eq word (codes "--by-uid")
-    || bytes_eq word (codes "--answers") || ends_options word
+    asks_name word || starts_with nat_eq word (codes "--scheduler=") || starts_with nat_eq word (codes "--labels=")
+    || bytes_eq word (codes "--by-uid") || bytes_eq word (codes "--answers") || ends_options word
 
 -- a word can be an option's value: it has no hyphen (45) in front, or is one
 abbrev pub is_value : (word : List ℕ) → Bool

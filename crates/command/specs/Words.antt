@@ -1,5 +1,5 @@
 -- What the program's words ask for: `run [--workers N] [SPEC]...`, `explain` with the same words behind it, `storm [--cycles C] [--binders B] [--flaky] [SPEC]...`, where
--- a SPEC is `NAME:WEIGHT:FUEL:FILE`, `check MODULE`, `translate [--scheduler NAME] [--by-uid] [--answers]`, or `version`.
+-- a SPEC is `NAME:WEIGHT:FUEL:FILE`, `check MODULE`, `translate [--scheduler NAME] [--labels KEY,..] [--by-uid] [--answers]`, or `version`.
 use Rattle.std.specs.Prelude.{ℕ, ◌+◌, ◌==◌, ◌&&◌, nat_le, not, Bool, true, false, List, [], ◌∷◌, take, drop, length, map, codes, bytes_eq, Option, Some, None, option_map, option_and_then, unwrap_or, Result, Ok, Err, if◌then◌else◌}
 use Rattle.std.specs.List.{list_any, position}
 use Rattle.clap.specs.declared.builder.action.ArgAction.TheVariants.{Set, SetTrue, Append}
@@ -26,13 +26,13 @@ pub record SpecSyntax : Type 0 where
 
 -- what the program can be asked for: a run by so many workers with these plugins, or what explains one, a storm of so many threads that run cycles and so
 -- many that bind pods, of which every third bind fails or not, to check the module in the file of this name, or to translate objects for this
--- scheduler, with pods called by their uid or not, and with answers that also say what is left out or not, or which program this is
+-- scheduler, with the labels of these keys first, with pods called by their uid or not, and with answers that also say what is left out or not, or which program this is
 pub data Asked : Type 0 where
   run : (workers : ℕ) → (specs : List SpecSyntax) → Asked
   explain : (workers : ℕ) → (specs : List SpecSyntax) → Asked
   storm : (cycles binders : ℕ) → (is_flaky : Bool) → (specs : List SpecSyntax) → Asked
   check : (file : List ℕ) → Asked
-  translate : (scheduler : List ℕ) → (by_uid answers : Bool) → Asked
+  translate : (scheduler labels : List ℕ) → (by_uid answers : Bool) → Asked
   version : Asked
 
 -- the same, as the code has it
@@ -43,7 +43,7 @@ abbrev pub storm_planned : StormPlan → Asked
 storm_planned plan = storm plan.cycles plan.binders plan.is_flaky (map syntax_of plan.specs.items)
 
 abbrev pub translate_planned : TranslatePlan → Asked
-translate_planned plan = translate plan.scheduler.now plan.by_uid plan.answers
+translate_planned plan = translate plan.scheduler.now plan.labels.now plan.by_uid plan.answers
 
 abbrev pub asked_of : Words → Asked
 asked_of (Run plan) = run plan.workers (map syntax_of plan.specs.items)
@@ -122,10 +122,14 @@ storm_found rows =
 abbrev pub scheduler_found : List Row → List ℕ
 scheduler_found rows = unwrap_or (first_of (codes "scheduler") rows) (codes "default-scheduler")
 
+-- the keys of the labels that a site's rules read, with commas between them, or none
+abbrev pub labels_found : List Row → List ℕ
+labels_found rows = unwrap_or (first_of (codes "labels") rows) []
+
 -- the translation that is asked for
 abbrev pub translate_found : List Row → Asked
 translate_found rows =
-    translate (scheduler_found rows) (is_told (first_of (codes "by-uid") rows)) (is_told (first_of (codes "answers") rows))
+    translate (scheduler_found rows) (labels_found rows) (is_told (first_of (codes "by-uid") rows)) (is_told (first_of (codes "answers") rows))
 
 -- what is asked for by the command that `clap` found, and what it found behind it
 abbrev pub found : Option (Text × List Row) → Option Asked
@@ -169,7 +173,8 @@ check_command = with_rule (new_app (codes "check")) file_rule
 
 abbrev pub translate_command : App
 translate_command =
-    with_rule (with_rule (with_rule (new_app (codes "translate")) (option_rule (codes "scheduler"))) (flag_rule (codes "by-uid"))) (flag_rule (codes "answers"))
+    with_rule (with_rule (with_rule (with_rule (new_app (codes "translate")) (option_rule (codes "scheduler"))) (option_rule (codes "labels")))
+    (flag_rule (codes "by-uid"))) (flag_rule (codes "answers"))
 
 abbrev pub version_command : App
 version_command = new_app (codes "version")

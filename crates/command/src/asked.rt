@@ -42,6 +42,8 @@ pub struct StormPlan<'a> {
 pub struct TranslatePlan<'a> {
     /// The name of the scheduler whose pods are told.
     pub scheduler: &'a str,
+    /// The keys of the labels that the site's rules read, with commas between them. It is empty where none are named.
+    pub labels: &'a str,
     /// Whether pods are called by their uid.
     pub by_uid: bool,
     /// Whether each answer is an object that also says what is left out.

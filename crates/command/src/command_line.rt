@@ -2,7 +2,7 @@
 ghost use Rattle.std.specs.Prelude.{◌≡◌, ◌≤◌, Some, None, Err, true, false, map, option_map, IfErr, IfOk};
 ghost use Rattle.clap.specs.Words.{app_of, found_of, rows_of, rule_of, subcommand_of, subcommand_rows_of, with_rule, with_subcommand};
 ghost use Rattle.command.specs.Count.{most_of};
-ghost use Rattle.command.specs.Words.{are_taken, asked_of, check_command, command_line, file_rule, flag_rule, found, is_told, meaning, number_found, option_rule, plan_found, program, run_command, scheduler_found, specs_found, specs_rule, storm_command, storm_found, storm_planned, syntax_of, translate_command, translate_found, translate_planned, version_command};
+ghost use Rattle.command.specs.Words.{are_taken, asked_of, check_command, command_line, file_rule, flag_rule, found, is_told, labels_found, meaning, number_found, option_rule, plan_found, program, run_command, scheduler_found, specs_found, specs_rule, storm_command, storm_found, storm_planned, syntax_of, translate_command, translate_found, translate_planned, version_command};
 ghost use Rattle.command.specs.inside.Words.{IsLocal, planned};
 ghost use Rattle.command.specs.Within.{AreWithinLimits, IsPlan, IsStormPlan, IsWithin};
 
@@ -103,6 +103,7 @@ fn translate_command<'a>(alloc: Global) -> Result<Command<'a>, AllocError>
 {
     let translate = Command::new(alloc, "translate");
     let translate = with_argument(translate, option(alloc, "scheduler"))?;
+    let translate = with_argument(translate, option(alloc, "labels"))?;
     let translate = with_argument(translate, flag(alloc, "by-uid"))?;
     with_argument(translate, flag(alloc, "answers"))
 }
@@ -215,12 +216,23 @@ fn scheduler_behind<'a>(matches: &ArgMatches<'a>) -> &'a str
     }
 }
 
+// The keys of the labels that a site's rules read, which is empty where none are named.
+fn labels_behind<'a>(matches: &ArgMatches<'a>) -> &'a str
+    ensures { result.now ≡ labels_found (rows_of (found_of matches.now)) }
+{
+    match matches.get_str("labels") {
+        Some(keys) => keys,
+        None => "",
+    }
+}
+
 // The translation that was found behind a command.
 fn translate_of<'a>(matches: &ArgMatches<'a>) -> TranslatePlan<'a>
     ensures { translate_planned result ≡ translate_found (rows_of (found_of matches.now)) }
 {
     TranslatePlan {
         scheduler: scheduler_behind(matches),
+        labels: labels_behind(matches),
         by_uid: is_told(matches.get_str("by-uid")),
         answers: is_told(matches.get_str("answers")),
     }
@@ -276,7 +288,7 @@ fn found_in<'a, S: AsStr>(alloc: Global, args: &'a [S]) -> Result<ArgMatches<'a>
 }
 
 /// Reads the words that follow the program's name: `run [--workers N] [SPEC]...`, `explain` with the same words behind it,
-/// `storm [--cycles C] [--binders B] [--flaky] [SPEC]...`, `check MODULE`, `translate [--scheduler NAME] [--by-uid] [--answers]` or
+/// `storm [--cycles C] [--binders B] [--flaky] [SPEC]...`, `check MODULE`, `translate [--scheduler NAME] [--labels KEY,..] [--by-uid] [--answers]` or
 /// `version`.
 ///
 /// N is a whole number from 1 to 64, and 1 where it isn't told; C and B are from 1 to 8, and 2 where they aren't. A SPEC is `NAME:WEIGHT:FUEL:FILE`,

@@ -3,7 +3,7 @@
 //!
 //! `arguments` has the words that follow the program's name, and `words` says what they ask for:
 //! `run [--workers N] [SPEC]...`, `explain` with the same words behind it, or `storm [--cycles C] [--binders B] [--flaky] [SPEC]...`, where a
-//! SPEC is `NAME:WEIGHT:FUEL:FILE`, or `check MODULE`, or `translate [--scheduler NAME] [--by-uid] [--answers]`, or `version`. The words are
+//! SPEC is `NAME:WEIGHT:FUEL:FILE`, or `check MODULE`, or `translate [--scheduler NAME] [--labels KEY,..] [--by-uid] [--answers]`, or `version`. The words are
 //! read as `clap` reads them; `count` and `plugin_words` read what `clap` leaves as text.
 #![tactic(auto)]
 

@@ -10,17 +10,17 @@ use std::convert::AsStr;
 pub(crate) enum NextWord {
     /// An option, or the end of the options.
     Anything,
-    /// A scheduler's name.
+    /// A scheduler's name, or the keys of labels.
     Name,
     /// Nothing, since it would stand behind the end of the options.
     Nothing,
 }
 
-// Whether a word asks for a name behind it.
+// Whether a word asks for a name, or names, behind it.
 fn asks_name(word: &str) -> bool
     ensures { result ≡ asks_name word.now }
 {
-    word == "--scheduler"
+    word == "--scheduler" || word == "--labels"
 }
 
 // Whether a word ends the options.
@@ -36,6 +36,7 @@ fn is_option(word: &str) -> bool
 {
     asks_name(word)
         || word.as_bytes().starts_with(b"--scheduler=")
+        || word.as_bytes().starts_with(b"--labels=")
         || word == "--by-uid"
         || word == "--answers"
         || ends_options(word)

@@ -1,7 +1,7 @@
 use Rattle.std.proofs.Common.{◌∙◌, codes, ap}
 use Rattle.std.specs.Prelude.{unwrap_or}
 use Rattle.clap.proofs.WalkLemmas.{first_value-rows}
-use Rattle.clap.specs.Words.{found_of, rows_of}
+use Rattle.clap.specs.Words.{found_of}
 use Rattle.command.proofs.command_line.scheduler_behind.Goals as goal
 
 pub returns-in-Some : goal.returns-in-Some
