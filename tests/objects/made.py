@@ -16,7 +16,9 @@ EDGES = {
     "pods": ["150000", "150001", "149999999m", "150k", "0.15M", "110", "0", "-0", "110.9", "1e3"],
 }
 NONE = ["", ".", "+", "-", "1 ", " 1", "1.2.3", "--1", "1KiB", "e5", "1e", "1e+", "1e1.5", "0x10", "1,5", "１", "Ki", "1K", "1g", "1mi", "NaN", "inf"]
-NONE += ["1e100", "-1", "-1m", "-.5", "1e-100"]
+NONE += ["1e100", "-1", "-1m", "-.5", "1e-100", "1e0100"]
+# Exponents as an API server writes them back, since it keeps them as they were given.
+ZEROS = ["1e003", "1e+009", "1e-003", "5E0000000002", "0e100", "0e-100", "1e00", "+9", "9."]
 NO_TEXTS: list[Any] = [5, 1.5, True, [], {}, "1\n"]
 LETTERS, ODD = "abcxyz0189-_.", ["ü", " ", "=", ":", "\\", '"', "\u2028", "\x7f", ",", "~"]
 
@@ -40,6 +42,8 @@ class Made:
             return self.dice.choice(NO_TEXTS if turn < 0.0005 else NONE)
         if turn < 0.012:
             return self.dice.choice(EDGES[what])
+        if turn < 0.02:
+            return self.dice.choice(ZEROS)
         size = Decimal(most) * Decimal(10) ** Decimal(self.dice.uniform(-6, 0.02))
         suffix = self.dice.choice([*SCALES, "", "", "m", "Mi", "Gi"])
         scale = Decimal(SCALES[suffix])
@@ -82,6 +86,7 @@ class Made:
         """Few, or more than a row takes."""
         count = self.dice.choice([0, 1, 3, 8, 31, 32, 33, 45]) if self.dice.random() < 0.3 else self.dice.randrange(4)
         made = {self.odd(0.03, 40): self.odd(0.06, 30) for _ in range(count)}
+        made |= {key: self.odd(0.03, 30) for key in ("zone", "first", "data-class") if self.dice.random() < 0.3}
         return {key: self.some(0.003, lambda: self.dice.choice(NO_TEXTS[:4]), value) for key, value in made.items()}
 
     def meta(self, name: str, **more: Any) -> Json:
@@ -117,7 +122,7 @@ class Made:
         resources = {key: value for key, value in resources.items() if self.dice.random() < 0.8}
         if self.dice.random() < 0.02:
             other = self.dice.choice(["ephemeral-storage", "nvidia.com/gpu", "hugepages-2Mi"])
-            resources.setdefault(self.dice.choice(["requests", "limits"]), {})[other] = "1"
+            resources.setdefault(self.dice.choice(["requests", "limits"]), {})[other] = self.dice.choice(["1", "0", "0Mi", "0e5"])
         made: Json = {"name": self.name(), "image": "x", "resources": self.some(0.9, lambda: resources, None)}
         made["ports"] = [self.port() for _ in range(self.dice.randrange(3))]
         return made
@@ -170,14 +175,17 @@ class Made:
         meta = self.meta(name, namespace=dice.choice(["shop", "batch", "a-namespace-with-a-long-name"]))
         meta |= self.some(0.02, lambda: {"deletionTimestamp": dice.choice([None, "2026-11-26T08:00:00Z"])}, {})
         phase = dice.choice(["Running", "Pending", "Pending", "Succeeded", "Failed"]) if dice.random() < 0.3 else "Pending"
-        return {"kind": "Pod", "metadata": meta, "spec": spec, "status": self.some(0.95, lambda: {"phase": phase}, {})}
+        status: Json = self.some(0.95, lambda: {"phase": phase}, {})
+        status |= self.some(0.3, lambda: self.resized(spec), {})
+        return {"kind": "Pod", "metadata": meta, "spec": spec, "status": status}
 
     def spec(self) -> Json:
         """What it asks for."""
         dice = self.dice
         spec: Json = {"containers": [self.container() for _ in range(dice.choice([1, 1, 1, 2, 3, 20] if dice.random() < 0.2 else [1, 1, 2]))]}
         spec |= self.some(0.3, lambda: {"initContainers": [self.init() for _ in range(dice.choice([0, 1, 1, 2, 4, 18]))]}, {})
-        spec |= self.some(0.1, lambda: {"overhead": self.amounts()}, {})
+        spec |= self.some(0.1, lambda: {"overhead": self.amounts() | self.some(0.05, lambda: {"example.com/x": dice.choice(["1", "0"])}, {})}, {})
+        spec |= self.some(0.5, lambda: {"serviceAccountName": "default", "dnsPolicy": "ClusterFirst", "terminationGracePeriodSeconds": 30}, {})
         spec |= self.some(0.02, lambda: {"resources": dice.choice([{}, {"requests": self.amounts()}, {"limits": self.amounts()}])}, {})
         spec |= self.some(0.03, lambda: {"nodeSelector": dice.choice([{}, {"zone": "a"}])}, {})
         spec |= self.some(0.15, lambda: {"affinity": self.some(0.9, self.affinity, {})}, {})
@@ -194,5 +202,49 @@ class Made:
         return {"maxSkew": 1} | dict(self.some(0.8, lambda: {"whenUnsatisfiable": self.dice.choice(["ScheduleAnyway", "ScheduleAnyway", "DoNotSchedule"])}, {}))
 
     def event(self, thing: Json) -> Json:
-        """One that a watch tells of an object."""
-        return {"type": self.dice.choice(["ADDED", "MODIFIED", "MODIFIED", "DELETED", "BOOKMARK"]), "object": thing}
+        """One that a watch tells of an object, and seldom one that it never would."""
+        types = ["ADDED", "MODIFIED", "MODIFIED", "DELETED", "BOOKMARK"]
+        return {"type": self.some(0.005, lambda: self.dice.choice(["ERROR", "", None, 5]), self.dice.choice(types)), "object": thing}
+
+    # What an API never has, and what other APIs have.
+
+    def resized(self, spec: Json) -> Json:
+        """What a status says that containers hold."""
+        def status(one: Json) -> Json:
+            said = {"name": one["name"], "allocatedResources": self.some(0.8, lambda: self.amounts(0.8), None)}
+            return said | dict(self.some(0.6, lambda: {"resources": self.some(0.9, lambda: {"requests": self.amounts(), "limits": self.amounts(0.3)}, {})}, {}))
+
+        keys = (("containers", "containerStatuses"), ("initContainers", "initContainerStatuses"))
+        found: Json = {said: [status(it) for it in spec.get(key) or [] if self.dice.random() < 0.9] for key, said in keys}
+        for said in found.values():
+            self.dice.shuffle(said)
+        found |= self.some(0.1, lambda: {"allocatedResources": self.amounts(), "resources": {"requests": self.amounts()}}, {})
+        return found | dict(self.some(0.02, lambda: {self.dice.choice([said for _, said in keys]): self.dice.choice(["x", {}, [5], [{"name": 5}], None])}, {}))
+
+    def odd_shape(self, thing: Json) -> Json:
+        """A pod, and seldom one of a raw list, of another API, or with a value of another type."""
+        if self.dice.random() > 0.05:
+            return thing
+        return self.dice.choice([self.raw, self.of_another, self.odd_spec, self.odd_spec])(thing)
+
+    def raw(self, thing: Json) -> Json:
+        """As a raw list has it."""
+        return {key: value for key, value in thing.items() if key != "kind"}
+
+    def of_another(self, thing: Json) -> Json:
+        """Of another kind or another API, or of none."""
+        versions: list[Any] = ["v1", "v1", "example.com/v1", 5, None]
+        kinds: list[Any] = ["List", "Deployment", 5, None, "pod"]
+        if self.dice.random() < 0.6:
+            return thing | {"apiVersion": self.dice.choice(versions)}
+        return thing | {"kind": self.dice.choice(kinds)} | dict(self.some(0.5, lambda: {"items": []}, {}))
+
+    def odd_spec(self, thing: Json) -> Json:
+        """With a spec as no API has it, or as a later one may."""
+        spec, other = thing["spec"], self.dice.choice(["x", ["8Gi"], 5])
+        one = self.dice.choice([{"resources": other}, {"resources": {"requests": other}}, {"resources": {"limits": other}}])
+        later: list[Json] = [{"affinity": {"gangAffinity": {}}}, {"podGroup": "a"}, {"later": []}, {"os": {}}]
+        listed = [{"containers": it} for it in ([one], [one, *spec["containers"]], ["x"], [], None, "x")]
+        odd = [*later, *listed, {"affinity": "zone a"}, {"affinity": {"nodeAffinity": 5}}, {"nodeName": 5}, {"nodeName": ["a"]}, {"nodeName": {}}]
+        none: list[Any] = [None, "x", [], 5]
+        return thing | {"spec": self.dice.choice(none) if self.dice.random() < 0.1 else spec | self.dice.choice(odd)}

@@ -27,3 +27,8 @@ untyped_added old mid new refusal fault is a b =
 pub three_added : (old first second new a b c : List ℕ) → first ≡ old ++ a → second ≡ first ++ b → new ≡ second ++ c → new ≡ old ++ (a ++ b ++ c)
 three_added old first second new a b c p q r =
     r ∙ (ap (λ m. m ++ c) (q ∙ (ap (λ m. m ++ b) p ∙ append_assoc old a b)) ∙ append_assoc old (a ++ b) c)
+
+pub four_added : (old first second third new a b c d : List ℕ) → first ≡ old ++ a → second ≡ first ++ b → third ≡ second ++ c → new ≡ third ++ d
+    → new ≡ old ++ (a ++ b ++ c ++ d)
+four_added old first second third new a b c d p q r s =
+    s ∙ (ap (λ m. m ++ d) (three_added old first second third a b c p q r) ∙ append_assoc old (a ++ b ++ c) d)

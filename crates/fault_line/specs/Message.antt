@@ -65,6 +65,10 @@ misuse_text misuse.Together = []
 abbrev pub usage : List ℕ
 usage = codes "\nusage: wsched run [--workers N] [SPEC]...\n       wsched explain [--workers N] [SPEC]...\n       wsched storm [--cycles C] [--binders B] [--flaky] [SPEC]...\n       wsched check MODULE\n       wsched translate [--scheduler NAME] [--by-uid] [--answers]\n       wsched version\na SPEC is NAME:WEIGHT:FUEL:FILE"
 
+-- what is to be done about a line that may be a pod on a node that can't be counted
+abbrev pub count_it : List ℕ
+count_it = codes "; it may be a pod on a node, and no script line can count it: --answers says why, and kubectl get .. -o json | jq -c '.items[]' gives one object a line"
+
 -- why the program ended early
 abbrev pub text_of : Fault → List ℕ
 text_of (Words fault) = fault_text (number_of fault) (name_of fault)
@@ -72,7 +76,7 @@ text_of (Misused misuse) = fault_text (number_of BadWords) (name_of BadWords) ++
 text_of (Plugin name refusal) = codes "plugin " ++ name ++ codes ": " ++ refusal_text refusal
 text_of (Unread name) = codes "plugin " ++ name ++ codes ": " ++ fault_text (run.number_of Read) (run.name_of Read)
 text_of (Run fault) = run_text fault
-text_of (Uncounted number) = codes "line " ++ decimal number ++ codes ": 6 Uncounted"
+text_of (Uncounted number) = codes "line " ++ decimal number ++ codes ": 6 Uncounted" ++ count_it
 
 -- the line that tells it
 unfoldable pub message_of : Fault → List ℕ

@@ -26,8 +26,8 @@ pub enum Fault {
     /// The run of a script ended early.
     #[error("{0}")]
     Run(RunFault),
-    /// The object on the line of this number, counted from 1, can't be counted: it is a pod on a node, and no line of a script can
-    /// call it by a name, or there is no version left.
+    /// The line of this number, counted from 1, can't be counted: it may be a pod on a node, and no line of a script can say that it
+    /// is there, or there is no version left.
     #[error("line {0}: 6 Uncounted")]
     Uncounted(u64),
 }

@@ -23,6 +23,10 @@ const MAX_MESSAGE: usize = 400;
 const USAGE: &[u8] =
     b"\nusage: wsched run [--workers N] [SPEC]...\n       wsched explain [--workers N] [SPEC]...\n       wsched storm [--cycles C] [--binders B] [--flaky] [SPEC]...\n       wsched check MODULE\n       wsched translate [--scheduler NAME] [--by-uid] [--answers]\n       wsched version\na SPEC is NAME:WEIGHT:FUEL:FILE";
 
+// What is to be done about a line that may be a pod on a node that can't be counted.
+const COUNT_IT: &[u8] =
+    b"; it may be a pod on a node, and no script line can count it: --answers says why, and kubectl get .. -o json | jq -c '.items[]' gives one object a line";
+
 /// A line that is made without memory, so that want of memory can be told.
 pub type Message = ArrayVec<u8, MAX_MESSAGE>;
 
@@ -182,15 +186,16 @@ fn push_unread(message: &mut Message, name: &Name)
     push_fault(message, fault.number(), fault.name());
 }
 
-// Adds that the object on the line of this number can't be counted.
+// Adds that the object on the line of this number can't be counted, and what is to be done.
 fn push_uncounted(message: &mut Message, number: u64)
-    requires { length message.old.items + 60 ≤ 400 }
+    requires { length message.old.items + 200 ≤ 400 }
     ensures text { message.new.items ≡ message.old.items ++ text_of (Uncounted number) }
-    ensures len { length message.new.items ≤ length message.old.items + 60 }
+    ensures len { length message.new.items ≤ length message.old.items + 200 }
 {
     push(message, b"line ");
     push_number(message, number);
     push(message, b": 6 Uncounted");
+    push(message, COUNT_IT);
 }
 
 // The line that tells a fault.

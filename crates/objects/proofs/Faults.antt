@@ -1,5 +1,5 @@
 -- What is told of an object in place of a row.
-use Rattle.std.proofs.Common.{◌≡◌, ℕ, Bool, true, List, [], ◌∷◌, Option, Result, Ok, Err, refl, sym}
+use Rattle.std.proofs.Common.{◌≡◌, ℕ, Bool, true, List, [], ◌∷◌, Option, Result, Ok, Err, refl, sym, ap}
 use Rattle.serde_json.specs.Data.{Data}
 use Rattle.quant.specs.declared.version.Version.{Version}
 use Rattle.quant.specs.declared.event.Event.{Event}
@@ -7,12 +7,13 @@ use Rattle.objects.specs.declared.change.Change.{Change}
 use Rattle.objects.specs.declared.change.Change.TheVariants.{Gone}
 use Rattle.objects.specs.declared.gone.Kind.TheVariants as kinds
 use Rattle.objects.specs.declared.fault.ObjectFault.{ObjectFault}
-use Rattle.objects.specs.declared.fault.ObjectFault.TheVariants.{BadField, BadName, Quantity, TooMany, PodResources, TooLarge, NoMemory}
+use Rattle.objects.specs.declared.fault.ObjectFault.TheVariants.{LongLine, NotJson, UnknownEvent, IsList, BadField, BadName, Quantity, TooMany, PodResources, TooLarge, NoMemory}
 use Rattle.objects.specs.Reading.{Fails, Gives}
 use Rattle.objects.specs.LeftOut.{refused}
 use Rattle.objects.specs.NodeRow.{node_row}
 use Rattle.objects.specs.PodRow.{pod_row}
-use Rattle.objects.specs.Told.{Told, gone_if, node_of, node_told, waiting_row, kept_back, waiting_told, has_ended, pod_told}
+use Rattle.objects.specs.Site.{Site}
+use Rattle.objects.specs.Told.{Told, uncountable, told_or_uncounted, gone_if, node_of, node_told, waiting_row, kept_back, waiting_told, has_ended, pod_told}
 use Rattle.objects.specs.inside.Gone.{gone, name_of, as_told}
 use Rattle.objects.proofs.Changes.{still_there}
 
@@ -22,6 +23,10 @@ by_fault : {Y : Type 0} (fault : ObjectFault) (meaning : Result Y ObjectFault) (
     → (¬ (fault ≡ NoMemory) → Gives (as_told out) result (Ok instead)) → (fault ≡ NoMemory → result ≡ Err NoMemory)
     → Gives (as_told out) result (Ok (told meaning))
 by_fault NoMemory meaning out result told instead f e h m = rw (m refl) tt
+by_fault LongLine meaning out result told instead f e h m = rw (f, e) (h (λ x. cc))
+by_fault NotJson meaning out result told instead f e h m = rw (f, e) (h (λ x. cc))
+by_fault UnknownEvent meaning out result told instead f e h m = rw (f, e) (h (λ x. cc))
+by_fault IsList meaning out result told instead f e h m = rw (f, e) (h (λ x. cc))
 by_fault (BadField key) meaning out result told instead f e h m = rw (f, e) (h (λ x. cc))
 by_fault (BadName key) meaning out result told instead f e h m = rw (f, e) (h (λ x. cc))
 by_fault (Quantity key why) meaning out result told instead f e h m = rw (f, e) (h (λ x. cc))
@@ -29,37 +34,51 @@ by_fault (TooMany key) meaning out result told instead f e h m = rw (f, e) (h (�
 by_fault PodResources meaning out result told instead f e h m = rw (f, e) (h (λ x. cc))
 by_fault TooLarge meaning out result told instead f e h m = rw (f, e) (h (λ x. cc))
 
-pub node_fault : (became : Change) (version : Version) (by_uid : Bool) (json : Data) (fault : ObjectFault) (out : List ℕ) (result : Result (Option Event) ObjectFault)
-    → ¬ (became ≡ Gone) → Fails fault (node_row json)
+pub node_fault : (site : Site) (became : Change) (version : Version) (by_uid : Bool) (json : Data) (fault : ObjectFault) (out : List ℕ) (result : Result (Option Event) ObjectFault)
+    → ¬ (became ≡ Gone) → Fails fault (node_row site.labels json)
     → (¬ (fault ≡ NoMemory) → Gives (as_told out) result (Ok (gone_if became (gone kinds.Node version) (name_of kinds.Node by_uid json) (refused fault))))
     → (fault ≡ NoMemory → result ≡ Err NoMemory)
-    → Gives (as_told out) result (Ok (node_told became version json))
+    → Gives (as_told out) result (Ok (node_told site became version json))
 unfolding node_told
-node_fault became version by_uid json fault out result there f h m =
-    rw (still_there became _ (node_of became version json (node_row json)) there)
-    (by_fault fault (node_row json) out result (node_of became version json) (gone_if became (gone kinds.Node version) (name_of kinds.Node by_uid json) (refused fault)) f refl h m)
+node_fault site became version by_uid json fault out result there f h m =
+    rw (still_there became _ (node_of became version json (node_row site.labels json)) there)
+    (by_fault fault (node_row site.labels json) out result (node_of became version json) (gone_if became (gone kinds.Node version) (name_of kinds.Node by_uid json) (refused fault)) f refl h m)
 
-pub pod_fault : (by_uid : Bool) (became : Change) (version : Version) (json : Data) (fault : ObjectFault) (out : List ℕ) (result : Result (Option Event) ObjectFault)
-    → Fails fault (pod_row by_uid json)
+pub pod_fault : (site : Site) (by_uid : Bool) (became : Change) (version : Version) (json : Data) (fault : ObjectFault) (out : List ℕ) (result : Result (Option Event) ObjectFault)
+    → Fails fault (pod_row site.labels by_uid json)
     → (¬ (fault ≡ NoMemory) → Gives (as_told out) result (Ok (gone_if became (gone kinds.Pod version) (name_of kinds.Pod by_uid json) (refused fault))))
     → (fault ≡ NoMemory → result ≡ Err NoMemory)
-    → Gives (as_told out) result (Ok (waiting_row by_uid became version json (pod_row by_uid json)))
-pod_fault by_uid became version json fault out result f h m =
-    by_fault fault (pod_row by_uid json) out result (waiting_row by_uid became version json)
+    → Gives (as_told out) result (Ok (waiting_row by_uid became version json (pod_row site.labels by_uid json)))
+pod_fault site by_uid became version json fault out result f h m =
+    by_fault fault (pod_row site.labels by_uid json) out result (waiting_row by_uid became version json)
     (gone_if became (gone kinds.Pod version) (name_of kinds.Pod by_uid json) (refused fault)) f refl h m
 
-pub held_back : (scheduler : List ℕ) (by_uid : Bool) (became : Change) (version : Version) (spec pod : Data) (out : List ℕ) (result : Result (Option Event) ObjectFault)
-    → ¬ (out ≡ []) → out ≡ kept_back scheduler spec pod
+pub held_back : (site : Site) (by_uid : Bool) (became : Change) (version : Version) (spec pod : Data) (out : List ℕ) (result : Result (Option Event) ObjectFault)
+    → ¬ (out ≡ []) → out ≡ kept_back site spec pod
     → Gives (as_told out) result (Ok (gone_if became (gone kinds.Pod version) (name_of kinds.Pod by_uid pod) out))
-    → Gives (as_told out) result (Ok (waiting_told scheduler by_uid became version spec pod))
+    → Gives (as_told out) result (Ok (waiting_told site by_uid became version spec pod))
 unfolding waiting_told
-held_back scheduler by_uid became version spec pod [] result some e h = absurd (some refl)
-held_back scheduler by_uid became version spec pod (x ∷ more) result some e h = rw (sym e) h
+held_back site by_uid became version spec pod [] result some e h = absurd (some refl)
+held_back site by_uid became version spec pod (x ∷ more) result some e h = rw (sym e) h
 
-pub ended : (scheduler : List ℕ) (by_uid : Bool) (became : Change) (version : Version) (json : Data) (out : List ℕ) (result : Result (Option Event) ObjectFault)
+pub ended : (site : Site) (by_uid : Bool) (became : Change) (version : Version) (json : Data) (out : List ℕ) (result : Result (Option Event) ObjectFault)
     → ¬ (became ≡ Gone) → has_ended json ≡ true → out ≡ []
     → Gives (as_told out) result (Ok (gone_if became (gone kinds.Pod version) (name_of kinds.Pod by_uid json) out))
-    → Gives (as_told out) result (pod_told scheduler by_uid became version json)
+    → Gives (as_told out) result (pod_told site by_uid became version json)
 unfolding pod_told
-ended scheduler by_uid became version json [] result there over none h = rw (still_there became _ _ there, over) h
-ended scheduler by_uid became version json (x ∷ more) result there over none h = cc
+ended site by_uid became version json [] result there over none h = rw (still_there became _ _ there, over) h
+ended site by_uid became version json (x ∷ more) result there over none h = cc
+
+-- a line that may be a pod on a node, by its fault
+pub uncounted : (fault : ObjectFault) (meaning : Result Told ObjectFault) → ¬ (fault ≡ NoMemory) → Fails fault meaning → told_or_uncounted meaning ≡ uncountable fault
+uncounted LongLine meaning h e = ap told_or_uncounted e
+uncounted NotJson meaning h e = ap told_or_uncounted e
+uncounted UnknownEvent meaning h e = ap told_or_uncounted e
+uncounted IsList meaning h e = ap told_or_uncounted e
+uncounted (BadField key) meaning h e = ap told_or_uncounted e
+uncounted (BadName key) meaning h e = ap told_or_uncounted e
+uncounted (Quantity key why) meaning h e = ap told_or_uncounted e
+uncounted (TooMany key) meaning h e = ap told_or_uncounted e
+uncounted PodResources meaning h e = ap told_or_uncounted e
+uncounted TooLarge meaning h e = ap told_or_uncounted e
+uncounted NoMemory meaning h e = absurd (h refl)

@@ -6,12 +6,18 @@ use Rattle.serde_json.specs.View.{view, items_view, members_view}
 use Rattle.serde_json.specs.declared.value.Value.{Value, Array, Object}
 use Rattle.serde_json.proofs.Views.{Entry, view-Array, view-Object}
 use Rattle.objects.specs.Container.{count}
+use Rattle.objects.specs.Labels.{count_members}
 use Rattle.objects.specs.Field.{is_something}
 
 -- an array has as many items as the list that holds them has elements
 pub count_of_items_view : (xs : List Value) → count (items_view xs) ≡ length xs
 count_of_items_view [] = refl
 count_of_items_view (x ∷ xs) = ap suc (count_of_items_view xs)
+
+-- an object has as many members as the map that holds them has entries
+pub count_of_members_view : (es : List Entry) → count_members (members_view es) ≡ length es
+count_of_members_view [] = refl
+count_of_members_view (e ∷ es) = ap suc (count_of_members_view es)
 
 -- something stands in an array that isn't empty, and in an object that isn't
 not_none : (n : ℕ) → not (suc n == 0) ≡ true

@@ -1,5 +1,6 @@
 pub mod RatioLemmas
 pub mod Places
+pub mod Passing
 pub mod Worth
 pub mod Items
 pub mod Peaks

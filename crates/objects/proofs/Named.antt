@@ -7,7 +7,7 @@ use Rattle.std.specs.declared.alloc.Global.{Global}
 use Rattle.serde_json.specs.Data.{Data}
 use Rattle.serde_json.specs.View.{view, items_view, members_view}
 use Rattle.serde_json.specs.declared.value.Value.{Value}
-use Rattle.objects.specs.Demands.{each_item, other_resource, other_resources}
+use Rattle.objects.specs.Demands.{each_item, other_resource, other_resources, other_field, other_fields}
 
 -- one item more, and no more
 pub item_more : (f : Data → List ℕ) (xs : List Value) (i : ℕ) (x : Value) (old new : List ℕ) → i < length xs → x ≡ get_or xs i x → new ≡ old ++ f (view x)
@@ -23,9 +23,17 @@ items_done f xs i old new h e = sym (e ∙ ap (λ ys. new ++ each_item f (items_
 
 -- one member more
 pub resource_more : (named : List ℕ → Bool) (all rest : List (String Global × Value)) (m : String Global × Value) (old new : List ℕ)
-    → all ≡ m ∷ rest → new ≡ old ++ other_resource named (string_bytes m.0)
+    → all ≡ m ∷ rest → new ≡ old ++ other_resource named (string_bytes m.0) (view m.1)
     → old ++ other_resources named (members_view all) ≡ new ++ other_resources named (members_view rest)
 resource_more named all rest m old new is e =
     ap (λ ms. old ++ other_resources named (members_view ms)) is
-    ∙ sym (append_assoc old (other_resource named (string_bytes m.0)) (other_resources named (members_view rest)))
+    ∙ sym (append_assoc old (other_resource named (string_bytes m.0) (view m.1)) (other_resources named (members_view rest)))
     ∙ ap (λ l. l ++ other_resources named (members_view rest)) (sym e)
+
+pub field_more : (all rest : List (String Global × Value)) (m : String Global × Value) (old new : List ℕ)
+    → all ≡ m ∷ rest → new ≡ old ++ other_field (string_bytes m.0) (view m.1)
+    → old ++ other_fields (members_view all) ≡ new ++ other_fields (members_view rest)
+field_more all rest m old new is e =
+    ap (λ ms. old ++ other_fields (members_view ms)) is
+    ∙ sym (append_assoc old (other_field (string_bytes m.0) (view m.1)) (other_fields (members_view rest)))
+    ∙ ap (λ l. l ++ other_fields (members_view rest)) (sym e)

@@ -5,7 +5,7 @@ use Rattle.quant.specs.declared.amount.Request.{Request}
 use Rattle.quant.specs.Request.{request_of}
 use Rattle.quant.proofs.RequestLemmas.{request_of_own}
 use Rattle.objects.specs.declared.fault.ObjectFault.{ObjectFault}
-use Rattle.objects.specs.declared.fault.ObjectFault.TheVariants.{BadField, BadName, Quantity, TooMany, PodResources, TooLarge, NoMemory}
+use Rattle.objects.specs.declared.fault.ObjectFault.TheVariants.{LongLine, NotJson, UnknownEvent, IsList, BadField, BadName, Quantity, TooMany, PodResources, TooLarge, NoMemory}
 use Rattle.objects.specs.LeftOut.{refused}
 use Rattle.objects.specs.Reading.{Fails}
 use Rattle.objects.specs.Counted.{at_most, request_fault}
@@ -24,6 +24,10 @@ same_request r cpu memory cpu_is memory_is =
 -- a fault other than that the pod asks for resources as a whole
 pub other_fault : (fault : ObjectFault) (spec : Data) (meaning : Result Request ObjectFault) → (fault ≡ NoMemory → ⊥) → (fault ≡ PodResources → ⊥)
     → Fails fault meaning → request_fault spec meaning ≡ refused fault
+other_fault LongLine spec meaning memory whole e = ap (request_fault spec) e
+other_fault NotJson spec meaning memory whole e = ap (request_fault spec) e
+other_fault UnknownEvent spec meaning memory whole e = ap (request_fault spec) e
+other_fault IsList spec meaning memory whole e = ap (request_fault spec) e
 other_fault (BadField key) spec meaning memory whole e = ap (request_fault spec) e
 other_fault (BadName key) spec meaning memory whole e = ap (request_fault spec) e
 other_fault (Quantity key fault) spec meaning memory whole e = ap (request_fault spec) e

@@ -23,22 +23,26 @@ use Rattle.objects.specs.declared.change.Change.TheVariants.{There, Changed, Gon
 use Rattle.objects.specs.declared.fault.QuantityFault.{QuantityFault}
 use Rattle.objects.specs.declared.fault.QuantityFault.TheVariants as amounts
 use Rattle.objects.specs.declared.fault.ObjectFault.{ObjectFault}
-use Rattle.objects.specs.declared.fault.ObjectFault.TheVariants.{BadField, BadName, Quantity, TooMany, PodResources, TooLarge, NoMemory}
+use Rattle.objects.specs.declared.fault.ObjectFault.TheVariants.{LongLine, NotJson, UnknownEvent, IsList, BadField, BadName, Quantity, TooMany, PodResources, TooLarge, NoMemory}
 use Rattle.objects.specs.declared.translation.TheConstants.{MAX_OBJECT}
 use Rattle.objects.specs.Quantity.{◌>>=◌}
 use Rattle.objects.specs.Key.{key_of}
-use Rattle.objects.specs.Reading.{field, within}
+use Rattle.objects.specs.Reading.{said, field, within}
 use Rattle.objects.specs.LeftOut.{shown, left_out, left_out_if, amount_refused, refused}
 use Rattle.objects.specs.Field.{name_at, flag_of, members_of, items_of, says, is_given, spelled, is_text_of}
-use Rattle.objects.specs.Labels.{Kept, label_of, with_label, labels_of}
+use Rattle.quant.specs.declared.limits.TheConstants.{MAX_LABELS}
+use Rattle.objects.specs.Labels.{Kept, label_of, is_named, named_labels, with_label, unless_named, other_labels, count_members, all_labels, row_labels}
 use Rattle.objects.specs.NodeRow.{NodeTold, is_told, node_row}
 use Rattle.objects.specs.NodeRow as node
-use Rattle.objects.specs.Demands.{each_item, items_give, array_gives, affinity, is_wished, required_spread, wished_spread, is_tied, volume, node_port, host_port_of, host_port, is_reckoned, other_resource, other_resources, members_give, object_gives, has, resources_of, container, containers, placement, demands, wishes}
+use Rattle.objects.specs.Demands.{each_item, items_give, array_gives, affinity, asks_spread, is_read_affinity, is_nothing, is_known, other_field, other_fields, fields_of, is_tied, volume, node_port, host_port_of, host_port, is_reckoned, other_resource, other_resources, members_give, object_gives, has, resources_of, container, containers, placement, demands, wishes}
 use Rattle.objects.specs.Allocatable.{allocatable}
 use Rattle.objects.specs.PodRow.{PodTold, pod_name, priority, toleration_of, with_toleration, tolerations_of, pod_row}
 use Rattle.objects.specs.PodRequest.{pod_request}
-use Rattle.objects.specs.Counted.{first_fault, whole_memory, whole_fault, request_fault, counted_left_out}
-use Rattle.objects.specs.Told.{Told, nothing, unless_gone, gone_if, gone_told, in_metadata, node_of, node_told, waiting_row, scheduler_of, kept_back, waiting_of, waiting_told, bound_as, bound_told, has_ended, ended_told, placed_told, spec_told, there_told, pod_told, object_told, change_of, changed_told, event_told, value_told, parsed, parsed_told, told}
+use Rattle.objects.specs.Counted.{first_fault, whole_memory, whole_fault, request_fault, counted_left_out, is_held_read, held_left_out}
+use Rattle.objects.specs.declared.gone.Kind.{Kind}
+use Rattle.objects.specs.declared.gone.Kind.TheVariants as kinds
+use Rattle.objects.specs.Site.{Site}
+use Rattle.objects.specs.Told.{Told, nothing, unless_gone, gone_if, gone_told, in_metadata, node_of, node_told, waiting_row, scheduler_of, kept_back, waiting_of, waiting_told, bound_as, bound_told, has_ended, ended_told, node_name, placed_told, spec_told, there_told, pod_told, kind_of, kind_told, object_told, change_of, is_bookmark, changed_told, event_told, value_told, is_blank, parsed, parsed_told, text_told, line_told, told_or_uncounted, told}
 use Rattle.objects.specs.Shown.{stands_for_itself, in_marks, AreTexts, NamesAreTexts}
 
 -- what keeps texts texts
@@ -91,6 +95,10 @@ why_plain amounts.Negative = refl
 why_plain amounts.TooLarge = refl
 
 fault : (e : ObjectFault) → AreTexts (refused e)
+fault LongLine = one (codes "a line of more than 2 MiB") [] refl
+fault NotJson = one (codes "no JSON") [] refl
+fault UnknownEvent = one (codes "an event of another type") [] refl
+fault IsList = one (codes "a list, whose items are to stand on lines of their own") [] refl
 fault (BadField key) = one (codes "a field of another type: ") (key_of key) refl
 fault (BadName key) = one (codes "not a name or text of a script: ") (key_of key) refl
 fault (Quantity key why) = one (amount_refused why) (key_of key) (why_plain why)
@@ -115,14 +123,6 @@ array_texts : (f : Data → List ℕ) (otherwise : List ℕ) → ((d : Data) →
 array_texts f otherwise h o None = none
 array_texts f otherwise h o (Some value) = items_texts f otherwise h o (as_array value)
 
-required_texts : (d : Data) → AreTexts (required_spread d)
-unfolding required_spread
-required_texts d = one_if (not (is_wished d)) (codes "required topology spread") refl
-
-wished_texts : (d : Data) → AreTexts (wished_spread d)
-unfolding wished_spread
-wished_texts d = one_if (is_wished d) (codes "preferred topology spread") refl
-
 volume_texts : (d : Data) → AreTexts (volume d)
 unfolding volume
 volume_texts d = either (is_tied (as_object d)) (left_out (codes "volume ") (spelled keys.Name d)) [] (one (codes "volume ") (spelled keys.Name d) refl) none
@@ -142,8 +142,8 @@ port_texts d = port_of_texts (field keys.HostPort d)
 others_texts : (is_named : List ℕ → Bool) (found : Members) → AreTexts (other_resources is_named found)
 others_texts is_named no_members = none
 others_texts is_named (member key value rest) =
-    both (other_resource is_named key) (other_resources is_named rest)
-    (either (is_reckoned key || is_named key) [] (left_out (codes "resource ") key) none (one (codes "resource ") key refl)) (others_texts is_named rest)
+    both (other_resource is_named key value) (other_resources is_named rest)
+    (either (is_reckoned key || is_named key || is_nothing value) [] (left_out (codes "resource ") key) none (one (codes "resource ") key refl)) (others_texts is_named rest)
 
 members_texts : (is_named : List ℕ → Bool) (found : Option Members) → AreTexts (members_give is_named found)
 members_texts is_named None = one (codes "resources") [] refl
@@ -174,11 +174,26 @@ placement_texts spec =
     both _ _
     (both _ _
     (both _ _
+    (both _ _
     (both _ _ (one_if (is_given (field keys.NodeSelector spec)) (codes "node selector") refl)
     (one_if (is_given (affinity keys.NodeAffinity keys.Required spec)) (codes "required node affinity") refl))
     (one_if (is_given (affinity keys.PodAffinity keys.Required spec)) (codes "required pod affinity") refl))
     (one_if (is_given (affinity keys.PodAntiAffinity keys.Required spec)) (codes "required pod anti-affinity") refl))
-    (array_texts required_spread (left_out (codes "required topology spread") []) required_texts (one (codes "required topology spread") [] refl) (field keys.TopologySpread spec))
+    (one_if (not (is_read_affinity (field keys.Affinity spec))) (codes "affinity") refl))
+    (one_if (asks_spread false (field keys.TopologySpread spec)) (codes "required topology spread") refl)
+
+other_field_texts : (key : List ℕ) (value : Data) → AreTexts (other_field key value)
+unfolding other_field
+other_field_texts key value =
+    either (is_known key || not (is_given (said value))) [] (left_out (codes "field ") key) none (one (codes "field ") key refl)
+
+other_fields_texts : (found : Members) → AreTexts (other_fields found)
+other_fields_texts no_members = none
+other_fields_texts (member key value rest) = both (other_field key value) (other_fields rest) (other_field_texts key value) (other_fields_texts rest)
+
+fields_texts : (found : Option Members) → AreTexts (fields_of found)
+fields_texts None = none
+fields_texts (Some found) = other_fields_texts found
 
 demands_texts : (spec : Data) → AreTexts (demands spec)
 unfolding demands
@@ -187,12 +202,16 @@ demands_texts spec =
     (both _ _
     (both _ _
     (both _ _
+    (both _ _
+    (both _ _
     (both _ _ (placement_texts spec)
     (one_if (is_given (field keys.SchedulingGates spec)) (codes "scheduling gates") refl))
     (one_if (is_given (field keys.ResourceClaims spec)) (codes "resource claims") refl))
     (array_texts volume (left_out (codes "volume ") []) volume_texts (one (codes "volume ") [] refl) (field keys.Volumes spec)))
     (containers_texts keys.Containers spec))
-    (containers_texts keys.InitContainers spec)
+    (containers_texts keys.InitContainers spec))
+    (object_texts (has None) (field keys.Overhead spec)))
+    (fields_texts (as_object spec))
 
 wishes_texts : (spec : Data) → AreTexts (wishes spec)
 unfolding wishes
@@ -202,7 +221,7 @@ wishes_texts spec =
     (both _ _ (one_if (is_given (affinity keys.NodeAffinity keys.Preferred spec)) (codes "preferred node affinity") refl)
     (one_if (is_given (affinity keys.PodAffinity keys.Preferred spec)) (codes "preferred pod affinity") refl))
     (one_if (is_given (affinity keys.PodAntiAffinity keys.Preferred spec)) (codes "preferred pod anti-affinity") refl))
-    (array_texts wished_spread [] wished_texts none (field keys.TopologySpread spec))
+    (one_if (asks_spread true (field keys.TopologySpread spec)) (codes "preferred topology spread") refl)
 
 -- what a pod counts for
 
@@ -217,6 +236,10 @@ whole_texts spec = first_texts (whole_memory spec)
 request_texts : (spec : Data) (request : Result Request ObjectFault) → AreTexts (request_fault spec request)
 request_texts spec (Ok request) = none
 request_texts spec (Err PodResources) = whole_texts spec
+request_texts spec (Err LongLine) = fault LongLine
+request_texts spec (Err NotJson) = fault NotJson
+request_texts spec (Err UnknownEvent) = fault UnknownEvent
+request_texts spec (Err IsList) = fault IsList
 request_texts spec (Err (BadField key)) = fault (BadField key)
 request_texts spec (Err (BadName key)) = fault (BadName key)
 request_texts spec (Err (Quantity key why)) = fault (Quantity key why)
@@ -228,16 +251,30 @@ counted_texts : (pod spec : Data) → AreTexts (counted_left_out pod spec)
 unfolding counted_left_out
 counted_texts pod spec = request_texts spec (pod_request pod)
 
+held_texts : (pod spec : Data) → AreTexts (held_left_out pod spec)
+unfolding held_left_out
+held_texts pod spec = one_if (not (is_held_read pod spec)) (codes "what its status says that it holds") refl
+
 -- rows
 
 label_texts : (kept : Kept Label) (key : List ℕ) (label : Option Label) → AreTexts kept.left_out → AreTexts (with_label kept key label).left_out
 label_texts kept key None h = both kept.left_out (left_out (codes "label ") key) h (one (codes "label ") key refl)
 label_texts kept key (Some label) h = h
 
-labels_texts : (kept : Kept Label) (found : Members) → AreTexts kept.left_out → AreTexts (labels_of kept found).left_out
-labels_texts kept no_members h = h
-labels_texts kept (member key value rest) h =
-    labels_texts (with_label kept key (label_of kept.items key value)) rest (label_texts kept key (label_of kept.items key value) h)
+if_texts : (b : Bool) (x y : Kept Label) → AreTexts x.left_out → AreTexts y.left_out → AreTexts (cond b x y).left_out
+if_texts true x y p q = p
+if_texts false x y p q = q
+
+unless_named_texts : (names : List ℕ) (kept : Kept Label) (key : List ℕ) (value : Data) → AreTexts kept.left_out
+    → AreTexts (unless_named names kept key value).left_out
+unfolding unless_named
+unless_named_texts names kept key value h =
+    if_texts (is_named names key) kept (with_label kept key (label_of kept.items key value)) h (label_texts kept key (label_of kept.items key value) h)
+
+other_labels_texts : (names : List ℕ) (kept : Kept Label) (found : Members) → AreTexts kept.left_out → AreTexts (other_labels names kept found).left_out
+other_labels_texts names kept no_members h = h
+other_labels_texts names kept (member key value rest) h =
+    other_labels_texts names (unless_named names kept key value) rest (unless_named_texts names kept key value h)
 
 toleration_texts : (kept : Kept Toleration) (key : List ℕ) (toleration : Option Toleration) → AreTexts kept.left_out
     → AreTexts (with_toleration kept key toleration).left_out
@@ -268,36 +305,54 @@ bind_ok (Err e) f h = record { is = tt }
 last_ok : {B : Type 0} {P : B → Type 0} (x : B) → P x → OkIs P (Ok x)
 last_ok x h = record { is = h }
 
-node_row_texts : (json : Data) → OkIs (λ row. AreTexts row.left_out) (node_row json)
+bind_with : {A B : Type 0} {Q : A → Type 0} {P : B → Type 0} (r : Result A ObjectFault) (f : A → Result B ObjectFault) → OkIs Q r
+    → ((x : A) → Q x → OkIs P (f x)) → OkIs P (r >>= f)
+bind_with (Ok x) f q h = h x q.is
+bind_with (Err e) f q h = record { is = tt }
+
+either_is : {B : Type 0} {P : B → Type 0} (b : Bool) (x y : Result B ObjectFault) → OkIs P x → OkIs P y → OkIs P (cond b x y)
+either_is true x y p q = p
+either_is false x y p q = q
+
+labels_texts : (names left : List ℕ) (found : Members) → AreTexts left → OkIs (λ kept. AreTexts kept.left_out) (row_labels names left found)
+unfolding row_labels
+labels_texts names left found h =
+    either_is (nat_le (count_members found) MAX_LABELS || nat_le 1 (length names)) (all_labels names left found) (Err (TooMany keys.Labels))
+    (bind_ok (named_labels names [] found) _ (λ first.
+    last_ok _ (other_labels_texts names (record { items = first; left_out = left }) found h)))
+    (record { is = tt })
+
+node_row_texts : (names : List ℕ) (json : Data) → OkIs (λ row. AreTexts row.left_out) (node_row names json)
 unfolding node_row
-node_row_texts json =
+node_row_texts names json =
     bind_ok (ok_or (field keys.Metadata json) (BadField keys.Metadata)) _ (λ meta.
     bind_ok (name_at keys.Name meta) _ (λ name.
     bind_ok (allocatable json) _ (λ room.
     bind_ok (node.taints (within keys.Spec keys.Taints json)) _ (λ taints.
     bind_ok (flag_of keys.Unschedulable (within keys.Spec keys.Unschedulable json)) _ (λ unschedulable.
-    bind_ok (members_of keys.Labels (field keys.Labels meta)) _ (λ labels.
+    bind_ok (members_of keys.Labels (field keys.Labels meta)) _ (λ found.
     bind_ok (members_of keys.Allocatable (within keys.Status keys.Allocatable json)) _ (λ resources.
-    last_ok _ (labels_texts (record { items = []; left_out = node.other_resources resources }) labels (node_resources_texts resources)))))))))
+    bind_with (row_labels names (node.other_resources resources) found) _ (labels_texts names (node.other_resources resources) found (node_resources_texts resources))
+    (λ kept h. last_ok _ h))))))))
 
-node_texts : (json : Data) → IfOk (node_row json) (λ row. AreTexts row.left_out)
-node_texts json = (node_row_texts json).is
+node_texts : (names : List ℕ) (json : Data) → IfOk (node_row names json) (λ row. AreTexts row.left_out)
+node_texts names json = (node_row_texts names json).is
 
-pod_row_texts : (by_uid : Bool) (json : Data) → OkIs (λ row. AreTexts row.left_out) (pod_row by_uid json)
+pod_row_texts : (names : List ℕ) (by_uid : Bool) (json : Data) → OkIs (λ row. AreTexts row.left_out) (pod_row names by_uid json)
 unfolding pod_row
-pod_row_texts by_uid json =
+pod_row_texts names by_uid json =
     bind_ok (ok_or (field keys.Metadata json) (BadField keys.Metadata)) _ (λ meta.
     bind_ok (ok_or (field keys.Spec json) (BadField keys.Spec)) _ (λ spec.
     bind_ok (pod_name by_uid meta) _ (λ uid.
     bind_ok (priority spec) _ (λ number.
     bind_ok (pod_request json) _ (λ request.
-    bind_ok (members_of keys.Labels (field keys.Labels meta)) _ (λ labels.
+    bind_ok (members_of keys.Labels (field keys.Labels meta)) _ (λ found.
     bind_ok (items_of keys.Tolerations (field keys.Tolerations spec)) _ (λ tolerations.
-    last_ok _ (tolerations_texts (record { items = []; left_out = (labels_of (record { items = []; left_out = wishes spec }) labels).left_out }) tolerations
-    (labels_texts (record { items = []; left_out = wishes spec }) labels (wishes_texts spec))))))))))
+    bind_with (row_labels names (wishes spec) found) _ (labels_texts names (wishes spec) found (wishes_texts spec))
+    (λ kept h. last_ok _ (tolerations_texts (record { items = []; left_out = kept.left_out }) tolerations h)))))))))
 
-pod_texts : (by_uid : Bool) (json : Data) → IfOk (pod_row by_uid json) (λ row. AreTexts row.left_out)
-pod_texts by_uid json = (pod_row_texts by_uid json).is
+pod_texts : (names : List ℕ) (by_uid : Bool) (json : Data) → IfOk (pod_row names by_uid json) (λ row. AreTexts row.left_out)
+pod_texts names by_uid json = (pod_row_texts names by_uid json).is
 
 -- what is told
 
@@ -322,38 +377,39 @@ unless_texts Gone gone there p q = p
 unless_texts There gone there p q = q
 unless_texts Changed gone there p q = q
 
-node_told_texts : (became : Change) (version : Version) (json : Data) → AreTexts (node_told became version json).left_out
+node_told_texts : (site : Site) (became : Change) (version : Version) (json : Data) → AreTexts (node_told site became version json).left_out
 unfolding node_told
-node_told_texts became version json =
-    unless_texts became _ (node_of became version json (node_row json))
-    (gone_texts (NodeGone version) (in_metadata (name_at keys.Name) json)) (node_of_texts became version json (node_row json) (node_texts json))
+node_told_texts site became version json =
+    unless_texts became _ (node_of became version json (node_row site.labels json))
+    (gone_texts (NodeGone version) (in_metadata (name_at keys.Name) json)) (node_of_texts became version json (node_row site.labels json) (node_texts site.labels json))
 
 waiting_row_texts : (by_uid : Bool) (became : Change) (version : Version) (json : Data) (row : Result PodTold ObjectFault) → IfOk row (λ r. AreTexts r.left_out)
     → AreTexts (waiting_row by_uid became version json row).left_out
 waiting_row_texts by_uid became version json (Ok row) h = h
 waiting_row_texts by_uid became version json (Err e) h = gone_if_texts became (PodGone version) (in_metadata (pod_name by_uid) json) (refused e) (fault e)
 
-kept_back_texts : (scheduler : List ℕ) (spec pod : Data) → AreTexts (kept_back scheduler spec pod)
+kept_back_texts : (site : Site) (spec pod : Data) → AreTexts (kept_back site spec pod)
 unfolding kept_back
-kept_back_texts scheduler spec pod =
+kept_back_texts site spec pod =
     both _ _
     (both _ _
-    (either (bytes_eq (scheduler_of spec) scheduler) [] (left_out (codes "it is for the scheduler ") (scheduler_of spec)) none
+    (either (bytes_eq (scheduler_of spec) site.scheduler) [] (left_out (codes "it is for the scheduler ") (scheduler_of spec)) none
     (one (codes "it is for the scheduler ") (scheduler_of spec) refl))
     (demands_texts spec))
     (one_if (is_some (within keys.Metadata keys.DeletionTimestamp pod)) (codes "it is being deleted") refl)
 
-waiting_of_texts : (by_uid : Bool) (became : Change) (version : Version) (json : Data) (kept : List ℕ) → AreTexts kept
-    → AreTexts (waiting_of by_uid became version json kept).left_out
-waiting_of_texts by_uid became version json [] h = waiting_row_texts by_uid became version json (pod_row by_uid json) (pod_texts by_uid json)
-waiting_of_texts by_uid became version json (x ∷ more) h =
+waiting_of_texts : (site : Site) (by_uid : Bool) (became : Change) (version : Version) (json : Data) (kept : List ℕ) → AreTexts kept
+    → AreTexts (waiting_of site by_uid became version json kept).left_out
+waiting_of_texts site by_uid became version json [] h =
+    waiting_row_texts by_uid became version json (pod_row site.labels by_uid json) (pod_texts site.labels by_uid json)
+waiting_of_texts site by_uid became version json (x ∷ more) h =
     gone_if_texts became (PodGone version) (in_metadata (pod_name by_uid) json) (x ∷ more) h
 
-waiting_texts : (scheduler : List ℕ) (by_uid : Bool) (became : Change) (version : Version) (spec pod : Data)
-    → AreTexts (waiting_told scheduler by_uid became version spec pod).left_out
+waiting_texts : (site : Site) (by_uid : Bool) (became : Change) (version : Version) (spec pod : Data)
+    → AreTexts (waiting_told site by_uid became version spec pod).left_out
 unfolding waiting_told
-waiting_texts scheduler by_uid became version spec pod =
-    waiting_of_texts by_uid became version pod (kept_back scheduler spec pod) (kept_back_texts scheduler spec pod)
+waiting_texts site by_uid became version spec pod =
+    waiting_of_texts site by_uid became version pod (kept_back site spec pod) (kept_back_texts site spec pod)
 
 abbrev OkTexts : Result Told ObjectFault → Type 0
 OkTexts found = IfOk found (λ t. AreTexts t.left_out)
@@ -373,61 +429,76 @@ bound_texts by_uid became version node spec pod =
     either_ok (is_name node) (in_metadata (pod_name by_uid) pod >>= bound_as version node spec pod)
     (Ok (gone_if became (PodGone version) (in_metadata (pod_name by_uid) pod) (left_out (codes "node ") node)))
     (bind_ok (in_metadata (pod_name by_uid) pod) (bound_as version node spec pod) (λ uid.
-    last_ok _ (both (counted_left_out pod spec) _ (counted_texts pod spec)
+    last_ok _ (both (counted_left_out pod spec ++ held_left_out pod spec) _
+    (both (counted_left_out pod spec) (held_left_out pod spec) (counted_texts pod spec) (held_texts pod spec))
     (one_if (is_given (affinity keys.PodAntiAffinity keys.Required spec)) (codes "required pod anti-affinity") refl)))).is
     (gone_if_texts became (PodGone version) (in_metadata (pod_name by_uid) pod) (left_out (codes "node ") node) (one (codes "node ") node refl))
 
-placed_texts : (scheduler : List ℕ) (by_uid : Bool) (became : Change) (version : Version) (spec pod : Data) (node : List ℕ)
-    → OkTexts (placed_told scheduler by_uid became version spec pod node)
-placed_texts scheduler by_uid became version spec pod [] = waiting_texts scheduler by_uid became version spec pod
-placed_texts scheduler by_uid became version spec pod (x ∷ more) = bound_texts by_uid became version (x ∷ more) spec pod
+placed_texts : (site : Site) (by_uid : Bool) (became : Change) (version : Version) (spec pod : Data) (node : List ℕ)
+    → OkTexts (placed_told site by_uid became version spec pod node)
+placed_texts site by_uid became version spec pod [] = waiting_texts site by_uid became version spec pod
+placed_texts site by_uid became version spec pod (x ∷ more) = bound_texts by_uid became version (x ∷ more) spec pod
 
-spec_texts : (scheduler : List ℕ) (by_uid : Bool) (became : Change) (version : Version) (pod : Data) (spec : Option Data)
-    → OkTexts (spec_told scheduler by_uid became version pod spec)
-spec_texts scheduler by_uid became version pod None = fault (BadField keys.Spec)
-spec_texts scheduler by_uid became version pod (Some spec) = placed_texts scheduler by_uid became version spec pod (spelled keys.NodeName spec)
+spec_texts : (site : Site) (by_uid : Bool) (became : Change) (version : Version) (pod : Data) (spec : Option Data)
+    → OkTexts (spec_told site by_uid became version pod spec)
+spec_texts site by_uid became version pod None = tt
+spec_texts site by_uid became version pod (Some spec) =
+    (bind_ok (node_name spec) (placed_told site by_uid became version spec pod) (λ node.
+    record { is = placed_texts site by_uid became version spec pod node })).is
 
-pod_told_texts : (scheduler : List ℕ) (by_uid : Bool) (became : Change) (version : Version) (json : Data) → OkTexts (pod_told scheduler by_uid became version json)
+pod_told_texts : (site : Site) (by_uid : Bool) (became : Change) (version : Version) (json : Data) → OkTexts (pod_told site by_uid became version json)
 unfolding pod_told
-pod_told_texts scheduler by_uid became version json =
-    unless_ok became (Ok (gone_told (PodGone version) (in_metadata (pod_name by_uid) json))) (there_told scheduler by_uid became version json)
+pod_told_texts site by_uid became version json =
+    unless_ok became (Ok (gone_told (PodGone version) (in_metadata (pod_name by_uid) json))) (there_told site by_uid became version json)
     (gone_texts (PodGone version) (in_metadata (pod_name by_uid) json))
-    (either_ok (has_ended json) (Ok (ended_told by_uid became version json)) (spec_told scheduler by_uid became version json (field keys.Spec json))
+    (either_ok (has_ended json) (Ok (ended_told by_uid became version json)) (spec_told site by_uid became version json (field keys.Spec json))
     (gone_if_texts became (PodGone version) (in_metadata (pod_name by_uid) json) [] none)
-    (spec_texts scheduler by_uid became version json (field keys.Spec json)))
+    (spec_texts site by_uid became version json (field keys.Spec json)))
 
-object_told_texts : (scheduler : List ℕ) (by_uid : Bool) (became : Change) (version : Version) (json : Data)
-    → OkTexts (object_told scheduler by_uid became version json)
+kind_texts : (site : Site) (by_uid : Bool) (became : Change) (version : Version) (json : Data) (kind : Option Kind)
+    → OkTexts (kind_told site by_uid became version json kind)
+kind_texts site by_uid became version json (Some kinds.Node) = node_told_texts site became version json
+kind_texts site by_uid became version json (Some kinds.Pod) = pod_told_texts site by_uid became version json
+kind_texts site by_uid became version json None =
+    either_ok (is_some (field keys.Items json)) (Err IsList) (Ok (nothing (left_out (codes "an object of the kind ") (spelled keys.Kind json)))) tt
+    (one (codes "an object of the kind ") (spelled keys.Kind json) refl)
+
+object_told_texts : (site : Site) (by_uid : Bool) (became : Change) (version : Version) (json : Data)
+    → OkTexts (object_told site by_uid became version json)
 unfolding object_told
-object_told_texts scheduler by_uid became version json =
-    either_ok (says keys.Kind (codes "Node") json) (Ok (node_told became version json)) _ (node_told_texts became version json)
-    (either_ok (says keys.Kind (codes "Pod") json) (pod_told scheduler by_uid became version json) _ (pod_told_texts scheduler by_uid became version json)
-    (one (codes "an object of the kind ") (spelled keys.Kind json) refl))
+object_told_texts site by_uid became version json =
+    (bind_ok (kind_of json) (kind_told site by_uid became version json) (λ kind.
+    record { is = kind_texts site by_uid became version json kind })).is
 
-changed_texts : (scheduler : List ℕ) (by_uid : Bool) (version : Version) (type : List ℕ) (json : Data) (became : Option Change)
-    → OkTexts (changed_told scheduler by_uid version type json became)
-changed_texts scheduler by_uid version type json None = one_if (not (bytes_eq type (codes "BOOKMARK"))) (codes "an event of another type") refl
-changed_texts scheduler by_uid version type json (Some became) = object_told_texts scheduler by_uid became version json
+changed_texts : (site : Site) (by_uid : Bool) (version : Version) (type : List ℕ) (json : Data) (became : Option Change)
+    → OkTexts (changed_told site by_uid version type json became)
+changed_texts site by_uid version type json None = either_ok (is_bookmark type) (Ok (nothing [])) (Err UnknownEvent) none tt
+changed_texts site by_uid version type json (Some became) = object_told_texts site by_uid became version json
 
-event_texts : (scheduler : List ℕ) (by_uid : Bool) (version : Version) (json : Data) (held : Option Data) → OkTexts (event_told scheduler by_uid version json held)
-event_texts scheduler by_uid version json None = object_told_texts scheduler by_uid There version json
-event_texts scheduler by_uid version json (Some held) =
-    changed_texts scheduler by_uid version (spelled keys.EventType json) held (change_of (spelled keys.EventType json))
+event_texts : (site : Site) (by_uid : Bool) (version : Version) (json : Data) (held : Option Data) → OkTexts (event_told site by_uid version json held)
+event_texts site by_uid version json None = object_told_texts site by_uid There version json
+event_texts site by_uid version json (Some held) =
+    changed_texts site by_uid version (spelled keys.EventType json) held (change_of (spelled keys.EventType json))
 
-value_texts : (scheduler : List ℕ) (by_uid : Bool) (version : Version) (json : Data) → OkTexts (value_told scheduler by_uid version json)
+value_texts : (site : Site) (by_uid : Bool) (version : Version) (json : Data) → OkTexts (value_told site by_uid version json)
 unfolding value_told
-value_texts scheduler by_uid version json = event_texts scheduler by_uid version json (field keys.Object json)
+value_texts site by_uid version json = event_texts site by_uid version json (field keys.Object json)
 
-parsed_texts : (scheduler : List ℕ) (by_uid : Bool) (version : Version) (found : Option Data) → OkTexts (parsed_told scheduler by_uid version found)
-parsed_texts scheduler by_uid version None = one (codes "no JSON") [] refl
-parsed_texts scheduler by_uid version (Some json) = value_texts scheduler by_uid version json
+parsed_texts : (site : Site) (by_uid : Bool) (version : Version) (found : Option Data) → OkTexts (parsed_told site by_uid version found)
+parsed_texts site by_uid version None = tt
+parsed_texts site by_uid version (Some json) = value_texts site by_uid version json
 
-told_texts : (scheduler : List ℕ) (by_uid : Bool) (version : Version) (line : List ℕ) → OkTexts (told scheduler by_uid version line)
-unfolding told
-told_texts scheduler by_uid version line =
-    either_ok (nat_le (length line) MAX_OBJECT) (parsed_told scheduler by_uid version (parsed line))
-    (Ok (nothing (left_out (codes "a line of more than 2 MiB") [])))
-    (parsed_texts scheduler by_uid version (parsed line)) (one (codes "a line of more than 2 MiB") [] refl)
+line_texts : (site : Site) (by_uid : Bool) (version : Version) (line : List ℕ) → OkTexts (line_told site by_uid version line)
+unfolding line_told
+line_texts site by_uid version line =
+    either_ok (nat_le (length line) MAX_OBJECT) (text_told site by_uid version line) (Err LongLine)
+    (either_ok (is_blank line) (Ok (nothing (left_out (codes "no JSON") []))) (parsed_told site by_uid version (parsed line))
+    (one (codes "no JSON") [] refl) (parsed_texts site by_uid version (parsed line))) tt
+
+or_texts : (r : Result Told ObjectFault) → OkTexts r → AreTexts (told_or_uncounted r).left_out
+or_texts (Ok t) h = h
+or_texts (Err e) h = fault e
 
 pub names_are_texts : NamesAreTexts
-names_are_texts scheduler by_uid version line found e = subst OkTexts e (told_texts scheduler by_uid version line)
+unfolding told
+names_are_texts site by_uid version line = or_texts (line_told site by_uid version line) (line_texts site by_uid version line)

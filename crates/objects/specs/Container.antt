@@ -12,7 +12,8 @@ use Rattle.objects.specs.declared.key.Key.TheVariants as keys
 use Rattle.objects.specs.declared.fault.ObjectFault.{ObjectFault}
 use Rattle.objects.specs.declared.fault.ObjectFault.TheVariants.{BadField, TooMany, TooLarge}
 use Rattle.objects.specs.Quantity.{◌>>=◌}
-use Rattle.objects.specs.Reading.{field, asked, overhead, cpu_if, memory_if}
+use Rattle.objects.specs.declared.reading.Part.TheVariants.{Asked, Overhead}
+use Rattle.objects.specs.Reading.{field, cpu_in, memory_in}
 
 -- a request, where it isn't too large
 abbrev pub whole : Result Request QuantFault → Result Request ObjectFault
@@ -29,11 +30,11 @@ is_always (Some value) = do
 unfoldable pub goes_on : Data → Result Bool ObjectFault
 goes_on json = is_always (field keys.RestartPolicy json)
 
--- what a container asks for, and whether it goes on running
-unfoldable pub container : Data → Result Container ObjectFault
-container json = do
-  cpu ← cpu_if (asked keys.Cpu json)
-  memory ← memory_if (asked keys.Memory json)
+-- what a container of this field asks for, and whether it goes on running
+unfoldable pub container : Key → Data → Result Container ObjectFault
+container key json = do
+  cpu ← cpu_in Asked key json
+  memory ← memory_in Asked key json
   goes_on ← goes_on json
   request ← whole (request_of cpu memory)
   Ok (record { request = request; goes_on = goes_on })
@@ -44,18 +45,18 @@ count no_items = 0
 count (item d ds) = suc (count ds)
 
 -- the containers of an array in their order; the first fault is told
-abbrev pub each : List Container → Items → Result (List Container) ObjectFault
-each before no_items = Ok before
-each before (item d ds) = do
-  x ← container d
-  each (before ++ x ∷ []) ds
+abbrev pub each : Key → List Container → Items → Result (List Container) ObjectFault
+each key before no_items = Ok before
+each key before (item d ds) = do
+  x ← container key d
+  each key (before ++ x ∷ []) ds
 
 -- the containers that a value lists, of which there are none where there is no value
 abbrev pub listed : Key → Option Data → Result (List Container) ObjectFault
 listed key None = Ok []
 listed key (Some value) = do
   found ← ok_or (as_array value) (BadField key)
-  if nat_le (count found) 65536 then each [] found else Err (TooMany key)
+  if nat_le (count found) 65536 then each key [] found else Err (TooMany key)
 
 unfoldable pub containers : Key → Data → Result (List Container) ObjectFault
 containers key spec = listed key (field key spec)
@@ -63,6 +64,6 @@ containers key spec = listed key (field key spec)
 -- what running a pod costs beside its containers (the Kubernetes page "Pod Overhead")
 unfoldable pub overhead_request : Data → Result Request ObjectFault
 overhead_request spec = do
-  cpu ← cpu_if (overhead keys.Cpu spec)
-  memory ← memory_if (overhead keys.Memory spec)
+  cpu ← cpu_in Overhead keys.Spec spec
+  memory ← memory_in Overhead keys.Spec spec
   whole (request_of cpu memory)

@@ -1,7 +1,7 @@
 -- How the Kubernetes API spells the names of its fields.
 use Rattle.std.specs.Prelude.{ℕ, List, codes}
 use Rattle.objects.specs.declared.key.Key.{Key}
-use Rattle.objects.specs.declared.key.Key.TheVariants.{Spec, Containers, InitContainers, RestartPolicy, Resources, Requests, Limits, Overhead, Status, Allocatable, Cpu, Memory, Pods, Metadata, Name, Namespace, Uid, Labels, DeletionTimestamp, Kind, EventType, Object, Unschedulable, Taints, LabelKey, LabelValue, Effect, Operator, Tolerations, Priority, NodeName, SchedulerName, Phase, NodeSelector, Affinity, NodeAffinity, PodAffinity, PodAntiAffinity, Required, Preferred, TopologySpread, WhenUnsatisfiable, SchedulingGates, ResourceClaims, Volumes, Ports, HostPort}
+use Rattle.objects.specs.declared.key.Key.TheVariants.{Spec, Containers, InitContainers, RestartPolicy, Resources, Requests, Limits, Overhead, Status, Allocatable, Cpu, Memory, Pods, Metadata, Name, Namespace, Uid, Labels, DeletionTimestamp, Kind, EventType, Object, Unschedulable, Taints, LabelKey, LabelValue, Effect, Operator, Tolerations, Priority, NodeName, SchedulerName, Phase, NodeSelector, Affinity, NodeAffinity, PodAffinity, PodAntiAffinity, Required, Preferred, TopologySpread, WhenUnsatisfiable, SchedulingGates, ResourceClaims, Volumes, Ports, HostPort, ContainerStatuses, InitContainerStatuses, AllocatedResources, ApiVersion, Items, NodeInfo}
 
 -- the name of a field
 unfoldable pub key_of : Key → List ℕ
@@ -52,3 +52,9 @@ key_of ResourceClaims = codes "resourceClaims"
 key_of Volumes = codes "volumes"
 key_of Ports = codes "ports"
 key_of HostPort = codes "hostPort"
+key_of ContainerStatuses = codes "containerStatuses"
+key_of InitContainerStatuses = codes "initContainerStatuses"
+key_of AllocatedResources = codes "allocatedResources"
+key_of ApiVersion = codes "apiVersion"
+key_of Items = codes "items"
+key_of NodeInfo = codes "nodeInfo"

@@ -1,9 +1,15 @@
--- The labels that a row has of an object's: in the order of their keys, those that a script can say and there is room for.
-use Rattle.std.specs.Prelude.{ℕ, ◌&&◌, List, [], ◌∷◌, ◌++◌, length, nat_lt, codes, Option, Some, None, option_and_then, if◌then◌else◌}
+-- The labels that a row has of an object's: first those that the site's rules read, then the others as far as there is room, both in
+-- the order of their keys.
+use Rattle.std.specs.Prelude.{ℕ, suc, ◌==◌, Bool, ◌&&◌, ◌||◌, List, [], ◌∷◌, ◌++◌, length, nat_le, nat_lt, bytes_eq, codes, Option, Some, None, option_and_then, Result, Ok, Err, if◌then◌else◌}
+use Rattle.std.specs.List.{list_any, slice_split}
 use Rattle.serde_json.specs.Data.{Data, Members, no_members, member}
 use Rattle.serde_json.specs.Find.{as_str}
 use Rattle.quant.specs.declared.limits.TheConstants.{MAX_LABELS}
 use Rattle.quant.specs.declared.objects.Label.{Label}
+use Rattle.objects.specs.declared.key.Key.TheVariants as keys
+use Rattle.objects.specs.declared.fault.ObjectFault.{ObjectFault}
+use Rattle.objects.specs.declared.fault.ObjectFault.TheVariants.{BadName, TooMany}
+use Rattle.objects.specs.Quantity.{◌>>=◌}
 use Rattle.objects.specs.Sayable.{says_label}
 use Rattle.objects.specs.LeftOut.{left_out}
 
@@ -19,12 +25,47 @@ fitting before label = if nat_lt (length before) MAX_LABELS && says_label before
 unfoldable pub label_of : List Label → (key : List ℕ) → Data → Option Label
 label_of before key value = option_and_then (λ text. fitting before (record { key = key; value = text })) (as_str value)
 
+-- whether a text names a key: its names have commas (44) between them
+abbrev pub is_comma : ℕ → Bool
+is_comma byte = byte == 44
+
+unfoldable pub is_named : (names key : List ℕ) → Bool
+is_named names key = nat_le 1 (length names) && list_any (λ name. bytes_eq name key) (slice_split is_comma names)
+
+-- the labels of an object's members that are named, behind others: each of them, or there is no row
+abbrev pub behind : List Label → Option Label → Result (List Label) ObjectFault
+behind before None = Err (BadName keys.Labels)
+behind before (Some label) = Ok (before ++ label ∷ [])
+
+unfoldable pub if_named : (names : List ℕ) → List Label → (key : List ℕ) → Data → Result (List Label) ObjectFault
+if_named names before key value = if is_named names key then behind before (label_of before key value) else Ok before
+
+abbrev pub named_labels : (names : List ℕ) → List Label → Members → Result (List Label) ObjectFault
+named_labels names before no_members = Ok before
+named_labels names before (member key value rest) = if_named names before key value >>= λ more. named_labels names more rest
+
 -- one more label, or the name of one that is left out
 abbrev pub with_label : Kept Label → (key : List ℕ) → Option Label → Kept Label
 with_label kept key None = record { items = kept.items; left_out = kept.left_out ++ left_out (codes "label ") key }
 with_label kept key (Some label) = record { items = kept.items ++ label ∷ []; left_out = kept.left_out }
 
--- the labels of an object's members, behind others
-abbrev pub labels_of : Kept Label → Members → Kept Label
-labels_of kept no_members = kept
-labels_of kept (member key value rest) = labels_of (with_label kept key (label_of kept.items key value)) rest
+-- those that aren't named, behind others
+unfoldable pub unless_named : (names : List ℕ) → Kept Label → (key : List ℕ) → Data → Kept Label
+unless_named names kept key value = if is_named names key then kept else with_label kept key (label_of kept.items key value)
+
+abbrev pub other_labels : (names : List ℕ) → Kept Label → Members → Kept Label
+other_labels names kept no_members = kept
+other_labels names kept (member key value rest) = other_labels names (unless_named names kept key value) rest
+
+-- how many members there are
+abbrev pub count_members : Members → ℕ
+count_members no_members = 0
+count_members (member key value rest) = suc (count_members rest)
+
+-- the labels of an object. Where it has more than a row and none are named, nobody knows which of them count: there is no row then
+abbrev pub all_labels : (names left : List ℕ) → Members → Result (Kept Label) ObjectFault
+all_labels names left found = named_labels names [] found >>= λ first. Ok (other_labels names (record { items = first; left_out = left }) found)
+
+unfoldable pub row_labels : (names left : List ℕ) → Members → Result (Kept Label) ObjectFault
+row_labels names left found =
+    if nat_le (count_members found) MAX_LABELS || nat_le 1 (length names) then all_labels names left found else Err (TooMany keys.Labels)

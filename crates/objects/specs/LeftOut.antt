@@ -6,7 +6,7 @@ use Rattle.objects.specs.declared.fault.QuantityFault.{QuantityFault}
 use Rattle.objects.specs.declared.fault.QuantityFault.TheVariants.{NotAQuantity, FarExponent, Negative}
 use Rattle.objects.specs.declared.fault.QuantityFault.TheVariants as amounts
 use Rattle.objects.specs.declared.fault.ObjectFault.{ObjectFault}
-use Rattle.objects.specs.declared.fault.ObjectFault.TheVariants.{BadField, BadName, Quantity, TooMany, PodResources, TooLarge, NoMemory}
+use Rattle.objects.specs.declared.fault.ObjectFault.TheVariants.{LongLine, NotJson, UnknownEvent, IsList, BadField, BadName, Quantity, TooMany, PodResources, TooLarge, NoMemory}
 use Rattle.objects.specs.Key.{key_of}
 
 -- a name as it stands there: names of other bytes than a script's may have aren't shown
@@ -30,6 +30,10 @@ amount_refused amounts.TooLarge = codes "an amount above its limit: "
 
 -- the first fault of an object, as it is named
 abbrev pub refused : ObjectFault → List ℕ
+refused LongLine = left_out (codes "a line of more than 2 MiB") []
+refused NotJson = left_out (codes "no JSON") []
+refused UnknownEvent = left_out (codes "an event of another type") []
+refused IsList = left_out (codes "a list, whose items are to stand on lines of their own") []
 refused (BadField key) = left_out (codes "a field of another type: ") (key_of key)
 refused (BadName key) = left_out (codes "not a name or text of a script: ") (key_of key)
 refused (Quantity key fault) = left_out (amount_refused fault) (key_of key)

@@ -15,6 +15,7 @@ pub mod NodeRow
 pub mod Demands
 pub mod PodRow
 pub mod Counted
+pub mod Site
 pub mod Told
 pub mod Standing
 pub mod Shown

@@ -19,7 +19,7 @@ use Rattle.objects.specs.Allocatable.{allocatable}
 use Rattle.objects.specs.Sayable.{says_taint}
 use Rattle.objects.specs.LeftOut.{left_out}
 use Rattle.objects.specs.Field.{text_at, text_or, name_at, flag_of, members_of, items_of, is_text_of}
-use Rattle.objects.specs.Labels.{Kept, labels_of}
+use Rattle.objects.specs.Labels.{Kept, row_labels}
 
 -- a node's row, and what it leaves out
 pub record NodeTold : Type 0 where
@@ -76,14 +76,15 @@ node_of name room taints unschedulable labels = record {
   left_out = labels.left_out;
 }
 
--- the row of a node's object
-unfoldable pub node_row : Data → Result NodeTold ObjectFault
-node_row json = do
+-- the row of a node's object, in which the labels of these names come first
+unfoldable pub node_row : (names : List ℕ) → Data → Result NodeTold ObjectFault
+node_row names json = do
   meta ← ok_or (field keys.Metadata json) (BadField keys.Metadata)
   name ← name_at keys.Name meta
   room ← allocatable json
   taints ← taints (within keys.Spec keys.Taints json)
   unschedulable ← flag_of keys.Unschedulable (within keys.Spec keys.Unschedulable json)
-  labels ← members_of keys.Labels (field keys.Labels meta)
+  found ← members_of keys.Labels (field keys.Labels meta)
   resources ← members_of keys.Allocatable (within keys.Status keys.Allocatable json)
-  Ok (node_of name room taints unschedulable (labels_of (record { items = []; left_out = other_resources resources }) labels))
+  kept ← row_labels names (other_resources resources) found
+  Ok (node_of name room taints unschedulable kept)

@@ -1,7 +1,7 @@
 -- The row that the object of a pod gives that waits for a place.
 use Rattle.std.specs.Prelude.{ℕ, ℤ, pos, negsuc, int_le, ◌&&◌, Bool, List, [], ◌∷◌, ◌++◌, length, nat_lt, codes, Option, Some, None, Result, Ok, Err, option_and_then, if◌then◌else◌}
 use Rattle.std.specs.Option.{ok_or}
-use Rattle.serde_json.specs.Data.{Data, Items, no_items, item, Members}
+use Rattle.serde_json.specs.Data.{Data, Items, no_items, item}
 use Rattle.serde_json.specs.Find.{as_number, as_i64, as_str}
 use Rattle.quant.specs.Name.{is_name}
 use Rattle.quant.specs.declared.amount.Request.{Request}
@@ -21,7 +21,7 @@ use Rattle.objects.specs.PodRequest.{pod_request}
 use Rattle.objects.specs.Sayable.{says_toleration}
 use Rattle.objects.specs.LeftOut.{left_out}
 use Rattle.objects.specs.Field.{text_or, text_at, name_at, members_of, items_of, spelled}
-use Rattle.objects.specs.Labels.{Kept, labels_of}
+use Rattle.objects.specs.Labels.{Kept, row_labels}
 use Rattle.objects.specs.Demands.{wishes}
 
 -- a pod's row, and what it leaves out
@@ -108,18 +108,15 @@ abbrev pub with_tolerations : (uid : List ℕ) → (priority : ℤ) → Request 
 with_tolerations uid priority request labels tolerations =
     pod_of uid priority request labels (tolerations_of (record { items = []; left_out = labels.left_out }) tolerations)
 
-abbrev pub rows_of : (uid : List ℕ) → (priority : ℤ) → Request → (wishes : List ℕ) → Members → Items → PodTold
-rows_of uid priority request wishes labels tolerations =
-    with_tolerations uid priority request (labels_of (record { items = []; left_out = wishes }) labels) tolerations
-
--- the row of a pod's object, and what it leaves out behind what the pod can do without
-unfoldable pub pod_row : (by_uid : Bool) → Data → Result PodTold ObjectFault
-pod_row by_uid json = do
+-- the row of a pod's object, in which the labels of these names come first, and what it leaves out behind what the pod can do without
+unfoldable pub pod_row : (names : List ℕ) → (by_uid : Bool) → Data → Result PodTold ObjectFault
+pod_row names by_uid json = do
   meta ← ok_or (field keys.Metadata json) (BadField keys.Metadata)
   spec ← ok_or (field keys.Spec json) (BadField keys.Spec)
   uid ← pod_name by_uid meta
   priority ← priority spec
   request ← pod_request json
-  labels ← members_of keys.Labels (field keys.Labels meta)
+  found ← members_of keys.Labels (field keys.Labels meta)
   tolerations ← items_of keys.Tolerations (field keys.Tolerations spec)
-  Ok (rows_of uid priority request (wishes spec) labels tolerations)
+  kept ← row_labels names (wishes spec) found
+  Ok (with_tolerations uid priority request kept tolerations)

@@ -1,17 +1,17 @@
 -- How much a quantity is (the Kubernetes API reference, "Quantity"): a sign or none, digits with a point among them
 -- or beside them or none, and a suffix.
-use Rattle.std.specs.Prelude.{ℕ, ◌*◌, ◌^◌, Bool, ◌&&◌, not, ◌==◌, nat_le, if◌then◌else◌, List, [], ◌++◌, length, take, drop, codes, bytes_eq, Result, Ok, Err}
+use Rattle.std.specs.Prelude.{ℕ, ◌*◌, ◌^◌, min, Bool, true, false, ◌&&◌, not, ◌==◌, nat_le, if◌then◌else◌, List, [], ◌++◌, length, take, drop, codes, bytes_eq, Result, Ok, Err}
 use Rattle.std.specs.List.{list_all}
 use Rattle.quant.specs.Amount.{number, leading_digits, after_digits}
 use Rattle.quant.specs.declared.amount.Cpu.{Cpu}
 use Rattle.quant.specs.declared.amount.Bytes.{Bytes}
 use Rattle.objects.specs.declared.fault.QuantityFault.{QuantityFault}
-use Rattle.objects.specs.declared.fault.QuantityFault.TheVariants.{NotAQuantity, Negative, TooLarge}
+use Rattle.objects.specs.declared.fault.QuantityFault.TheVariants.{NotAQuantity, FarExponent, Negative, TooLarge}
 use Rattle.objects.specs.declared.rounding.Rounding.{Rounding}
 use Rattle.objects.specs.declared.rounding.Rounding.TheVariants.{Up, Down}
 use Rattle.objects.specs.declared.suffix.Suffix.{Suffix}
 use Rattle.objects.specs.Ratio.{Ratio, rounded}
-use Rattle.objects.specs.Suffix.{has_minus, after_sign, suffix_named}
+use Rattle.objects.specs.Suffix.{has_minus, after_sign, power_of_ten, suffix_named}
 
 -- one reading after another: the first fault ends both
 infixl 10 ◌>>=◌
@@ -45,20 +45,35 @@ worth places whole fraction suffix = record {
 abbrev pub at_most : (most : ℕ) → ℕ → Result ℕ QuantityFault
 at_most most n = if nat_le n most then Ok n else Err TooLarge
 
+-- of what is asked for no less may be told; of what is there less may be
+abbrev pub told_within : Rounding → (most : ℕ) → ℕ → Result ℕ QuantityFault
+told_within Up most n = at_most most n
+told_within Down most n = Ok (min most n)
+
 -- what the digits and the suffix of a quantity come to
 abbrev pub amount_of : Rounding → (places most : ℕ) → (minus : Bool) → (whole fraction : List ℕ) → Suffix → Result ℕ QuantityFault
 amount_of rounding places most minus whole fraction suffix =
     if minus && not (is_zero (whole ++ fraction)) then Err Negative
-    else at_most most (rounded rounding (worth places whole fraction suffix))
+    else told_within rounding most (rounded rounding (worth places whole fraction suffix))
+
+-- nothing is nothing, however far its exponent is
+abbrev pub of_nothing : (is_nothing : Bool) → Result Suffix QuantityFault → Result Suffix QuantityFault
+of_nothing false suffix = suffix
+of_nothing true (Ok suffix) = Ok suffix
+of_nothing true (Err NotAQuantity) = Err NotAQuantity
+of_nothing true (Err FarExponent) = Ok (power_of_ten false 0)
+of_nothing true (Err Negative) = Err Negative
+of_nothing true (Err TooLarge) = Err TooLarge
 
 -- what the parts of a quantity come to: a digit stands in front of the point or behind it
 abbrev pub parts_amount : Rounding → (places most : ℕ) → (minus : Bool) → (whole rest : List ℕ) → Result ℕ QuantityFault
 parts_amount rounding places most minus whole rest =
     if nat_le 1 (length (whole ++ fraction_digits rest))
-    then suffix_named (after_fraction rest) >>= amount_of rounding places most minus whole (fraction_digits rest)
+    then of_nothing (is_zero (whole ++ fraction_digits rest)) (suffix_named (after_fraction rest)) >>= amount_of rounding places most minus whole (fraction_digits rest)
     else Err NotAQuantity
 
--- what a quantity comes to, rounded to so many decimal places, and no more than it may be
+-- what a quantity comes to, rounded to so many decimal places, and no more than it may be: above that it is refused where it is
+-- asked for, and is told as the most where it is there
 unfoldable pub quantity : Rounding → (places most : ℕ) → List ℕ → Result ℕ QuantityFault
 quantity rounding places most text =
     parts_amount rounding places most (has_minus text) (leading_digits (after_sign text)) (after_digits (after_sign text))

@@ -1,8 +1,9 @@
 -- What is left out is named in texts of JSON: no byte in them needs an escape, and none ends a line.
-use Rattle.std.specs.Prelude.{◌≡◌, ℕ, ◌==◌, nat_le, Bool, true, ◌&&◌, not, List, [], ◌∷◌, ◌++◌, codes, flat_map, Ok}
+use Rattle.std.specs.Prelude.{◌≡◌, ℕ, ◌==◌, nat_le, Bool, true, ◌&&◌, not, List, [], ◌∷◌, ◌++◌, codes, flat_map}
 use Rattle.std.specs.List.{list_all}
 use Rattle.quant.specs.declared.version.Version.{Version}
-use Rattle.objects.specs.Told.{Told, told}
+use Rattle.objects.specs.Site.{Site}
+use Rattle.objects.specs.Told.{told}
 
 -- a byte that stands for itself in a text (RFC 8259, 7): from the space to the tilde, but for the quotation mark and the backslash
 abbrev pub stands_for_itself : ℕ → Bool
@@ -20,5 +21,4 @@ pub record AreTexts (left_out : List ℕ) : Type 0 where
 
 abbrev pub NamesAreTexts : Type 0
 NamesAreTexts =
-    (scheduler : List ℕ) (by_uid : Bool) (version : Version) (line : List ℕ) (found : Told)
-    → told scheduler by_uid version line ≡ Ok found → AreTexts found.left_out
+    (site : Site) (by_uid : Bool) (version : Version) (line : List ℕ) → AreTexts (told site by_uid version line).left_out

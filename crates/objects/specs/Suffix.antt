@@ -1,6 +1,6 @@
 -- What stands behind the digits of a quantity (the Kubernetes API reference, "Quantity").
-use Rattle.std.specs.Prelude.{ℕ, Bool, true, false, ◌&&◌, ◌||◌, nat_le, if◌then◌else◌, List, [], length, take, drop, codes, bytes_eq, Result, Ok, Err}
-use Rattle.std.specs.List.{list_all}
+use Rattle.std.specs.Prelude.{ℕ, Bool, true, false, ◌&&◌, ◌||◌, ◌==◌, nat_le, if◌then◌else◌, List, [], length, take, drop, codes, bytes_eq, Result, Ok, Err}
+use Rattle.std.specs.List.{list_all, prefix_len}
 use Rattle.quant.specs.Amount.{is_digit, number}
 use Rattle.objects.specs.declared.fault.QuantityFault.{QuantityFault}
 use Rattle.objects.specs.declared.fault.QuantityFault.TheVariants.{NotAQuantity, FarExponent}
@@ -22,12 +22,20 @@ has_minus text = bytes_eq (take 1 text) (codes "-")
 abbrev pub after_sign : List ℕ → List ℕ
 after_sign text = if has_minus text || bytes_eq (take 1 text) (codes "+") then drop 1 text else text
 
--- the power of ten that the digits of an exponent tell: there is a digit, and there are two at most
+-- digits but for the zeros in front of them
+abbrev pub is_0 : (digit : ℕ) → Bool
+is_0 digit = digit == 48
+
+abbrev pub behind_zeros : List ℕ → List ℕ
+behind_zeros digits = drop (prefix_len is_0 digits) digits
+
+-- the power of ten that the digits of an exponent tell: there is a digit, and there are two at most, of which zeros in front are none
+abbrev pub exponent_number : (below_one : Bool) → List ℕ → Result Suffix QuantityFault
+exponent_number below_one digits = if nat_le (length digits) 2 then Ok (power_of_ten below_one (number digits)) else Err FarExponent
+
 abbrev pub exponent_digits : (below_one : Bool) → List ℕ → Result Suffix QuantityFault
 exponent_digits below_one digits =
-    if nat_le 1 (length digits) && list_all is_digit digits
-    then (if nat_le (length digits) 2 then Ok (power_of_ten below_one (number digits)) else Err FarExponent)
-    else Err NotAQuantity
+    if nat_le 1 (length digits) && list_all is_digit digits then exponent_number below_one (behind_zeros digits) else Err NotAQuantity
 
 -- the power of ten that stands behind `e` or `E`: a sign or none, and digits
 abbrev pub exponent : List ℕ → Result Suffix QuantityFault

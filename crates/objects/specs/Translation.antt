@@ -1,12 +1,10 @@
 -- How a translation stands for what an object gives.
-use Rattle.std.specs.Prelude.{◌≡◌, ℕ, Bool, true, not, ◌==◌, List, [], drop, Option, Some, None, Result, Ok, Err}
+use Rattle.std.specs.Prelude.{◌≡◌, ℕ, Bool, true, not, ◌==◌, List, [], drop, Option, Some, None, Ok}
 use Rattle.std.specs.List.{list_all}
 use Rattle.quant.specs.declared.event.Event.{Event}
 use Rattle.manifest.specs.Line.{meaning}
 use Rattle.manifest.specs.declared.command.Command.TheVariants as commands
-use Rattle.objects.specs.declared.fault.ObjectFault.{ObjectFault}
 use Rattle.objects.specs.declared.translation.Translation.{Translation}
-use Rattle.objects.specs.Reading.{Fails}
 use Rattle.objects.specs.Told.{Told}
 
 -- no byte that ends a line
@@ -22,9 +20,4 @@ pub record IsTranslation (told : Told) (translation : Translation) : Type 0 wher
   pub line : Spells told.event translation.line.items
   -- without the comma and the space before the first
   pub left_out : translation.left_out.items ≡ drop 2 told.left_out
-
--- what a translation is, or why there is no going on: that memory ran out, or that a pod on a node can't be counted
-abbrev pub Translates : Result Translation ObjectFault → Result Told ObjectFault → Type 0
-Translates (Ok translation) (Ok told) = IsTranslation told translation
-Translates (Ok translation) (Err e) = ⊥
-Translates (Err e) meaning = Fails e meaning
+  pub uncounted : translation.uncounted ≡ told.uncounted

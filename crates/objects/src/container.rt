@@ -7,13 +7,13 @@ ghost use Rattle.objects.specs.Container.{container, each, containers, overhead_
 
 use crate::fault::ObjectFault;
 use crate::key::Key;
-use crate::reading::{asked, cpu_if, field, memory_if, overhead};
+use crate::reading::{Part, cpu_in, field, memory_in};
 use quant::{Bytes, Cpu, Request};
 use serde_json::Value;
 use std::alloc::Global;
 
-/// The most containers of either kind that an object may list: more than the API server takes,
-/// which has no objects above 1.5 MiB, and of containers none without a name and an image.
+/// The most containers of either kind that an object may list: more than an API server keeps, of
+/// which none is without a name and an image.
 pub(crate) const MAX_LISTED: usize = 65_536;
 
 /// A container of a pod.
@@ -41,31 +41,31 @@ pub(crate) fn containers(
         if found.len() > MAX_LISTED {
             return Err(ObjectFault::TooMany(key));
         }
-        fill(&mut row, found.as_slice())?;
+        fill(&mut row, key, found.as_slice())?;
     }
     Ok(row)
 }
 
 // Puts the containers of an array behind those of a row.
-fn fill(row: &mut Vec<Container>, found: &[Value]) -> Result<(), ObjectFault>
+fn fill(row: &mut Vec<Container>, key: Key, found: &[Value]) -> Result<(), ObjectFault>
     requires { row.old.items ≡ [] }
-    ensures value { Gives (λ _. row.new.items) result (each row.old.items (items_view found.now)) }
+    ensures value { Gives (λ _. row.new.items) result (each key row.old.items (items_view found.now)) }
     ensures few { IfOk result (λ _. vec_len row.new ≤ length found.now) }
 {
     for item in found {
-        let next = one_container(item)?;
+        let next = one_container(item, key)?;
         row.push(next).map_err(|_| ObjectFault::NoMemory)?;
     }
     Ok(())
 }
 
-// One container.
+// One container of a field.
 #[tactic(auto, unfolding(crate::specs::Container::container))]
-fn one_container(item: &Value) -> Result<Container, ObjectFault>
-    ensures { Answers result (container (view item.now)) }
+fn one_container(item: &Value, key: Key) -> Result<Container, ObjectFault>
+    ensures { Answers result (container key (view item.now)) }
 {
-    let cpu = cpu_if(asked(item, Key::Cpu))?;
-    let memory = memory_if(asked(item, Key::Memory))?;
+    let cpu = cpu_in(item, key, Part::Asked)?;
+    let memory = memory_in(item, key, Part::Asked)?;
     let goes_on = goes_on(item)?;
     Ok(Container {
         request: request_within(cpu, memory),
@@ -94,8 +94,8 @@ pub(crate) fn goes_on(item: &Value) -> Result<bool, ObjectFault>
 pub(crate) fn overhead_request(spec: &Value) -> Result<Request, ObjectFault>
     ensures { Answers result (overhead_request (view spec.now)) }
 {
-    let cpu = cpu_if(overhead(spec, Key::Cpu))?;
-    let memory = memory_if(overhead(spec, Key::Memory))?;
+    let cpu = cpu_in(spec, Key::Spec, Part::Overhead)?;
+    let memory = memory_in(spec, Key::Spec, Part::Overhead)?;
     Ok(request_within(cpu, memory))
 }
 

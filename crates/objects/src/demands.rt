@@ -1,10 +1,11 @@
 //! What a pod asks for that no row tells: what it must have, and what it only wishes.
-ghost use Rattle.std.specs.Prelude.{◌≡◌, ◌++◌, ℕ, List, IfOk, option_map};
+ghost use Rattle.std.specs.Prelude.{◌≡◌, ◌++◌, ℕ, not, List, codes, None, IfOk, option_map};
 ghost use Rattle.serde_json.specs.Data.{Data};
 ghost use Rattle.serde_json.specs.Find.{as_object};
 ghost use Rattle.serde_json.specs.View.{view, items_view, members_view};
-ghost use Rattle.objects.specs.Demands.{each_item, array_gives, affinity, required_spread, wished_spread, is_wished, is_free, are_free, is_tied, volume, node_port, host_port, other_resources, object_gives, has, other_resource, resources_of, container, placement, demands, wishes};
-ghost use Rattle.objects.specs.Reading.{field};
+ghost use Rattle.objects.specs.declared.key.Key.TheVariants as keys;
+ghost use Rattle.objects.specs.Demands.{each_item, array_gives, affinity, is_wished, has_spread, asks_spread, is_part, has_parts, are_parts_if, is_kind, is_read_kind, has_kinds, is_read_affinity, is_free, are_free, is_tied, volume, node_port, host_port, is_nothing, other_resources, object_gives, has, other_resource, resources_of, container, is_looked_at, is_of_processes, is_of_network, is_of_names, is_known, other_field, other_fields, fields_of, placement, demands, wishes};
+ghost use Rattle.objects.specs.Reading.{said, field};
 ghost use Rattle.objects.specs.Field.{is_given};
 ghost use Rattle.objects.specs.LeftOut.{left_out_if};
 ghost use Rattle.objects.specs.inside.Otherwise.{otherwise};
@@ -12,7 +13,7 @@ ghost use Rattle.objects.specs.inside.Otherwise.{otherwise};
 use crate::field::{is_given, says, spelled};
 use crate::key::Key;
 use crate::left_out::{put_left_out, put_left_out_if};
-use crate::reading::{field, within};
+use crate::reading::{field, memory_from, within};
 use itoa::Buffer;
 use serde_json::{Map, Value};
 use std::alloc::AllocError;
@@ -27,7 +28,9 @@ pub(crate) fn put_demands(out: &mut Vec<u8>, spec: &Value) -> Result<(), AllocEr
     put_given(out, spec, Key::ResourceClaims, "resource claims")?;
     put_list::<Volume>(out, spec, Key::Volumes, Some("volume "))?;
     put_list::<Container>(out, spec, Key::Containers, None)?;
-    put_list::<Container>(out, spec, Key::InitContainers, None)
+    put_list::<Container>(out, spec, Key::InitContainers, None)?;
+    put_overhead(out, spec)?;
+    put_fields(out, spec)
 }
 
 // Puts the names of what it must have of its node and of other pods.
@@ -46,8 +49,8 @@ fn put_placement(out: &mut Vec<u8>, spec: &Value) -> Result<(), AllocError>
         part,
         "required pod anti-affinity",
     )?;
-    let unread = Some("required topology spread");
-    put_list::<RequiredSpread>(out, spec, Key::TopologySpread, unread)
+    put_unread_affinity(out, spec)?;
+    put_spread(out, spec, false, "required topology spread")
 }
 
 // Puts the names of what it can do without.
@@ -71,7 +74,7 @@ pub(crate) fn put_wishes(out: &mut Vec<u8>, spec: &Value) -> Result<(), AllocErr
         part,
         "preferred pod anti-affinity",
     )?;
-    put_list::<WishedSpread>(out, spec, Key::TopologySpread, None)
+    put_spread(out, spec, true, "preferred topology spread")
 }
 
 // Puts a name where something stands in a field.
@@ -83,7 +86,7 @@ fn put_given(out: &mut Vec<u8>, spec: &Value, key: Key, what: &str) -> Result<()
 }
 
 // Puts a name where something stands in a part of an affinity.
-fn put_affinity(
+pub(crate) fn put_affinity(
     out: &mut Vec<u8>,
     spec: &Value,
     kind: Key,
@@ -97,7 +100,7 @@ fn put_affinity(
 }
 
 // A part of an affinity.
-pub(crate) fn affinity(spec: &Value, kind: Key, part: Key) -> Option<&Value>
+fn affinity(spec: &Value, kind: Key, part: Key) -> Option<&Value>
     ensures { option_map (λ value. view value.now) result ≡ affinity kind part (view spec.now) }
 {
     within(field(spec, Key::Affinity)?, kind, part)
@@ -146,28 +149,53 @@ fn put_items<T: Listed>(out: &mut Vec<u8>, found: &[Value]) -> Result<(), AllocE
     Ok(())
 }
 
-// A spread that a pod can't do without.
-struct RequiredSpread;
+// Puts that a pod asks for a spread that it can do without, or for one that it can't.
+fn put_spread(out: &mut Vec<u8>, spec: &Value, wished: bool, what: &str) -> Result<(), AllocError>
+    ensures { IfOk result (λ _. out.new.items ≡ out.old.items
+        ++ left_out_if (asks_spread wished (field keys.TopologySpread (view spec.now))) what.now) }
+{
+    put_left_out_if(
+        out,
+        asks_spread(field(spec, Key::TopologySpread), wished),
+        what,
+    )
+}
 
-impl Listed for RequiredSpread {
-    ghost names = { required_spread };
+// Puts that an affinity is of more than what is looked at.
+fn put_unread_affinity(out: &mut Vec<u8>, spec: &Value) -> Result<(), AllocError>
+    ensures { IfOk result (λ _. out.new.items ≡ out.old.items
+        ++ left_out_if (not (is_read_affinity (field keys.Affinity (view spec.now)))) (codes "affinity")) }
+{
+    put_left_out_if(
+        out,
+        !is_read_affinity(field(spec, Key::Affinity)),
+        "affinity",
+    )
+}
 
-    #[tactic(auto, unfolding(crate::specs::Demands::required_spread))]
-    fn put(out: &mut Vec<u8>, item: &Value) -> Result<(), AllocError> {
-        put_left_out_if(out, !is_wished(item), "required topology spread")
+// Whether one of the spreads in a field is one that a pod can do without, or isn't.
+fn asks_spread(value: Option<&Value>, wished: bool) -> bool
+    ensures { result ≡ asks_spread wished (option_map (λ v. view v.now) value.entry) }
+{
+    let Some(value) = value else {
+        return false;
+    };
+    match value.as_array() {
+        Some(found) => has_spread(found.as_slice(), wished),
+        None => !wished,
     }
 }
 
-// A spread that a pod can do without.
-struct WishedSpread;
-
-impl Listed for WishedSpread {
-    ghost names = { wished_spread };
-
-    #[tactic(auto, unfolding(crate::specs::Demands::wished_spread))]
-    fn put(out: &mut Vec<u8>, item: &Value) -> Result<(), AllocError> {
-        put_left_out_if(out, is_wished(item), "preferred topology spread")
+// Whether one of the spreads of an array is one that a pod can do without, or isn't.
+fn has_spread(found: &[Value], wished: bool) -> bool
+    ensures { result ≡ has_spread wished (items_view found.now) }
+{
+    for item in found {
+        if is_wished(item) == wished {
+            return true;
+        }
     }
+    false
 }
 
 // Whether a spread is one that a pod can do without.
@@ -175,6 +203,80 @@ fn is_wished(spread: &Value) -> bool
     ensures { result ≡ is_wished (view spread.now) }
 {
     says(spread, Key::WhenUnsatisfiable, "ScheduleAnyway")
+}
+
+// Whether an affinity is of nothing but the kinds and the parts that are looked at.
+fn is_read_affinity(value: Option<&Value>) -> bool
+    ensures { result ≡ is_read_affinity (option_map (λ v. view v.now) value.entry) }
+{
+    let Some(value) = value else {
+        return true;
+    };
+    match value.as_object() {
+        Some(members) => has_kinds(members),
+        None => false,
+    }
+}
+
+// Whether each member of an affinity is of a kind that is looked at.
+fn has_kinds(members: &Map<String, Value>) -> bool
+    ensures { result ≡ has_kinds (members_view members.now.entries) }
+{
+    for (key, value) in members.iter() {
+        if !is_read_kind(key.as_str(), value) {
+            return false;
+        }
+    }
+    true
+}
+
+// Whether a member of an affinity is of a kind that is looked at.
+#[tactic(auto, unfolding(crate::specs::Demands::is_read_kind))]
+fn is_read_kind(key: &str, value: &Value) -> bool
+    ensures { result ≡ is_read_kind key.now (view value.now) }
+{
+    is_kind(key) && are_parts_if(value)
+}
+
+// Whether this is the name of a kind of affinity.
+fn is_kind(key: &str) -> bool
+    ensures { result ≡ is_kind key.now }
+{
+    key == Key::NodeAffinity.name()
+        || key == Key::PodAffinity.name()
+        || key == Key::PodAntiAffinity.name()
+}
+
+// Whether a value has no member but the parts of an affinity.
+fn are_parts_if(value: &Value) -> bool
+    ensures { result ≡ are_parts_if (said (view value.now)) }
+{
+    if value.is_null() {
+        return true;
+    }
+    match value.as_object() {
+        Some(members) => has_parts(members),
+        None => false,
+    }
+}
+
+// Whether each member is a part of an affinity.
+fn has_parts(members: &Map<String, Value>) -> bool
+    ensures { result ≡ has_parts (members_view members.now.entries) }
+{
+    for (key, _) in members.iter() {
+        if !is_part(key.as_str()) {
+            return false;
+        }
+    }
+    true
+}
+
+// Whether this is the name of a part of an affinity.
+fn is_part(key: &str) -> bool
+    ensures { result ≡ is_part key.now }
+{
+    key == Key::Required.name() || key == Key::Preferred.name()
 }
 
 // A volume.
@@ -317,21 +419,37 @@ fn put_other_resources(
     ensures { IfOk result (λ _. out.new.items ≡ out.old.items
         ++ other_resources (has (option_map (λ v. view v.now) others.entry)) (members_view members.now.entries)) }
 {
-    for (key, _) in members.iter() {
-        put_resource(out, key.as_str(), others)?;
+    for (key, value) in members.iter() {
+        put_resource(out, key.as_str(), value, others)?;
     }
     Ok(())
 }
 
-// Puts a resource beyond CPU and memory that others don't have already.
-fn put_resource(out: &mut Vec<u8>, key: &str, others: Option<&Value>) -> Result<(), AllocError>
+// Puts a resource beyond CPU and memory that others don't have already, unless it is nothing of it.
+fn put_resource(
+    out: &mut Vec<u8>,
+    key: &str,
+    value: &Value,
+    others: Option<&Value>,
+) -> Result<(), AllocError>
     ensures { IfOk result (λ _. out.new.items ≡ out.old.items
-        ++ other_resource (has (option_map (λ v. view v.now) others.entry)) key.now) }
+        ++ other_resource (has (option_map (λ v. view v.now) others.entry)) key.now (view value.now)) }
 {
-    if key == "cpu" || key == "memory" || has(others, key) {
+    if key == "cpu" || key == "memory" || has(others, key) || is_nothing(value) {
         Ok(())
     } else {
         put_left_out(out, "resource ", key.as_bytes())
+    }
+}
+
+// Whether an amount is nothing.
+#[tactic(auto, unfolding(crate::specs::Demands::is_nothing))]
+fn is_nothing(value: &Value) -> bool
+    ensures { result ≡ is_nothing (view value.now) }
+{
+    match memory_from(value) {
+        Ok(amount) => amount.0 == 0,
+        Err(_) => false,
     }
 }
 
@@ -343,4 +461,130 @@ fn has(value: Option<&Value>, key: &str) -> bool
         Some(value) => value.get(key).is_some(),
         None => false,
     }
+}
+
+// Puts the resources beyond CPU and memory that running a pod costs.
+fn put_overhead(out: &mut Vec<u8>, spec: &Value) -> Result<(), AllocError>
+    ensures { IfOk result (λ _. out.new.items
+        ≡ out.old.items ++ object_gives (has None) (field keys.Overhead (view spec.now))) }
+{
+    put_members(out, field(spec, Key::Overhead), None)
+}
+
+// Puts the fields of a spec that aren't known to tie a pod to no node, where something stands in them.
+fn put_fields(out: &mut Vec<u8>, spec: &Value) -> Result<(), AllocError>
+    ensures { IfOk result (λ _. out.new.items ≡ out.old.items ++ fields_of (as_object (view spec.now))) }
+{
+    match spec.as_object() {
+        Some(members) => put_other_fields(out, members),
+        None => Ok(()),
+    }
+}
+
+// Puts those of an object's members that aren't known.
+#[tactic(auto, using(crate::proofs::Named::field_more))]
+fn put_other_fields(out: &mut Vec<u8>, members: &Map<String, Value>) -> Result<(), AllocError>
+    ensures { IfOk result (λ _. out.new.items
+        ≡ out.old.items ++ other_fields (members_view members.now.entries)) }
+{
+    for (key, value) in members.iter() {
+        put_other_field(out, key.as_str(), value)?;
+    }
+    Ok(())
+}
+
+// Puts a field that isn't known, where something stands in it.
+#[tactic(auto, unfolding(crate::specs::Demands::other_field))]
+fn put_other_field(out: &mut Vec<u8>, key: &str, value: &Value) -> Result<(), AllocError>
+    ensures { IfOk result (λ _. out.new.items ≡ out.old.items ++ other_field key.now (view value.now)) }
+{
+    if is_known(key) || value.is_null() || !is_given(Some(value)) {
+        Ok(())
+    } else {
+        put_left_out(out, "field ", key.as_bytes())
+    }
+}
+
+// Whether a field is told or looked at, or ties a pod to no node.
+fn is_known(key: &str) -> bool
+    ensures { result ≡ is_known key.now }
+{
+    is_looked_at(key) || is_of_processes(key) || is_of_network(key) || is_of_names(key)
+}
+
+// Whether a field is told or looked at.
+fn is_looked_at(key: &str) -> bool
+    ensures { result ≡ is_looked_at key.now }
+{
+    matches!(
+        key,
+        "affinity"
+            | "containers"
+            | "initContainers"
+            | "nodeName"
+            | "nodeSelector"
+            | "overhead"
+            | "priority"
+            | "resourceClaims"
+            | "resources"
+            | "schedulerName"
+            | "schedulingGates"
+            | "tolerations"
+            | "topologySpreadConstraints"
+            | "volumes"
+    )
+}
+
+// Whether a field says how a pod's processes run.
+fn is_of_processes(key: &str) -> bool
+    ensures { result ≡ is_of_processes key.now }
+{
+    matches!(
+        key,
+        "activeDeadlineSeconds"
+            | "ephemeralContainers"
+            | "hostIPC"
+            | "hostPID"
+            | "hostUsers"
+            | "os"
+            | "restartPolicy"
+            | "runtimeClassName"
+            | "securityContext"
+            | "shareProcessNamespace"
+            | "terminationGracePeriodSeconds"
+    )
+}
+
+// Whether a field says how a pod is known on the network.
+fn is_of_network(key: &str) -> bool
+    ensures { result ≡ is_of_network key.now }
+{
+    matches!(
+        key,
+        "dnsConfig"
+            | "dnsPolicy"
+            | "enableServiceLinks"
+            | "hostAliases"
+            | "hostNetwork"
+            | "hostname"
+            | "hostnameOverride"
+            | "readinessGates"
+            | "setHostnameAsFQDN"
+            | "subdomain"
+    )
+}
+
+// Whether a field says in whose name a pod runs, and before whom.
+fn is_of_names(key: &str) -> bool
+    ensures { result ≡ is_of_names key.now }
+{
+    matches!(
+        key,
+        "automountServiceAccountToken"
+            | "imagePullSecrets"
+            | "preemptionPolicy"
+            | "priorityClassName"
+            | "serviceAccount"
+            | "serviceAccountName"
+    )
 }

@@ -3,7 +3,7 @@ ghost use Rattle.std.specs.Prelude.{◌≡◌, ℕ, ◌+◌, ◌*◌, ◌-◌, �
 ghost use Rattle.std.specs.List.{list_all, prefix_len};
 ghost use Rattle.quant.specs.Amount.{is_digit, number, leading_digits, after_digits};
 ghost use Rattle.objects.specs.Ratio.{rounded};
-ghost use Rattle.objects.specs.Suffix.{has_minus, after_sign};
+ghost use Rattle.objects.specs.Suffix.{has_minus, after_sign, is_0, behind_zeros};
 ghost use Rattle.objects.specs.Quantity.{fraction_digits, after_fraction, is_zero};
 ghost use Rattle.objects.specs.inside.Digits.{digit, front, back};
 
@@ -66,6 +66,23 @@ pub(crate) fn are_zeros(text: &[u8]) -> bool
     text.iter().all(|b| *b == b'0')
 }
 
+// Digits but for the zeros in front of them.
+pub(crate) fn behind_zeros(digits: &[u8]) -> &[u8]
+    requires { IsTrue (list_all is_digit digits.now) }
+    ensures digits { result.now ≡ behind_zeros digits.now }
+    ensures pass { IsTrue (list_all is_digit result.now) }
+{
+    let (_, rest) = digits.split_at(count_zeros(digits));
+    rest
+}
+
+// How many zeros a text begins with.
+fn count_zeros(text: &[u8]) -> usize
+    ensures { result ≡ prefix_len is_0 text.now }
+{
+    text.iter().take_while(|b| **b == b'0').count()
+}
+
 // Whether the byte is an ASCII digit.
 fn is_digit(byte: u8) -> bool
     ensures { result ≡ is_digit byte }
@@ -73,10 +90,9 @@ fn is_digit(byte: u8) -> bool
     byte.is_ascii_digit()
 }
 
-// The number that one or two digits spell.
+// The number that up to two digits spell.
 pub(crate) fn number_of(digits: &[u8]) -> usize
     requires digits { IsTrue (list_all is_digit digits.now) }
-    requires some { 1 ≤ length digits.now }
     requires few { length digits.now ≤ 2 }
     ensures value { result ≡ number digits.now }
     ensures bounded { result ≤ 99 }
@@ -84,6 +100,7 @@ pub(crate) fn number_of(digits: &[u8]) -> usize
     match digits {
         [tens, ones] => usize::from(*tens - b'0') * 10 + usize::from(*ones - b'0'),
         [ones] => usize::from(*ones - b'0'),
+        [] => 0,
         _ => unreachable!(),
     }
 }

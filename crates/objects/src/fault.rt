@@ -23,9 +23,21 @@ pub enum QuantityFault {
     TooLarge,
 }
 
-/// Why an object doesn't tell what a script says of a node or a pod. Of several faults the first is told.
+/// Why a line or an object doesn't tell what a script says of a node or a pod. Of several faults the first is told.
 #[derive(Clone, Copy, Debug, PartialEq, Eq, Error)]
 pub enum ObjectFault {
+    /// The line has more than 2 MiB.
+    #[error("a line of more than 2 MiB")]
+    LongLine,
+    /// The line is no JSON.
+    #[error("no JSON")]
+    NotJson,
+    /// The line is an event of the watch of a type that isn't known.
+    #[error("an event of another type")]
+    UnknownEvent,
+    /// The object is a list of objects.
+    #[error("a list")]
+    IsList,
     /// The field has another type than the API gives it, or is missing where it has to be there.
     #[error("a field of another type")]
     BadField(Key),

@@ -99,6 +99,18 @@ pub enum Key {
     Ports,
     /// A port of the node itself.
     HostPort,
+    /// What a pod's status says of its containers.
+    ContainerStatuses,
+    /// What a pod's status says of its init containers.
+    InitContainerStatuses,
+    /// What a node has set aside for a container or a pod.
+    AllocatedResources,
+    /// The group and the version of a kind.
+    ApiVersion,
+    /// The objects of a list.
+    Items,
+    /// What a node says of its machine.
+    NodeInfo,
 }
 
 impl Key {
@@ -155,6 +167,12 @@ impl Key {
             Key::Volumes => "volumes",
             Key::Ports => "ports",
             Key::HostPort => "hostPort",
+            Key::ContainerStatuses => "containerStatuses",
+            Key::InitContainerStatuses => "initContainerStatuses",
+            Key::AllocatedResources => "allocatedResources",
+            Key::ApiVersion => "apiVersion",
+            Key::Items => "items",
+            Key::NodeInfo => "nodeInfo",
         }
     }
 }

@@ -1,53 +1,145 @@
 //! The labels that a row has of an object's.
 ghost use Rattle.std.specs.Prelude.{◌≡◌, ◌<◌, ◌≤◌, true, [], length, bytes_eq, IfOk, OnOk, IfSome, OnSome, option_map};
-ghost use Rattle.std.specs.List.{list_any};
+ghost use Rattle.std.specs.List.{list_any, slice_split};
 ghost use Rattle.serde_json.specs.View.{view, members_view};
-ghost use Rattle.objects.specs.Labels.{fitting, label_of, with_label, labels_of};
+ghost use Rattle.objects.specs.Labels.{fitting, label_of, is_comma, is_named, if_named, named_labels, with_label, unless_named, other_labels, row_labels};
+ghost use Rattle.objects.specs.Reading.{Gives};
 ghost use Rattle.objects.specs.Sayable.{each_beside, says_label};
 ghost use Rattle.objects.specs.inside.Members.{members_or_none, kept};
 
+use crate::fault::ObjectFault;
+use crate::key::Key;
 use crate::left_out::put_left_out;
 use arrayvec::ArrayVec;
 use quant::{Label, MAX_LABELS, Name, Text};
 use serde_json::{Map, Value};
 use std::alloc::AllocError;
 
-// Takes the labels of an object's members, which may be absent, behind others, and puts the names of
-// those that are left out.
-pub(crate) fn take_labels(
+// Fills an empty row with the labels of an object's members, which may be absent: those that are
+// named first. Puts the names of those that are left out.
+#[tactic(auto, unfolding(crate::specs::Labels::row_labels))]
+pub(crate) fn fill_labels(
     labels: &mut ArrayVec<Label, MAX_LABELS>,
     out: &mut Vec<u8>,
     found: Option<&Map<String, Value>>,
-) -> Result<(), AllocError>
-    ensures value { IfOk result (λ _. labels_of (kept labels.old.items out.old.items)
-        (members_or_none (option_map (λ m. members_view m.now.entries) found.entry))
-        ≡ kept labels.new.items out.new.items) }
-    ensures sayable { each_beside says_label [] labels.old.items ≡ true
-        → OnOk result (each_beside says_label [] labels.new.items ≡ true) }
-    ensures few { length labels.old.items ≤ 32 → OnOk result (length labels.new.items ≤ 32) }
+    names: &str,
+) -> Result<(), ObjectFault>
+    requires { labels.old.items ≡ [] }
+    ensures value { Gives (λ _. kept labels.new.items out.new.items) result (row_labels names.now out.old.items
+        (members_or_none (option_map (λ m. members_view m.now.entries) found.entry))) }
+    ensures sayable { OnOk result (each_beside says_label [] labels.new.items ≡ true) }
+    ensures few { OnOk result (length labels.new.items ≤ 32) }
 {
     match found {
-        Some(members) => take_members(labels, out, members),
+        Some(members) => take_labels(labels, out, members, names),
         None => Ok(()),
     }
 }
 
-// Takes the labels of an object's members behind others.
-fn take_members(
+// Fills an empty row with the labels of an object's members.
+#[tactic(auto, unfolding(crate::specs::Labels::row_labels), using(crate::proofs::Items::count_of_members_view))]
+fn take_labels(
     labels: &mut ArrayVec<Label, MAX_LABELS>,
     out: &mut Vec<u8>,
     members: &Map<String, Value>,
+    names: &str,
+) -> Result<(), ObjectFault>
+    requires { labels.old.items ≡ [] }
+    ensures value { Gives (λ _. kept labels.new.items out.new.items) result
+        (row_labels names.now out.old.items (members_view members.now.entries)) }
+    ensures sayable { OnOk result (each_beside says_label [] labels.new.items ≡ true) }
+    ensures few { OnOk result (length labels.new.items ≤ 32) }
+{
+    if members.len() > MAX_LABELS && names.is_empty() {
+        return Err(ObjectFault::TooMany(Key::Labels));
+    }
+    take_named(labels, members, names)?;
+    take_others(labels, out, members, names)?;
+    Ok(())
+}
+
+// Takes the labels of an object's members that are named, behind others.
+fn take_named(
+    labels: &mut ArrayVec<Label, MAX_LABELS>,
+    members: &Map<String, Value>,
+    names: &str,
+) -> Result<(), ObjectFault>
+    ensures value { Gives (λ _. labels.new.items) result
+        (named_labels names.now labels.old.items (members_view members.now.entries)) }
+    ensures sayable { each_beside says_label [] labels.old.items ≡ true
+        → OnOk result (each_beside says_label [] labels.new.items ≡ true) }
+    ensures few { length labels.old.items ≤ 32 → OnOk result (length labels.new.items ≤ 32) }
+{
+    for (key, value) in members.iter() {
+        take_if_named(labels, key.as_str(), value, names)?;
+    }
+    Ok(())
+}
+
+// Takes a label behind others, where it is named.
+#[tactic(auto, unfolding(crate::specs::Labels::if_named), using(crate::proofs::Beside::label_beside))]
+fn take_if_named(
+    labels: &mut ArrayVec<Label, MAX_LABELS>,
+    key: &str,
+    value: &Value,
+    names: &str,
+) -> Result<(), ObjectFault>
+    ensures value { Gives (λ _. labels.new.items) result (if_named names.now labels.old.items key.now (view value.now)) }
+    ensures sayable { each_beside says_label [] labels.old.items ≡ true
+        → OnOk result (each_beside says_label [] labels.new.items ≡ true) }
+    ensures few { length labels.old.items ≤ 32 → OnOk result (length labels.new.items ≤ 32) }
+{
+    if !is_named(names, key) {
+        return Ok(());
+    }
+    match label_of(labels.as_slice(), key, value) {
+        Some(label) => {
+            labels.push(label);
+            Ok(())
+        }
+        None => Err(ObjectFault::BadName(Key::Labels)),
+    }
+}
+
+// Takes the labels of an object's members that aren't named, behind others, and puts the names of
+// those that are left out.
+fn take_others(
+    labels: &mut ArrayVec<Label, MAX_LABELS>,
+    out: &mut Vec<u8>,
+    members: &Map<String, Value>,
+    names: &str,
 ) -> Result<(), AllocError>
-    ensures value { IfOk result (λ _. labels_of (kept labels.old.items out.old.items)
+    ensures value { IfOk result (λ _. other_labels names.now (kept labels.old.items out.old.items)
         (members_view members.now.entries) ≡ kept labels.new.items out.new.items) }
     ensures sayable { each_beside says_label [] labels.old.items ≡ true
         → OnOk result (each_beside says_label [] labels.new.items ≡ true) }
     ensures few { length labels.old.items ≤ 32 → OnOk result (length labels.new.items ≤ 32) }
 {
     for (key, value) in members.iter() {
-        take_label(labels, out, key.as_str(), value)?;
+        take_unless_named(labels, out, key.as_str(), value, names)?;
     }
     Ok(())
+}
+
+// Takes a label behind others, unless it is named, or puts the name of one that is left out.
+#[tactic(auto, unfolding(crate::specs::Labels::unless_named))]
+fn take_unless_named(
+    labels: &mut ArrayVec<Label, MAX_LABELS>,
+    out: &mut Vec<u8>,
+    key: &str,
+    value: &Value,
+    names: &str,
+) -> Result<(), AllocError>
+    ensures value { IfOk result (λ _. unless_named names.now (kept labels.old.items out.old.items) key.now
+        (view value.now) ≡ kept labels.new.items out.new.items) }
+    ensures sayable { each_beside says_label [] labels.old.items ≡ true
+        → OnOk result (each_beside says_label [] labels.new.items ≡ true) }
+    ensures few { length labels.old.items ≤ 32 → OnOk result (length labels.new.items ≤ 32) }
+{
+    if is_named(names, key) {
+        return Ok(());
+    }
+    take_label(labels, out, key, value)
 }
 
 // Takes a label behind others, or puts the name of one that is left out.
@@ -71,6 +163,21 @@ fn take_label(
         }
         None => put_left_out(out, "label ", key.as_bytes()),
     }
+}
+
+// Whether a text names a key, with commas between its names.
+#[tactic(auto, unfolding(crate::specs::Labels::is_named))]
+fn is_named(names: &str, key: &str) -> bool
+    ensures { result ≡ is_named names.now key.now }
+{
+    !names.is_empty() && is_among(names, key)
+}
+
+// Whether a key is one of the names, with commas between them.
+fn is_among(names: &str, key: &str) -> bool
+    ensures { result ≡ list_any (λ name. bytes_eq name key.now) (slice_split is_comma names.now) }
+{
+    names.split(',').any(|name| name == key)
 }
 
 // The label of a member, where a row can have it behind others.

@@ -33,6 +33,13 @@ pub(crate) fn put_refused(out: &mut Vec<u8>, fault: ObjectFault) -> Result<(), A
     ensures { IfOk result (λ _. out.new.items ≡ out.old.items ++ refused fault) }
 {
     match fault {
+        ObjectFault::LongLine => put_left_out(out, "a line of more than 2 MiB", b""),
+        ObjectFault::NotJson => put_left_out(out, "no JSON", b""),
+        ObjectFault::UnknownEvent => put_left_out(out, "an event of another type", b""),
+        ObjectFault::IsList => {
+            let what = "a list, whose items are to stand on lines of their own";
+            put_left_out(out, what, b"")
+        }
         ObjectFault::BadField(key) => {
             put_left_out(out, "a field of another type: ", key.name().as_bytes())
         }

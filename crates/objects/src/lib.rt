@@ -9,11 +9,13 @@
 //! the moment at which they need most, and `specs/PodRequest.antt` says which that is. `node` tells
 //! what a node has. Both read a field by `reading`, and know its name by `key`.
 //!
-//! `translation` gives the line of a script for a line of the API. Which event an object tells is found
-//! by `told` and defined in `specs/Told.antt`: `node_row` reads a node's row and `pod_row` a waiting pod's,
-//! with their `labels`, `taints` and `tolerations`; `demands` finds what keeps a pod from being told;
-//! `counted` says what a pod takes that stands on a node; and `gone` tells that an object is gone. What a
-//! field says is read by `field`, and what isn't told is named by `left_out`.
+//! `translation` gives the line of a script for a line of the API, of the `site` whose pods are to be
+//! placed; that no line is passed over which may be a pod on a node is defined in
+//! `specs/Standing.antt`. Which event an object tells is found by `told` and defined in
+//! `specs/Told.antt`: `node_row` reads a node's row and `pod_row` a waiting pod's, with their `labels`,
+//! `taints` and `tolerations`; `demands` finds what keeps a pod from being told; `counted` says what a
+//! pod takes that stands on a node; and `gone` tells that an object is gone. What a field says is read by
+//! `field`, and what isn't told is named by `left_out`.
 //!
 //! `line` writes the line of a script that tells an event, and `line_field` its fields. Which events a
 //! line can say is defined in `specs/Sayable.antt`.
@@ -42,6 +44,7 @@ mod reading;
 mod request;
 mod resource;
 mod rounding;
+mod site;
 mod suffix;
 mod taints;
 mod told;
@@ -51,9 +54,10 @@ mod translation;
 pub use change::Change;
 pub use fault::{ObjectFault, QuantityFault};
 pub use key::Key;
-pub use laws::{bound_pods_are_counted, left_out_is_named_in_texts};
+pub use laws::left_out_is_named_in_texts;
 pub use line::write_line;
 pub use node::allocatable;
 pub use pod::pod_request;
 pub use quantity::{cpu_asked, cpu_offered, memory_asked, memory_offered, pods_offered};
+pub use site::Site;
 pub use translation::{MAX_OBJECT, Translation, translate};

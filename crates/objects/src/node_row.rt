@@ -9,7 +9,7 @@ ghost use Rattle.objects.specs.inside.Members.{members_or_none};
 use crate::fault::ObjectFault;
 use crate::field::{flag_of, members_of, name_at};
 use crate::key::Key;
-use crate::labels::take_labels;
+use crate::labels::fill_labels;
 use crate::left_out::put_left_out;
 use crate::node::allocatable;
 use crate::reading::{field, within};
@@ -19,11 +19,12 @@ use quant::Node;
 use serde_json::{Map, Value};
 use std::alloc::AllocError;
 
-// The row of a node's object, and beside it the names of what it leaves out, unless a fault comes first.
+// The row of a node's object, in which the labels of these names come first, and beside it the names of what it leaves out, unless a fault comes first.
 #[tactic(auto, unfolding(crate::specs::NodeRow::node_row))]
-pub(crate) fn node_row(json: &Value, out: &mut Vec<u8>) -> Result<Node, ObjectFault>
+pub(crate) fn node_row(json: &Value, names: &str, out: &mut Vec<u8>) -> Result<Node, ObjectFault>
     requires { out.old.items ≡ [] }
-    ensures value { Gives (λ node. record { node = node; left_out = out.new.items }) result (node_row (view json.now)) }
+    ensures value { Gives (λ node. record { node = node; left_out = out.new.items }) result
+        (node_row names.now (view json.now)) }
     ensures sayable { IfOk result IsNodeRow }
 {
     let meta = field(json, Key::Metadata).ok_or(ObjectFault::BadField(Key::Metadata))?;
@@ -45,7 +46,7 @@ pub(crate) fn node_row(json: &Value, out: &mut Vec<u8>) -> Result<Node, ObjectFa
         Key::Allocatable,
     )?;
     put_other_resources(out, resources)?;
-    take_labels(&mut node.labels, out, labels)?;
+    fill_labels(&mut node.labels, out, labels, names)?;
     Ok(node)
 }
 

@@ -11,7 +11,7 @@ use crate::demands::put_wishes;
 use crate::fault::ObjectFault;
 use crate::field::{items_of, members_of, name_at, text_at, text_or};
 use crate::key::Key;
-use crate::labels::take_labels;
+use crate::labels::fill_labels;
 use crate::pod::pod_request;
 use crate::reading::field;
 use crate::tolerations::take_tolerations;
@@ -20,18 +20,19 @@ use quant::{MAX_NAME, Name, Pod};
 use serde_json::Value;
 use std::alloc::Global;
 
-// The row of a pod's object, and beside it the names of what it leaves out, unless a fault comes
-// first.
+// The row of a pod's object, in which the labels of these names come first, and beside it the names of
+// what it leaves out, unless a fault comes first.
 #[tactic(auto, unfolding(crate::specs::PodRow::pod_row))]
 pub(crate) fn pod_row(
     alloc: Global,
     json: &Value,
+    names: &str,
     by_uid: bool,
     out: &mut Vec<u8>,
 ) -> Result<Pod, ObjectFault>
     requires { out.old.items ≡ [] }
     ensures value { Gives (λ pod. record { pod = pod; left_out = out.new.items }) result
-        (pod_row by_uid (view json.now)) }
+        (pod_row names.now by_uid (view json.now)) }
     ensures sayable { IfOk result IsPodRow }
 {
     let meta = field(json, Key::Metadata).ok_or(ObjectFault::BadField(Key::Metadata))?;
@@ -46,7 +47,7 @@ pub(crate) fn pod_row(
     let labels = members_of(field(meta, Key::Labels), Key::Labels)?;
     let tolerations = items_of(field(spec, Key::Tolerations), Key::Tolerations)?;
     put_wishes(out, spec)?;
-    take_labels(&mut pod.labels, out, labels)?;
+    fill_labels(&mut pod.labels, out, labels, names)?;
     take_tolerations(&mut pod.tolerations, out, tolerations)?;
     Ok(pod)
 }

@@ -1,16 +1,16 @@
 //! From a quantity to an amount.
-ghost use Rattle.std.specs.Prelude.{◌≡◌, ◌+◌, ◌*◌, ◌^◌, ◌<◌, ◌≤◌, ◌++◌, length, IfOk, IsTrue};
+ghost use Rattle.std.specs.Prelude.{◌≡◌, ◌+◌, ◌*◌, ◌^◌, ◌<◌, ◌≤◌, ◌++◌, ℕ, length, IfOk, IsTrue};
 ghost use Rattle.std.specs.List.{list_all};
 ghost use Rattle.quant.specs.Amount.{is_digit};
 ghost use Rattle.objects.specs.Ratio.{rounded};
-ghost use Rattle.objects.specs.Quantity.{quantity, worth, at_most, cpu_asked, cpu_offered, memory_asked, memory_offered, pods_offered};
+ghost use Rattle.objects.specs.Quantity.{quantity, worth, at_most, told_within, of_nothing, cpu_asked, cpu_offered, memory_asked, memory_offered, pods_offered};
 
 use crate::digits::{
     BEYOND, are_zeros, number_in_front, rounded_behind, split_digits, split_fraction, split_sign,
 };
 use crate::fault::QuantityFault;
 use crate::rounding::Rounding;
-use crate::suffix::{Suffix, suffix_named};
+use crate::suffix::{Suffix, power_of_ten, suffix_named};
 use quant::{Bytes, Cpu, MAX_CPU, MAX_MEM, MAX_PLACED};
 
 // Decimal places of an amount that is counted in thousandths, and of one that is counted in ones.
@@ -21,8 +21,8 @@ const ONES: usize = 0;
 /// The amount of CPU that a container asks for, in thousandths of a core, rounded up.
 ///
 /// Errors: `NotAQuantity` where the text is no quantity, `FarExponent` where its exponent has more
-/// than two digits, `Negative` below 0, and `TooLarge` above 2^30 thousandths of a core, in this
-/// order.
+/// than two digits behind zeros in front and its other digits aren't all zeros, `Negative` below 0,
+/// and `TooLarge` above 2^30 thousandths of a core, in this order.
 pub fn cpu_asked(text: &[u8]) -> Result<Cpu, QuantityFault>
     ensures value { result ≡ cpu_asked text.now }
     ensures bounded { IfOk result (λ cpu. cpu.0 ≤ 2 ^ 30) }
@@ -30,9 +30,10 @@ pub fn cpu_asked(text: &[u8]) -> Result<Cpu, QuantityFault>
     Ok(Cpu(read(text, Rounding::Up, THOUSANDTHS, MAX_CPU)?))
 }
 
-/// The amount of CPU that a node has, in thousandths of a core, rounded down.
+/// The amount of CPU that a node has, in thousandths of a core, rounded down, and 2^30 where it is
+/// more.
 ///
-/// Errors: as of `cpu_asked`.
+/// Errors: as of `cpu_asked`, but for `TooLarge`.
 pub fn cpu_offered(text: &[u8]) -> Result<Cpu, QuantityFault>
     ensures value { result ≡ cpu_offered text.now }
     ensures bounded { IfOk result (λ cpu. cpu.0 ≤ 2 ^ 30) }
@@ -50,9 +51,9 @@ pub fn memory_asked(text: &[u8]) -> Result<Bytes, QuantityFault>
     Ok(Bytes(read(text, Rounding::Up, ONES, MAX_MEM)?))
 }
 
-/// The amount of memory that a node has, in bytes, rounded down.
+/// The amount of memory that a node has, in bytes, rounded down, and 2^44 where it is more.
 ///
-/// Errors: as of `memory_asked`.
+/// Errors: as of `memory_asked`, but for `TooLarge`.
 pub fn memory_offered(text: &[u8]) -> Result<Bytes, QuantityFault>
     ensures value { result ≡ memory_offered text.now }
     ensures bounded { IfOk result (λ memory. memory.0 ≤ 2 ^ 44) }
@@ -60,9 +61,9 @@ pub fn memory_offered(text: &[u8]) -> Result<Bytes, QuantityFault>
     Ok(Bytes(read(text, Rounding::Down, ONES, MAX_MEM)?))
 }
 
-/// How many pods a node takes, rounded down.
+/// How many pods a node takes, rounded down, and 150,000 where it is more.
 ///
-/// Errors: as of `cpu_asked`, but that `TooLarge` is told above 150,000 pods.
+/// Errors: as of `cpu_asked`, but for `TooLarge`.
 pub fn pods_offered(text: &[u8]) -> Result<u32, QuantityFault>
     ensures value { result ≡ pods_offered text.now }
     ensures bounded { IfOk result (λ pods. pods ≤ 150000) }
@@ -84,11 +85,42 @@ fn read(text: &[u8], rounding: Rounding, places: usize, most: u64) -> Result<u64
     if whole.is_empty() && fraction.is_empty() {
         return Err(QuantityFault::NotAQuantity);
     }
-    let suffix = suffix_named(rest)?;
-    if minus && !(are_zeros(whole) && are_zeros(fraction)) {
+    let is_zero = are_zeros(whole) && are_zeros(fraction);
+    let suffix = of_nothing(is_zero, suffix_named(rest))?;
+    if minus && !is_zero {
         return Err(QuantityFault::Negative);
     }
-    amount(whole, fraction, suffix, rounding, places, most)
+    let amount = amount(whole, fraction, suffix, rounding, places, most);
+    told_within(rounding, most, amount)
+}
+
+// The suffix of an amount: nothing is nothing, however far its exponent is.
+fn of_nothing(
+    is_nothing: bool,
+    suffix: Result<Suffix, QuantityFault>,
+) -> Result<Suffix, QuantityFault>
+    ensures { result ≡ of_nothing is_nothing suffix }
+{
+    match suffix {
+        Err(QuantityFault::FarExponent) if is_nothing => Ok(power_of_ten(false, 0)),
+        suffix => suffix,
+    }
+}
+
+// An amount as it is told that may be more than the most: of what is asked for no less may be told.
+fn told_within(
+    rounding: Rounding,
+    most: u64,
+    amount: Result<u64, QuantityFault>,
+) -> Result<u64, QuantityFault>
+    requires { IfOk amount (λ n. n ≤ most) }
+    ensures value { (n : ℕ) → amount ≡ at_most most n → result ≡ told_within rounding most n }
+    ensures bounded { IfOk result (λ n. n ≤ most) }
+{
+    match rounding {
+        Rounding::Up => amount,
+        Rounding::Down => Ok(amount.unwrap_or(most)),
+    }
 }
 
 // What digits in front of a point and behind it are worth with a suffix.

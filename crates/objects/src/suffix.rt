@@ -2,10 +2,10 @@
 ghost use Rattle.std.specs.Prelude.{◌≡◌, ◌≤◌, IfOk};
 ghost use Rattle.objects.specs.Suffix.{suffix_named, exponent, exponent_digits, power_of_ten, power_of_two};
 
-use crate::digits::{are_digits, number_of, split_sign};
+use crate::digits::{are_digits, behind_zeros, number_of, split_sign};
 use crate::fault::QuantityFault;
 
-// The most digits of an exponent.
+// The most digits of an exponent, of which zeros in front are none.
 const MAX_EXPONENT_DIGITS: usize = 2;
 
 /// What the digits of a quantity are multiplied by: 10 to `tens` times 2 to `twos`, over 10 to
@@ -62,6 +62,7 @@ fn read_exponent(text: &[u8]) -> Result<Suffix, QuantityFault>
     if digits.is_empty() || !are_digits(digits) {
         return Err(QuantityFault::NotAQuantity);
     }
+    let digits = behind_zeros(digits);
     if digits.len() > MAX_EXPONENT_DIGITS {
         return Err(QuantityFault::FarExponent);
     }
@@ -69,7 +70,7 @@ fn read_exponent(text: &[u8]) -> Result<Suffix, QuantityFault>
 }
 
 // 10 to this power, or one over it.
-fn power_of_ten(below_one: bool, power: usize) -> Suffix
+pub(crate) fn power_of_ten(below_one: bool, power: usize) -> Suffix
     ensures { result ≡ power_of_ten below_one power }
 {
     if below_one {

@@ -1,19 +1,24 @@
 //! From a line of the API to a script's.
-ghost use Rattle.std.specs.Prelude.{◌≡◌, drop, IfOk, IfErr};
+ghost use Rattle.std.specs.Prelude.{◌≡◌, [], drop, IfOk};
 ghost use Rattle.quant.specs.declared.event.Event.{Event};
 ghost use Rattle.objects.specs.Sayable.{IsVersion};
+ghost use Rattle.objects.specs.Site.{site_of};
+ghost use Rattle.objects.specs.Standing.{IsCounted};
 ghost use Rattle.objects.specs.Told.{told};
-ghost use Rattle.objects.specs.Translation.{Spells, Translates};
+ghost use Rattle.objects.specs.Translation.{Spells, IsTranslation};
 ghost use Rattle.objects.specs.inside.Said.{IsSaid};
 
 use crate::fault::ObjectFault;
+use crate::left_out::put_refused;
 use crate::line::write_line;
+use crate::site::Site;
 use crate::told::line_told;
 use quant::{Event, Version};
 use std::alloc::{AllocError, Global};
 
-/// The most bytes of a line of the API: more than the API server takes for an object, which is
-/// 1.5 MiB.
+/// The most bytes of a line of the API. A longer one may be a pod on a node, and is told as
+/// `uncounted`: an API server keeps objects of up to 1.5 MiB, but spells some characters of them with
+/// six bytes each.
 pub const MAX_OBJECT: usize = 2_097_152;
 
 /// What a line of the API gives a script.
@@ -24,46 +29,83 @@ pub struct Translation {
     /// What is left out: items of an array of JSON, texts in quotation marks with a comma and a space
     /// between them. Where the line is empty they say why.
     pub left_out: Vec<u8>,
+    /// Whether the line may be a pod on a node that no line of a script can count. Then `line` is
+    /// empty, and whoever goes on without ending takes the pod's node for full.
+    pub uncounted: bool,
 }
 
 /// What a line of the API gives a script, as the event of a version from 1 to 10^18. The line is one
 /// object in JSON, of a node or a pod, or one event of a watch as the API server streams it: `ADDED`,
-/// `MODIFIED` or `DELETED`, and the object; a `BOOKMARK` gives nothing. `scheduler` is the name under
-/// which pods are to be placed by the script's reader, `default-scheduler` that of a pod which names
-/// none. A pod is called by its namespace and its name, as `default/web-1`, or by its uid where
-/// `by_uid` is set or the other is no name of a script, as one of more than 63 bytes.
+/// `MODIFIED` or `DELETED`, and the object; a `BOOKMARK` gives nothing. `site` says whose pods are to
+/// be placed by the script's reader. A pod is called by its namespace and its name, as
+/// `default/web-1`, or by its uid where `by_uid` is set or the other is no name of a script, as one of
+/// more than 63 bytes.
 ///
 /// - A node gives its row: its name, what of `allocatable` a row tells, its labels, its taints, and
 ///   whether it takes new pods.
-/// - A pod that stands on a node and hasn't ended gives its place. It counts for what it asks, and for
-///   the most that a line can say where that can't be read, so that a node is never filled over its
-///   room by what this call couldn't read.
+/// - A pod that stands on a node and hasn't ended gives its place. It counts for what it asks or holds
+///   there, and for the most that a line can say where that can't be read, so that a node is never
+///   filled over its room by what this call couldn't read.
 /// - A pod that waits gives its row, unless another scheduler is to place it, it is being deleted, or
 ///   asks for what no row tells, as for labels of its node. Then `MODIFIED` gives that it is gone,
 ///   since it may have waited before.
 /// - `DELETED` gives that the object is gone, and so does `MODIFIED` of a pod that has ended.
-/// - Anything else gives no line: a line of more than 2 MiB or that is no JSON, and an object of
-///   another kind.
+/// - An object of another kind and a line of nothing but spaces give no line.
+/// - Anything else may be a pod on a node, and is told as `uncounted`: a line of more than 2 MiB or
+///   that is no JSON, a list, an object without a kind whose shape isn't certain, and a pod that stands
+///   on a node and that no line can call by a name.
 ///
 /// What isn't told of an object is named in `left_out`.
 ///
-/// Errors: `BadField` or `BadName` where a pod stands on a node that no line can call by a name, since
-/// it would take room there that no row tells; `NoMemory`, which may come in place of any other answer.
+/// Errors: `AllocError`, which may come in place of any other answer.
+#[tactic(auto, using(crate::proofs::Standing::every_line_is_counted))]
 pub fn translate(
     alloc: Global,
     line: &[u8],
-    scheduler: &str,
+    site: &Site<'_>,
     by_uid: bool,
     version: Version,
-) -> Result<Translation, ObjectFault>
+) -> Result<Translation, AllocError>
     requires { IsVersion version }
-    ensures { Translates result (told scheduler.now by_uid version line.now) }
+    ensures told { IfOk result (IsTranslation (told (site_of site.now) by_uid version line.now)) }
+    ensures counted { IsCounted version line.now (told (site_of site.now) by_uid version line.now) }
 {
     let mut out = Vec::new(alloc);
-    let event = line_told(alloc, &mut out, line, scheduler, by_uid, version)?;
+    let (event, uncounted) = told(alloc, &mut out, line, site, by_uid, version)?;
     let line = spelled(alloc, event)?;
     let left_out = without_comma(alloc, out.as_slice())?;
-    Ok(Translation { line, left_out })
+    Ok(Translation {
+        line,
+        left_out,
+        uncounted,
+    })
+}
+
+// The event that is told by a line, and whether the line may be a pod on a node that can't be counted.
+#[tactic(auto, unfolding(crate::specs::Told::told), using(crate::proofs::Faults::uncounted))]
+fn told(
+    alloc: Global,
+    out: &mut Vec<u8>,
+    line: &[u8],
+    site: &Site<'_>,
+    by_uid: bool,
+    version: Version,
+) -> Result<(Option<Event>, bool), AllocError>
+    requires empty { out.old.items ≡ [] }
+    requires version { IsVersion version }
+    ensures value { IfOk result (λ found. told (site_of site.now) by_uid version line.now
+        ≡ record { event = found.0; left_out = out.new.items; uncounted = found.1 }) }
+    ensures said { IfOk result (λ found. IsSaid found.0) }
+{
+    match line_told(alloc, out, line, site, by_uid, version) {
+        Ok(event) => Ok((event, false)),
+        Err(ObjectFault::NoMemory) => Err(AllocError),
+        Err(fault) => {
+            out.clear();
+            put_refused(out, fault)?;
+            Ok((None, true))
+        }
+    }
 }
 
 // The line that tells an event, and the empty one where there is none.

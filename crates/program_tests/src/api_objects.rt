@@ -1,18 +1,20 @@
 //! Worked amounts and requests. What quantities come to is what `resource.Quantity` of Kubernetes
 //! 1.20.2 told of the same texts, but that it has no limits and no fault for amounts below 0.
 use objects::{
-    Key, ObjectFault, QuantityFault, cpu_asked, cpu_offered, memory_asked, memory_offered,
+    Key, ObjectFault, QuantityFault, Site, cpu_asked, cpu_offered, memory_asked, memory_offered,
     pod_request, pods_offered, translate, write_line,
 };
 use quant::{Event, Name, Version};
 use serde_json::Value;
-use std::alloc::Global;
+use std::alloc::{AllocError, Global};
 
 type Amount = Result<u64, QuantityFault>;
 
 const NONE: Amount = Err(QuantityFault::NotAQuantity);
 
 const LARGE: Amount = Err(QuantityFault::TooLarge);
+
+const FAR: Amount = Err(QuantityFault::FarExponent);
 
 const BELOW: Amount = Err(QuantityFault::Negative);
 
@@ -33,17 +35,32 @@ const QUANTITIES: &[(&str, [Amount; 4])] = &[
     ("2k", [Ok(2_000_000), Ok(2_000_000), Ok(2_000), Ok(2_000)]),
     (
         "1.5Gi",
-        [LARGE, LARGE, Ok(1_610_612_736), Ok(1_610_612_736)],
+        [LARGE, Ok(1 << 30), Ok(1_610_612_736), Ok(1_610_612_736)],
     ),
     ("0.1Ki", [Ok(102_400), Ok(102_400), Ok(103), Ok(102)]),
-    ("129e6", [LARGE, LARGE, Ok(129_000_000), Ok(129_000_000)]),
+    (
+        "129e6",
+        [LARGE, Ok(1 << 30), Ok(129_000_000), Ok(129_000_000)],
+    ),
     ("12E-1", [Ok(1_200), Ok(1_200), Ok(2), Ok(1)]),
     (
         "12e+3",
         [Ok(12_000_000), Ok(12_000_000), Ok(12_000), Ok(12_000)],
     ),
-    ("1e99", [LARGE, LARGE, LARGE, LARGE]),
-    ("1E", [LARGE, LARGE, LARGE, LARGE]),
+    ("1e99", [LARGE, Ok(1 << 30), LARGE, Ok(1 << 44)]),
+    ("1E", [LARGE, Ok(1 << 30), LARGE, Ok(1 << 44)]),
+    (
+        "1e003",
+        [Ok(1_000_000), Ok(1_000_000), Ok(1_000), Ok(1_000)],
+    ),
+    (
+        "1e+0000000000000000009",
+        [LARGE, Ok(1 << 30), Ok(1_000_000_000), Ok(1_000_000_000)],
+    ),
+    ("1E-003", [Ok(1), Ok(1), Ok(1), Ok(0)]),
+    ("0e100", [Ok(0), Ok(0), Ok(0), Ok(0)]),
+    ("1e00", [Ok(1_000), Ok(1_000), Ok(1), Ok(1)]),
+    ("1e0100", [FAR, FAR, FAR, FAR]),
     (
         "1.0000000000000000000000000001",
         [Ok(1_001), Ok(1_000), Ok(2), Ok(1)],
@@ -60,8 +77,8 @@ const QUANTITIES: &[(&str, [Amount; 4])] = &[
         "1073741.8241",
         [LARGE, Ok(1 << 30), Ok(1_073_742), Ok(1_073_741)],
     ),
-    ("16Ti", [LARGE, LARGE, Ok(1 << 44), Ok(1 << 44)]),
-    ("17592186044416.5", [LARGE, LARGE, LARGE, Ok(1 << 44)]),
+    ("16Ti", [LARGE, Ok(1 << 30), Ok(1 << 44), Ok(1 << 44)]),
+    ("17592186044416.5", [LARGE, Ok(1 << 30), LARGE, Ok(1 << 44)]),
     ("", [NONE, NONE, NONE, NONE]),
     (".", [NONE, NONE, NONE, NONE]),
     ("Ki", [NONE, NONE, NONE, NONE]),
@@ -149,6 +166,16 @@ const PODS: &[(&str, &str, Result<(u64, u64), ObjectFault>)] = &[
         Err(ObjectFault::BadField(Key::Cpu)),
     ),
     (
+        "requests that are no object",
+        r#"{"containers":[{"resources":{"requests":["8Gi"]}}]}"#,
+        Err(ObjectFault::BadField(Key::Requests)),
+    ),
+    (
+        "a container that is no object",
+        r#"{"containers":["a"]}"#,
+        Err(ObjectFault::BadField(Key::Containers)),
+    ),
+    (
         "no containers",
         "{}",
         Err(ObjectFault::BadField(Key::Containers)),
@@ -196,8 +223,7 @@ fn first_other_pod(alloc: Global) -> Option<&'static str> {
 fn quantities_come_to_what_kubernetes_says(rt: HostRuntime) {
     assert_eq!(rt; first_other_quantity(), None);
     assert_eq!(rt; pods_offered(b"110"), Ok(110));
-    assert_eq!(rt; pods_offered(b"150001"), Err(QuantityFault::TooLarge));
-    assert_eq!(rt; cpu_asked(b"1e100"), Err(QuantityFault::FarExponent));
+    assert_eq!(rt; pods_offered(b"150001"), Ok(150_000));
 }
 
 #[test]
@@ -316,30 +342,157 @@ const TRANSLATIONS: &[(&str, &str, &str, &str)] = &[
         "",
     ),
     (
-        "another type",
-        r#"{"type":"ERROR","object":{"kind":"Status","code":410}}"#,
-        "",
-        r#""an event of another type""#,
-    ),
-    (
         "another kind",
         r#"{"kind":"ConfigMap","metadata":{"name":"a"}}"#,
         "",
         r#""an object of the kind ConfigMap""#,
     ),
-    ("no JSON", "{", "", r#""no JSON""#),
+    (
+        "a kind of the same name, of another API",
+        r#"{"kind":"Node","apiVersion":"longhorn.io/v1beta2","metadata":{"name":"n1"},"spec":{},"status":{}}"#,
+        "",
+        r#""an object of the kind Node""#,
+    ),
+    (
+        "a node above what a line can say",
+        r#"{"kind":"Node","apiVersion":"v1","metadata":{"name":"n1"},"status":{"allocatable":{"cpu":"2","memory":"24Ti","pods":"200k"}}}"#,
+        r#"{"op":"node","v":7,"name":"n1","cpu":"2000m","mem":"17592186044416","pods":150000,"labels":[],"taints":[],"unschedulable":false}"#,
+        "",
+    ),
+    (
+        "a pod of a raw list",
+        r#"{"metadata":{"namespace":"shop","name":"db-0"},"spec":{"nodeName":"n1","containers":[{"resources":{"requests":{"cpu":"1"}}}]},
+            "status":{"phase":"Running"}}"#,
+        r#"{"op":"bound","v":7,"uid":"shop/db-0","node":"n1","cpu":"1000m","mem":"0"}"#,
+        "",
+    ),
+    (
+        "a node of a raw list",
+        r#"{"metadata":{"name":"n1"},"spec":{},"status":{"nodeInfo":{},"allocatable":{"pods":"110"}}}"#,
+        r#"{"op":"node","v":7,"name":"n1","cpu":"0m","mem":"0","pods":110,"labels":[],"taints":[],"unschedulable":false}"#,
+        "",
+    ),
+    (
+        "a pod that was shrunk in place, with a sidecar that was",
+        r#"{"kind":"Pod","metadata":{"name":"a"},"spec":{"nodeName":"n1","containers":[
+            {"name":"b","resources":{"requests":{"cpu":"1","memory":"1Ki"}}},{"name":"c","resources":{"requests":{"cpu":"1"}}}],
+            "initContainers":[{"name":"d","restartPolicy":"Always","resources":{"requests":{"memory":"1"}}}]},
+            "status":{"phase":"Running","containerStatuses":[{"name":"c","allocatedResources":{"cpu":"500m"}},
+            {"name":"b","allocatedResources":{"cpu":"8","memory":"1"},"resources":{"requests":{"cpu":"2","memory":"16Ki"}}}],
+            "initContainerStatuses":[{"name":"d","allocatedResources":{"memory":"1Ki"}}]}}"#,
+        r#"{"op":"bound","v":7,"uid":"default/a","node":"n1","cpu":"9000m","mem":"17408"}"#,
+        "",
+    ),
+    (
+        "a pod that was shrunk in place as a whole",
+        r#"{"kind":"Pod","metadata":{"name":"a"},"spec":{"nodeName":"n1","overhead":{"memory":"1"},"resources":{"requests":{"cpu":"1","memory":"1Ki"}},
+            "containers":[{}]},"status":{"allocatedResources":{"cpu":"4","memory":"2Ki"},"resources":{"requests":{"memory":"8Ki"}}}}"#,
+        r#"{"op":"bound","v":7,"uid":"default/a","node":"n1","cpu":"4000m","mem":"8193"}"#,
+        "",
+    ),
+    (
+        "a pod on a node whose status can't be read",
+        r#"{"kind":"Pod","metadata":{"name":"a"},"spec":{"nodeName":"n1","containers":[{"name":"b"}]},"status":{"containerStatuses":"b"}}"#,
+        r#"{"op":"bound","v":7,"uid":"default/a","node":"n1","cpu":"1073741824m","mem":"17592186044416"}"#,
+        r#""what its status says that it holds""#,
+    ),
+    (
+        "a pod on a node without containers",
+        r#"{"kind":"Pod","metadata":{"name":"a"},"spec":{"nodeName":"n1"}}"#,
+        r#"{"op":"bound","v":7,"uid":"default/a","node":"n1","cpu":"1073741824m","mem":"17592186044416"}"#,
+        r#""a field of another type: containers""#,
+    ),
+    (
+        "a pod that waits, with fields that aren't known, an affinity that is none, and nothing of another resource",
+        r#"{"kind":"Pod","metadata":{"name":"a"},"spec":{"schedulerName":"wsched","affinity":"zone a","gangs":[1],"os":{"name":"linux"},"later":[],
+            "overhead":{"cpu":"1","a.com/c":"1"},"containers":[{"resources":{"requests":{"a.com/b":"0"},"limits":{"a.com/b":"0"}}}]}}"#,
+        "",
+        r#""affinity", "resource a.com/c", "field gangs""#,
+    ),
+    (
+        "a pod that waits, with an affinity that isn't known",
+        r#"{"kind":"Pod","metadata":{"name":"a"},"spec":{"schedulerName":"wsched","containers":[{}],"affinity":{"nodeAffinity":{
+            "requiredDuringSchedulingRequiredDuringExecution":{}}}}}"#,
+        "",
+        r#""affinity""#,
+    ),
+    ("a line of spaces", " \t\r", "", r#""no JSON""#),
+];
+
+// A line that may be a pod on a node that no line of a script can count, and why.
+const UNCOUNTED: &[(&str, &str, &str)] = &[
+    ("no JSON", "{", r#""no JSON""#),
+    (
+        "an event of another type",
+        r#"{"type":"ERROR","object":{"kind":"Status","code":410}}"#,
+        r#""an event of another type""#,
+    ),
+    (
+        "a list",
+        r#"{"kind":"List","apiVersion":"v1","items":[]}"#,
+        r#""a list, whose items are to stand on lines of their own""#,
+    ),
+    (
+        "no kind",
+        r#"{"metadata":{"name":"a"},"spec":{"nodeName":"n1"}}"#,
+        r#""a field of another type: kind""#,
+    ),
+    ("no object", "[]", r#""a field of another type: kind""#),
+    (
+        "an API of another type",
+        r#"{"kind":"Pod","apiVersion":1}"#,
+        r#""a field of another type: apiVersion""#,
+    ),
+    (
+        "no spec",
+        r#"{"kind":"Pod","metadata":{"name":"a"}}"#,
+        r#""a field of another type: spec""#,
+    ),
+    (
+        "a node's name of another type",
+        r#"{"kind":"Pod","metadata":{"name":"a"},"spec":{"nodeName":["n1"]}}"#,
+        r#""a field of another type: nodeName""#,
+    ),
+    (
+        "no name",
+        r#"{"kind":"Pod","metadata":{},"spec":{"nodeName":"n1"}}"#,
+        r#""a field of another type: name""#,
+    ),
 ];
 
 fn translations() -> &'static [(&'static str, &'static str, &'static str, &'static str)] {
     TRANSLATIONS
 }
 
+fn uncounted() -> &'static [(&'static str, &'static str, &'static str)] {
+    UNCOUNTED
+}
+
 // Whether a line of the API gives just this line and these names.
-fn is_translated(alloc: Global, line: &str, want: &str, left_out: &str) -> bool {
-    match translate(alloc, line.as_bytes(), "wsched", false, Version(7)) {
+fn is_translated(alloc: Global, line: &str, labels: &str, want: &str, left_out: &str) -> bool {
+    let site = Site {
+        scheduler: "wsched",
+        labels,
+    };
+    match translate(alloc, line.as_bytes(), &site, false, Version(7)) {
         Ok(told) => {
             told.line.as_slice() == want.as_bytes()
                 && told.left_out.as_slice() == left_out.as_bytes()
+                && !told.uncounted
+        }
+        Err(_) => false,
+    }
+}
+
+// Whether a line of the API can't be counted, and this is why.
+fn is_uncounted(alloc: Global, line: &str, why: &str) -> bool {
+    let site = Site {
+        scheduler: "wsched",
+        labels: "",
+    };
+    match translate(alloc, line.as_bytes(), &site, false, Version(7)) {
+        Ok(told) => {
+            told.line.is_empty() && told.left_out.as_slice() == why.as_bytes() && told.uncounted
         }
         Err(_) => false,
     }
@@ -348,7 +501,12 @@ fn is_translated(alloc: Global, line: &str, want: &str, left_out: &str) -> bool 
 // The first line that gives something else.
 fn first_other_translation(alloc: Global) -> Option<&'static str> {
     for (name, line, want, left_out) in translations() {
-        if !is_translated(alloc, line, want, left_out) {
+        if !is_translated(alloc, line, "", want, left_out) {
+            return Some(name);
+        }
+    }
+    for (name, line, why) in uncounted() {
+        if !is_uncounted(alloc, line, why) {
             return Some(name);
         }
     }
@@ -358,7 +516,48 @@ fn first_other_translation(alloc: Global) -> Option<&'static str> {
 #[test]
 fn objects_give_the_lines_of_a_script(rt: HostRuntime) {
     assert_eq!(rt; first_other_translation(rt.alloc()), None);
-    let unnamed = br#"{"kind":"Pod","metadata":{},"spec":{"nodeName":"n1"}}"#;
-    let told = translate(rt.alloc(), unnamed, "wsched", false, Version(7));
-    assert!(rt; matches!(told, Err(ObjectFault::BadField(Key::Name))));
+}
+
+// A pod with the label `z` and so many that stand before it.
+fn labelled(alloc: Global, count: usize) -> Result<String, AllocError> {
+    let mut text = String::new(alloc);
+    text.push_str(r#"{"kind":"Pod","metadata":{"name":"a","labels":{"z":"1""#)?;
+    for n in 0..count {
+        let label = format!(in alloc; ",\"a{n}\":\"\"")?;
+        text.push_str(label.as_str())?;
+    }
+    text.push_str(r#"}},"spec":{"schedulerName":"wsched","containers":[{}]}}"#)?;
+    Ok(text)
+}
+
+// The front of its line, up to its labels.
+const FRONT: &str =
+    r#"{"op":"pod","v":7,"uid":"default/a","priority":0,"containers":[["0m","0"]],"labels":["#;
+
+// Whether this label is told first of such a pod, or there is no row where it is none.
+fn is_first(alloc: Global, count: usize, labels: &str, want: Option<&str>) -> bool {
+    let Ok(line) = labelled(alloc, count) else {
+        return false;
+    };
+    let site = Site {
+        scheduler: "wsched",
+        labels,
+    };
+    let Ok(told) = translate(alloc, line.as_str().as_bytes(), &site, false, Version(7)) else {
+        return false;
+    };
+    match (want, told.line.strip_prefix(FRONT.as_bytes())) {
+        (Some(label), Some(rest)) => rest.starts_with(label.as_bytes()),
+        (None, None) => told.line.is_empty() && !told.uncounted,
+        _ => false,
+    }
+}
+
+#[test]
+fn labels_that_are_named_come_first(rt: HostRuntime) {
+    let alloc = rt.alloc();
+    assert!(rt; is_first(alloc, 31, "", Some(r#"["a0",""]"#)));
+    assert!(rt; is_first(alloc, 32, "", None));
+    assert!(rt; is_first(alloc, 32, "q", Some(r#"["a0",""]"#)));
+    assert!(rt; is_first(alloc, 32, "q,z", Some(r#"["z","1"],["a0",""]"#)));
 }

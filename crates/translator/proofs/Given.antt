@@ -1,7 +1,6 @@
 -- What one line gives, and which version is the next behind it.
-use Rattle.std.proofs.Common.{◌≡◌, ◌≢◌, ◌∙◌, ℕ, ◌+◌, ◌<◌, ◌≤◌, cond, List, [], ◌∷◌, length, Option, Some, None, Result, Ok, Err, refl, ap, sym, subst}
+use Rattle.std.proofs.Common.{◌≡◌, ◌≢◌, ◌∙◌, ℕ, ◌+◌, ◌<◌, ◌≤◌, cond, ◌&&◌, not, true, false, List, [], ◌∷◌, length, Option, Some, None, Ok, Err, refl, ap, sym}
 use Rattle.std.proofs.lemmas.Bool.{le-leb, lt-leb}
-use Rattle.std.specs.Result.{result_ok}
 use Rattle.std.specs.Str.{chars, is_utf8}
 use Rattle.json.specs.Json.{value}
 use Rattle.json.specs.Lex.{lex, punctuate}
@@ -11,55 +10,46 @@ use Rattle.manifest.specs.Line.{meaning}
 use Rattle.manifest.specs.Reading.{parsed}
 use Rattle.manifest.specs.declared.command.Command.{Command}
 use Rattle.manifest.specs.declared.fault.LineFault.TheVariants.{NotJson}
-use Rattle.objects.specs.declared.fault.ObjectFault.{ObjectFault}
-use Rattle.objects.specs.declared.fault.ObjectFault.TheVariants.{BadField, BadName, Quantity, TooMany, PodResources, TooLarge, NoMemory}
 use Rattle.objects.specs.declared.translation.Translation.{Translation}
-use Rattle.objects.specs.Reading.{Fails}
 use Rattle.objects.specs.Told.{Told, told}
-use Rattle.objects.specs.Translation.{IsTranslation, Spells, Translates}
-use Rattle.translator.specs.Translate.{Manner, next_version, told_under}
-use Rattle.fault_line.specs.declared.fault.Fault.{Fault}
-use Rattle.translator.specs.inside.Translate.{IsLineEnd, TranslatesTo}
+use Rattle.objects.specs.Translation.{IsTranslation, Spells}
+use Rattle.translator.specs.Translate.{Manner, next_version, told_under, unless_uncounted}
+use Rattle.translator.specs.inside.Translate.{TranslatesTo}
 
 -- ---- what is given
 
 -- under a version that there is a line gives what is told of it
 pub under : (manner : Manner) (version : ℕ) (line : List ℕ) → version ≤ MAX_VERSION
-    → told_under manner version line ≡ result_ok (told manner.scheduler manner.by_uid (record { 0 = version }) line)
+    → told_under manner version line ≡ unless_uncounted manner.answers (told manner.site manner.by_uid (record { 0 = version }) line)
 unfolding told_under
 under manner version line within =
-    ap (λ b. cond b (result_ok (told manner.scheduler manner.by_uid (record { 0 = version }) line)) None) (le-leb version MAX_VERSION within)
+    ap (λ b. cond b (unless_uncounted manner.answers (told manner.site manner.by_uid (record { 0 = version }) line)) None) (le-leb version MAX_VERSION within)
 
 -- behind the last version it gives nothing
 pub no_version : (manner : Manner) (version : ℕ) (line : List ℕ) → MAX_VERSION < version → told_under manner version line ≡ None
 unfolding told_under
 no_version manner version line past =
-    ap (λ b. cond b (result_ok (told manner.scheduler manner.by_uid (record { 0 = version }) line)) None) (lt-leb version MAX_VERSION past)
+    ap (λ b. cond b (unless_uncounted manner.answers (told manner.site manner.by_uid (record { 0 = version }) line)) None) (lt-leb version MAX_VERSION past)
 
--- a translation is that of what is told
-translates_to : (meant : Result Told ObjectFault) (translation : Translation) → Translates (Ok translation) meant → TranslatesTo (result_ok meant) translation
-translates_to (Ok meaning_of) translation is = (meaning_of, refl, is)
-translates_to (Err e) translation is = absurd is
-
+-- what may be a pod on a node that can't be counted gives nothing, unless the answer says it; anything else is what is told
 pub given : (manner : Manner) (version : ℕ) (line : List ℕ) (translation : Translation) → version ≤ MAX_VERSION
-    → Translates (Ok translation) (told manner.scheduler manner.by_uid (record { 0 = version }) line) → TranslatesTo (told_under manner version line) translation
-given manner version line translation within is =
-    subst (λ g. TranslatesTo g translation) (sym (under manner version line within)) (translates_to (told manner.scheduler manner.by_uid (record { 0 = version }) line) translation is)
+    → IsTranslation (told manner.site manner.by_uid (record { 0 = version }) line) translation
+    → (translation.uncounted && not manner.answers) ≡ false → TranslatesTo (told_under manner version line) translation
+given manner version line translation within is counted =
+    let meant = told manner.site manner.by_uid (record { 0 = version }) line in (
+      meant,
+      under manner version line within ∙ ap (λ b. cond (b && not manner.answers) None (Some meant)) (sym is.uncounted)
+          ∙ ap (λ b. cond b None (Some meant)) counted,
+      is,
+    )
 
--- and a fault ends a line by what is told of it
-pub not_given : (manner : Manner) (version number : ℕ) (line : List ℕ) (fault : Fault) → version ≤ MAX_VERSION
-    → IsLineEnd number (result_ok (told manner.scheduler manner.by_uid (record { 0 = version }) line)) fault → IsLineEnd number (told_under manner version line) fault
-not_given manner version number line fault within ends = subst (λ g. IsLineEnd number g fault) (sym (under manner version line within)) ends
-
--- nothing is given where the definition tells a fault
-pub no_fault : (e : ObjectFault) (meant : Result Told ObjectFault) → e ≢ NoMemory → Fails e meant → result_ok meant ≡ None
-no_fault NoMemory meant other fails = absurd (other refl)
-no_fault (BadField key) meant other fails = ap result_ok fails
-no_fault (BadName key) meant other fails = ap result_ok fails
-no_fault (Quantity key fault) meant other fails = ap result_ok fails
-no_fault (TooMany key) meant other fails = ap result_ok fails
-no_fault PodResources meant other fails = ap result_ok fails
-no_fault TooLarge meant other fails = ap result_ok fails
+pub not_given : (manner : Manner) (version : ℕ) (line : List ℕ) (translation : Translation) → version ≤ MAX_VERSION
+    → IsTranslation (told manner.site manner.by_uid (record { 0 = version }) line) translation
+    → (translation.uncounted && not manner.answers) ≡ true → told_under manner version line ≡ None
+not_given manner version line translation within is uncounted =
+    let meant = told manner.site manner.by_uid (record { 0 = version }) line in
+    under manner version line within ∙ ap (λ b. cond (b && not manner.answers) None (Some meant)) (sym is.uncounted)
+    ∙ ap (λ b. cond b None (Some meant)) uncounted
 
 -- ---- the next version
 

@@ -1,12 +1,10 @@
 -- Each answer stands on one line.
-use Rattle.std.proofs.Common.{◌≡◌, ◌∙◌, ℕ, ◌≤◌, suc, Bool, true, false, not, cond, List, [], ◌∷◌, ◌++◌, length, codes, Some, None, Result, Ok, Err, refl, sym, ap, subst, append_assoc, arith}
+use Rattle.std.proofs.Common.{◌≡◌, ◌∙◌, ℕ, ◌≤◌, suc, Bool, true, false, not, cond, List, [], ◌∷◌, ◌++◌, length, codes, Some, None, refl, sym, ap, subst, append_assoc, arith}
 use Rattle.std.specs.Prelude.{◌&&◌, ◌==◌, flat_map, nat_le}
 use Rattle.std.specs.List.{list_all}
-use Rattle.std.specs.Result.{result_ok}
 use Rattle.std.proofs.lemmas.Bool.{leb-true, ne_eqb}
 use Rattle.std.proofs.lemmas.List.Elements.{All-append, All-cons, All-drop, All-nil}
 use Rattle.quant.specs.declared.limits.TheConstants.{MAX_VERSION}
-use Rattle.objects.specs.declared.fault.ObjectFault.{ObjectFault}
 use Rattle.objects.specs.declared.translation.Translation.{Translation}
 use Rattle.objects.specs.Shown.{AreTexts, in_marks, stands_for_itself}
 use Rattle.objects.specs.Told.{Told, told}
@@ -14,7 +12,7 @@ use Rattle.objects.specs.Translation.{IsTranslation}
 use Rattle.objects.proofs.Shown.{names_are_texts}
 use Rattle.engine.specs.Lines.{IsLine, is_newline, lines_of}
 use Rattle.engine.proofs.Taking.{lines_of-newline, lines_of-nil}
-use Rattle.translator.specs.Translate.{Manner, AreTranslated, answer_text, answers_text, line_or_null, next_version, told_under}
+use Rattle.translator.specs.Translate.{Manner, AreTranslated, answer_object, answer_text, answers_text, line_or_null, next_version, told_under}
 use Rattle.translator.specs.Laws.{OneAnswerALine}
 use Rattle.translator.proofs.Scripts.{one_line, spelled_line, split_and}
 
@@ -47,20 +45,23 @@ all_marked (text ∷ texts) e =
     behind (in_marks text) (flat_map in_marks texts) (marked text (plain_text text parts.0)) (all_marked texts parts.1)
 
 -- what is told of a line that gives something
-meant_of : (within : Bool) (meant : Result Told ObjectFault) (given : Told) → cond within (result_ok meant) None ≡ Some given → meant ≡ Ok given
-meant_of true (Ok x) given is = cc
-meant_of true (Err e) given is = cc
-meant_of false meant given is = cc
+meant_of : (within uncounted : Bool) (meant given : Told) → cond within (cond uncounted None (Some meant)) None ≡ Some given → meant ≡ given
+meant_of true true meant given is = cc
+meant_of true false meant given is = cc
+meant_of false uncounted meant given is = cc
 
 told_of : (manner : Manner) (version : ℕ) (line : List ℕ) (given : Told) → told_under manner version line ≡ Some given
-    → told manner.scheduler manner.by_uid (record { 0 = version }) line ≡ Ok given
+    → told manner.site manner.by_uid (record { 0 = version }) line ≡ given
 unfolding told_under
-told_of manner version line given is = meant_of (nat_le version MAX_VERSION) _ given is
+told_of manner version line given is =
+    let meant = told manner.site manner.by_uid (record { 0 = version }) line in
+    meant_of (nat_le version MAX_VERSION) (meant.uncounted && not manner.answers) meant given is
 
 left_out_line : (manner : Manner) (version : ℕ) (line : List ℕ) (given : Told) (translation : Translation) → told_under manner version line ≡ Some given
     → IsTranslation given translation → IsLine translation.left_out.items
 left_out_line manner version line given translation gives is =
-    let texts : AreTexts given.left_out = names_are_texts manner.scheduler manner.by_uid (record { 0 = version }) line given (told_of manner version line given gives) in
+    let texts : AreTexts given.left_out =
+    subst (λ (t : Told). AreTexts t.left_out) (told_of manner version line given gives) (names_are_texts manner.site manner.by_uid (record { 0 = version }) line) in
     let whole : IsLine given.left_out = subst IsLine (sym texts.are) (all_marked texts.texts texts.plain) in
     subst IsLine (sym is.left_out) (All-drop (λ b. is_newline b ≡ false) 2 given.left_out whole)
 
@@ -71,19 +72,29 @@ spelled_or_null [] is = one_line (codes "null") refl
 spelled_or_null (x ∷ more) is = is
 
 -- it is one line, and the end of it
+object_line : (uncounted : Bool) (line left_out : List ℕ) → IsLine line → IsLine left_out
+    → (text : List ℕ) × IsLine text × (answer_object uncounted line left_out ≡ text ++ codes "\n")
+object_line false line left_out first second =
+    let front = codes "{\"line\": " ++ line_or_null line in
+    let both = front ++ codes ", \"left_out\": [" ++ left_out in (
+      both ++ codes "]}",
+      behind both (codes "]}") (behind (front ++ codes ", \"left_out\": [") left_out
+          (behind front (codes ", \"left_out\": [") (behind (codes "{\"line\": ") (line_or_null line) (one_line (codes "{\"line\": ") refl)
+          (spelled_or_null line first)) (one_line (codes ", \"left_out\": [") refl)) second) (one_line (codes "]}") refl),
+      sym (append_assoc both (codes "]}") (codes "\n")),
+    )
+object_line true line left_out first second =
+    let front = codes "{\"uncounted\": [" in (
+      front ++ left_out ++ codes "]}",
+      behind (front ++ left_out) (codes "]}") (behind front left_out (one_line front refl) second) (one_line (codes "]}") refl),
+      sym (append_assoc (front ++ left_out) (codes "]}") (codes "\n")),
+    )
+
 answer_line : (answers : Bool) (translation : Translation) → IsLine translation.line.items → IsLine translation.left_out.items
     → (text : List ℕ) × IsLine text × (answer_text answers translation ≡ text ++ codes "\n")
 unfolding answer_text
 answer_line false translation line left_out = (translation.line.items, line, refl)
-answer_line true translation line left_out =
-    let front = codes "{\"line\": " ++ line_or_null translation.line.items in
-    let both = front ++ codes ", \"left_out\": [" ++ translation.left_out.items in (
-      both ++ codes "]}",
-      behind both (codes "]}") (behind (front ++ codes ", \"left_out\": [") translation.left_out.items
-          (behind front (codes ", \"left_out\": [") (behind (codes "{\"line\": ") (line_or_null translation.line.items) (one_line (codes "{\"line\": ") refl)
-          (spelled_or_null translation.line.items line)) (one_line (codes ", \"left_out\": [") refl)) left_out) (one_line (codes "]}") refl),
-      sym (append_assoc both (codes "]}") (codes "\n")),
-    )
+answer_line true translation line left_out = object_line translation.uncounted translation.line.items translation.left_out.items line left_out
 
 answer_step : (answers : Bool) (translation : Translation) (rest : List ℕ) → IsLine translation.line.items → IsLine translation.left_out.items
     → length (lines_of (answer_text answers translation ++ rest)) ≡ suc (length (lines_of rest))

@@ -1,7 +1,6 @@
 -- How far a translation has come: what is written and what waits answers the lines that were taken.
 use Rattle.std.proofs.Common.{◌≡◌, ◌∙◌, ℕ, ◌+◌, Bool, false, cond, leb, List, [], ◌∷◌, ◌++◌, length, take, Option, Some, None, IfSome, ⊎_elim, refl, sym, subst, ap, arith, append_assoc}
 use Rattle.std.specs.Prelude.{nat_le}
-use Rattle.std.specs.Result.{result_ok}
 use Rattle.std.proofs.KnownBytes.{Appends-trans, Appends-nil}
 use Rattle.std.proofs.lemmas.Bool.{lt-leb, cases_lt}
 use Rattle.std.proofs.lemmas.List.{length-append, length-take, append-nil, take_all}
@@ -12,31 +11,36 @@ use Rattle.engine.specs.inside.Device.{WritesSome}
 use Rattle.engine.specs.Lines.{lines_of, TakesFront}
 use Rattle.engine.proofs.Taking.{lines_of-nil}
 use Rattle.objects.specs.declared.translation.Translation.{Translation}
-use Rattle.objects.specs.Told.{Told, told}
+use Rattle.objects.specs.Site.{Site}
+use Rattle.objects.specs.Told.{Told, line_told, told_or_uncounted, told}
 use Rattle.objects.specs.Translation.{IsTranslation}
 use Rattle.translator.specs.declared.waiting.Waiting.{Waiting}
-use Rattle.translator.specs.Translate.{Manner, AreTranslated, BeginsTranslation, EndsAtLine, IsWholeTranslation, answer_text, answers_text, left_out_text, left_out_texts, next_version, told_under}
+use Rattle.translator.specs.Translate.{Manner, AreTranslated, BeginsTranslation, EndsAtLine, IsWholeTranslation, answer_text, answers_text, left_out_text, left_out_texts, next_version, told_under, unless_uncounted}
 use Rattle.translator.specs.inside.Translate.{IsLineAnswered}
 
 -- ---- a line of which the front is kept
 
 -- what is kept of a line tells what the line tells
-told-kept : (scheduler : List ℕ) (by_uid : Bool) (version : Version) (text : List ℕ)
-    → told scheduler by_uid version (take 2097153 text) ≡ told scheduler by_uid version text
-unfolding told
-told-kept scheduler by_uid version text = ⊎_elim
+line-kept : (site : Site) (by_uid : Bool) (version : Version) (text : List ℕ)
+    → line_told site by_uid version (take 2097153 text) ≡ line_told site by_uid version text
+unfolding line_told
+line-kept site by_uid version text = ⊎_elim
     (λ long.
     let short_of : leb (length (take 2097153 text)) 2097152 ≡ false = lt-leb (length (take 2097153 text)) 2097152 (omega (arith, length-take 2097153 text)) in
     let too_long : leb (length text) 2097152 ≡ false = lt-leb (length text) 2097152 (omega arith) in
     rw (short_of, too_long) refl)
-    (λ short. ap (told scheduler by_uid version) (take_all 2097153 text short))
+    (λ short. ap (line_told site by_uid version) (take_all 2097153 text short))
     (cases_lt 2097153 (length text))
+
+told-kept : (site : Site) (by_uid : Bool) (version : Version) (text : List ℕ) → told site by_uid version (take 2097153 text) ≡ told site by_uid version text
+unfolding told
+told-kept site by_uid version text = ap told_or_uncounted (line-kept site by_uid version text)
 
 -- and gives under a version what the line gives
 pub told_under-kept : (manner : Manner) (version : ℕ) (text : List ℕ) → told_under manner version (take 2097153 text) ≡ told_under manner version text
 unfolding told_under
 told_under-kept manner version text =
-    ap (λ t. cond (nat_le version MAX_VERSION) (result_ok t) None) (told-kept manner.scheduler manner.by_uid (record { 0 = version }) text)
+    ap (λ t. cond (nat_le version MAX_VERSION) (unless_uncounted manner.answers t) None) (told-kept manner.site manner.by_uid (record { 0 = version }) text)
 
 -- ---- translations
 

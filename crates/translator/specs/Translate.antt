@@ -1,11 +1,11 @@
 -- What a translation writes of the objects that it reads, one a line.
-use Rattle.std.specs.Prelude.{◌≡◌, ◌≢◌, ◌⊎◌, ◌<◌, ℕ, ◌+◌, nat_le, Bool, true, false, List, [], ◌∷◌, ◌++◌, length, codes, decimal, Option, Some, None, IfSome, if◌then◌else◌}
-use Rattle.std.specs.Result.{result_ok}
+use Rattle.std.specs.Prelude.{◌≡◌, ◌≢◌, ◌⊎◌, ◌<◌, ℕ, ◌+◌, nat_le, Bool, true, false, ◌&&◌, not, List, [], ◌∷◌, ◌++◌, length, codes, decimal, Option, Some, None, IfSome, if◌then◌else◌}
 use Rattle.std.specs.Io.KnownBytes.{Appends}
 use Rattle.quant.specs.declared.event.Event.{Event}
 use Rattle.quant.specs.declared.limits.TheConstants.{MAX_VERSION}
 use Rattle.command.specs.declared.asked.TranslatePlan.{TranslatePlan}
 use Rattle.objects.specs.declared.translation.Translation.{Translation}
+use Rattle.objects.specs.Site.{Site}
 use Rattle.objects.specs.Told.{Told, told}
 use Rattle.objects.specs.Translation.{IsTranslation}
 use Rattle.engine.specs.Device.{DeviceUse}
@@ -15,25 +15,32 @@ use Rattle.fault_line.specs.declared.fault.Fault.{Fault}
 use Rattle.fault_line.specs.declared.fault.Fault.TheVariants.{Run, Uncounted}
 use Rattle.fault_line.specs.Message.{Tells, message_of}
 
--- how objects are told: the pods of which scheduler, whether pods are called by their uid, and whether each answer is an object
--- that also says what is left out
+-- how objects are told: of which site, whether pods are called by their uid, and whether each answer is an object that also says
+-- what is left out
 pub record Manner : Type 0 where
-  pub scheduler : List ℕ
+  pub site : Site
   pub by_uid : Bool
   pub answers : Bool
 
 -- the manner that a plan asks for
 abbrev pub manner_of : TranslatePlan → Manner
-manner_of plan = record { scheduler = plan.scheduler.now; by_uid = plan.by_uid; answers = plan.answers }
+manner_of plan = record {
+  site = record { scheduler = plan.scheduler.now; labels = plan.labels.now };
+  by_uid = plan.by_uid;
+  answers = plan.answers;
+}
 
 -- ---- what lines give
 
--- what a line gives under the next version. There is no going on where a pod on a node can't be counted, and none behind the last
--- version.
+-- what a line gives under the next version. There is no going on where it may be a pod on a node that can't be counted, unless the
+-- answer says so, and none behind the last version.
+abbrev pub unless_uncounted : (answers : Bool) → Told → Option Told
+unless_uncounted answers told = if told.uncounted && not answers then None else Some told
+
 unfoldable pub told_under : Manner → (version : ℕ) → (line : List ℕ) → Option Told
 told_under manner version line =
     if nat_le version MAX_VERSION
-    then result_ok (told manner.scheduler manner.by_uid (record { 0 = version }) line)
+    then unless_uncounted manner.answers (told manner.site manner.by_uid (record { 0 = version }) line)
     else None
 
 -- the next version behind a line that gives this event or none
@@ -56,11 +63,15 @@ abbrev pub line_or_null : (line : List ℕ) → List ℕ
 line_or_null [] = codes "null"
 line_or_null (x ∷ more) = x ∷ more
 
--- the answer to a line: the script's line, or an object with it and with what is left out
+-- the answer to a line: the script's line, or an object with it and with what is left out. Of a line that may be a pod on a node that
+-- can't be counted the object has no line, and says why
+abbrev pub answer_object : (uncounted : Bool) → (line left_out : List ℕ) → List ℕ
+answer_object false line left_out = codes "{\"line\": " ++ line_or_null line ++ codes ", \"left_out\": [" ++ left_out ++ codes "]}\n"
+answer_object true line left_out = codes "{\"uncounted\": [" ++ left_out ++ codes "]}\n"
+
 unfoldable pub answer_text : (answers : Bool) → Translation → List ℕ
 answer_text false translation = translation.line.items ++ codes "\n"
-answer_text true translation =
-    codes "{\"line\": " ++ line_or_null translation.line.items ++ codes ", \"left_out\": [" ++ translation.left_out.items ++ codes "]}\n"
+answer_text true translation = answer_object translation.uncounted translation.line.items translation.left_out.items
 
 -- what is said of a line that gives one, and of a line that gives none
 abbrev pub left_out_words : (line : List ℕ) → List ℕ

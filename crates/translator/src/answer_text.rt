@@ -1,6 +1,6 @@
 //! The texts that answer a line of a translation.
 ghost use Rattle.std.specs.Prelude.{◌≡◌, IfOk};
-ghost use Rattle.translator.specs.Translate.{answer_text, left_out_text, left_out_words, line_or_null};
+ghost use Rattle.translator.specs.Translate.{answer_object, answer_text, left_out_text, left_out_words, line_or_null};
 
 use itoa::Buffer;
 use objects::Translation;
@@ -33,17 +33,30 @@ pub(crate) fn answer_text(
 ) -> Result<Vec<u8>, AllocError>
     ensures { IfOk result (λ text. text.items ≡ answer_text answers translation.now) }
 {
-    let mut text = Vec::new(alloc);
     if answers {
+        return answer_object(alloc, translation);
+    }
+    let mut text = Vec::new(alloc);
+    text.extend_from_slice(&translation.line)?;
+    text.extend_from_slice(b"\n")?;
+    Ok(text)
+}
+
+// The object that answers a line. Where the line may be a pod on a node that can't be counted, nobody can take it for nothing.
+fn answer_object(alloc: Global, translation: &Translation) -> Result<Vec<u8>, AllocError>
+    ensures { IfOk result (λ text. text.items ≡ answer_object translation.now.uncounted translation.now.line.items
+        translation.now.left_out.items) }
+{
+    let mut text = Vec::new(alloc);
+    if translation.uncounted {
+        text.extend_from_slice(b"{\"uncounted\": [")?;
+    } else {
         text.extend_from_slice(b"{\"line\": ")?;
         text.extend_from_slice(line_or_null(&translation.line))?;
         text.extend_from_slice(b", \"left_out\": [")?;
-        text.extend_from_slice(&translation.left_out)?;
-        text.extend_from_slice(b"]}\n")?;
-        return Ok(text);
     }
-    text.extend_from_slice(&translation.line)?;
-    text.extend_from_slice(b"\n")?;
+    text.extend_from_slice(&translation.left_out)?;
+    text.extend_from_slice(b"]}\n")?;
     Ok(text)
 }
 

@@ -1,10 +1,7 @@
 //! A translation of objects of the Kubernetes API to the lines of a script, one for each.
-ghost use Rattle.std.specs.Prelude.{◌≡◌, ◌^◌, ◌<◌, ◌≤◌, ◌++◌, Result, IfOk, IfErr, OnOk, OnErr};
-ghost use Rattle.std.specs.Result.{result_ok};
+ghost use Rattle.std.specs.Prelude.{◌≡◌, ◌^◌, ◌<◌, ◌≤◌, ◌++◌, ◌&&◌, not, IfOk, IfErr, OnOk, OnErr};
 ghost use Rattle.engine.specs.Device.{use_of};
-ghost use Rattle.objects.specs.Reading.{Fails};
 ghost use Rattle.objects.specs.Told.{Told};
-ghost use Rattle.objects.specs.declared.fault.ObjectFault.{ObjectFault};
 ghost use Rattle.objects.specs.Translation.{IsTranslation};
 ghost use Rattle.translator.specs.Translate.{IsTranslated, answer_text, left_out_text, manner_of, next_version, told_under};
 ghost use Rattle.translator.specs.inside.Translate.{IsLineAnswered, IsLineEnd, IsStopped, TranslatesTo};
@@ -14,7 +11,7 @@ use crate::waiting::{Stopped, Waiting};
 use command::TranslatePlan;
 use engine::{LineReader, RunFault, Sink, Source};
 use fault_line::{Fault, report};
-use objects::{MAX_OBJECT, ObjectFault, Translation, translate};
+use objects::{MAX_OBJECT, Site, Translation, translate};
 use quant::{MAX_VERSION, Version};
 use std::alloc::{AllocError, Global};
 
@@ -23,7 +20,8 @@ const MAX_KEPT: usize = MAX_OBJECT + 1;
 
 /// Reads objects from `source`, one a line, writes what each gives a script to `out`, also one a line, and gives the exit status.
 /// What is left out of an object goes to `err`, unless the answers say it. So does a fault, as one line, and a failed write of that
-/// line changes nothing.
+/// line changes nothing. A line that may be a pod on a node which no line of a script can count ends the translation, unless the
+/// answers say that.
 pub fn serve_translation<R: Source, W: Sink, E: Sink>(
     alloc: Global,
     plan: &TranslatePlan<'_>,
@@ -106,6 +104,7 @@ fn answer_line(
 }
 
 // What a line gives under the next version.
+#[tactic(auto, using(crate::proofs::Given::given))]
 fn translation_under(
     alloc: Global,
     plan: &TranslatePlan<'_>,
@@ -121,20 +120,24 @@ fn translation_under(
     if version > MAX_VERSION {
         return Err(Fault::Uncounted(number));
     }
-    match translate(alloc, line, plan.scheduler, plan.by_uid, Version(version)) {
-        Ok(translation) => Ok(translation),
-        Err(fault) => Err(line_end(number, fault)),
+    let site = Site {
+        scheduler: plan.scheduler,
+        labels: plan.labels,
+    };
+    let Ok(translation) = translate(alloc, line, &site, plan.by_uid, Version(version)) else {
+        return Err(Fault::Run(RunFault::NoMemory));
+    };
+    if is_unanswered(plan.answers, &translation) {
+        return Err(Fault::Uncounted(number));
     }
+    Ok(translation)
 }
 
-// Why a line ends a translation, by the fault of its object: memory was wanting, or the object can't be counted.
-fn line_end(number: u64, fault: ObjectFault) -> Fault
-    ensures { (meant : Result Told ObjectFault) → Fails fault meant → IsLineEnd number (result_ok meant) result }
+// Whether a line may be a pod on a node that can't be counted, and no answer says so.
+fn is_unanswered(answers: bool, translation: &Translation) -> bool
+    ensures { result ≡ (translation.now.uncounted && not answers) }
 {
-    match fault {
-        ObjectFault::NoMemory => Fault::Run(RunFault::NoMemory),
-        _ => Fault::Uncounted(number),
-    }
+    translation.uncounted && !answers
 }
 
 // Adds the answer to a line to what waits, and what is told beside it.

@@ -1,5 +1,5 @@
 //! What a translation has yet to write.
-ghost use Rattle.std.specs.Prelude.{◌≡◌, ◌<◌, ◌++◌, ◌^◌, [], IsTrue, OnOk, OnErr, IfErr};
+ghost use Rattle.std.specs.Prelude.{◌≡◌, ◌<◌, ◌++◌, ◌^◌, [], vec_len, IsTrue, OnOk, OnErr, IfErr};
 ghost use Rattle.std.specs.Io.KnownBytes.{Appends};
 ghost use Rattle.engine.specs.Device.{AppendsFront};
 ghost use Rattle.engine.specs.declared.fault.RunFault.TheVariants as run_fault;
@@ -103,7 +103,7 @@ impl Waiting {
         Ok(())
     }
 
-    // Writes what waits, where it is due or has grown to the most that may wait.
+    // Writes what waits, where it is due or has grown to the most that may wait: less than that waits then.
     pub(crate) fn flush_if<W: Sink, E: Sink>(
         &mut self,
         due: bool,
@@ -112,6 +112,7 @@ impl Waiting {
     ) -> Result<(), Stopped>
         requires { (W.failure_count out.old < 10 ^ 18) × (E.failure_count err.old < 10 ^ 18) }
         ensures due { OnOk result (IsTrue due → self.new.answers.items ≡ []) }
+        ensures few { OnOk result ((vec_len self.new.answers < 65536) × (vec_len self.new.left_out < 65536)) }
         ensures written { OnOk result (WritesSome (W.written out.old) (W.written out.new)
             self.old.answers.items self.new.answers.items) }
         ensures told { OnOk result (WritesSome (E.written err.old) (E.written err.new)

@@ -10,7 +10,7 @@ use Rattle.objects.specs.declared.gone.Kind.{Kind}
 use Rattle.objects.specs.declared.gone.Kind.TheVariants.{Node, Pod}
 use Rattle.objects.specs.Field.{name_at}
 use Rattle.objects.specs.PodRow.{pod_name}
-use Rattle.objects.specs.Told.{Told, in_metadata}
+use Rattle.objects.specs.Told.{Told, saying, in_metadata}
 
 abbrev pub gone : Kind → Version → List ℕ → Event
 gone Node = NodeGone
@@ -23,4 +23,4 @@ name_of Pod by_uid json = in_metadata (pod_name by_uid) json
 
 -- an event that is told, and what stands beside it
 abbrev pub as_told : (left_out : List ℕ) → Option Event → Told
-as_told left_out event = record { event = event; left_out = left_out }
+as_told left_out event = saying event left_out

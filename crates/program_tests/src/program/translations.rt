@@ -7,13 +7,13 @@ use std::hash::RandomState;
 use std::sync::Wait;
 use std::thread::Threads;
 
-// A node; what tells nothing; a pod that waits; no JSON; a pod that stands on a node; a line of no bytes; a pod that is to be
+// A node; what tells nothing; a pod that waits; a line of spaces; a pod that stands on a node; a line of no bytes; a pod that is to be
 // placed by another scheduler now; and, on a last line without a newline, a pod that is gone.
 const OBJECTS: &[u8] =
     br#"{"type":"ADDED","object":{"kind":"Node","metadata":{"name":"a","labels":{"zone":"x","note":"two words"}},"status":{"allocatable":{"cpu":"3920m","memory":"15Gi","pods":"110"}}}}
 {"type":"BOOKMARK","object":{"kind":"Node","metadata":{"resourceVersion":"7"}}}
 {"kind":"Pod","metadata":{"namespace":"shop","name":"web-1","uid":"u1"},"spec":{"containers":[{"resources":{"requests":{"cpu":"250m","memory":"64Mi"}}}]}}
-{
+  
 {"type":"ADDED","object":{"kind":"Pod","metadata":{"namespace":"shop","name":"db-0","uid":"u2"},"spec":{"nodeName":"a","containers":[{"resources":{"requests":{"cpu":"1","memory":"lots"}}}]}}}
 
 {"type":"MODIFIED","object":{"kind":"Pod","metadata":{"namespace":"shop","name":"web-2","uid":"u3"},"spec":{"schedulerName":"other","containers":[{}]}}}
@@ -78,12 +78,17 @@ const BEFORE: &str =
 "#;
 
 const UNCOUNTED: &str = r#"line 1: left out: "label note"
-wsched: line 2: 6 Uncounted
+wsched: line 2: 6 Uncounted; it may be a pod on a node, and no script line can count it: --answers says why, and kubectl get .. -o json | jq -c '.items[]' gives one object a line
 "#;
 
-const BEFORE_IN_ANSWERS: &str =
+const UNCOUNTED_IN_ANSWERS: &str =
     r#"{"line": {"op":"node","v":1,"name":"a","cpu":"0m","mem":"0","pods":1,"labels":[],"taints":[],"unschedulable":false}, "left_out": ["label note"]}
+{"uncounted": ["a field of another type: name"]}
+{"line": {"op":"node","v":2,"name":"b","cpu":"0m","mem":"0","pods":0,"labels":[],"taints":[],"unschedulable":false}, "left_out": []}
 "#;
+
+// A list over several lines, as kubectl prints it.
+const PRETTY: &[u8] = b"{\n    \"kind\": \"List\"\n}\n";
 
 // Words, the input, and what they end with.
 type Row = (&'static [&'static str], &'static [u8], Want<'static>);
@@ -106,7 +111,16 @@ const ROWS: &[Row] = &[
     (
         &["translate", "--answers"],
         UNNAMED,
-        (1, BEFORE_IN_ANSWERS, "wsched: line 2: 6 Uncounted\n"),
+        (0, UNCOUNTED_IN_ANSWERS, ""),
+    ),
+    (
+        &["translate"],
+        PRETTY,
+        (
+            1,
+            "",
+            "wsched: line 1: 6 Uncounted; it may be a pod on a node, and no script line can count it: --answers says why, and kubectl get .. -o json | jq -c '.items[]' gives one object a line\n",
+        ),
     ),
     (
         &["translate", "--scheduler"],
@@ -184,15 +198,22 @@ const NO_JSON: Want<'static> = (
 );
 
 const TOO_LONG: Want<'static> = (
+    1,
+    "",
+    "wsched: line 1: 6 Uncounted; it may be a pod on a node, and no script line can count it: --answers says why, and kubectl get .. -o json | jq -c '.items[]' gives one object a line\n",
+);
+
+const ANSWERED: Want<'static> = (
     0,
-    "\n{\"op\":\"gone\",\"v\":1,\"name\":\"a\"}\n",
-    "line 1 is left out: \"a line of more than 2 MiB\"\n",
+    "{\"uncounted\": [\"a line of more than 2 MiB\"]}\n{\"line\": {\"op\":\"gone\",\"v\":1,\"name\":\"a\"}, \"left_out\": []}\n",
+    "",
 );
 
 // Whether a line of so many spaces, and the line behind it, end so.
 fn is_long_line<R: Files + Wait + Threads + Copy + Send + Sync + 'static>(
     rt: &R,
     alloc: Global,
+    args: &'static [&'static str],
     len: usize,
     want: Want,
 ) -> bool {
@@ -203,7 +224,7 @@ fn is_long_line<R: Files + Wait + Threads + Copy + Send + Sync + 'static>(
         return false;
     }
     let given = Given {
-        args: &["translate"],
+        args,
         script: script.as_slice(),
         most: 65_536,
         ..RUN
@@ -214,9 +235,12 @@ fn is_long_line<R: Files + Wait + Threads + Copy + Send + Sync + 'static>(
 #[test]
 fn objects_are_translated(rt: HostRuntime) {
     assert_eq!(rt; first_other(&rt, rt.alloc()), None);
-    assert!(rt; is_long_line(&rt, rt.alloc(), 2_097_152, NO_JSON));
-    assert!(rt; is_long_line(&rt, rt.alloc(), 2_097_153, TOO_LONG));
-    assert!(rt; is_long_line(&rt, rt.alloc(), 2_500_000, TOO_LONG));
+    let plain: &[&str] = &["translate"];
+    assert!(rt; is_long_line(&rt, rt.alloc(), plain, 2_097_152, NO_JSON));
+    assert!(rt; is_long_line(&rt, rt.alloc(), plain, 2_097_153, TOO_LONG));
+    assert!(rt; is_long_line(&rt, rt.alloc(), plain, 2_500_000, TOO_LONG));
+    let answers: &[&str] = &["translate", "--answers"];
+    assert!(rt; is_long_line(&rt, rt.alloc(), answers, 2_500_000, ANSWERED));
 }
 
 // Objects of which nothing is left out, and their lines.

@@ -6,5 +6,5 @@ use Rattle.objects.proofs.container.fill.Given as goal
 abbrev pub invariant-loop-item : goal.invariant-loop-item
 invariant-loop-item l = record {
   few : length l.row.items ≤ l.item-index;
-  same : each l.initial.row.items (items_view l.found) ≡ each l.row.items (items_view (drop l.item-index l.found));
+  same : each l.key l.initial.row.items (items_view l.found) ≡ each l.key l.row.items (items_view (drop l.item-index l.found));
 }

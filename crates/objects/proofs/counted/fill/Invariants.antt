@@ -6,5 +6,5 @@ use Rattle.objects.proofs.counted.fill.Given as goal
 abbrev pub invariant-loop-item : goal.invariant-loop-item
 invariant-loop-item l = record {
   few : length l.row.items ≤ l.item-index;
-  same : counted_items l.initial.row.items (items_view l.found) ≡ counted_items l.row.items (items_view (drop l.item-index l.found));
+  same : counted_items (items_view l.said) l.initial.row.items (items_view l.found) ≡ counted_items (items_view l.said) l.row.items (items_view (drop l.item-index l.found));
 }

@@ -1,13 +1,14 @@
 use Rattle.std.proofs.Common.{◌≡◌, ◌≤◌, true, [], length}
 use Rattle.serde_json.specs.View.{members_view}
-use Rattle.objects.specs.Labels.{labels_of}
+use Rattle.objects.specs.Labels.{other_labels}
 use Rattle.objects.specs.Sayable.{each_beside, says_label}
 use Rattle.objects.specs.inside.Members.{kept}
-use Rattle.objects.proofs.labels.take_members.Given as goal
+use Rattle.objects.proofs.labels.take_others.Given as goal
 
 abbrev pub invariant-loop-key : goal.invariant-loop-key
 invariant-loop-key l = record {
-  same : labels_of (kept l.initial.labels.items l.initial.out.items) (members_view l.members.entries) ≡ labels_of (kept l.labels.items l.out.items) (members_view l.key-iterator);
+  same : other_labels l.names (kept l.initial.labels.items l.initial.out.items) (members_view l.members.entries)
+      ≡ other_labels l.names (kept l.labels.items l.out.items) (members_view l.key-iterator);
   sayable : each_beside says_label [] l.initial.labels.items ≡ true → each_beside says_label [] l.labels.items ≡ true;
   few : length l.initial.labels.items ≤ 32 → length l.labels.items ≤ 32;
 }

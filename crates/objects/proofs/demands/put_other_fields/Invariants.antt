@@ -1,0 +1,8 @@
+use Rattle.std.proofs.Common.{◌≡◌, ◌++◌}
+use Rattle.serde_json.specs.View.{members_view}
+use Rattle.objects.specs.Demands.{other_fields}
+use Rattle.objects.proofs.demands.put_other_fields.Given as goal
+
+abbrev pub invariant-loop-key : goal.invariant-loop-key
+invariant-loop-key l =
+    l.initial.out.items ++ other_fields (members_view l.initial.key-iterator) ≡ l.out.items ++ other_fields (members_view l.key-iterator)
