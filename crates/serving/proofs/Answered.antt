@@ -66,7 +66,7 @@ module _ (Unkeyed : Type 0) (files : FilesUse) (source out err : DeviceUse) (end
     failures = told _ _ _ _ _ _ _ (Words word_fault.NoMemory) three tells (h.reads, h.writes);
     files_told = λ _. h.opens;
   }
-  wanting (Some (translate scheduler by_uid answers)) fault three tells h = record {
+  wanting (Some (translate scheduler labels by_uid answers)) fault three tells h = record {
     translated = nothing_translated _ source out err ended three (rw no_memory_told at tells) h.same h.reads h.writes;
     unopened = h.unopened;
   }

@@ -74,8 +74,8 @@ IsDone (Some (run workers specs)) fault Unkeyed files source out err ended = IsP
 IsDone (Some (explain workers specs)) fault Unkeyed files source out err ended = IsPlannedRun true specs Unkeyed files source out err ended
 IsDone (Some (check file)) fault Unkeyed files source out err ended = IsFileCheck file files source out err ended
 IsDone (Some (storm cycles binders flaky specs)) fault Unkeyed files source out err ended = IsPlannedStorm cycles binders specs Unkeyed files source out err ended
-IsDone (Some (translate scheduler by_uid answers)) fault Unkeyed files source out err ended =
-    IsTranslation (record { scheduler = scheduler; by_uid = by_uid; answers = answers }) files source out err ended
+IsDone (Some (translate scheduler labels by_uid answers)) fault Unkeyed files source out err ended =
+    IsTranslation (record { site = record { scheduler = scheduler; labels = labels }; by_uid = by_uid; answers = answers }) files source out err ended
 IsDone (Some version) fault Unkeyed files source out err ended = IsVersionTold files source out err ended
 
 -- The program's words, which could perhaps not be read, were answered with this status.

@@ -4,7 +4,7 @@
 //! was decided of each node; `wsched storm [--cycles C] [--binders B] [--flaky]
 //! [NAME:WEIGHT:FUEL:FILE]...` has many threads work a script of watch lines off at once, and writes
 //! what they come to and an audit of it; `wsched check MODULE` says on standard output whether the
-//! module in that file is accepted; `wsched translate [--scheduler NAME] [--by-uid] [--answers]` reads
+//! module in that file is accepted; `wsched translate [--scheduler NAME] [--labels KEY,..] [--by-uid] [--answers]` reads
 //! objects of the Kubernetes API from standard input and writes the lines of a script that they give;
 //! `wsched version` says which program this is.
 //! A fault goes to standard error as one line. It ends with status 0 when all was done or the module is

@@ -52,7 +52,7 @@ const WORDS: &[(&[&str], Want<'static>)] = &[
         (
             2,
             "",
-            "wsched: 1 BadWords\nusage: wsched run [--workers N] [SPEC]...\n       wsched explain [--workers N] [SPEC]...\n       wsched storm [--cycles C] [--binders B] [--flaky] [SPEC]...\n       wsched check MODULE\n       wsched translate [--scheduler NAME] [--by-uid] [--answers]\n       wsched version\na SPEC is NAME:WEIGHT:FUEL:FILE\n",
+            "wsched: 1 BadWords\nusage: wsched run [--workers N] [SPEC]...\n       wsched explain [--workers N] [SPEC]...\n       wsched storm [--cycles C] [--binders B] [--flaky] [SPEC]...\n       wsched check MODULE\n       wsched translate [--scheduler NAME] [--labels KEY,..] [--by-uid] [--answers]\n       wsched version\na SPEC is NAME:WEIGHT:FUEL:FILE\n",
         ),
     ),
     (
@@ -60,7 +60,7 @@ const WORDS: &[(&[&str], Want<'static>)] = &[
         (
             2,
             "",
-            "wsched: 1 BadWords COMMAND\nusage: wsched run [--workers N] [SPEC]...\n       wsched explain [--workers N] [SPEC]...\n       wsched storm [--cycles C] [--binders B] [--flaky] [SPEC]...\n       wsched check MODULE\n       wsched translate [--scheduler NAME] [--by-uid] [--answers]\n       wsched version\na SPEC is NAME:WEIGHT:FUEL:FILE\n",
+            "wsched: 1 BadWords COMMAND\nusage: wsched run [--workers N] [SPEC]...\n       wsched explain [--workers N] [SPEC]...\n       wsched storm [--cycles C] [--binders B] [--flaky] [SPEC]...\n       wsched check MODULE\n       wsched translate [--scheduler NAME] [--labels KEY,..] [--by-uid] [--answers]\n       wsched version\na SPEC is NAME:WEIGHT:FUEL:FILE\n",
         ),
     ),
 ];

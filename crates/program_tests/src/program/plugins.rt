@@ -225,32 +225,32 @@ const FIRST_FAULTS: &[Refused] = &[
     (
         &["r:1:1:missing.wasm", "r:1:1:broken.wasm"],
         2,
-        "wsched: 1 BadWords\nusage: wsched run [--workers N] [SPEC]...\n       wsched explain [--workers N] [SPEC]...\n       wsched storm [--cycles C] [--binders B] [--flaky] [SPEC]...\n       wsched check MODULE\n       wsched translate [--scheduler NAME] [--by-uid] [--answers]\n       wsched version\na SPEC is NAME:WEIGHT:FUEL:FILE\n",
+        "wsched: 1 BadWords\nusage: wsched run [--workers N] [SPEC]...\n       wsched explain [--workers N] [SPEC]...\n       wsched storm [--cycles C] [--binders B] [--flaky] [SPEC]...\n       wsched check MODULE\n       wsched translate [--scheduler NAME] [--labels KEY,..] [--by-uid] [--answers]\n       wsched version\na SPEC is NAME:WEIGHT:FUEL:FILE\n",
     ),
     (
         &["r:0:1:missing.wasm"],
         2,
-        "wsched: 1 BadWords WEIGHT of word 2\nusage: wsched run [--workers N] [SPEC]...\n       wsched explain [--workers N] [SPEC]...\n       wsched storm [--cycles C] [--binders B] [--flaky] [SPEC]...\n       wsched check MODULE\n       wsched translate [--scheduler NAME] [--by-uid] [--answers]\n       wsched version\na SPEC is NAME:WEIGHT:FUEL:FILE\n",
+        "wsched: 1 BadWords WEIGHT of word 2\nusage: wsched run [--workers N] [SPEC]...\n       wsched explain [--workers N] [SPEC]...\n       wsched storm [--cycles C] [--binders B] [--flaky] [SPEC]...\n       wsched check MODULE\n       wsched translate [--scheduler NAME] [--labels KEY,..] [--by-uid] [--answers]\n       wsched version\na SPEC is NAME:WEIGHT:FUEL:FILE\n",
     ),
     (
         &["r:11:1:missing.wasm"],
         2,
-        "wsched: 1 BadWords WEIGHT of word 2\nusage: wsched run [--workers N] [SPEC]...\n       wsched explain [--workers N] [SPEC]...\n       wsched storm [--cycles C] [--binders B] [--flaky] [SPEC]...\n       wsched check MODULE\n       wsched translate [--scheduler NAME] [--by-uid] [--answers]\n       wsched version\na SPEC is NAME:WEIGHT:FUEL:FILE\n",
+        "wsched: 1 BadWords WEIGHT of word 2\nusage: wsched run [--workers N] [SPEC]...\n       wsched explain [--workers N] [SPEC]...\n       wsched storm [--cycles C] [--binders B] [--flaky] [SPEC]...\n       wsched check MODULE\n       wsched translate [--scheduler NAME] [--labels KEY,..] [--by-uid] [--answers]\n       wsched version\na SPEC is NAME:WEIGHT:FUEL:FILE\n",
     ),
     (
         &["r:1:0:missing.wasm"],
         2,
-        "wsched: 1 BadWords FUEL of word 2\nusage: wsched run [--workers N] [SPEC]...\n       wsched explain [--workers N] [SPEC]...\n       wsched storm [--cycles C] [--binders B] [--flaky] [SPEC]...\n       wsched check MODULE\n       wsched translate [--scheduler NAME] [--by-uid] [--answers]\n       wsched version\na SPEC is NAME:WEIGHT:FUEL:FILE\n",
+        "wsched: 1 BadWords FUEL of word 2\nusage: wsched run [--workers N] [SPEC]...\n       wsched explain [--workers N] [SPEC]...\n       wsched storm [--cycles C] [--binders B] [--flaky] [SPEC]...\n       wsched check MODULE\n       wsched translate [--scheduler NAME] [--labels KEY,..] [--by-uid] [--answers]\n       wsched version\na SPEC is NAME:WEIGHT:FUEL:FILE\n",
     ),
     (
         &["r:1:1:broken.wasm", "--workers", "65"],
         2,
-        "wsched: 1 BadWords N of word 4\nusage: wsched run [--workers N] [SPEC]...\n       wsched explain [--workers N] [SPEC]...\n       wsched storm [--cycles C] [--binders B] [--flaky] [SPEC]...\n       wsched check MODULE\n       wsched translate [--scheduler NAME] [--by-uid] [--answers]\n       wsched version\na SPEC is NAME:WEIGHT:FUEL:FILE\n",
+        "wsched: 1 BadWords N of word 4\nusage: wsched run [--workers N] [SPEC]...\n       wsched explain [--workers N] [SPEC]...\n       wsched storm [--cycles C] [--binders B] [--flaky] [SPEC]...\n       wsched check MODULE\n       wsched translate [--scheduler NAME] [--labels KEY,..] [--by-uid] [--answers]\n       wsched version\na SPEC is NAME:WEIGHT:FUEL:FILE\n",
     ),
     (
         &["r:1:1:broken.wasm", "--help"],
         2,
-        "wsched: 1 BadWords SPEC of word 3\nusage: wsched run [--workers N] [SPEC]...\n       wsched explain [--workers N] [SPEC]...\n       wsched storm [--cycles C] [--binders B] [--flaky] [SPEC]...\n       wsched check MODULE\n       wsched translate [--scheduler NAME] [--by-uid] [--answers]\n       wsched version\na SPEC is NAME:WEIGHT:FUEL:FILE\n",
+        "wsched: 1 BadWords SPEC of word 3\nusage: wsched run [--workers N] [SPEC]...\n       wsched explain [--workers N] [SPEC]...\n       wsched storm [--cycles C] [--binders B] [--flaky] [SPEC]...\n       wsched check MODULE\n       wsched translate [--scheduler NAME] [--labels KEY,..] [--by-uid] [--answers]\n       wsched version\na SPEC is NAME:WEIGHT:FUEL:FILE\n",
     ),
     (
         &["r:1:1:broken.wasm", "s:1:1:missing.wasm", "t:1:1:gone.wasm"],

@@ -128,7 +128,7 @@ const ROWS: &[Row] = &[
         (
             2,
             "",
-            "wsched: 1 BadWords NAME of word 2\nusage: wsched run [--workers N] [SPEC]...\n       wsched explain [--workers N] [SPEC]...\n       wsched storm [--cycles C] [--binders B] [--flaky] [SPEC]...\n       wsched check MODULE\n       wsched translate [--scheduler NAME] [--by-uid] [--answers]\n       wsched version\na SPEC is NAME:WEIGHT:FUEL:FILE\n",
+            "wsched: 1 BadWords NAME of word 2\nusage: wsched run [--workers N] [SPEC]...\n       wsched explain [--workers N] [SPEC]...\n       wsched storm [--cycles C] [--binders B] [--flaky] [SPEC]...\n       wsched check MODULE\n       wsched translate [--scheduler NAME] [--labels KEY,..] [--by-uid] [--answers]\n       wsched version\na SPEC is NAME:WEIGHT:FUEL:FILE\n",
         ),
     ),
     (
@@ -137,7 +137,7 @@ const ROWS: &[Row] = &[
         (
             2,
             "",
-            "wsched: 1 BadWords OPTION of word 3\nusage: wsched run [--workers N] [SPEC]...\n       wsched explain [--workers N] [SPEC]...\n       wsched storm [--cycles C] [--binders B] [--flaky] [SPEC]...\n       wsched check MODULE\n       wsched translate [--scheduler NAME] [--by-uid] [--answers]\n       wsched version\na SPEC is NAME:WEIGHT:FUEL:FILE\n",
+            "wsched: 1 BadWords OPTION of word 3\nusage: wsched run [--workers N] [SPEC]...\n       wsched explain [--workers N] [SPEC]...\n       wsched storm [--cycles C] [--binders B] [--flaky] [SPEC]...\n       wsched check MODULE\n       wsched translate [--scheduler NAME] [--labels KEY,..] [--by-uid] [--answers]\n       wsched version\na SPEC is NAME:WEIGHT:FUEL:FILE\n",
         ),
     ),
 ];
