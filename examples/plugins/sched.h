@@ -182,12 +182,11 @@ static inline int same(const u8 *a, const u8 *b) { return a && b && *a == *b && 
 // The value of the label with this key, a text, or null.
 static INLINED const u8 *find_label(const u8 *labels, const u8 *key, u32 size)
 {
-    u32 left = *labels++;
-    for (; left; left--) {
-        u32 length_of_key = *labels++;
-        const u8 *value = labels + length_of_key;
-        if (length_of_key == size && same_bytes(labels, key, size)) return value;
-        labels = value + 1 + *value;
+    for (u32 left = *labels; left; left--) {
+        u32 own = labels[1];
+        if (own == size && same_bytes(labels + 2, key, size)) return labels + 2 + own;
+        labels += own;
+        labels += 2 + labels[2];
     }
     return 0;
 }
