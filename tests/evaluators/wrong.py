@@ -54,7 +54,10 @@ def decoding() -> Iterator[Wrong]:
     yield Wrong("a component", b"\0asm\x0d\0\1\0" + good[8:], "refused decode 1 Malformed 3 BadVersion", ["it is a component"])
     yield Wrong("data count", module()[:-8] + b"\x0c\1\0" + module()[-8:], "refused decode 1 Malformed 4 BadSection", ["section 12", "bulk memory"])
     yield Wrong("a section twice", module() + section(1, [FILTER]), "refused decode 1 Malformed 4 BadSection", ["the type section at 0x", "behind a later one"])
-    yield Wrong("a body too short", module(code=[b"\5\0\x41\0\x0b\x0b"]), "refused decode 1 Malformed 4 BadSection", ["the body whose size stands at 0x"])
+    yield Wrong("a body too short", module(code=[b"\5\0\x41\0\x0b\x0b"]), "refused decode 1 Malformed 4 BadSection",
+                ["in function 0 `filter`: the body whose size stands at 0x"])
+    yield Wrong("a vector's local", module(code=[body(RETURNS, [b"\1\x7b"])]), "refused decode 1 Malformed 6 BadType",
+                ["in function 0 `filter`: the type v128"])
     yield Wrong("two results", module(types=[b"\x60\0\2\x7f\x7f"]), "refused decode 1 Malformed 6 BadType", ["more than one result", "-mcpu=mvp"])
     yield Wrong("a vector's type", module(types=[FILTER, b"\x60\1\x7b\0"]), "refused decode 1 Malformed 6 BadType", ["the type v128"])
     copied = module(code=[body(b"\x41\0\x41\0\x41\0\xfc\x0a\0\0" + RETURNS)], names=[b"copies"])

@@ -8,7 +8,7 @@ import re
 from typing import Callable, Iterator
 
 from . import opcodes
-from .module import FUNCTION, GLOBAL, KINDS, MEMORY, TABLE, Body, FunctionType, Malformed, Module, Reader, function_names, read_as_far_as
+from .module import FUNCTION, GLOBAL, KINDS, MEMORY, TABLE, Body, FunctionType, Malformed, Module, Reader, Section, function_names, read_as_far_as
 
 HOSTS = [("sched", "pod"), ("sched", "node"), ("sched2", "pod"), ("sched2", "node")]
 HOST_TYPE = FunctionType(bytes([opcodes.I32, opcodes.I32]), bytes([opcodes.I32]))
@@ -16,6 +16,7 @@ EXPORTS = {"filter": FunctionType(b"", bytes([opcodes.I32])), "score": FunctionT
 MAGIC = b"\0asm"
 MOST_BYTES, MOST_PAGES, MOST_ELEMENTS, MOST_GLOBALS, MOST_SLOTS = 1_048_576, 32, 1_024, 1_024, 1_024
 SECTIONS = ("custom", "type", "import", "function", "table", "memory", "global", "export", "start", "element", "code", "data")
+CODE = 10
 EDITION = "compile with -mcpu=mvp, and each library that is linked in"
 
 
@@ -47,12 +48,11 @@ class _Look:
 
     def where(self) -> str:
         """The function or the section in which the place is."""
-        function = self.module.at(self.place)
-        if function is not None:
-            return self.called(function)
         for it in self.module.sections:
             if it.place <= self.place < it.end:
-                return f"the {SECTIONS[it.number] if it.number < len(SECTIONS) else it.number} section" + (f" `{it.name}`" if it.name else "")
+                # (a body's size and its locals stand in front of its instructions)
+                found = next((function for function, body in self.bodies() if self.place < body.end), None) if it.number == CODE else None
+                return self.called(found) if found is not None else _named(it)
         return "no section"
 
     def instructions(self, body: Body) -> Iterator[tuple[int, int, Reader]]:
@@ -71,14 +71,18 @@ class _Look:
         yield from ((first + own, body) for own, body in enumerate(self.module.bodies))
 
 
+def _named(it: Section) -> str:
+    """`the code section`, or the custom section's name."""
+    return f"the section `{it.name}`" if it.name else f"the {SECTIONS[it.number] if it.number < len(SECTIONS) else it.number} section"
+
+
 def _truncated(look: _Look) -> Iterator[str]:
     size = len(look.module.data)
     for it in look.module.sections:
         declared = Reader(look.module.data, it.place + 1)
         count = declared.unsigned()
         if declared.at + count > size:
-            yield (f"the {SECTIONS[it.number] if it.number < len(SECTIONS) else it.number} section, which begins at {it.place:#x}, "
-                   f"wants {declared.at + count - size:,} bytes more than the file has")
+            yield f"{_named(it)}, which begins at {it.place:#x}, wants {declared.at + count - size:,} bytes more than the file has"
     yield f"the file ends at {size:#x}: build or copy it again"
 
 
@@ -100,7 +104,7 @@ def _bad_section(look: _Look) -> Iterator[str]:
     later = {12: "counts data segments, as bulk memory has it: it is an object file, which wants to be linked, or was compiled for a later edition",
              13: "has the tags of exceptions, of a later edition"}
     if look.place not in {it.place for it in look.module.sections}:
-        yield f"the body whose size stands at {look.place:#x} doesn't fill it, or ends before it"
+        yield f"in {look.where()}: the body whose size stands at {look.place:#x} doesn't fill it, or ends before it"
     elif number in later:
         yield f"section {number} at {look.place:#x} {later[number]}: {EDITION}"
     elif number is not None and number < len(SECTIONS):
@@ -145,7 +149,7 @@ def _too_long(look: _Look) -> Iterator[str]:
     custom = sum(it.end - it.place for it in look.module.sections if it.number == 0)
     yield f"{size:,} bytes, {size - MOST_BYTES:,} more than there may be; {custom:,} of them are names and the debugger's sections (--strip-all)"
     for it in sorted(look.module.sections, key=lambda it: it.place - it.end)[:3]:
-        yield f"the {SECTIONS[it.number] if it.number < len(SECTIONS) else it.number} section{f' `{it.name}`' if it.name else ''} has {it.end - it.place:,}"
+        yield f"{_named(it)} has {it.end - it.place:,}"
 
 
 def _float(look: _Look) -> Iterator[str]:
