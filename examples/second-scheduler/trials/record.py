@@ -14,10 +14,10 @@ from trials.metrics import scraped, value
 from trials.site import REGION, RULE, TOP, Site
 
 PLACE = re.compile(r"(\S+) on (\S+) total \d+ ticket \d+")
-DATA = re.compile(r'<script id="data" type="application/json">(.*?)</script>\s*<script>(.*?)^let steps', re.S | re.M)
+DATA = re.compile(r'<script id="data" type="application/json">(.*?)</script>\s*<script>(.*?)^class Run ', re.S | re.M)
 # What examples/report/report.html makes of a run, with each dump of which it says otherwise, and how much it has at the end.
 DRAWN = """
-const { script, output } = JSON.parse(require("fs").readFileSync(0, "utf8")), state = new State();
+const { script, output } = JSON.parse(require("fs").readFileSync(0, "utf8")).runs[0], state = new State();
 let dumps = 0;
 for (const step of paired(script, output)) {
   state.step(step);
@@ -155,7 +155,9 @@ def drawn(site: Site, script: str, output: str) -> str:
     made = [str(TOP / "examples/report/make"), str(site.folder / "script"), str(site.folder / "output")]
     page = subprocess.run(made, capture_output=True, text=True, check=True).stdout
     found = DATA.search(page)
-    assert found and json.loads(found[1]) == {"script": script, "output": output}, "the page hasn't what it was given"
+    assert found, "the page has no data"
+    has = json.loads(found[1])["runs"]
+    assert [(it["script"], it["output"]) for it in has] == [(script, output)], "the page hasn't what it was given"
     node = shutil.which("node")
     if not node:
         return f"a page of {len(page)} bytes; node isn't there"
