@@ -149,9 +149,9 @@ fn push_misuse(message: &mut Message, misuse: Misuse)
 
 // Adds that words ask for nothing, what is wrong with them, and what they may be.
 fn push_words_fault(message: &mut Message, misuse: Misuse)
-    requires { length message.old.items + 375 ≤ 400 }
+    requires { length message.old.items + 389 ≤ 400 }
     ensures text { message.new.items ≡ message.old.items ++ text_of (Misused misuse) }
-    ensures len { length message.new.items ≤ length message.old.items + 375 }
+    ensures len { length message.new.items ≤ length message.old.items + 389 }
 {
     let fault = WordFault::BadWords;
     push_fault(message, fault.number(), fault.name());
