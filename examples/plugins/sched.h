@@ -287,7 +287,7 @@ enum { EQUAL = 1, EXISTS = 2 };
 struct taint { const u8 *key, *value; u8 effect; };
 struct toleration { const u8 *key, *value; u8 compares, effect; };
 
-// A walk over a node's taints or a pod's tolerations, in the order of the row, of what read_node2 or read_pod2 gave:
+// A walk over a node's taints or a pod's tolerations, in the order of the row, of what read_node2, read_node3, read_pod2 or read_pod3 gave:
 //
 //     struct taint taint;
 //     for (struct walk taints = node_taints(node); next_taint(&taints, &taint);)

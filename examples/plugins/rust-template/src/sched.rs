@@ -413,7 +413,10 @@ fn is_setting(key: &[u8], name: &str) -> Option<bool> {
 
 // The list behind the labels, as how many there are and the items. Version 1 has none, so it traps there.
 fn behind(record: &'static [u8], between: usize) -> (u8, &'static [u8]) {
-    of_version(2, record);
+    // Version 1 has no such list.
+    if record.first() == Some(&1) {
+        unreachable()
+    }
     there(items(record, between))
 }
 
@@ -529,7 +532,7 @@ impl Pod {
     pub fn labels(self) -> Labels {
         labels(self.0, 20)
     }
-    /// Those of a pod that `pod2` gave.
+    /// Those of a pod that `pod2` or `pod3` gave.
     pub fn tolerations(self) -> Tolerations {
         let (count, items) = behind(self.0, 20);
         Tolerations(count, items)
@@ -600,7 +603,7 @@ impl Node {
         }
         if digits.is_empty() { unreachable() } else { number }
     }
-    /// Those of a node that `node2` gave.
+    /// Those of a node that `node2` or `node3` gave.
     pub fn taints(self) -> Taints {
         let (count, items) = behind(self.0, 41);
         Taints(count, items)
