@@ -81,7 +81,7 @@ class Listing:
                 if self.compare(is_again=False):
                     time.sleep(AGAIN)
                     self.compare(is_again=True)
-            except (*AWAY, ValueError, LookupError, TypeError) as why:
+            except (*AWAY, ValueError, LookupError, TypeError, AttributeError) as why:
                 LOG.warning("audit: the list of pods: %s", message(why))
 
     def compare(self, is_again: bool) -> int:
