@@ -128,11 +128,19 @@ fn noted() -> &'static [(&'static [u8], &'static [BranchNote])] {
     NOTES
 }
 
+// The first body that has other notes.
+fn first_other_notes(alloc: Global) -> Option<&'static [u8]> {
+    for (body, wanted) in noted() {
+        if is_noted(alloc, body, wanted) != Ok(true) {
+            return Some(body);
+        }
+    }
+    None
+}
+
 #[test]
 fn notes(rt: HostRuntime) {
-    for (body, wanted) in noted() {
-        assert_eq!(rt; is_noted(rt.alloc(), body, wanted), Ok(true), "{body:?}");
-    }
+    assert_eq!(rt; first_other_notes(rt.alloc()), None);
 }
 
 // Bodies, and their heights.
@@ -205,9 +213,17 @@ fn heights() -> &'static [(&'static [u8], Option<usize>)] {
     HEIGHTS
 }
 
+// The first body that has another height.
+fn first_other_height(alloc: Global) -> Option<&'static [u8]> {
+    for (body, wanted) in heights() {
+        if height(alloc, body) != Ok(*wanted) {
+            return Some(body);
+        }
+    }
+    None
+}
+
 #[test]
 fn bodies(rt: HostRuntime) {
-    for (body, wanted) in heights() {
-        assert_eq!(rt; height(rt.alloc(), body), Ok(*wanted), "{body:?}");
-    }
+    assert_eq!(rt; first_other_height(rt.alloc()), None);
 }

@@ -105,15 +105,19 @@ fn opcode_wanted(opcode: u8) -> Option<Opcode> {
     None
 }
 
+// The first opcode that is of another kind.
+fn first_other_opcode() -> Option<u8> {
+    for opcode in 0..=255u8 {
+        if Some(opcode_read(opcode)) != opcode_wanted(opcode) {
+            return Some(opcode);
+        }
+    }
+    None
+}
+
 #[test]
 fn every_opcode(rt: HostRuntime) {
-    for opcode in 0..=255u8 {
-        assert_eq!(rt;
-            Some(opcode_read(opcode)),
-            opcode_wanted(opcode),
-            "{opcode}"
-        );
-    }
+    assert_eq!(rt; first_other_opcode(), None);
 }
 
 // Bytes, where the instruction begins in them, and what is wrong with it, and where.
@@ -151,15 +155,32 @@ const IMMEDIATES: [(&[u8], usize, Kind, usize); 9] = [
 
 const FLOATS: [&[u8]; 2] = [&[0x02, 0x7D], &[0x02, 0x7C]];
 
+// The first bytes with another fault.
+fn first_other_immediate() -> Option<&'static [u8]> {
+    for (bytes, begin, kind, place) in IMMEDIATES {
+        if read_op(bytes, begin) != Err(OpFault::Malformed { kind, place }) {
+            return Some(bytes);
+        }
+    }
+    None
+}
+
+// The first bytes that aren't told as those of floats.
+fn first_other_float() -> Option<&'static [u8]> {
+    for bytes in FLOATS {
+        if read_op(bytes, 0) != Err(OpFault::Float) {
+            return Some(bytes);
+        }
+    }
+    None
+}
+
 #[test]
 fn faults_of_immediates(rt: HostRuntime) {
-    for (bytes, begin, kind, place) in IMMEDIATES {
-        let fault = OpFault::Malformed { kind, place };
-        assert!(rt; read_op(bytes, begin) == Err(fault), "{bytes:?}");
-    }
-    for bytes in FLOATS {
-        assert!(rt; read_op(bytes, 0) == Err(OpFault::Float), "{bytes:?}");
-    }
+    assert_eq!(rt;
+        (first_other_immediate(), first_other_float()),
+        (None, None)
+    );
 }
 
 // What an expression is read as.
@@ -256,15 +277,19 @@ const EXPRESSIONS: [(&[u8], usize, Shape, usize); 5] = [
     ),
 ];
 
+// The first expression that is read otherwise.
+fn first_other_shape(alloc: Global) -> Option<&'static [u8]> {
+    for (bytes, begin, shape, next) in EXPRESSIONS {
+        if shape_read(alloc, bytes, begin) != Ok((shape, next)) {
+            return Some(bytes);
+        }
+    }
+    None
+}
+
 #[test]
 fn shapes_of_expressions(rt: HostRuntime) {
-    for (bytes, begin, shape, next) in EXPRESSIONS {
-        assert_eq!(rt;
-            shape_read(rt.alloc(), bytes, begin),
-            Ok((shape, next)),
-            "{bytes:?}"
-        );
-    }
+    assert_eq!(rt; first_other_shape(rt.alloc()), None);
 }
 
 // Bytes, what is wrong with the expression in them, and where.
@@ -280,12 +305,19 @@ const MALFORMED: [(&[u8], Kind, usize); 7] = [
 
 const WITH_A_FLOAT: &[u8] = b"\x02\x40\x92\x0B\x0B";
 
+// The first expression with another fault.
+fn first_other_fault(alloc: Global) -> Option<&'static [u8]> {
+    for (bytes, kind, place) in MALFORMED {
+        if shape_read(alloc, bytes, 0) != Err(BinFault::Malformed { kind, place }) {
+            return Some(bytes);
+        }
+    }
+    None
+}
+
 #[test]
 fn faults_of_expressions(rt: HostRuntime) {
-    for (bytes, kind, place) in MALFORMED {
-        let fault = BinFault::Malformed { kind, place };
-        assert_eq!(rt; shape_read(rt.alloc(), bytes, 0), Err(fault), "{bytes:?}");
-    }
+    assert_eq!(rt; first_other_fault(rt.alloc()), None);
     assert_eq!(rt;
         shape_read(rt.alloc(), WITH_A_FLOAT, 0),
         Err(BinFault::Float)
@@ -333,11 +365,19 @@ const CONSTANTS: [(&[u8], usize, Option<Value>); 5] = [
     (b"\x41\x07\x01\x0B", 0, None),
 ];
 
+// The first bytes with another value.
+fn first_other_constant() -> Option<&'static [u8]> {
+    for (bytes, begin, value) in CONSTANTS {
+        if read_constant(bytes, begin) != value {
+            return Some(bytes);
+        }
+    }
+    None
+}
+
 #[test]
 fn constants_alone(rt: HostRuntime) {
-    for (bytes, begin, value) in CONSTANTS {
-        assert_eq!(rt; read_constant(bytes, begin), value, "{bytes:?}");
-    }
+    assert_eq!(rt; first_other_constant(), None);
 }
 
 // How many there are, and the place behind them.

@@ -9,15 +9,13 @@
 //! Which module tests which crate (a module can't have the name of a library that its crate stands on):
 //!
 //! - `leb`: `leb128`; `wcode`: `instructions`
-//! - `wbin`: `modules`; `wbody`: `bodies`; `wtype`: `acceptance`
+//! - `wbin`: `modules`; `wbody`: `bodies`; what can be read and is accepted, and the places of faults: tests/rows, by `check`
 //! - `wnum`: `operations`; `wmem`: `memory`; `wstore`: `store`
 //! - `wmach`: `comparison`, beside `wplain`
 //! - `whost`: `instances`, `at_image`, `records`; `plugin`: `kits`
 //! - `small_modules` makes the modules of all of these
 #![tactic(auto)]
 
-#[cfg(test)]
-mod acceptance;
 #[cfg(test)]
 mod at_image;
 #[cfg(test)]

@@ -1,61 +1,12 @@
-//! Whole modules. The kinds and places of faults are those of docs/WEBASSEMBLY.md; what is spelled was compared with
-//! wabt's `wasm-objdump -x`.
+//! Whole modules. What is spelled was compared with wabt's `wasm-objdump -x`.
 
-use crate::small_modules::{
-    FILTER, HEADER, ONE, TO_I32, ZERO, filter_of, module, module_with, repeated,
-};
+use crate::small_modules::{FILTER, ONE, TO_I32, ZERO, filter_of, module, module_with};
 use std::alloc::Global;
 use std::test::Fail;
 use wbin::{
     DataSegment, ExportKind, GlobalType, ImportKind, Limits, LocalRun, Place, Tables, decode,
 };
-use wcode::{BinFault, Kind, ValueType};
-
-// Why a module isn't read, if it isn't.
-type Fault = Option<BinFault>;
-
-fn malformed(kind: Kind, place: usize) -> Fault {
-    Some(BinFault::Malformed { kind, place })
-}
-
-fn fault_of(alloc: Global, bytes: &[u8]) -> Fault {
-    decode(alloc, bytes).err()
-}
-
-// The same of the module with these sections.
-fn fault_with(alloc: Global, sections: &[&[u8]]) -> Fault {
-    match module(alloc, sections) {
-        Ok(bytes) => fault_of(alloc, &bytes),
-        Err(_) => Some(BinFault::NoMemory),
-    }
-}
-
-// The same of these parts, each so many times.
-fn fault_of_parts(alloc: Global, parts: &[(usize, &[u8])]) -> Fault {
-    match repeated(alloc, parts) {
-        Ok(bytes) => fault_of(alloc, &bytes),
-        Err(_) => Some(BinFault::NoMemory),
-    }
-}
-
-// The fault of the small module's front of this length.
-fn fault_of_front(length: usize) -> Fault {
-    match length {
-        8 | 15 => None,
-        19 | 31 => malformed(Kind::CountMismatch, length),
-        _ => malformed(Kind::Truncated, length),
-    }
-}
-
-// The first front of the bytes, shorter than they are, that is read otherwise than that of the small module.
-fn first_front(alloc: Global, bytes: &[u8]) -> Option<usize> {
-    for length in 0..bytes.len() {
-        if fault_of(alloc, &bytes[..length]) != fault_of_front(length) {
-            return Some(length);
-        }
-    }
-    None
-}
+use wcode::ValueType;
 
 // What is in the module that isn't cut.
 fn is_zero(tables: &Tables) -> bool {
@@ -75,206 +26,10 @@ fn reads_zero(alloc: Global, bytes: &[u8]) -> bool {
 }
 
 #[test]
-fn cut_modules(rt: HostRuntime) -> Result<(), Fail> {
+fn a_small_module(rt: HostRuntime) -> Result<(), Fail> {
     let zero = filter_of(rt.alloc(), ZERO)?;
-    let told = (
-        zero.len(),
-        first_front(rt.alloc(), &zero),
-        reads_zero(rt.alloc(), &zero),
-    );
-    assert_eq!(rt; told, (39, None, true));
+    assert_eq!(rt; (zero.len(), reads_zero(rt.alloc(), &zero)), (39, true));
     Ok(())
-}
-
-// What the module begins with, what is wrong with it, and where.
-const HEADERS: &[(&[u8], Kind, usize)] = &[
-    (&[0x00, 0x62], Kind::Truncated, 2),
-    (b"\0asn", Kind::BadMagic, 0),
-    (b"\0asm\x02\0\0", Kind::Truncated, 7),
-    (b"\0asm\x02\0\0\0", Kind::BadVersion, 4),
-];
-
-fn headers() -> &'static [(&'static [u8], Kind, usize)] {
-    HEADERS
-}
-
-#[test]
-fn header(rt: HostRuntime) {
-    for (bytes, kind, place) in headers() {
-        assert_eq!(rt;
-            fault_of(rt.alloc(), bytes),
-            malformed(*kind, *place),
-            "{bytes:?}"
-        );
-    }
-}
-
-// The front of a custom section of so many bytes in all that its module is as long as one may be.
-const LONGEST: &[u8] = b"\x00\xF4\xFF\x3F\x00";
-
-// That module, one with a byte more, and one with a wrong header besides.
-const LONG: &[(&[(usize, &[u8])], Fault)] = &[
-    (&[(1, HEADER), (1, LONGEST), (1_048_563, b"\0")], None),
-    (&[(1, HEADER), (1, LONGEST), (1_048_564, b"\0")], TOO_LONG),
-    (
-        &[(1, b"\x01asm\x01\0\0\0"), (1, LONGEST), (1_048_564, b"\0")],
-        TOO_LONG,
-    ),
-];
-
-const TOO_LONG: Fault = Some(BinFault::Malformed {
-    kind: Kind::TooLong,
-    place: 0,
-});
-
-fn long() -> &'static [(&'static [(usize, &'static [u8])], Fault)] {
-    LONG
-}
-
-#[test]
-fn length(rt: HostRuntime) {
-    for (parts, fault) in long() {
-        assert_eq!(rt; fault_of_parts(rt.alloc(), parts), *fault);
-    }
-}
-
-// Sections, what is wrong with a module of them, and where.
-const FAULTS: &[(&[u8], Kind, usize)] = &[
-    // A name that isn't UTF-8, and a byte too many.
-    (&[0x00, 0x02, 0x01, 0xFF], Kind::BadName, 10),
-    (
-        &[0x01, 0x05, 0x01, 0x60, 0x00, 0x00, 0x00],
-        Kind::BadSection,
-        8,
-    ),
-    // Unknown and falling numbers, a section twice, a size past the end.
-    (&[0x0C], Kind::BadSection, 8),
-    (&[0x02, 0x01, 0x00, 0x01, 0x01, 0x00], Kind::BadSection, 11),
-    (&[0x01, 0x01, 0x00, 0x01, 0x01, 0x00], Kind::BadSection, 11),
-    (&[0x08, 0x01, 0x00, 0x08, 0x01, 0x00], Kind::BadSection, 11),
-    (&[0x01], Kind::Truncated, 9),
-    (&[0x01, 0x07, 0x01, 0x61], Kind::Truncated, 12),
-    (
-        &[0x01, 0x80, 0x80, 0x80, 0x80, 0x80, 0x00],
-        Kind::BadNumber,
-        9,
-    ),
-    // Contents that want more than the size, with more behind them and without.
-    (&[0x01, 0x00], Kind::BadSection, 8),
-    (&[0x01, 0x01, 0x01, 0x03, 0x01, 0x00], Kind::BadSection, 8),
-    (&[0x00, 0x02, 0x05, 0x61], Kind::BadSection, 8),
-    // Four thousand million types in ten bytes.
-    (
-        &[0x01, 0x06, 0xFF, 0xFF, 0xFF, 0xFF, 0x0F, 0x60],
-        Kind::BadSection,
-        8,
-    ),
-    // The fault of an earlier section first, counts last.
-    (&[0x01, 0x02, 0x01, 0x61, 0x0C], Kind::BadType, 11),
-    (
-        &[0x03, 0x02, 0x01, 0x00, 0x0B, 0x01, 0x01],
-        Kind::BadSection,
-        12,
-    ),
-    (
-        &[0x0A, 0x04, 0x01, 0x02, 0x00, 0x0B],
-        Kind::CountMismatch,
-        14,
-    ),
-    // Types.
-    (&[0x01, 0x02, 0x01, 0x40], Kind::BadType, 11),
-    (
-        &[0x01, 0x06, 0x01, 0x60, 0x00, 0x02, 0x7F, 0x7F],
-        Kind::BadType,
-        13,
-    ),
-    (&[0x04, 0x04, 0x01, 0x7D, 0x00, 0x00], Kind::BadType, 11),
-    (&[0x05, 0x03, 0x01, 0x02, 0x00], Kind::BadType, 11),
-    (
-        &[0x06, 0x06, 0x01, 0x7F, 0x02, 0x41, 0x00, 0x0B],
-        Kind::BadType,
-        12,
-    ),
-    (
-        &[0x02, 0x05, 0x01, 0x00, 0x00, 0x04, 0x00],
-        Kind::BadType,
-        13,
-    ),
-    (&[0x07, 0x04, 0x01, 0x00, 0x04, 0x00], Kind::BadType, 12),
-    // A body without its end, with a byte too many, and past its section and the module's end.
-    (&[0x0A, 0x04, 0x01, 0x02, 0x00, 0x01], Kind::BadSection, 11),
-    (
-        &[0x0A, 0x05, 0x01, 0x03, 0x00, 0x0B, 0x0B],
-        Kind::BadSection,
-        11,
-    ),
-    (
-        &[0x0A, 0x04, 0x01, 0x03, 0x00, 0x0B, 0x0B, 0x01, 0x00],
-        Kind::BadSection,
-        8,
-    ),
-    (&[0x0A, 0x04, 0x01, 0x03, 0x00, 0x0B], Kind::Truncated, 14),
-    // An instruction.
-    (
-        &[0x0A, 0x06, 0x01, 0x04, 0x00, 0x01, 0x06, 0x0B],
-        Kind::BadOpcode,
-        14,
-    ),
-];
-
-// Types and an instruction of floats.
-const FLOATS: &[&[u8]] = &[
-    &[0x01, 0x05, 0x01, 0x60, 0x01, 0x7D, 0x00],
-    &[0x01, 0x05, 0x01, 0x60, 0x00, 0x01, 0x7C],
-    &[0x0A, 0x06, 0x01, 0x04, 0x00, 0x01, 0x92, 0x0B],
-];
-
-fn sections_with_faults() -> &'static [(&'static [u8], Kind, usize)] {
-    FAULTS
-}
-
-fn sections_with_floats() -> &'static [&'static [u8]] {
-    FLOATS
-}
-
-#[test]
-fn faults(rt: HostRuntime) {
-    for (rest, kind, place) in sections_with_faults() {
-        assert_eq!(rt;
-            fault_with(rt.alloc(), &[*rest]),
-            malformed(*kind, *place),
-            "{rest:?}"
-        );
-    }
-    for rest in sections_with_floats() {
-        assert_eq!(rt;
-            fault_with(rt.alloc(), &[*rest]),
-            Some(BinFault::Float),
-            "{rest:?}"
-        );
-    }
-}
-
-// The fault of the module whose one function is `filter`, with this body.
-fn fault_of_filter(alloc: Global, body: &[u8]) -> Fault {
-    match filter_of(alloc, body) {
-        Ok(bytes) => fault_of(alloc, &bytes),
-        Err(_) => Some(BinFault::NoMemory),
-    }
-}
-
-// A constant of five bytes, padded, and one of six.
-const OF_FIVE: &[u8] = b"\0\x41\x80\x80\x80\x80\x00\x0B";
-
-const OF_SIX: &[u8] = b"\0\x41\x80\x80\x80\x80\x80\x00\x0B";
-
-#[test]
-fn padded_constants(rt: HostRuntime) {
-    assert_eq!(rt; fault_of_filter(rt.alloc(), OF_FIVE), None);
-    assert_eq!(rt;
-        fault_of_filter(rt.alloc(), OF_SIX),
-        malformed(Kind::BadNumber, 37)
-    );
 }
 
 // Whether the module of these bytes, if it is read, calls a function at the start.
@@ -295,27 +50,19 @@ fn has_start_with(alloc: Global, id: u8) -> Option<bool> {
     }
 }
 
+// The first section of which this isn't found where it is empty: that the start section alone has a function to be called.
+fn first_other_start(alloc: Global) -> Option<u8> {
+    for id in 1..12u8 {
+        if has_start_with(alloc, id) != Some(id == 8) {
+            return Some(id);
+        }
+    }
+    None
+}
+
 #[test]
 fn empty_sections(rt: HostRuntime) {
-    for id in 1..12u8 {
-        assert_eq!(rt; has_start_with(rt.alloc(), id), Some(id == 8));
-    }
-}
-
-// The fault of the module with this section twice. A start section has the index of a function, and each other one a vector, here an
-// empty one.
-fn fault_of_doubled(alloc: Global, id: u8) -> Fault {
-    fault_with(alloc, &[&[id, 0x01, 0x00], &[id, 0x01, 0x00]])
-}
-
-#[test]
-fn doubled_sections(rt: HostRuntime) {
-    for id in 1..12u8 {
-        assert_eq!(rt;
-            fault_of_doubled(rt.alloc(), id),
-            malformed(Kind::BadSection, 11)
-        );
-    }
+    assert_eq!(rt; first_other_start(rt.alloc()), None);
 }
 
 // How many types, bodies and exports there are, and whether the first export is `filter`.
