@@ -1,5 +1,5 @@
 -- What is left out is named in texts of JSON.
-use Rattle.std.proofs.Common.{◌≡◌, ℕ, ◌==◌, nat_le, Bool, true, false, cond, ◌||◌, not, List, [], ◌∷◌, ◌++◌, codes, decimal, length, bytes_eq, is_some, flat_map, Option, Some, None, option_and_then, Result, Ok, Err, IfOk, refl, sym, ap, ◌∙◌, subst, arith, append-nil}
+use Rattle.std.proofs.Common.{◌≡◌, ℕ, ◌==◌, nat_le, Bool, true, false, cond, ◌||◌, not, List, [], ◌∷◌, ◌++◌, codes, decimal, length, bytes_eq, is_some, flat_map, Option, Some, None, option_and_then, Result, Ok, Err, IfOk, refl, sym, ap, ◌∙◌, arith, append-nil}
 use Rattle.std.proofs.lemmas.Bool.{and_parts, and_from}
 use Rattle.std.proofs.lemmas.Bool.Decides.{nat_tests}
 use Rattle.std.proofs.lemmas.List.Concat.{flat_map-append}
@@ -29,7 +29,7 @@ use Rattle.objects.specs.Quantity.{◌>>=◌}
 use Rattle.objects.specs.Key.{key_of}
 use Rattle.objects.specs.Reading.{said, field, within}
 use Rattle.objects.specs.LeftOut.{shown, left_out, left_out_if, amount_refused, refused}
-use Rattle.objects.specs.Field.{name_at, flag_of, members_of, items_of, says, is_given, spelled, is_text_of}
+use Rattle.objects.specs.Field.{name_at, flag_of, members_of, items_of, is_given, spelled, is_text_of}
 use Rattle.quant.specs.declared.limits.TheConstants.{MAX_LABELS}
 use Rattle.objects.specs.Labels.{Kept, label_of, is_named, named_labels, with_label, unless_named, other_labels, count_members, all_labels, row_labels}
 use Rattle.objects.specs.NodeRow.{NodeTold, is_told, node_row}

@@ -10,14 +10,13 @@ use Rattle.objects.specs.declared.change.Change.TheVariants.{There, Changed, Gon
 use Rattle.objects.specs.declared.gone.Kind.{Kind}
 use Rattle.objects.specs.declared.gone.Kind.TheVariants.{Node, Pod}
 use Rattle.objects.specs.declared.fault.ObjectFault.{ObjectFault}
-use Rattle.objects.specs.declared.fault.ObjectFault.TheVariants.{LongLine, UnknownEvent, IsList}
 use Rattle.objects.specs.declared.translation.TheConstants.{MAX_OBJECT}
 use Rattle.objects.specs.Quantity.{◌>>=◌}
 use Rattle.objects.specs.Reading.{field}
 use Rattle.objects.specs.Field.{spelled}
 use Rattle.objects.specs.PodRow.{pod_name}
 use Rattle.objects.specs.Site.{Site}
-use Rattle.objects.specs.Told.{Told, nothing, in_metadata, bound_as, bound_told, has_ended, node_name, placed_told, spec_told, there_told, pod_told, kind_of, other_told, kind_told, object_told, change_of, is_bookmark, changed_told, event_told, value_told, is_blank, parsed, parsed_told, text_told, line_told, told_or_uncounted, told}
+use Rattle.objects.specs.Told.{Told, in_metadata, bound_as, bound_told, has_ended, node_name, placed_told, spec_told, there_told, pod_told, kind_of, kind_told, object_told, is_bookmark, changed_told, event_told, value_told, is_blank, parsed, parsed_told, text_told, line_told, told_or_uncounted, told}
 use Rattle.objects.specs.Standing.{IsObjectCounted, IsEventCounted, IsValueCounted, IsCounted}
 
 -- what is told, where no fault is, has a property

@@ -4,12 +4,9 @@ use Rattle.serde_json.specs.Data.{Data}
 use Rattle.quant.specs.Name.{is_name}
 use Rattle.quant.specs.declared.version.Version.{Version}
 use Rattle.quant.specs.declared.event.Event.TheVariants.{PodBound}
-use Rattle.manifest.specs.Line.{meaning}
-use Rattle.manifest.specs.declared.command.Command.TheVariants as commands
 use Rattle.objects.specs.declared.key.Key.TheVariants as keys
 use Rattle.objects.specs.declared.gone.Kind.{Kind}
 use Rattle.objects.specs.declared.gone.Kind.TheVariants.{Pod}
-use Rattle.objects.specs.declared.translation.Translation.{Translation}
 use Rattle.objects.specs.Reading.{field}
 use Rattle.objects.specs.Field.{spelled}
 use Rattle.objects.specs.Counted.{counted}
