@@ -32,12 +32,12 @@ _wsched() {
         return
     fi
     case $prev in
-        --workers | --cycles | --binders | --scheduler) return ;;
+        --workers | --cycles | --binders | --scheduler | --labels) return ;;
     esac
     case $command in
         run | explain) options=--workers ;;
         storm) options="--cycles --binders --flaky" ;;
-        translate) options="--scheduler --by-uid --answers" ;;
+        translate) options="--scheduler --labels --by-uid --answers" ;;
         check) _wsched_modules "$cur" file; return ;;
         *) return ;;
     esac

@@ -56,7 +56,7 @@ _wsched() {
                 storm)
                     _arguments '--cycles[threads that make cycles]:number:' '--binders[threads that bind]:number:' '--flaky[every third bind fails]' '*:plugin:_wsched_spec' ;;
                 check) _arguments '1:module:_files -g "*.wasm"' ;;
-                translate) _arguments '--scheduler[whose pods]:name:' '--by-uid[call pods by their uid]' '--answers[an object for each]' ;;
+                translate) _arguments '--scheduler[whose pods]:name:' '--labels[labels that rules read]:keys:' '--by-uid[call pods by their uid]' '--answers[an object for each]' ;;
             esac ;;
     esac
 }
