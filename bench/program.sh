@@ -1,3 +1,4 @@
+# SPDX-License-Identifier: Apache-2.0
 # Read by the benchmarks' `run`. A benchmark is a program that is no crate of the repository, so that the gate neither proves nor
 # runs it; so its text is main.rt.txt, and stands in a folder of its own beside copies of the crates that it needs.
 #

@@ -1,3 +1,4 @@
+# SPDX-License-Identifier: Apache-2.0
 # Tells what pods ask of nodes' labels as the rule node_affinity reads it, in what kubectl tells of a cluster, for `wsched translate`:
 #
 #   kubectl get nodes,pods,pv,pvc --all-namespaces -o json | jq -c -f examples/node-affinity.jq | wsched translate > cluster.jsonl

@@ -1,3 +1,4 @@
+# SPDX-License-Identifier: Apache-2.0
 # Turns what `wsched run`, `explain` or `storm` writes into JSON, one object a line, for whoever wants to go on with it:
 #
 #   wsched run < cluster.jsonl | jq -R -c -f examples/to-json.jq

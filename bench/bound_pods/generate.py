@@ -1,4 +1,5 @@
 #!/usr/bin/env python3
+# SPDX-License-Identifier: Apache-2.0
 """Writes a script: NODES nodes, PODS bound pods spread over them, and one dump."""
 import sys
 

@@ -1,3 +1,4 @@
+// SPDX-License-Identifier: Apache-2.0
 // A filter that passes every node, once it has been handed both records: what a call costs that reckons nothing.
 
 __attribute__((import_module("sched"), import_name("pod")))

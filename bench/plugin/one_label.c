@@ -1,3 +1,4 @@
+// SPDX-License-Identifier: Apache-2.0
 // A filter: a node passes that has the label `disk` with the value `ssd`.
 
 __attribute__((import_module("sched"), import_name("node")))

@@ -1,4 +1,5 @@
 #!/usr/bin/env python3
+# SPDX-License-Identifier: Apache-2.0
 """Writes a script: NODES nodes with ten labels each, PLACED bound pods spread over them, PENDING pods that wait, and CYCLES cycles.
 
     generate.py NODES PLACED PENDING CYCLES

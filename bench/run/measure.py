@@ -1,3 +1,4 @@
+# SPDX-License-Identifier: Apache-2.0
 """Times a program `wsched run` by scripts that generate.py makes, and prints a table.
 
     measure.py PROGRAM FOLDER [ROUNDS [OTHER]]

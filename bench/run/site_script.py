@@ -1,4 +1,5 @@
 #!/usr/bin/env python3
+# SPDX-License-Identifier: Apache-2.0
 """Writes what a site with 1,000 nodes of 20 labels sends: its nodes, and then PODS pods of KINDS deployments, each with a cycle behind it.
 
     site_script.py [PODS [KINDS [SEED]]]

@@ -1,3 +1,4 @@
+# SPDX-License-Identifier: Apache-2.0
 """Times a program's storm and its run, and prints a table.
 
     measure.py PROGRAM FOLDER ROUNDS

@@ -1,3 +1,4 @@
+# SPDX-License-Identifier: Apache-2.0
 """generate.py NODES PODS: the objects of a cluster of this size, one a line, as `kubectl get nodes,pods --all-namespaces -o json` and
 `jq -c '.items[]'` would tell them: a pod has some 4 kB. Of ten pods eight run, one waits, and one in fifty each is for another scheduler or
 has a disk of a node; amounts and labels are spelled as in real ones."""

@@ -1,3 +1,4 @@
+// SPDX-License-Identifier: Apache-2.0
 // Five further programs for the benchmark of the machine, to which nobody tunes it, one for each value of PROGRAM. Each is a module
 // with one export, `filter`.
 typedef unsigned char u8;

@@ -1,3 +1,4 @@
+// SPDX-License-Identifier: Apache-2.0
 // Writes modules into the folder that is named that ask for as much as they can of a validator, each of almost 1 MiB and of a
 // quarter of that: NAME.wasm and NAME.quarter.wasm, and in shapes.txt a line for each NAME. All are within the binary format, and
 // each has the function 0, `filter`, which gives 0; those that are refused are refused for their sizes, when all is typed.

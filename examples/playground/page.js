@@ -1,3 +1,4 @@
+// SPDX-License-Identifier: Apache-2.0
 // The page: which rule, which lines, and the table of verdicts.
 "use strict";
 

@@ -1,3 +1,4 @@
+// SPDX-License-Identifier: Apache-2.0
 // A script's lines (docs/FORMATS.md), what wsched itself says of a pod and a node (docs/SCHEDULING.md), and the records that a rule is told.
 "use strict";
 

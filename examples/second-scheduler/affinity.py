@@ -1,3 +1,4 @@
+# SPDX-License-Identifier: Apache-2.0
 """What a pod asks of its node's labels and name, as the labels of its row that the plugin node_affinity reads.
 
 That is its node selector, its node affinity, and the node affinity of the volumes that its claims are bound to. docs/NODE-AFFINITY.md

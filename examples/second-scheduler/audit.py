@@ -1,3 +1,4 @@
+# SPDX-License-Identifier: Apache-2.0
 """Compares the desk with what the client itself was told: of each node what is used of it, and what it has.
 
 That is what the pods take that the API server says are on the node, kept with each change, and those with a bind under way.

@@ -1,3 +1,4 @@
+# SPDX-License-Identifier: Apache-2.0
 """Binds: each ends with an answer, whatever the API server does."""
 from __future__ import annotations
 

@@ -1,3 +1,4 @@
+# SPDX-License-Identifier: Apache-2.0
 """The claims of pods, and the volumes that they are bound to, as far as these say where a pod may be."""
 from __future__ import annotations
 

@@ -1,3 +1,4 @@
+# SPDX-License-Identifier: Apache-2.0
 """An API server of a test's own: etcd, kube-apiserver and kube-scheduler on loopback alone, and what a test does with them."""
 import concurrent.futures
 import http.client

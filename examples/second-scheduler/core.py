@@ -1,3 +1,4 @@
+# SPDX-License-Identifier: Apache-2.0
 """`wsched run` as a child: lines are written, and each has its answer."""
 from __future__ import annotations
 

@@ -1,3 +1,4 @@
+# SPDX-License-Identifier: Apache-2.0
 """What wsched is told of the cluster: nodes, pods that have a place, and those pods that are to get one."""
 from __future__ import annotations
 

@@ -1,3 +1,4 @@
+# SPDX-License-Identifier: Apache-2.0
 """By which rules a pod that found no node was rejected, and on how many nodes by each: what its event says.
 
 `wsched run` counts these nodes and names no rule. `wsched explain` has a line for each node, a thousand for a decision, so it isn't what

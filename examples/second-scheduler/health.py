@@ -1,3 +1,4 @@
+# SPDX-License-Identifier: Apache-2.0
 """Whether this process does what it is for: the beat of its main loop, and what it is just now."""
 from __future__ import annotations
 

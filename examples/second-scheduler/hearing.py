@@ -1,3 +1,4 @@
+# SPDX-License-Identifier: Apache-2.0
 """What is heard of nodes and pods, in the threads of their watches: read there, and handed on as little as is needed."""
 from __future__ import annotations
 

@@ -1,3 +1,4 @@
+# SPDX-License-Identifier: Apache-2.0
 """What is told of the scheduler itself: that its record stands still, or that it has no node."""
 from __future__ import annotations
 

@@ -1,3 +1,4 @@
+# SPDX-License-Identifier: Apache-2.0
 """A Lease that replicas share, so that one of them schedules: whoever has written its name there last, and goes on to.
 
 How long another has had it is reckoned by this machine's own clock, from when a change of it was read; the times that stand in it are for

@@ -1,3 +1,4 @@
+# SPDX-License-Identifier: Apache-2.0
 """The third side of the audit: what the API server's own list says of the pods on nodes, added up here.
 
 The desk and what the client was told agree where both have the same mistaken amounts, since one reader has made both. So now and then all

@@ -1,3 +1,4 @@
+# SPDX-License-Identifier: Apache-2.0
 """The watches of all that is read of the cluster, and whether what they hear is new enough to decide by."""
 from __future__ import annotations
 

@@ -1,3 +1,4 @@
+# SPDX-License-Identifier: Apache-2.0
 """What is counted, in Prometheus' form: by kube-scheduler's names where the meaning is the same."""
 from __future__ import annotations
 

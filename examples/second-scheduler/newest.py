@@ -1,3 +1,4 @@
+# SPDX-License-Identifier: Apache-2.0
 """What the threads that hear of the cluster know before anyone else does: so that nothing is written on knowledge that is older than theirs."""
 from __future__ import annotations
 

@@ -1,3 +1,4 @@
+# SPDX-License-Identifier: Apache-2.0
 """The nodes that are used and the pods on them, as wsched is told of them: no other, since what runs elsewhere would only fill its tables."""
 from __future__ import annotations
 

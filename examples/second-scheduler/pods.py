@@ -1,3 +1,4 @@
+# SPDX-License-Identifier: Apache-2.0
 """What is kept of a pod while it is there."""
 from __future__ import annotations
 

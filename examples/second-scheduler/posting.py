@@ -1,3 +1,4 @@
+# SPDX-License-Identifier: Apache-2.0
 """Requests that write, by a few connections that are kept: one thread has all of them, so no request waits for a thread's turn.
 
 A request has one answer, which is handed on in that thread. One that was sent and not answered ends with no answer: nobody knows what

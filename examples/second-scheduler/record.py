@@ -1,3 +1,4 @@
+# SPDX-License-Identifier: Apache-2.0
 """A record of every line that wsched was told and has answered: gzip, written while it goes on, and whole after each write.
 
 `gzip -dc FILE | wsched run SPEC..` gives the decisions that were made, byte for byte. Where there is no room for it, what is to be written

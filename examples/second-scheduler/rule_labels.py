@@ -1,3 +1,4 @@
+# SPDX-License-Identifier: Apache-2.0
 """Which labels of pods and nodes the site's rules read: a row has room for some, and those that a rule reads mustn't give way.
 
 A rule's module names them in a custom section, which examples/tools reads, and `--labels` names them for all rules. Whoever may make pods

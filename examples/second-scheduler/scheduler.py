@@ -1,3 +1,4 @@
+# SPDX-License-Identifier: Apache-2.0
 """The loop: what the cluster says is told to wsched, cycles are asked for while pods wait, and each place is bound."""
 from __future__ import annotations
 

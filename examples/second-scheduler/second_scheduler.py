@@ -1,4 +1,5 @@
 #!/usr/bin/python3
+# SPDX-License-Identifier: Apache-2.0
 """A second scheduler for a cluster: what stands beside `wsched run` so that it schedules pods of a real API server.
 
 It lists and watches nodes and pods, writes them as lines to wsched, asks for a cycle while pods wait, binds each pod that has got

@@ -1,3 +1,4 @@
+# SPDX-License-Identifier: Apache-2.0
 """What is kept of the nodes and pods that are heard of: what `wsched translate` says of each, and what this client tells by itself.
 
 The latter are labels: of a pod the entries by which the rule node_affinity is told what it asks of a node, and of a node with many those

@@ -1,3 +1,4 @@
+# SPDX-License-Identifier: Apache-2.0
 """Metrics and health over HTTP, or over TLS: /metrics, /healthz, /livez and /readyz.
 
 Probes are answered to everyone, since a kubelet has no token; /metrics is to those that bear the token, where there is one.

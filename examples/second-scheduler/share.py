@@ -1,3 +1,4 @@
+# SPDX-License-Identifier: Apache-2.0
 """Several instances under one scheduler name: which nodes are whose, and whose turn it is to place a pod.
 
 Nobody deals anything out, and nothing is kept of it: both follow from names, uids and the time, by the same sum in each instance. Where

@@ -1,3 +1,4 @@
+# SPDX-License-Identifier: Apache-2.0
 """A site's settings of its rules: a file of lines NAME=VALUE, which become the labels `/cfg/NAME` of each node's row.
 
 Lines without anything, and those that begin with `#`, are skipped. A NAME has 1 to 58 bytes and a VALUE up to 63, of the letters that a

@@ -1,3 +1,4 @@
+# SPDX-License-Identifier: Apache-2.0
 """What people and other programs are told at the API server: events, and the condition PodScheduled of pods without a node.
 
 With measure: of a pod and reason at most one write in 30 seconds; the same message is counted up by a patch, after 10 minutes and again

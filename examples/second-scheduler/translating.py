@@ -1,3 +1,4 @@
+# SPDX-License-Identifier: Apache-2.0
 """`wsched translate` as a child: it is told nodes and pods as the API has them, and says what they come to as lines of a script."""
 from __future__ import annotations
 

@@ -1,3 +1,4 @@
+# SPDX-License-Identifier: Apache-2.0
 """What `wsched explain` says of pods and nodes: the script by which it is asked, what it answers, and the message of an event.
 
 Of each node it tells a total, or the first that rejects it: one of wsched's own filters or a rule. Where it tells amounts too these stand

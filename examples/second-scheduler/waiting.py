@@ -1,3 +1,4 @@
+# SPDX-License-Identifier: Apache-2.0
 """The pods that wait for a node: which of them the desk knows, and whose turn it is.
 
 The desk tries every pod that has failed whenever something changes, and thousands that fit nowhere would keep the new ones from their

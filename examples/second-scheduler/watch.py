@@ -1,3 +1,4 @@
+# SPDX-License-Identifier: Apache-2.0
 """Keeps one kind of object listed and watched, and hands on what it hears, each in the API server's order.
 
 A watch that ends, however it does, is taken up where it ended: only where the API server no longer has that (410) is everything listed

@@ -1,3 +1,4 @@
+# SPDX-License-Identifier: Apache-2.0
 """The way to the API server for requests that write: what the official client has read of kubeconfig or account, as sockets and bytes.
 
 The client's own calls cost some 1.3 ms of processor time each, most of it for headers, validation and objects; binds and events are as

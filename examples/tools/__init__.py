@@ -1,3 +1,4 @@
+# SPDX-License-Identifier: Apache-2.0
 """What the programs of this folder share: how the program is run, which rules are asked, and how a cluster is read and told."""
 import pathlib
 import sys

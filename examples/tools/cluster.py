@@ -1,3 +1,4 @@
+# SPDX-License-Identifier: Apache-2.0
 """A cluster as kubectl tells it, read as the second scheduler reads it: nodes, the pods that they have, and those that wait."""
 from __future__ import annotations
 

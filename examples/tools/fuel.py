@@ -1,3 +1,4 @@
+# SPDX-License-Identifier: Apache-2.0
 """What a rule's dearest call costs: the least fuel with which no answer is cut off."""
 from __future__ import annotations
 

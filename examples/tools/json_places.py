@@ -1,3 +1,4 @@
+# SPDX-License-Identifier: Apache-2.0
 """Where each value of a line's JSON object stands."""
 from __future__ import annotations
 

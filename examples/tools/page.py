@@ -1,3 +1,4 @@
+# SPDX-License-Identifier: Apache-2.0
 """The page that draws runs: examples/report/report.html with their scripts and outputs in it."""
 from __future__ import annotations
 

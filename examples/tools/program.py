@@ -1,3 +1,4 @@
+# SPDX-License-Identifier: Apache-2.0
 """The program, and a script that it is told."""
 from __future__ import annotations
 

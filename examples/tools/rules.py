@@ -1,3 +1,4 @@
+# SPDX-License-Identifier: Apache-2.0
 """Which rules are asked, and by which settings: words as `wsched run` takes them, NAME:WEIGHT:FUEL:FILE, or one file for all that ask.
 
     node_affinity: 2                 # tell selectors, node affinity and volumes' zones, and ask the rule node_affinity with this weight

@@ -1,3 +1,4 @@
+# SPDX-License-Identifier: Apache-2.0
 """What a rule says of itself in custom sections of its module: which labels it reads, and why it rejects.
 
 wsched passes over such sections, and --strip-all keeps them. READS_LABEL and REASON of sched.h write them, and reads_label! and reason! of

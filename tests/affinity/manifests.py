@@ -1,3 +1,4 @@
+# SPDX-License-Identifier: Apache-2.0
 """Random nodes and pods as the API has them, and what Kubernetes says of a pod and a node.
 
 The evaluator goes by the page "Assigning Pods to Nodes" and the API's own words on NodeSelectorTerm and PreferredSchedulingTerm.

@@ -1,3 +1,4 @@
+# SPDX-License-Identifier: Apache-2.0
 """What the program says of a module, a script and a fuel, and the script that generated modules are asked about."""
 from __future__ import annotations
 

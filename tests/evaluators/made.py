@@ -1,3 +1,4 @@
+# SPDX-License-Identifier: Apache-2.0
 """Modules by chance, and a script to ask them about: every integer instruction, blocks, loops, branches, calls, tables and host functions.
 
 The same seed gives the same modules on every machine. A module calls whatever it likes, itself too, so that a call may end by any trap,

@@ -1,3 +1,4 @@
+# SPDX-License-Identifier: Apache-2.0
 """Modules with one fault each, written byte by byte, and what has to be said of them."""
 from __future__ import annotations
 

@@ -1,3 +1,4 @@
+// SPDX-License-Identifier: Apache-2.0
 /* Refuses memory or a thread once, to whatever program it is loaded before (LD_PRELOAD).
  *
  * REFUSE is `memory N` or `thread N`: the Nth call that asks for memory, or for a thread, is told that there is none; 0 refuses

@@ -1,3 +1,4 @@
+// SPDX-License-Identifier: Apache-2.0
 // What kube-scheduler takes pods and nodes for: of each JSON object on standard input, one a line, a line on standard
 // output with what a Pod counts on its node, in thousandths of a core and bytes, or what a Node has, in these and pods.
 // Of an object that isn't read the line is "refused" and why.

@@ -1,3 +1,4 @@
+# SPDX-License-Identifier: Apache-2.0
 """Texts of quantities: of the whole grammar of the Kubernetes API reference's "Quantity", and near it; and what can be said of one at a glance."""
 from __future__ import annotations
 

@@ -1,3 +1,4 @@
+# SPDX-License-Identifier: Apache-2.0
 """Random nodes and pods as the API may have them, and some as it never would: amounts of the whole grammar, whatever a pod may ask for, and
 names and labels that no script can say."""
 from __future__ import annotations

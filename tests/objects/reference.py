@@ -1,3 +1,4 @@
+# SPDX-License-Identifier: Apache-2.0
 """What an object of the Kubernetes API comes to as a line of a script, by the API's reference and docs/FORMATS.md alone.
 
 Quantities are fractions, by the grammar of the reference's "Quantity"; what a pod needs is the most of all its moments, by the pages "Init

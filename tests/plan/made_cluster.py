@@ -1,3 +1,4 @@
+# SPDX-License-Identifier: Apache-2.0
 """A made cluster as `kubectl get nodes,pods --all-namespaces -o json` prints one: zones, pools, taints, selectors, affinity, odd amounts,
 pods that have ended, and node names as clouds give them where there are many."""
 from __future__ import annotations

@@ -1,3 +1,4 @@
+// SPDX-License-Identifier: Apache-2.0
 // What the page's own scripts say of modules, scripts and lines, for a test to compare. Runs in node and in a browser.
 "use strict";
 

@@ -1,3 +1,4 @@
+// SPDX-License-Identifier: Apache-2.0
 // It doesn't link: there is no C library.
 #include "sched.h"
 

@@ -1,3 +1,4 @@
+// SPDX-License-Identifier: Apache-2.0
 // Of pods with a label `app` the call doesn't end on nodes of a zone; other calls cost little.
 #include "sched.h"
 

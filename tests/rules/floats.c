@@ -1,3 +1,4 @@
+// SPDX-License-Identifier: Apache-2.0
 // It is refused: wsched has no floats.
 #include "sched.h"
 

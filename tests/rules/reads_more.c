@@ -1,3 +1,4 @@
+// SPDX-License-Identifier: Apache-2.0
 // It reads a label that it doesn't name.
 #include "sched.h"
 

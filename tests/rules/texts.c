@@ -1,3 +1,4 @@
+// SPDX-License-Identifier: Apache-2.0
 // Texts that are compared by eight bytes at once, beside a comparison byte by byte: of each length, with a change at each place, and with
 // what stands behind a text being another. As a program of this machine.
 #include "sched_test.h"

@@ -1,3 +1,4 @@
+// SPDX-License-Identifier: Apache-2.0
 /* Delays threads where they meet, to whatever program it is loaded before (LD_PRELOAD).
  *
  * The toolchain's locks, channels and joins are its own: they try an atomic word first, and come to the C library only to yield, to

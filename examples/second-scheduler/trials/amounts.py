@@ -1,3 +1,4 @@
+# SPDX-License-Identifier: Apache-2.0
 """Amounts that are no whole number of bytes or of thousandths of a core: what is asked for is rounded up, what there is down."""
 from trials.site import Site, wait_for, whom
 

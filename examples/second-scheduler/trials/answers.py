@@ -1,3 +1,4 @@
+# SPDX-License-Identifier: Apache-2.0
 """What the stub's answers are made of: paths, selectors, the lines of a watch, patches, and answers that are no good ones."""
 import collections
 from typing import Callable, Iterator

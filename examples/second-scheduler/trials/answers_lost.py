@@ -1,3 +1,4 @@
+# SPDX-License-Identifier: Apache-2.0
 """Binds and events whose answers don't come, or are no good ones: each bind ends with what became of it, and none is lost."""
 import time
 

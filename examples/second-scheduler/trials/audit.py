@@ -1,3 +1,4 @@
+# SPDX-License-Identifier: Apache-2.0
 """The audit of the desk against the watch: no difference while all is well, and one that the trial makes is found and told."""
 import os
 import pathlib

@@ -1,3 +1,4 @@
+# SPDX-License-Identifier: Apache-2.0
 """An API server behind TLS, which asks for a certificate too, and behind a proxy: binds and events go where lists and watches go."""
 import http.server
 import json

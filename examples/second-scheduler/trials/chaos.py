@@ -1,3 +1,4 @@
+# SPDX-License-Identifier: Apache-2.0
 """All at once, for minutes: watches shut, binds held back, answers lost, pods of others, cordons, namesakes, nodes made anew, and kills.
 
 What is held against a bind is what its scheduler could know when it was sent: what happened later, or shortly before, is nobody's fault.

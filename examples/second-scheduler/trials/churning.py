@@ -1,3 +1,4 @@
+# SPDX-License-Identifier: Apache-2.0
 """Beside a real API server, what a cluster does to itself: pods that end, that go and come anew, nodes that are drained and made anew."""
 import random
 import time

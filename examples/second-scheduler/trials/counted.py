@@ -1,3 +1,4 @@
+# SPDX-License-Identifier: Apache-2.0
 """Pods on nodes that are hard to count: long ones, and those of which no line can say what they ask for. None counts as less than it is."""
 import json
 import pathlib

@@ -1,3 +1,4 @@
+# SPDX-License-Identifier: Apache-2.0
 """Watches that are shut for a while: nothing is decided and nothing bound meanwhile, nor before what happened is heard as a whole."""
 import time
 from typing import Callable, Optional

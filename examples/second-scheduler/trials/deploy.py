@@ -1,3 +1,4 @@
+# SPDX-License-Identifier: Apache-2.0
 """deploy.yaml: its words start two replicas whose probes are answered as a kubelet asks for them."""
 import os
 import pathlib

@@ -1,3 +1,4 @@
+# SPDX-License-Identifier: Apache-2.0
 """What people see of a pod: the event that says why it has no node, the condition PodScheduled, and both with measure."""
 import sys
 import time

@@ -1,3 +1,4 @@
+# SPDX-License-Identifier: Apache-2.0
 """Nodes and pods for a trial beside a real API server, the rules by which pods may be placed, and a watch of the trial's own."""
 import collections
 import http.client

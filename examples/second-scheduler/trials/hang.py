@@ -1,3 +1,4 @@
+# SPDX-License-Identifier: Apache-2.0
 """A core that hangs: the process ends, so that its Lease runs out and another replica has it."""
 import json
 import os

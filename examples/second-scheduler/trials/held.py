@@ -1,3 +1,4 @@
+# SPDX-License-Identifier: Apache-2.0
 """Binds that come late: a place is kept for as long as its bind may still be done, and given back so that none that comes later is."""
 import sys
 import time

@@ -1,3 +1,4 @@
+# SPDX-License-Identifier: Apache-2.0
 """More nodes than wsched has room for, and more places: it goes on, says so, and fills no node over its room."""
 import json
 

@@ -1,3 +1,4 @@
+# SPDX-License-Identifier: Apache-2.0
 """The Lease: who has it writes its name there, ends its work at once where another's stands, and follows anew."""
 import os
 import re

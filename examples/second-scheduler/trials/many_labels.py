@@ -1,3 +1,4 @@
+# SPDX-License-Identifier: Apache-2.0
 """Pods and nodes with more labels than a row has room for: none that a rule reads gives way, and rows are told anew only where others are asked for."""
 import pathlib
 import time

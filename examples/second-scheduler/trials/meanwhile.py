@@ -1,3 +1,4 @@
+# SPDX-License-Identifier: Apache-2.0
 """What happens while wsched decides: it is heard at once, and no bind is made by a decision that didn't know of it."""
 import time
 

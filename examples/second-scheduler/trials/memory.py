@@ -1,3 +1,4 @@
+# SPDX-License-Identifier: Apache-2.0
 """The memory of a cluster with many placed pods, each of some 4 kB as the API server tells them."""
 import json
 import os

@@ -1,3 +1,4 @@
+# SPDX-License-Identifier: Apache-2.0
 """Pods that are deleted and made anew under their names between decision and bind, beside an API server that doesn't test the uid."""
 import random
 import threading

@@ -1,3 +1,4 @@
+# SPDX-License-Identifier: Apache-2.0
 """The record: what wsched was told, from which `wsched run` gives every decision that was made, however the process ended."""
 import gzip
 import json

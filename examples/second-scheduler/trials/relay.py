@@ -1,4 +1,5 @@
 #!/usr/bin/python3
+# SPDX-License-Identifier: Apache-2.0
 """Stands before wsched in a trial: hands its lines and answers on, keeps both in files, and loses or holds back what it is told to.
 
     relay.py PROGRAM FOLDER WORD ..     FOLDER/lost has texts, one a line: a line `bound` with one of them is answered `ok`, and lost;

@@ -1,3 +1,4 @@
+# SPDX-License-Identifier: Apache-2.0
 """The second scheduler with its rules in a file."""
 from trials.site import REGION, TOP, Site
 

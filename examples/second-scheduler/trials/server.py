@@ -1,3 +1,4 @@
+# SPDX-License-Identifier: Apache-2.0
 """A stub of an API server on loopback, in plain HTTP: lists in pages, watches with bookmarks, binds, events, Leases, status.
 
 What it does wrong is what a trial has it do: refuse, end, break, or go silent. It notes each request that it is asked.

@@ -1,3 +1,4 @@
+# SPDX-License-Identifier: Apache-2.0
 """Three instances that share 3,000 nodes: pods bound a second beside kube-scheduler, and 20,000 pods of which a third finds too little room."""
 import collections
 import http.client

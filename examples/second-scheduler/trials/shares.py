@@ -1,3 +1,4 @@
+# SPDX-License-Identifier: Apache-2.0
 """Several instances under one scheduler name (--share): each has its nodes, and a pod goes round until one has room for it."""
 import itertools
 import os

@@ -1,3 +1,4 @@
+# SPDX-License-Identifier: Apache-2.0
 """What a terminal and a service manager send: it ends in good order, and wsched with it."""
 import os
 import re

@@ -1,3 +1,4 @@
+# SPDX-License-Identifier: Apache-2.0
 """What a trial with the stub has: the stub, the programs that it starts, and the objects that it makes.
 
 A program is ended by its own process id; the children of a scheduler that has died are looked for by their parent's id, while it

@@ -1,3 +1,4 @@
+# SPDX-License-Identifier: Apache-2.0
 """How many pods are bound a second, by wsched and by kube-scheduler in turn, and the processor time that each takes; of the client also where it goes."""
 import collections
 import functools

@@ -1,3 +1,4 @@
+# SPDX-License-Identifier: Apache-2.0
 """What is wrong from the start is told at the start: a plugin, a kubeconfig, a word; and which right is missing."""
 import datetime
 import json

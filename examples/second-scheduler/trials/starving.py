@@ -1,3 +1,4 @@
+# SPDX-License-Identifier: Apache-2.0
 """Thousands of pods that fit nowhere by a dear rule: new ones get their turn all the same, and priorities hold among all that wait."""
 import os
 import random

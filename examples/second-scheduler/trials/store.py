@@ -1,3 +1,4 @@
+# SPDX-License-Identifier: Apache-2.0
 """What a stub of an API server keeps: objects by kind, a version that rises with each change, and every change in its order."""
 import collections.abc
 import copy

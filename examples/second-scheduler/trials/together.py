@@ -1,3 +1,4 @@
+# SPDX-License-Identifier: Apache-2.0
 """Two schedulers at once: what happens on the same nodes, and that nodes of its own prevent it."""
 import re
 import time

@@ -1,3 +1,4 @@
+# SPDX-License-Identifier: Apache-2.0
 """`wsched translate` as a child: it is asked while it is there, started again where it isn't, and what it says is what is told."""
 import json
 import os

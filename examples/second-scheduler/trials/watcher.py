@@ -1,3 +1,4 @@
+# SPDX-License-Identifier: Apache-2.0
 """Watches what an API server tells, in its order, and notes what mustn't be: a node over its room, a pod moved or bound twice.
 
 It reckons with exact fractions and knows nothing of the scheduler that it watches.

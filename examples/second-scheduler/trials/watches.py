@@ -1,3 +1,4 @@
+# SPDX-License-Identifier: Apache-2.0
 """Watches that are refused, that end, break or go silent, and the version that they have lost: how often everything is listed."""
 import time
 

@@ -1,3 +1,4 @@
+# SPDX-License-Identifier: Apache-2.0
 """examples/what-if: one record by two sets of rules."""
 import os
 import re

@@ -1,3 +1,4 @@
+# SPDX-License-Identifier: Apache-2.0
 """examples/why asks kubectl of a real API server: what it says of a pod is what becomes of that pod."""
 import os
 import re

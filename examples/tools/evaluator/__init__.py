@@ -1,3 +1,4 @@
+# SPDX-License-Identifier: Apache-2.0
 """A reader and an evaluator of plugins, written from docs/WEBASSEMBLY.md and docs/FORMATS.md alone, beside the proved program.
 
 `module` reads a module's sections, `opcodes` has a row for each instruction, `numeric` the integer operations, `machine` runs a call with

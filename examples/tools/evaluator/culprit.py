@@ -1,3 +1,4 @@
+# SPDX-License-Identifier: Apache-2.0
 """What a refused module is refused for: the import, the export, the instruction, the limit, and where it stands.
 
 Places are those of the file, in hexadecimal, as wasm-objdump has them. Functions have the names that the module has for them.

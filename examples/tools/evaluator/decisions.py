@@ -1,3 +1,4 @@
+# SPDX-License-Identifier: Apache-2.0
 """A script as `wsched explain` answers it: of each decision the pod, and the nodes as they were then."""
 from __future__ import annotations
 

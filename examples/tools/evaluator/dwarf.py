@@ -1,3 +1,4 @@
+# SPDX-License-Identifier: Apache-2.0
 """What a compiler says of a module's code where it was asked to (-g): DWARF 4 and 5, as far as functions, inlined calls and variables go.
 
 Addresses of code count from the contents of the code section on. Of code that the linker left out the address is 0 or next to 2^32.

@@ -1,3 +1,4 @@
+# SPDX-License-Identifier: Apache-2.0
 """A module's sections (WebAssembly Core 1.0, 5.5): what is there, and where it stands in the file.
 
 `read` takes modules that the program accepts, and `read_as_far_as` also those that it refuses: of each section it has what could be read.

@@ -1,3 +1,4 @@
+# SPDX-License-Identifier: Apache-2.0
 """Integer operations (WebAssembly Core 1.0, 4.3.2; sign extension: Core 2.0, 4.3.2). Values are without sign, below 2^N."""
 # pylint: disable=invalid-name
 # (operands have one letter)

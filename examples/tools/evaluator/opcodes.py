@@ -1,3 +1,4 @@
+# SPDX-License-Identifier: Apache-2.0
 """The instructions: of each opcode its name, its immediates, and how many operands it takes and gives (WebAssembly Core 1.0, 5.4).
 
 Floats stand here too, and of later editions the names, for those who say what a module has that isn't run.

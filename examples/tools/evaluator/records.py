@@ -1,3 +1,4 @@
+# SPDX-License-Identifier: Apache-2.0
 """What a plugin is told of a pod and a node: records of both versions, from rows of a script ("Script lines" and "Records" in docs/FORMATS.md)."""
 from __future__ import annotations
 

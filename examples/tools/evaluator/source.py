@@ -1,3 +1,4 @@
+# SPDX-License-Identifier: Apache-2.0
 """Where in an author's source a place of a module is, and what units of fuel add up to there."""
 from __future__ import annotations
 

@@ -1,3 +1,4 @@
+// SPDX-License-Identifier: Apache-2.0
 //! A filter: at most as many pods on a node as the site's setting `few_pods.limit` says, or two.
 #![cfg_attr(target_arch = "wasm32", no_std)]
 
