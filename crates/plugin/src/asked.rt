@@ -37,6 +37,11 @@ impl Habit {
         }
     }
 
+    /// Whether an answer may reach further than where it is given.
+    pub fn may_be_kept(self) -> bool {
+        self.wait == 0 || self.reach != Reach::Here
+    }
+
     /// What the next call may reach at most.
     pub fn next(&mut self) -> Reach {
         if self.wait == 0 {

@@ -84,6 +84,20 @@ impl Kit {
         self.members[place].has(export)
     }
 
+    /// Whether what the filter of the plugin at a place says may be kept, by what it asked for lately.
+    pub(crate) fn keeps_filter(&self, place: usize) -> bool
+        requires { place < length self.now }
+    {
+        self.members[place].keeps_filter()
+    }
+
+    /// Whether what its score says may be kept.
+    pub(crate) fn keeps_score(&self, place: usize) -> bool
+        requires { place < length self.now }
+    {
+        self.members[place].keeps_score()
+    }
+
     /// Where its memory is from.
     pub(crate) fn alloc(&self) -> Global {
         self.alloc

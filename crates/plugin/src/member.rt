@@ -104,6 +104,16 @@ impl Member {
         self.instance.has(export)
     }
 
+    /// Whether what its filter says may be kept, by what it asked for lately.
+    pub fn keeps_filter(&self) -> bool {
+        self.filter_habit.may_be_kept()
+    }
+
+    /// Whether what its score says may be kept.
+    pub fn keeps_score(&self) -> bool {
+        self.score_habit.may_be_kept()
+    }
+
     /// How much fuel its calls have used so far, from 2^64 on from 0 again.
     pub fn spent(&self) -> u64 {
         self.spent

@@ -95,12 +95,15 @@ impl Shown {
         }
     }
 
-    // What is known of the node.
-    fn look(&mut self, kept: &mut Kept) -> Known
+    // What is known of the node, where that is worth a look.
+    fn look(&mut self, kept: &mut Kept, is_worth: bool) -> Known
         ensures known { (plugins : List Ready) → KeptHolds plugins kept.old → IsKnown plugins self.old result }
         ensures kept { (plugins : List Ready) → KeptHolds plugins kept.old → KeptHolds plugins kept.new }
         ensures stays { self.new ≡ self.old }
     {
+        if !is_worth {
+            return nothing();
+        }
         match &self.node {
             Some(node) => {
                 let sighted = kept.show(self.spot, self.records.pod3(), node, &self.used);
@@ -117,6 +120,9 @@ impl Shown {
         ensures { (plugins : List Ready) → KeptHolds plugins kept.old →
             HeardOf plugins self.now place heard reach → KeptHolds plugins kept.new }
     {
+        if reach == Reach::Here {
+            return;
+        }
         if let Some(node) = &self.node {
             let pod = self.records.pod3();
             kept.note(self.spot, pod, node, &self.used, place, heard, reach);
@@ -135,7 +141,8 @@ impl Shown {
         if !kit.has(place, Export::Filter) {
             return FilterVerdict::Passes;
         }
-        if let Some(said) = self.look(kept).filter(place) {
+        let is_worth = kit.keeps_filter(place);
+        if let Some(said) = self.look(kept, is_worth).filter(place) {
             return said;
         }
         write(&mut self.records, self.is_written, &self.node, &self.used);
@@ -158,7 +165,8 @@ impl Shown {
         if !kit.has(place, Export::Score) {
             return ScoreVerdict::Good(0);
         }
-        if let Some(said) = self.look(kept).score(place) {
+        let is_worth = kit.keeps_score(place);
+        if let Some(said) = self.look(kept, is_worth).score(place) {
             return said;
         }
         write(&mut self.records, self.is_written, &self.node, &self.used);

@@ -15,4 +15,7 @@ returns-in-Some-clause-known c = λ plugins hold.
     (subst (λ (p : List ℕ). Holds plugins p c.in-Some.node c.self.inside.used c.show-sighted.result.known) c.pod3.ensures (c.show-sighted.ensures.known plugins hold)))
 
 pub returns-in-None-clause-known : goal.returns-in-None-clause-known
-returns-in-None-clause-known c = λ plugins hold. c.nothing.ensures.known plugins c.args.self.now
+returns-in-None-clause-known c = λ plugins hold. c.nothing-in-None.ensures.known plugins c.args.self.now
+
+pub returns-then-not-is_worth-clause-known : goal.returns-then-not-is_worth-clause-known
+returns-then-not-is_worth-clause-known c = λ plugins hold. c.nothing.ensures.known plugins c.args.self.now
