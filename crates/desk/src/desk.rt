@@ -13,8 +13,12 @@ use crate::under_lock::UnderLock;
 use book::{Book, Limits, NoMemory};
 use std::alloc::Global;
 use std::hash::RandomState;
+use std::hint::spin_loop;
 use std::marker::Model;
 use std::sync::{Mutex, MutexGuard, Wait};
+
+// How often the lock is tried before a thread sleeps: some tens of steps.
+const TRIES: u32 = 1_000;
 
 /// A desk that many passes share, each from one thread at a time. A step is decided, written and published under the one
 /// lock; a look reads what is published, without the lock, and waits for nobody.
@@ -126,7 +130,7 @@ impl<J: Naming> Desk<J> {
         ensures used_up { MAX_CALLS ≤ pass.old.caller.calls → IsErr result }
         ensures err { OnErr result (pass.new ≡ pass.old) }
     {
-        let mut place = self.lock.lock(rt);
+        let mut place = self.held(rt);
         let answer = match place.take() {
             None => Err(NoMemory),
             Some(held) => {
@@ -137,6 +141,17 @@ impl<J: Naming> Desk<J> {
         };
         MutexGuard::unlock(place);
         answer
+    }
+
+    // Takes the lock. A step takes less time than a thread to go to sleep, so it is tried for a while first.
+    fn held<R: Wait>(&self, rt: &R) -> MutexGuard<'_, Option<UnderLock<J>>> {
+        for _ in 0..TRIES {
+            if let Some(place) = self.lock.try_lock() {
+                return place;
+            }
+            spin_loop();
+        }
+        self.lock.lock(rt)
     }
 
     /// Shows the nodes and what is used of them, as they are published. It takes no lock and waits for nobody. It copies the
