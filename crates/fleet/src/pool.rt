@@ -198,13 +198,20 @@ impl<J: Site, K: Rules + Drop, G: Gate + Drop> Pool<J, K, G> {
         }
     }
 
-    // Notes what a decision cost for each of so many nodes that were judged here, by what had been spent before it.
+    // Notes what a decision cost for each of so many nodes that were judged here, by what had been spent before it, where a rule
+    // was asked. What is noted falls by half at most: a pod that asks little doesn't put the workers to sleep for the next one.
     fn note_cost(&mut self, before: u64, nodes: usize)
         ensures { self.new ≡ self.old }
     {
-        if nodes > 0 {
-            self.cost = Some(self.home.spent().wrapping_sub(before) / nodes as u64);
+        let spent = self.home.spent().wrapping_sub(before);
+        if nodes == 0 || spent == 0 {
+            return;
         }
+        let cost = spent / nodes as u64;
+        self.cost = match self.cost {
+            None => Some(cost),
+            Some(last) => Some(cost.max(last / 2)),
+        };
     }
 
     /// Where a pod goes, as `decide` says it. Where there is no rule it is chosen here, and no verdict is written.
