@@ -16,7 +16,7 @@ LETTERS = 600_000
 LONG, MOST = 60, 40
 # A `translate` that says of some pods that no line can count them.
 UNCOUNTED = """#!{python}
-import os, sys, json, subprocess
+import os, sys, subprocess
 program = {program!r}
 if sys.argv[1] != "translate":
     os.execv(program, [program, *sys.argv[1:]])
@@ -25,7 +25,7 @@ for line in sys.stdin.buffer:
     child.stdin.write(line)
     child.stdin.flush()
     answer = child.stdout.readline()
-    if (json.loads(line)["metadata"].get("labels") or {{}}).get("counts") == "no":
+    if b'"1048576"' in line:
         answer = b'{{"uncounted": ["no line can count it"]}}\\n'
     sys.stdout.buffer.write(answer)
     sys.stdout.buffer.flush()
@@ -84,9 +84,11 @@ def counted_whole(site: Site) -> str:
     items = [{"key": f"{i:0100}", "path": f"{i:0100}"} for i in range(12_000)]
     long: Thing = {"volumes": [{"name": "v", "configMap": {"name": "x", "items": items}}]}
     said = []
-    for name, more in (("long", {"spec": long}), ("odd", {"labels": {"counts": "no"}})):
+    # (of a pod that asks for this spelling of 1Mi the program in between says that no line can count it)
+    rows: list[tuple[str, str, Thing]] = [("long", "1Mi", {"spec": long}), ("odd", "1048576", {})]
+    for name, memory, more in rows:
         site.node("one", memory="1Gi", cpu="4")
-        site.pod(name, memory="1Mi", on="one", scheduler="default-scheduler", **more)
+        site.pod(name, memory=memory, on="one", scheduler="default-scheduler", **more)
         it = site.start(*site.listening(), wsched=str(program), name=f"of-{name}")
         waits(site, it)
         site.wait(lambda: value(scraped(site), "wsched_pods_not_read") == 1, 10, "a metric tells of it")
@@ -96,7 +98,7 @@ def counted_whole(site: Site) -> str:
 
         def shorter(pod: Thing) -> None:
             pod["spec"].pop("volumes", None)
-            pod["metadata"]["labels"] = {}
+            pod["spec"]["containers"][0]["resources"]["requests"]["memory"] = "1Mi"
 
         site.store.change("pods", f"default/{name}", shorter)
         site.wait(lambda: site.place("small") == "one", 30, "the pod that waits is bound once it counts for what it asks for")
