@@ -1,4 +1,3 @@
-// SPDX-License-Identifier: Apache-2.0
 // A score: pods that ask for no CPU and no memory go where the fewest pods are for the node's room. What they use is counted
 // nowhere, so that to the built-in scores a node looks the same however many of them it has.
 //
@@ -9,7 +8,7 @@ READS_NO_LABEL
 
 SCORE
 {
-    const struct pod *pod = read_pod3();
+    const struct pod *pod = read_pod();
     if (pod_cpu(pod) || pod_memory(pod)) return 0;
     const struct node *node = read_node();
     // A score is asked of nodes that pass every filter, so there is room for this pod.

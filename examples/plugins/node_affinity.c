@@ -1,4 +1,3 @@
-// SPDX-License-Identifier: Apache-2.0
 // A filter and a score: what a pod asks of its node's labels and name. Node selectors, node affinity and the zones of volumes are
 // told as labels of the pod's row, entries whose keys begin with `/`; docs/NODE-AFFINITY.md has their spelling.
 //
@@ -160,7 +159,7 @@ static int term_holds(const struct node *node)
 
 static void first(void)
 {
-    entry.rest = pod_labels(read_pod3());
+    entry.rest = pod_labels(read_pod());
     go_on();
 }
 
@@ -169,7 +168,7 @@ FILTER
 {
     first();
     if (entry.kind == END) return PASS;
-    const struct node *node = read_node3();
+    const struct node *node = read_node();
     if (!all_hold(node)) return UNSCHEDULABLE_AND_UNRESOLVABLE;
     while (entry.kind == EITHER) {
         int one = term_holds(node);
@@ -187,7 +186,7 @@ SCORE
     while (entry.kind != PREFER && entry.kind != END)
         go_on();
     if (entry.kind == END) return 0;
-    const struct node *node = read_node3();
+    const struct node *node = read_node();
     u32 matched = 0, all = 0;
     while (entry.kind == PREFER) {
         u64 weight = (u64)number(value());

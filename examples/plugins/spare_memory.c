@@ -1,4 +1,3 @@
-// SPDX-License-Identifier: Apache-2.0
 // A filter: each node of the zone edge-1 keeps its last gibibyte of memory for pods of priority 1000 and above.
 //
 //   examples/plugins/build spare_memory.c
@@ -10,7 +9,7 @@ REASON(2, "nodes of the zone edge-1 keep their last gibibyte of memory for pods 
 FILTER
 {
     // (what is answered before the node is asked for is asked once for all nodes)
-    const struct pod *pod = read_pod3();
+    const struct pod *pod = read_pod();
     if (pod_priority(pod) >= 1000 || pod_memory(pod) == 0)
         return PASS;
     const struct node *node = read_node();

@@ -4,6 +4,3 @@ pub mod EntryLemmas
 pub mod MakingLemmas
 pub mod CallLemmas
 pub mod SaidLemmas
-pub mod KeptLemmas
-pub mod AskedLemmas
-pub mod RowLemmas

@@ -4,6 +4,3 @@ pub mod OneAnswer
 pub mod Said
 pub mod Shown
 pub mod Member
-pub mod Answers
-pub mod Asked
-pub mod Kept

@@ -2,7 +2,6 @@
 ghost use Rattle.std.specs.Prelude.{◌≡◌};
 ghost use Rattle.plugin.specs.Kit.{ready_parts};
 
-use crate::kept::Kept;
 use crate::kit::Kit;
 use crate::shown::Shown;
 use quant::{Pod, Res, SharedNode};
@@ -12,14 +11,10 @@ use std::marker::Model;
 /// A kit, seen as a set of rules.
 ///
 /// What a set of rules owes is that it answers as before, whatever it was asked. So contracts see of the kit its plugins alone,
-/// each with the image from which its calls begin: what an instance's store is between two calls, no call sees. Nor do they see
-/// what is kept of what plugins said.
+/// each with the image from which its calls begin: what an instance's store is between two calls, no call sees.
 #[derive(Drop)]
 pub struct KitRules {
     kit: Kit,
-    kept: Kept,
-    // How often a rule was asked, from 2^64 on from 0 again.
-    asked: u64,
 }
 
 impl Model for KitRules {
@@ -32,10 +27,6 @@ impl Model for KitRules {
     ghost coded = { Prim.hlevel codes };
 
     ghost view = { λ rules. ready_parts rules.kit };
-
-    ghost use Rattle.plugin.specs.inside.Kept.{KeptHolds};
-
-    ghost invariant = { λ rules. KeptHolds (ready_parts rules.kit) rules.kept };
 }
 
 impl KitRules {
@@ -43,12 +34,7 @@ impl KitRules {
     pub fn new(kit: Kit) -> KitRules
         ensures { result ≡ ready_parts kit }
     {
-        let kept = Kept::new(kit.alloc());
-        KitRules {
-            kit,
-            kept,
-            asked: 0,
-        }
+        KitRules { kit }
     }
 }
 
@@ -76,7 +62,7 @@ impl Rules for KitRules {
     }
 
     fn show_pod(&mut self, pod: &Pod) -> Shown {
-        Shown::of_pod(&mut self.kept, pod)
+        Shown::of_pod(pod)
     }
 
     fn show_node(&mut self, shown: &mut Shown, node: &SharedNode, used: &Res) {
@@ -84,17 +70,15 @@ impl Rules for KitRules {
     }
 
     fn filter(&mut self, place: usize, shown: &mut Shown) -> FilterVerdict {
-        self.asked = self.asked.wrapping_add(1);
-        shown.ask_filter(&mut self.kit, &mut self.kept, place)
+        shown.ask_filter(&mut self.kit, place)
     }
 
     fn score(&mut self, place: usize, shown: &mut Shown) -> ScoreVerdict {
-        self.asked = self.asked.wrapping_add(1);
-        shown.ask_score(&mut self.kit, &mut self.kept, place)
+        shown.ask_score(&mut self.kit, place)
     }
 
     fn spent(&self) -> u64 {
-        self.kit.spent().wrapping_add(self.asked)
+        self.kit.spent()
     }
 
     ghost say_one_thing = { one_answer };

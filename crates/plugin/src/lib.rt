@@ -5,16 +5,12 @@
 //! one instance of each, belongs to one thread, and can be moved to another; `KitRules` is a kit as a set of rules.
 #![tactic(auto)]
 
-mod answers;
-mod asked;
 mod fault;
-mod kept;
 mod kit;
 mod kit_rules;
 mod laws;
 mod member;
 mod plugins;
-mod row;
 mod said;
 mod shown;
 mod verdict;

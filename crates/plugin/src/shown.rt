@@ -1,21 +1,15 @@
 //! What a kit notes of a pod and a node that it is shown.
-ghost use Rattle.std.specs.Prelude.{◌≡◌, ◌<◌, List, Some, length, slice_get};
-ghost use Rattle.std.specs.Bool.{IsTrue};
+ghost use Rattle.std.specs.Prelude.{◌≡◌, ◌<◌, Some, length, slice_get};
 ghost use Rattle.whost.specs.Handed.{pod_records, node_records};
 ghost use Rattle.rules.specs.Verdict.{IsWithin};
 ghost use Rattle.plugin.specs.Kit.{Ready, ready_parts, FilterSays, ScoreSays};
-ghost use Rattle.plugin.specs.inside.Kept.{KeptHolds};
-ghost use Rattle.plugin.specs.inside.Shown.{shown_of, HeardOf, IsKnown};
+ghost use Rattle.plugin.specs.inside.Shown.{shown_of};
 
-use crate::answers::{Heard, Known, nothing};
-use crate::asked::Reach;
-use crate::kept::{Kept, Spot};
 use crate::kit::Kit;
 use quant::{Bytes, Cpu, Pod, Res, SharedNode};
 use rules::{FilterVerdict, ScoreVerdict};
 use std::marker::Model;
 use whost::Records;
-use wmach::Export;
 
 const NOTHING: Res = Res {
     cpu: Cpu(0),
@@ -23,58 +17,44 @@ const NOTHING: Res = Res {
     pods: 0,
 };
 
-/// The records of a pod, and those of a node, which are written where a plugin is asked: till then the node is kept alone. Each
+/// The records of a pod, and those of a node, which are written where a plugin asks for them: till then the node is kept. Each
 /// record is kilobytes large and is written in place. Contracts see the records, written or not.
 #[derive(Drop)]
 pub struct Shown {
     records: Records,
     node: Option<SharedNode>,
     used: Res,
-    is_written: bool,
-    spot: Spot,
 }
 
 impl Model for Shown {
-    ghost use Rattle.std.specs.Bool.{IsTrue};
-    ghost use Rattle.std.specs.Prelude.{◌≡◌};
     ghost use Rattle.whost.specs.declared.records.Records.{Records};
     ghost use Rattle.plugin.specs.inside.Shown.{shown_of};
 
     ghost Value = { Records };
 
     ghost view = { λ s. shown_of s.records s.node s.used };
-
-    ghost invariant = { λ s. IsTrue s.is_written → s.records ≡ shown_of s.records s.node s.used };
 }
 
-// Makes the node's records those of the node that is kept, if there is one and they aren't written.
-fn write(records: &mut Records, is_written: bool, node: &Option<SharedNode>, used: &Res)
-    requires { IsTrue is_written → records.old ≡ shown_of records.old node.now used.now }
-    ensures { records.new ≡ shown_of records.old node.now used.now }
+// Makes the node's records those of the node that is kept, if there is one.
+fn write(records: &mut Records, node: Option<SharedNode>, used: &Res)
+    ensures { records.new ≡ shown_of records.old node used.now }
 {
-    if is_written {
-        return;
-    }
     if let Some(node) = node {
-        records.show_node(node, used);
+        records.show_node(&node, used);
     }
 }
 
 impl Shown {
     /// A pod, and no node yet.
-    pub fn of_pod(kept: &mut Kept, pod: &Pod) -> Shown
-        ensures pod { result.pod ≡ pod_records pod.now }
-        ensures kept { (plugins : List Ready) → KeptHolds plugins kept.old → KeptHolds plugins kept.new }
+    pub fn of_pod(pod: &Pod) -> Shown
+        ensures { result.pod ≡ pod_records pod.now }
     {
         let mut records = Records::new();
         records.show_pod(pod);
-        let class = kept.class_of(records.pod3());
         Shown {
             records,
             node: None,
             used: NOTHING,
-            is_written: false,
-            spot: Spot { class, line: 0 },
         }
     }
 
@@ -82,7 +62,6 @@ impl Shown {
     pub fn show_node(&mut self, node: &SharedNode, used: &Res)
         ensures { self.new ≡ record self.old { node = node_records node.now used.now } }
     {
-        self.is_written = false;
         match node.share() {
             Ok(own) => {
                 self.node = Some(own);
@@ -95,84 +74,32 @@ impl Shown {
         }
     }
 
-    // What is known of the node, where that is worth a look.
-    fn look(&mut self, kept: &mut Kept, is_worth: bool) -> Known
-        ensures known { (plugins : List Ready) → KeptHolds plugins kept.old → IsKnown plugins self.old result }
-        ensures kept { (plugins : List Ready) → KeptHolds plugins kept.old → KeptHolds plugins kept.new }
-        ensures stays { self.new ≡ self.old }
-    {
-        if !is_worth {
-            return nothing();
-        }
-        match &self.node {
-            Some(node) => {
-                let sighted = kept.show(self.spot, self.records.pod3(), node, &self.used);
-                self.spot.line = sighted.line;
-                sighted.known
-            }
-            None => nothing(),
-        }
-    }
-
-    // Keeps what a plugin said.
-    fn note(&self, kept: &mut Kept, place: usize, heard: Heard, reach: Reach)
-        requires { place < 16 }
-        ensures { (plugins : List Ready) → KeptHolds plugins kept.old →
-            HeardOf plugins self.now place heard reach → KeptHolds plugins kept.new }
-    {
-        if reach == Reach::Here {
-            return;
-        }
-        if let Some(node) = &self.node {
-            let pod = self.records.pod3();
-            kept.note(self.spot, pod, node, &self.used, place, heard, reach);
-        }
-    }
-
-    /// What the filter of a kit's plugin says: what is known of it, or what it says now.
-    pub fn ask_filter(&mut self, kit: &mut Kit, kept: &mut Kept, place: usize) -> FilterVerdict
+    /// Asks the filter of a kit's plugin.
+    pub fn ask_filter(&mut self, kit: &mut Kit, place: usize) -> FilterVerdict
         requires { place < length kit.old }
-        ensures says { KeptHolds (ready_parts kit.old) kept.old →
-            (p : Ready) × (slice_get (ready_parts kit.old) place ≡ Some p) × FilterSays p self.old result }
+        ensures says { (p : Ready) × (slice_get (ready_parts kit.old) place ≡ Some p) × FilterSays p self.old result }
         ensures kit { ready_parts kit.new ≡ ready_parts kit.old }
-        ensures kept { KeptHolds (ready_parts kit.old) kept.old → KeptHolds (ready_parts kit.old) kept.new }
         ensures stays { self.new ≡ self.old }
     {
-        if !kit.has(place, Export::Filter) {
-            return FilterVerdict::Passes;
-        }
-        let is_worth = kit.keeps_filter(place);
-        if let Some(said) = self.look(kept, is_worth).filter(place) {
+        if let Some(said) = kit.filter_of_all(place, &self.records) {
             return said;
         }
-        write(&mut self.records, self.is_written, &self.node, &self.used);
-        self.is_written = true;
-        let asked = kit.ask_filter(place, &self.records);
-        self.note(kept, place, Heard::Filter(asked.said), asked.reach);
-        asked.said
+        write(&mut self.records, self.node.take(), &self.used);
+        kit.filter(place, &self.records)
     }
 
-    /// What the score of a kit's plugin says: what is known of it, or what it says now.
-    pub fn ask_score(&mut self, kit: &mut Kit, kept: &mut Kept, place: usize) -> ScoreVerdict
+    /// Asks the score of a kit's plugin.
+    pub fn ask_score(&mut self, kit: &mut Kit, place: usize) -> ScoreVerdict
         requires { place < length kit.old }
-        ensures says { KeptHolds (ready_parts kit.old) kept.old →
-            (p : Ready) × (slice_get (ready_parts kit.old) place ≡ Some p) × ScoreSays p self.old result }
+        ensures says { (p : Ready) × (slice_get (ready_parts kit.old) place ≡ Some p) × ScoreSays p self.old result }
         ensures within { IsWithin result }
         ensures kit { ready_parts kit.new ≡ ready_parts kit.old }
-        ensures kept { KeptHolds (ready_parts kit.old) kept.old → KeptHolds (ready_parts kit.old) kept.new }
         ensures stays { self.new ≡ self.old }
     {
-        if !kit.has(place, Export::Score) {
-            return ScoreVerdict::Good(0);
-        }
-        let is_worth = kit.keeps_score(place);
-        if let Some(said) = self.look(kept, is_worth).score(place) {
+        if let Some(said) = kit.score_of_all(place, &self.records) {
             return said;
         }
-        write(&mut self.records, self.is_written, &self.node, &self.used);
-        self.is_written = true;
-        let asked = kit.ask_score(place, &self.records);
-        self.note(kept, place, Heard::Score(asked.said), asked.reach);
-        asked.said
+        write(&mut self.records, self.node.take(), &self.used);
+        kit.score(place, &self.records)
     }
 }

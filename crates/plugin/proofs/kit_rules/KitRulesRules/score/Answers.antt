@@ -1,18 +1,14 @@
-use Rattle.std.proofs.Common.{◌≡◌, ◌∙◌, sym, subst, List}
+use Rattle.std.proofs.Common.{◌≡◌, ◌∙◌, sym, subst}
 use Rattle.whost.specs.declared.records.Records.{Records}
-use Rattle.plugin.specs.Kit.{Ready, ready_parts, ScoreSays, records_of}
-use Rattle.plugin.specs.inside.Kept.{KeptHolds}
+use Rattle.plugin.specs.Kit.{ScoreSays, records_of}
 use Rattle.plugin.proofs.CallLemmas.{records_told}
 use Rattle.plugin.proofs.kit_rules.KitRulesRules.score.Goals as goal
 
 pub returns-clause-says : goal.returns-clause-says
 returns-clause-says c = λ told of_pod of_node.
     let same : c.args.shown.now ≡ records_of told = records_told c.args.shown.now told of_pod of_node in
-    let says = c.ask_score.ensures.says c.self.invariant in
+    let says = c.ask_score.ensures.says in
     rw (sym c.self.view_is) (says.0, says.1, subst (λ (r : Records). ScoreSays says.0 r c.ask_score.result) same says.2)
 
 pub returns-clause-stays : goal.returns-clause-stays
 returns-clause-stays c = c.ask_score.ensures.kit ∙ c.self.view_is
-
-pub invariant_of-self : goal.invariant_of-self
-invariant_of-self c = subst (λ (plugins : List Ready). KeptHolds plugins c.ask_score.new.kept) (sym c.ask_score.ensures.kit) (c.ask_score.ensures.kept c.self.invariant)
