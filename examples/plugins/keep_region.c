@@ -1,3 +1,4 @@
+// SPDX-License-Identifier: Apache-2.0
 // A filter: pods labelled data-class=personal run in the region eu-central-1 and nowhere else.
 //
 //   examples/plugins/build keep_region.c

@@ -1,3 +1,4 @@
+// SPDX-License-Identifier: Apache-2.0
 // A filter and a score: what a pod asks of its node's labels and name. Node selectors, node affinity and the zones of volumes are
 // told as labels of the pod's row, entries whose keys begin with `/`; docs/NODE-AFFINITY.md has their spelling.
 //

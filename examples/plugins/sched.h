@@ -1,3 +1,4 @@
+// SPDX-License-Identifier: Apache-2.0
 // What wsched tells a plugin of a pod and of a node, and what a plugin answers. docs/PLUGINS.md shows how to begin;
 // "Records" in docs/FORMATS.md has the layout that is read here.
 //

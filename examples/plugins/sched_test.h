@@ -1,3 +1,4 @@
+// SPDX-License-Identifier: Apache-2.0
 // A plugin as a program of this machine: what hands its records over in place of wsched, so that a debugger and a sanitizer can look
 // at it. A test includes this and the plugin's source, says which pod and which node it asks about, and calls filter() and score():
 //

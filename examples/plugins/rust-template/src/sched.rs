@@ -1,3 +1,4 @@
+// SPDX-License-Identifier: Apache-2.0
 //! What wsched tells a plugin of a pod and of a node, and what a plugin answers, for plugins in Rust: what sched.h is for C.
 //! "Records" in docs/FORMATS.md has the layout that is read here. A plugin has it as a module:
 //!
