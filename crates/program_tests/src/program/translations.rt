@@ -213,7 +213,6 @@ const ANSWERED: Want<'static> = (
 fn is_long_line<R: Files + Wait + Threads + Copy + Send + Sync + 'static>(
     rt: &R,
     alloc: Global,
-    args: &'static [&'static str],
     len: usize,
     want: Want,
 ) -> bool {
@@ -224,7 +223,29 @@ fn is_long_line<R: Files + Wait + Threads + Copy + Send + Sync + 'static>(
         return false;
     }
     let given = Given {
-        args,
+        args: &["translate"],
+        script: script.as_slice(),
+        most: 65_536,
+        ..RUN
+    };
+    ends(rt, alloc, None, given, want)
+}
+
+// The same, with answers.
+fn is_long_line_answered<R: Files + Wait + Threads + Copy + Send + Sync + 'static>(
+    rt: &R,
+    alloc: Global,
+    len: usize,
+    want: Want,
+) -> bool {
+    let Ok(mut script) = vec![in alloc; b' '; len] else {
+        return false;
+    };
+    if script.extend_from_slice(BEHIND).is_err() {
+        return false;
+    }
+    let given = Given {
+        args: &["translate", "--answers"],
         script: script.as_slice(),
         most: 65_536,
         ..RUN
@@ -235,12 +256,10 @@ fn is_long_line<R: Files + Wait + Threads + Copy + Send + Sync + 'static>(
 #[test]
 fn objects_are_translated(rt: HostRuntime) {
     assert_eq!(rt; first_other(&rt, rt.alloc()), None);
-    let plain: &[&str] = &["translate"];
-    assert!(rt; is_long_line(&rt, rt.alloc(), plain, 2_097_152, NO_JSON));
-    assert!(rt; is_long_line(&rt, rt.alloc(), plain, 2_097_153, TOO_LONG));
-    assert!(rt; is_long_line(&rt, rt.alloc(), plain, 2_500_000, TOO_LONG));
-    let answers: &[&str] = &["translate", "--answers"];
-    assert!(rt; is_long_line(&rt, rt.alloc(), answers, 2_500_000, ANSWERED));
+    assert!(rt; is_long_line(&rt, rt.alloc(), 2_097_152, NO_JSON));
+    assert!(rt; is_long_line(&rt, rt.alloc(), 2_097_153, TOO_LONG));
+    assert!(rt; is_long_line(&rt, rt.alloc(), 2_500_000, TOO_LONG));
+    assert!(rt; is_long_line_answered(&rt, rt.alloc(), 2_500_000, ANSWERED));
 }
 
 // Objects of which nothing is left out, and their lines.
