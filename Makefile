@@ -15,11 +15,11 @@ help:
 
 # Proves and builds the program, and runs it on the first script.
 first-run:
-	examples/first-run
+	@examples/first-run
 
 # Runs the same sources on the first script before any proof: it proves nothing, and leaves no program.
 try-run:
-	examples/first-run --unproved
+	@examples/first-run --unproved
 
 # Runs each plugin of examples/plugins over its script, by the program that first-run built.
 plugins:
