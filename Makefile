@@ -17,7 +17,8 @@ help:
 first-run:
 	@examples/first-run
 
-# Runs the same sources on the first script before any proof: it proves nothing, and leaves no program.
+# Runs the same sources on the first script before any proof: it proves nothing, and leaves no
+# program.
 try-run:
 	@examples/first-run --unproved
 
@@ -25,8 +26,9 @@ try-run:
 plugins:
 	examples/plugins/try
 
-# A Debian package of the program, its rules and the second scheduler; the same as a tar with sums and the prover's verdicts; and the
-# second scheduler's image (as root, with buildah and debootstrap). Each stands in out/, made of the program that first-run built.
+# A Debian package of the program, its rules and the second scheduler; the same as a tar with sums
+# and the prover's verdicts; and the second scheduler's image (as root, with buildah and
+# debootstrap). Each stands in out/, made of the program that first-run built.
 deb:
 	tools/packages/deb
 
@@ -36,6 +38,7 @@ dist:
 image:
 	tools/packages/image
 
-# The gate: what stands beside the proofs, every proof from nothing, every must-fail edit, every test and program.
+# The gate: what stands beside the proofs, every proof from nothing, every must-fail edit, every
+# test and program.
 test:
 	.ci/run

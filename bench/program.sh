@@ -1,12 +1,13 @@
 # SPDX-License-Identifier: Apache-2.0
-# Read by the benchmarks' `run`. A benchmark is a program that is no crate of the repository, so that the gate neither proves nor
-# runs it; so its text is main.rt.txt, and stands in a folder of its own beside copies of the crates that it needs.
+# Read by the benchmarks' `run`. A benchmark is a program that is no crate of the repository, so
+# that the gate neither proves nor runs it; so its text is main.rt.txt, and stands in a folder of
+# its own beside copies of the crates that it needs.
 #
 #     program NAME LIBRARY..
 #
-# makes that folder, with main.rt.txt of the folder of the script that runs as the crate NAME, which stands on these libraries,
-# and goes into the crate. The folder is a temporary one. A folder that BENCH_FOLDER names is kept, so that what is proved and
-# built there is run again at once.
+# makes that folder, with main.rt.txt of the folder of the script that runs as the crate NAME, which
+# stands on these libraries, and goes into the crate. The folder is a temporary one. A folder that
+# BENCH_FOLDER names is kept, so that what is proved and built there is run again at once.
 set -eu
 here=$(cd "$(dirname "$0")" && pwd)
 top=$(cd "$here/../.." && pwd)
@@ -35,8 +36,8 @@ crates_below() {
     echo "$below"
 }
 
-# A crate without what its checks keep, but with the library that they built: it is linked where that can be, since it is large,
-# and rt builds another where it isn't that of these sources.
+# A crate without what its checks keep, but with the library that they built: it is linked where
+# that can be, since it is large, and rt builds another where it isn't that of these sources.
 copy_crate() {
     from=$top/crates/$1
     to=$folder/crates/$1

@@ -1,5 +1,6 @@
 // SPDX-License-Identifier: Apache-2.0
-// A filter that passes every node, once it has been handed both records: what a call costs that reckons nothing.
+// A filter that passes every node, once it has been handed both records: what a call costs that
+// reckons nothing.
 
 __attribute__((import_module("sched"), import_name("pod")))
 unsigned pod(unsigned char *pointer, unsigned limit);

@@ -18,7 +18,8 @@ static int same(const unsigned char *text, const char *wanted, unsigned length) 
 __attribute__((export_name("filter")))
 int filter(void) {
     node(record, sizeof record);
-    // A version and a kind, the name with its length before it, the mark, and two times cpu, memory and pods.
+    // A version and a kind, the name with its length before it, the mark, and two times cpu, memory
+    // and pods.
     const unsigned char *labels = record + 3 + record[2] + 1 + 40;
     const unsigned char *key = labels + 1;
     for (unsigned count = labels[0]; count > 0; count--) {

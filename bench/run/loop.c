@@ -1,5 +1,6 @@
 // SPDX-License-Identifier: Apache-2.0
-// A filter that asks for the node, so that it is called for each of them, and passes it after a loop that costs 10,000 fuel.
+// A filter that asks for the node, so that it is called for each of them, and passes it after a
+// loop that costs 10,000 fuel.
 #include "sched.h"
 
 FILTER

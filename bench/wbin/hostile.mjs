@@ -1,6 +1,7 @@
 // SPDX-License-Identifier: Apache-2.0
-// Writes modules of almost 1 MiB that ask for as much as they can of a decoder, into the folder that is named: many exports, one
-// long list of labels, many functions, many runs of locals, many blocks. All are within the binary format.
+// Writes modules of almost 1 MiB that ask for as much as they can of a decoder, into the folder
+// that is named: many exports, one long list of labels, many functions, many runs of locals, many
+// blocks. All are within the binary format.
 import { writeFileSync } from "node:fs";
 import { unsigned } from "./unsigned.mjs";
 

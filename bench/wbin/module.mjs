@@ -1,6 +1,7 @@
 // SPDX-License-Identifier: Apache-2.0
-// Writes a module of almost 1 MiB to the file that is named: functions of about 200 bytes with locals, loops, branches,
-// loads, stores and calls. It is valid, and within the integer instructions of the first edition.
+// Writes a module of almost 1 MiB to the file that is named: functions of about 200 bytes with
+// locals, loops, branches, loads, stores and calls. It is valid, and within the integer
+// instructions of the first edition.
 import { writeFileSync } from "node:fs";
 import { unsigned } from "./unsigned.mjs";
 

@@ -1,6 +1,6 @@
 // SPDX-License-Identifier: Apache-2.0
-// Five further programs for the benchmark of the machine, to which nobody tunes it, one for each value of PROGRAM. Each is a module
-// with one export, `filter`.
+// Five further programs for the benchmark of the machine, to which nobody tunes it, one for each
+// value of PROGRAM. Each is a module with one export, `filter`.
 typedef unsigned char u8;
 typedef unsigned int u32;
 typedef unsigned long long u64;
@@ -87,7 +87,8 @@ __attribute__((export_name("filter"))) int filter(void) {
     return (int)(sum ^ sum >> 32);
 }
 #elif PROGRAM == 3
-// a small parser: sums, products, quotients, parentheses and numbers, by recursive descent over a text that is made first
+// a small parser: sums, products, quotients, parentheses and numbers, by recursive descent over a
+// text that is made first
 static u8 text[1 << 15];
 static u32 length, at;
 static void write(u32 depth) {
@@ -156,7 +157,8 @@ __attribute__((export_name("filter"))) int filter(void) {
     return (int)all;
 }
 #elif PROGRAM == 4
-// dynamic programming: the least number of changes between two texts, and the longest part that they have in common
+// dynamic programming: the least number of changes between two texts, and the longest part that
+// they have in common
 #define LONG 700
 static u8 first[LONG], second[LONG];
 static u32 changes[LONG + 1], common[LONG + 1];
@@ -180,7 +182,8 @@ __attribute__((export_name("filter"))) int filter(void) {
     return (int)(changes[LONG] * 1000 + common[LONG]);
 }
 #else
-// a treap: a search tree whose order is by key and whose heap is by random weights; put, remove and count what is less
+// a treap: a search tree whose order is by key and whose heap is by random weights; put, remove and
+// count what is less
 #define ROOM 20000
 typedef struct { u64 key; u32 weight, count, left, right; } node;
 static node nodes[ROOM + 1]; // 0 stands for none

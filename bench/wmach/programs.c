@@ -1,5 +1,6 @@
 // SPDX-License-Identifier: Apache-2.0
-// Eight programs for the benchmark of the machine, one for each value of PROGRAM. Each is a module with one export, `filter`.
+// Eight programs for the benchmark of the machine, one for each value of PROGRAM. Each is a module
+// with one export, `filter`.
 typedef unsigned char u8;
 typedef unsigned int u32;
 typedef unsigned long long u64;

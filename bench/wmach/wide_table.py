@@ -1,5 +1,6 @@
 # SPDX-License-Identifier: Apache-2.0
-# Writes a module whose filter runs a br_table of 900,000 labels 100,000 times: python3 wide_table.py FILE.
+# Writes a module whose filter runs a br_table of 900,000 labels 100,000 times: python3
+# wide_table.py FILE.
 import sys
 
 LABELS, TIMES = 900_000, 100_000

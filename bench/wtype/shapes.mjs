@@ -1,7 +1,8 @@
 // SPDX-License-Identifier: Apache-2.0
-// Writes modules into the folder that is named that ask for as much as they can of a validator, each of almost 1 MiB and of a
-// quarter of that: NAME.wasm and NAME.quarter.wasm, and in shapes.txt a line for each NAME. All are within the binary format, and
-// each has the function 0, `filter`, which gives 0; those that are refused are refused for their sizes, when all is typed.
+// Writes modules into the folder that is named that ask for as much as they can of a validator,
+// each of almost 1 MiB and of a quarter of that: NAME.wasm and NAME.quarter.wasm, and in shapes.txt
+// a line for each NAME. All are within the binary format, and each has the function 0, `filter`,
+// which gives 0; those that are refused are refused for their sizes, when all is typed.
 import { writeFileSync } from "node:fs";
 import { unsigned } from "../wbin/unsigned.mjs";
 
@@ -28,7 +29,8 @@ const code = (locals, ...body) => sized(bytes(locals, ...body, END));
 const plain = (...body) => code(number(0), ...body);
 const export_of = (name, kind, index) => bytes(sized(Buffer.from(name)), kind, number(index));
 
-// A module of these parts, whose types begin with those of `filter`, of the host's functions, and of the body that is tried, [] -> [].
+// A module of these parts, whose types begin with those of `filter`, of the host's functions, and
+// of the body that is tried, [] -> [].
 const module = ({ types = [], imports = [], functions = [], tables = [], memory = false, globals = Buffer.from([0]), exports = [], elements = [], codes = [], data = Buffer.from([0]), all_types, all_functions, all_codes }) => {
   const first = imports.length;
   return bytes(

@@ -90,7 +90,8 @@ class Made:
     def __init__(self, dice, nodes, longest=63):
         self.dice = dice
         spell = lambda n: "".join(dice.choice("abcxyz019.-_") for _ in range(n - 2)).join("ab")
-        # (keys of which many begin alike, some as long as a script takes and some longer than an entry does)
+        # (keys of which many begin alike, some as long as a script takes and some longer than an
+        # entry does)
         self.keys = ["disk", "arch", "gpu", "cores", "zone", "topology.kubernetes.io/zone", "kubernetes.io/hostname", "a", "metadata.name"]
         self.keys += [f"example.com/{spell(dice.choice([3, 8, 20, 40, 46, 47]))}" for _ in range(44)]
         self.keys += [f"example.com/{spell(50)}" for _ in range(2)]

@@ -17,7 +17,8 @@ from evaluator.module import Module, read
 
 # A plugin's name in the program's words.
 NAME = "m"
-# Two nodes and three pods, each asked about alone; of both versions' fields something, and of records some that are longer than 256 bytes.
+# Two nodes and three pods, each asked about alone; of both versions' fields something, and of
+# records some that are longer than 256 bytes.
 LONG = ",".join(f'["example.com/label-{k:02}","{"v" * (3 * k)}"]' for k in range(14))
 SCRIPT = "\n".join([
     '{"op":"node","v":1,"name":"a","cpu":"4","mem":"8Gi","pods":110}',

@@ -7,7 +7,8 @@ import re
 from fractions import Fraction
 from typing import Callable
 
-# The most that a script's line can say: thousandths of a core, bytes and pods; and how many decimal places these are counted in.
+# The most that a script's line can say: thousandths of a core, bytes and pods; and how many decimal
+# places these are counted in.
 MOST = {"cpu": 2**30, "memory": 2**44, "pods": 150_000}
 PLACES = {"cpu": 3, "memory": 0, "pods": 0}
 TENS = {"n": -9, "u": -6, "m": -3, "": 0, "k": 3, "M": 6, "G": 9, "T": 12, "P": 15, "E": 18}

@@ -1,11 +1,13 @@
 // SPDX-License-Identifier: Apache-2.0
-// What the page's own scripts say of modules, scripts and lines, for a test to compare. Runs in node and in a browser.
+// What the page's own scripts say of modules, scripts and lines, for a test to compare. Runs in
+// node and in a browser.
 "use strict";
 
 const NAME = "m";
 const bytes_of = (it) => Uint8Array.from(atob(it), (letter) => letter.charCodeAt(0));
 
-// With one fuel: the lines of `wsched explain` of each pod and node, and the costs of the calls that end; or the refusal of an instance.
+// With one fuel: the lines of `wsched explain` of each pod and node, and the costs of the calls
+// that end; or the refusal of an instance.
 function with_fuel(module, state, weight, fuel) {
     try {
         const found = script.decisions(state, new wasm.Instance(module, fuel), NAME, weight, fuel);
@@ -18,7 +20,8 @@ function with_fuel(module, state, weight, fuel) {
     }
 }
 
-// With plenty of fuel, and with each cost and one unit less: of all calls, or of the cheapest and the dearest.
+// With plenty of fuel, and with each cost and one unit less: of all calls, or of the cheapest and
+// the dearest.
 function asked({ module, script: text, weight, most, has_all }) {
     const read = wasm.read(bytes_of(module)), state = script.read(text), plenty = with_fuel(read, state, weight, most);
     const costs = has_all ? plenty.costs : [plenty.costs.at(0), plenty.costs.at(-1)].filter((it) => it !== undefined);

@@ -1,6 +1,7 @@
 // SPDX-License-Identifier: Apache-2.0
-// What a compiler makes of plain C: tables that are zero at first, copies of a whole record, and bytes that are moved and compared.
-// It passes a node where each has come out right; its names are told from one another by their bytes.
+// What a compiler makes of plain C: tables that are zero at first, copies of a whole record, and
+// bytes that are moved and compared. It passes a node where each has come out right; its names are
+// told from one another by their bytes.
 #include "sched.h"
 
 extern void *memmove(void *, const void *, __SIZE_TYPE__);

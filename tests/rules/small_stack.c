@@ -1,6 +1,6 @@
 // SPDX-License-Identifier: Apache-2.0
-// At most two pods on a node, by a rule whose local table has 12,280 bytes, where the stack has 4,096: it would lie where the node's
-// record is, and the node would look empty.
+// At most two pods on a node, by a rule whose local table has 12,280 bytes, where the stack has
+// 4,096: it would lie where the node's record is, and the node would look empty.
 #include "sched.h"
 
 FILTER

@@ -1,6 +1,7 @@
 // SPDX-License-Identifier: Apache-2.0
-// Texts that are compared by eight bytes at once, beside a comparison byte by byte: of each length, with a change at each place, and with
-// what stands behind a text being another. As a program of this machine.
+// Texts that are compared by eight bytes at once, beside a comparison byte by byte: of each length,
+// with a change at each place, and with what stands behind a text being another. As a program of
+// this machine.
 #include "sched_test.h"
 
 static int by_bytes(const u8 *a, const u8 *b)
