@@ -139,7 +139,10 @@ def keys_of(where: str, said: Any) -> tuple[str, ...]:
 def loaded(file: str) -> Any:
     import yaml  # pylint: disable=import-outside-toplevel
 
-    class Once(yaml.SafeLoader):  # type: ignore[misc]  # pylint: disable=too-many-ancestors
+    # (so that it is checked alike where mypy knows the types of yaml and where it doesn't)
+    loader: Any = yaml.SafeLoader
+
+    class Once(loader):  # type: ignore[misc]  # pylint: disable=too-many-ancestors
         """Reads no mapping that has a key twice."""
 
         def construct_mapping(self, node: Any, deep: bool = False) -> Any:

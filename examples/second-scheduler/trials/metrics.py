@@ -107,10 +107,10 @@ def health(site: Site) -> str:
 
 def asked_by_tls(site: Site, cert: str, path: str, token: str = "") -> tuple[int, str]:
     """The same by TLS, with this certificate alone to be trusted."""
-    tls = ssl.create_default_context(cafile=cert)
+    trusting = ssl.create_default_context(cafile=cert)
     request = urllib.request.Request(f"https://127.0.0.1:{site.listens}{path}", headers={"Authorization": f"Bearer {token}"} if token else {})
     try:
-        with urllib.request.urlopen(request, timeout=10, context=tls) as answer:
+        with urllib.request.urlopen(request, timeout=10, context=trusting) as answer:
             return answer.status, answer.read().decode()
     except urllib.error.HTTPError as why:
         return why.code, why.read().decode()
