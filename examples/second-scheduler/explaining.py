@@ -1,5 +1,5 @@
 # SPDX-License-Identifier: Apache-2.0
-"""By which rules a pod that found no node was rejected, and on how many nodes by each: what its event says.
+"""By which rules a pod that found no node was rejected, on how many nodes by each, and what the rule says of that: what its event says.
 
 `wsched run` counts these nodes and names no rule. `wsched explain` has a line for each node, a thousand for a decision, so it isn't what
 decides: it is asked beside it, in a run of its own, of those pods alone whose event is due, about nodes and pods as they are then.
@@ -16,7 +16,7 @@ from typing import Any
 from desk import Desk
 from pods import Turn
 from telling import Telling
-from verdicts import decisions, said_of_no_node, script
+from verdicts import Reasons, decisions, said_of_no_node, script
 
 LOG = logging.getLogger("second-scheduler")
 # How many pods one run explains at most, how many lines of nodes it may have, and how long it may take, in seconds: as reckoned by what
@@ -28,10 +28,10 @@ SHARE = 0.05
 
 class Explaining:
     """The runs of `explain`, one at a time, in a thread of its own. The other calls are the main loop's, and each answer goes into its
-    inbox, as `("explained", .., messages by uid)`."""
+    inbox, as `("explained", .., messages by uid)`. `reasons` is what the rules say of themselves."""
 
-    def __init__(self, words: list[str], desk: Desk, telling: Telling, inbox: queue.SimpleQueue[Any], whose: str = "") -> None:
-        self.words, self.desk, self.telling, self.inbox, self.whose = words, desk, telling, inbox, whose
+    def __init__(self, words: list[str], desk: Desk, telling: Telling, inbox: queue.SimpleQueue[Any], whose: str, reasons: Reasons) -> None:
+        self.words, self.desk, self.telling, self.inbox, self.whose, self.reasons = words, desk, telling, inbox, whose, reasons
         self.thread = concurrent.futures.ThreadPoolExecutor(1, "explain")
         self.is_running, self.next = False, 0.0
 
@@ -65,7 +65,8 @@ class Explaining:
         try:
             done = subprocess.run(self.words, input=told, capture_output=True, text=True, timeout=PATIENCE, start_new_session=True, check=True)
             # (one that would find a node now is told by what was decided: it is tried again)
-            said |= {it.uid: said_of_no_node(it.rest, it.nodes, self.whose) for it in decisions(done.stdout) if it.what == "unschedulable"}
+            found = [it for it in decisions(done.stdout) if it.what == "unschedulable"]
+            said |= {it.uid: said_of_no_node(it.rest, it.nodes, self.whose, self.reasons) for it in found}
         except (OSError, ValueError, LookupError, subprocess.SubprocessError) as why:
             LOG.warning("which rules rejected %d pods isn't known: %s", len(uids), why)
         self.inbox.put(("explained", "", said))

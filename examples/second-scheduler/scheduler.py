@@ -66,7 +66,8 @@ class Scheduler:
         labels = NodeLabels(given.settings, given.read_labels)
         self.desk = Desk(self.core, self.telling, metrics, labels, pods, self.share)
         self.audit = Audit(self.desk, self.telling, metrics, Listing(api, self.newest, self.desk, self.telling, metrics))
-        self.explaining = Explaining([given.wsched, "explain", "--", *given.spec], self.desk, self.telling, self.inbox, self.whose)
+        explain = [given.wsched, "explain", "--", *given.spec]
+        self.explaining = Explaining(explain, self.desk, self.telling, self.inbox, self.whose, given.reasons)
         self.listening.begin(given, api, metrics, self.newest, labels)
         health.unheard = self.listening.unheard
 

@@ -26,6 +26,7 @@ sys.path.append(str(pathlib.Path(__file__).resolve().parent.parent))
 
 # pylint: disable=wrong-import-position
 from tools import rules
+from tools.wasm_sections import reasons_by_name
 
 import lease
 import rule_labels
@@ -106,6 +107,8 @@ def words() -> argparse.Namespace:
     if given.rules and by.tells_affinity:
         given.node_affinity = True
     given.read_labels = rule_labels.read_by(given.spec, by.keys, RULE if given.node_affinity else "")
+    # (as they are now: wsched reads the modules once as well)
+    given.reasons = reasons_by_name(given.spec)
     return given
 
 

@@ -7,7 +7,7 @@ behind that, and nothing here needs them.
 from __future__ import annotations
 
 import collections
-from typing import Iterable, Iterator, NamedTuple
+from typing import Iterable, Iterator, Mapping, NamedTuple
 
 from core import quoted
 from translating import Size, spelled
@@ -24,6 +24,11 @@ WHY = {
 # How a rule's code is told behind its name.
 CODES = {"2": "", "3": " for good"}
 RULES = ("plugin", "final")
+# How many bytes an event's message has at most ("Event v1 events.k8s.io", note): of what rules say of themselves that is left out which
+# makes it longer, so that it pushes out no number.
+LONGEST = 1024
+# Of each rule, by its name, what it says of its codes.
+Reasons = Mapping[str, Mapping[int, str]]
 
 
 class Decision(NamedTuple):
@@ -71,11 +76,31 @@ def is_of_rules(counts: list[str]) -> bool:
     return any(why in RULES and n != "0" for why, n in zip(counts[::2], counts[1::2]))
 
 
-def said_of_no_node(counts: list[str], nodes: dict[str, list[str]] | None = None, whose: str = "") -> str:
+def said_of_no_node(counts: list[str], nodes: dict[str, list[str]] | None = None, whose: str = "", reasons: Reasons | None = None) -> str:
     """The message of kube-scheduler's kind, of the words and numbers that wsched answers; with what `explain` says of each node it names
-    the rules. `whose` says which nodes were looked at, where these aren't all."""
-    some = [(int(n), WHY[why]) for why, n in zip(counts[::2], counts[1::2]) if n != "0" and (nodes is None or why not in RULES)]
+    the rules, and what each says of itself. `whose` says which nodes were looked at, where these aren't all."""
+    some = [(int(n), WHY[why], "") for why, n in zip(counts[::2], counts[1::2]) if n != "0" and (nodes is None or why not in RULES)]
     named = collections.Counter((words[1], words[2]) for words in (nodes or {}).values() if words[0] == "plugin")
-    some += [(n, f"node(s) were rejected by {rule}{CODES[code]}") for (rule, code), n in named.items()]
-    why = ", ".join(f"{n} {why}" for n, why in sorted(some, key=lambda it: it[1]))
-    return f"0/{sum(n for n, _ in some)} nodes are available{whose}: {why or 'there are none'}."
+    some += [
+        (n, f"node(s) were rejected by {rule}{CODES[code]}", (reasons or {}).get(rule, {}).get(int(code), ""))
+        for (rule, code), n in named.items()
+    ]
+    some.sort(key=lambda it: it[1])
+    start, end = f"0/{sum(n for n, _, _ in some)} nodes are available{whose}: ", "."
+    return start + (", ".join(with_reasons(some, LONGEST - bytes_of(start + end))) or "there are none") + end
+
+
+def bytes_of(text: str) -> int:
+    return len(text.encode())
+
+
+def with_reasons(some: list[tuple[int, str, str]], room: int) -> list[str]:
+    """How many nodes are rejected by what, and behind it in brackets why, where that is said and the whole stays within the room."""
+    parts = [f"{n} {what}" for n, what, _ in some]
+    room -= bytes_of(", ".join(parts))
+    for i, (_, _, reason) in enumerate(some):
+        said = f" ({reason})"
+        if reason and bytes_of(said) <= room:
+            room -= bytes_of(said)
+            parts[i] += said
+    return parts

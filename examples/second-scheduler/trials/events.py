@@ -4,6 +4,7 @@ import sys
 import time
 from typing import Optional
 
+from trials.sections import section
 from trials.server import Asked
 from trials.site import REGION, RULE, TOP, Site
 from trials.store import Thing
@@ -152,13 +153,16 @@ def few_events(site: Site) -> str:
     return f"2,000 events and conditions after {taken:.0f} s"
 
 
+# What the two rules say of their rejections.
+BY_REGION = "rejected by keep_region for good (pods labelled data-class=personal run in the region eu-central-1 alone)"
+BY_AFFINITY = "rejected by node_affinity for good (the node isn't what the pod's node selector, its node affinity or its volumes ask for)"
 # What is asked for by pods that fit none of nine nodes, and what is said of them: wsched's own filters come first, then the rules in order.
 REJECTED: dict[str, tuple[Thing, Thing, str, str]] = {
-    "personal": ({"data-class": "personal"}, {}, "2", "3 Insufficient cpu, 6 node(s) were rejected by keep_region for good"),
-    "selects": ({}, {"zone": "b"}, "100m", "9 node(s) were rejected by node_affinity for good"),
+    "personal": ({"data-class": "personal"}, {}, "2", f"3 Insufficient cpu, 6 node(s) were {BY_REGION}"),
+    "selects": ({}, {"zone": "b"}, "100m", f"9 node(s) were {BY_AFFINITY}"),
     "both": (
         {"data-class": "personal"}, {"disk": "ssd"}, "2",
-        "3 Insufficient cpu, 4 node(s) were rejected by keep_region for good, 2 node(s) were rejected by node_affinity for good",
+        f"3 Insufficient cpu, 4 node(s) were {BY_REGION}, 2 node(s) were {BY_AFFINITY}",
     ),
 }
 
@@ -179,7 +183,8 @@ def said_of(site: Site, name: str) -> list[str]:
 
 
 def by_rules(site: Site) -> str:
-    """The event of a pod that rules reject names each of them with how many nodes it rejected, and so does its condition."""
+    """The event of a pod that rules reject names each of them with how many nodes it rejected and why, as its module says, and so does its
+    condition."""
     make_rejected(site)
     site.start("--node-affinity", "2", "--plugins", str(TOP / "examples/plugins"), rule=RULE)
     for name, (*_, why) in REJECTED.items():
@@ -191,6 +196,39 @@ def by_rules(site: Site) -> str:
     time.sleep(5)
     assert len(site.events(reason="FailedScheduling")) == len(REJECTED), site.events()
     return f"{len(REJECTED)} pods, as: {said_of(site, 'both')[0]}"
+
+
+# Rules, and the reason that each module has: six as long as may be, one that is longer, and one that is no text.
+LONG = "\u00fc" * 100
+REASONS = {**{f"rule-{i}": LONG.encode() for i in range(6)}, "longer": b"x" * 201, "no-text": b"no \xff"}
+
+
+def keeps_off(digit: int) -> bytes:
+    """A module whose filter rejects the nodes of names of six letters that end in a digit: (select (i32.const 3) (i32.const 0) (i32.eq
+    (i32.load8_u (i32.const 8)) (i32.const DIGIT))), once the node's record stands at 0."""
+    head = "0061736d01000000010b0260027f7f017f6000017f020e01057363686564046e6f64650000030201010503010001071302066d656d6f727902000666696c7465720001"
+    return bytes.fromhex(f"{head}0a1a01180041004180c00010001a4103410041082d000041{ord(str(digit)):02x}461b0b")
+
+
+def reasons(site: Site) -> str:
+    """Six rules with reasons of 200 bytes, one with a longer and one with one that is no UTF-8: the event tells how many nodes each rejects, of
+    what they say as much as has room in 1,024 bytes, each whole or not at all, and nothing of the last two, which the log names."""
+    specs = []
+    for i, (name, reason) in enumerate(REASONS.items()):
+        site.node(f"node-{i}")
+        file = site.folder / f"{name}.wasm"
+        file.write_bytes(keeps_off(i) + section("wsched.reason.3", reason))
+        specs.append(f"{name}:1:1000:{file}")
+    site.pod("rejected")
+    it = site.start(*specs)
+    site.wait(lambda: said_of(site, "rejected"), 30, "an event of the pod")
+    message = said_of(site, "rejected")[0]
+    assert all(f"1 node(s) were rejected by {name} for good" in message for name in REASONS), message
+    told, room = message.count(f" ({LONG})"), 1024 - len(message.encode())
+    assert told and 0 <= room < len(f" ({LONG})".encode()) and message.count("(") == told + len(REASONS), f"{told} reasons, {room} bytes left: {message}"
+    for name, why in (("longer", "201 bytes"), ("no-text", "UTF-8")):
+        assert any(name in line and why in line for line in it.log().splitlines()), f"the log doesn't tell of the reason of {name}"
+    return f"{len(REASONS)} rules named, {told} with their reasons, in {len(message.encode())} bytes"
 
 
 def unexplained(site: Site) -> str:
@@ -219,8 +257,8 @@ def many_rejected(site: Site) -> str:
         waited.append(site.wait(lambda: site.place(f"fits-{len(waited)}"), 60, "a new pod is bound"))
         assert time.monotonic() < began + 90, f"{len(site.events(reason='FailedScheduling'))} events in 90 s"
     told = {it["message"] for it in site.events(reason="FailedScheduling")}
-    assert told == {"0/300 nodes are available: 300 node(s) were rejected by node_affinity for good."}, [*told][:3]
+    assert told == {f"0/300 nodes are available: 300 node(s) were {BY_AFFINITY}."}, [*told][:3]
     return f"400 events after {time.monotonic() - began:.0f} s; {len(waited)} new pods meanwhile waited {max(waited):.1f} s at most"
 
 
-TRIALS = [left_alone, conditions, conditions_late, measure, counted_up, few_events, by_rules, unexplained, many_rejected]
+TRIALS = [left_alone, conditions, conditions_late, measure, counted_up, few_events, by_rules, reasons, unexplained, many_rejected]

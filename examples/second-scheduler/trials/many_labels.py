@@ -4,6 +4,7 @@ import pathlib
 import time
 
 from trials.audit import relayed
+from trials.sections import labels as labels_read, without_sections
 from trials.site import REGION, TOP, Site, spent
 
 # How many nodes there are, each with so many labels, and how many pods that ask for two of these.
@@ -44,13 +45,6 @@ def said(site: Site, name: str) -> str:
     return str(site.events(about=name, reason="FailedScheduling")[0]["message"])
 
 
-def naming(rule: pathlib.Path, to: pathlib.Path, *keys: str) -> pathlib.Path:
-    """A rule's module that names what it reads, in place of what it named before."""
-    content = b"\x0dwsched.labels" + "".join(f"{it}\n" for it in keys).encode()
-    to.write_bytes(rule.read_bytes() + b"\0" + bytes([len(content)]) + content)
-    return to
-
-
 def evading(site: Site) -> str:
     """A rule keeps personal data in a region, and doesn't say which labels it reads: a pod with 40 labels that sort before the one that it reads is left
     alone, and told of by name, and a node with 40 isn't used; with --labels both are as the rule says."""
@@ -80,7 +74,8 @@ def section(site: Site) -> str:
     rule = pathlib.Path(PLUGINS) / "keep_region.wasm"
     silent = site.folder / "silent.wasm"
     silent.write_bytes(without_sections(rule.read_bytes()))
-    named = naming(silent, site.folder / "named.wasm", "data-class", REGION)
+    named = site.folder / "named.wasm"
+    named.write_bytes(silent.read_bytes() + labels_read("data-class", REGION))
     site.node("us", labels={REGION: "us-east-1"})
     site.pod("evades", labels={**BEFORE, **PERSONAL})
     site.pod("free", labels=BEFORE)
@@ -92,23 +87,6 @@ def section(site: Site) -> str:
     assert site.place("evades") == "eu"
     assert "label a39" in it.log(), "the log doesn't say what was dropped"
     return site.check()
-
-
-def without_sections(module: bytes) -> bytes:
-    """A module without its custom sections (WebAssembly Core 1.0, 5.5.3)."""
-    kept, at = module[:8], 8
-    while at < len(module):
-        size, length, shift = 0, 0, 0
-        while True:
-            byte = module[at + 1 + length]
-            size |= (byte & 127) << shift
-            length, shift = length + 1, shift + 7
-            if byte < 128:
-                break
-        end = at + 1 + length + size
-        kept += module[at:end] if module[at] else b""
-        at = end
-    return kept
 
 
 TRIALS = [selectors, evading, section]
