@@ -1,4 +1,4 @@
-#compdef wsched wsched-plan wsched-why wsched-what-if wsched-lint wsched-report
+#compdef wsched wsched-plan wsched-why wsched-what-if wsched-lint wsched-report wsched-scheduler
 # Completion of wsched and of the programs beside it, for zsh: /usr/share/zsh/vendor-completions/_wsched.
 
 # A module's file as the word of a plugin, NAME:1:100000:FILE, to be changed as wanted; behind three colons the file alone.
@@ -43,6 +43,15 @@ _wsched() {
             _arguments '--most[how many faults are told]:number:' '--help[the words]' '*:script:_files' ;;
         wsched-report)
             _arguments "$rules[@]" '--help[the words]' '1:script:_files' '2:output:_files' '*:plugin:_wsched_spec' ;;
+        wsched-scheduler)
+            _arguments "$rules[@]" '--scheduler[whose pods]:name:' '--nodes[only these nodes]:selector:' '--share[instance I of N]:I/N:' \
+                '--settings[the settings of the site]:file:_files' '--labels[the labels that rules read]:keys:' \
+                '--node-affinity[tell selectors and affinity, by this weight]:weight:' '--plugins[where node_affinity.wasm is]:folder:_files -/' \
+                '--wsched[the program]:file:_files' '--workers[how many share a decision]:number:' '--binders[binds at once]:number:' \
+                '--kubeconfig[the way to the API server]:file:_files' '--lease[that replicas share]:NAMESPACE/NAME:' \
+                '--listen[serve metrics and health]:[HOST]\:PORT:' '--tls-cert[by TLS]:file:_files' '--tls-key[its key]:file:_files' \
+                '--token-file[whom metrics are for]:file:_files' '--record[what was told and answered]:file:_files' \
+                '--dry-run[write nothing to the cluster]' '--verbose[log more]' '--help[the words]' '*:plugin:_wsched_spec' ;;
         wsched)
             if (( CURRENT == 2 )); then
                 _describe command commands
