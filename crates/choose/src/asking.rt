@@ -18,7 +18,7 @@ pub struct Added {
 
 /// What the filters of the rules make of the node that is shown, in their order: the first that doesn't pass ends it.
 pub fn filtered<R: Rules>(notes: &mut R::Notes, rules: &mut R) -> Option<Verdict>
-    ensures is { (told : Told) → R.OfPod notes.old told.pod → R.OfNode notes.old told.node told.used
+    ensures is { (told : Told) → R.OfPod notes.old told.pod → R.OfNode rules.old notes.old told.node told.used
         → Filtered (R.answers rules.old) told result }
     ensures notes { notes.new ≡ notes.old }
     ensures stays { rules.new ≡ rules.old }
@@ -35,7 +35,7 @@ pub fn filtered<R: Rules>(notes: &mut R::Notes, rules: &mut R) -> Option<Verdict
 
 /// What the scores of the rules add to the node that is shown, or the verdict where one isn't good.
 pub fn scored<R: Rules>(notes: &mut R::Notes, rules: &mut R) -> Result<Added, Verdict>
-    ensures is { (told : Told) → R.OfPod notes.old told.pod → R.OfNode notes.old told.node told.used
+    ensures is { (told : Told) → R.OfPod notes.old told.pod → R.OfNode rules.old notes.old told.node told.used
         → Scored (R.answers rules.old) told result }
     ensures notes { notes.new ≡ notes.old }
     ensures stays { rules.new ≡ rules.old }

@@ -51,7 +51,7 @@ impl Rules for KitRules {
 
     ghost OfPod = { λ records pod. records.pod ≡ pod_records pod };
 
-    ghost OfNode = { λ records node used. records.node ≡ node_records node used };
+    ghost OfNode = { λ kit records node used. records.node ≡ node_records node used };
 
     fn count(&self) -> usize {
         self.kit.count()

@@ -80,7 +80,7 @@ impl Rules for Counting {
 
     ghost OfPod = { λ notes pod. ⊤ };
 
-    ghost OfNode = { λ notes node used. ⊤ };
+    ghost OfNode = { λ rules notes node used. ⊤ };
 
     fn count(&self) -> usize {
         1

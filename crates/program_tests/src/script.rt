@@ -118,7 +118,7 @@ impl Rules for Same {
 
     ghost OfPod = { λ notes pod. ⊤ };
 
-    ghost OfNode = { λ notes node used. ⊤ };
+    ghost OfNode = { λ rules notes node used. ⊤ };
 
     fn count(&self) -> usize {
         usize::from(self.there)

@@ -4,3 +4,4 @@ pub mod Effect
 pub mod Amount
 pub mod Request
 pub mod Grammar
+pub mod inside

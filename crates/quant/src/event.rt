@@ -3,10 +3,12 @@
 //! A row is kilobytes large and never changes, so it has many owners and is never copied by content:
 //! the reader of a line makes it, and book, queue, snapshots and messages share it.
 ghost use Rattle.std.specs.Prelude.{◌≡◌, IfOk};
+ghost use Rattle.std.specs.Bool.{IsTrue};
 
 use crate::amount::Request;
 use crate::name::Name;
 use crate::objects::{Node, Pod};
+use crate::shared_row::SharedRow;
 use crate::version::Version;
 use std::alloc::{AllocError, Global};
 use std::marker::Model;
@@ -16,7 +18,7 @@ use std::sync::Arc;
 /// A node's row, which many may own. Contracts see the row, and not where it lies in memory.
 #[derive(Debug, Drop)]
 pub struct SharedNode {
-    row: Arc<Node>,
+    row: Arc<SharedRow>,
 }
 
 impl Model for SharedNode {
@@ -28,7 +30,7 @@ impl Model for SharedNode {
 
     ghost coded = { node.the_row.coded };
 
-    ghost view = { λ s. arc_value s.row };
+    ghost view = { λ s. (arc_value s.row).node };
 }
 
 /// A pod's row, which many may own. Contracts see the row, and not where it lies in memory.
@@ -56,8 +58,15 @@ impl SharedNode {
     pub fn new(alloc: Global, node: Node) -> Result<SharedNode, AllocError>
         ensures { IfOk result (λ shared. shared ≡ node) }
     {
-        let row = Arc::new(alloc, node)?;
+        let row = Arc::new(alloc, SharedRow::new(alloc, node)?)?;
         Ok(SharedNode { row })
+    }
+
+    /// Whether both rows tell the same: `true` is always right. A few hundred bytes of each are read, that lie together.
+    pub fn is_same(&self, other: &SharedNode) -> bool
+        ensures { IsTrue result → self.now ≡ other.now }
+    {
+        self.row.is_same(&other.row)
     }
 
     /// One more owner of the row.
@@ -79,7 +88,7 @@ impl Deref for SharedNode {
     fn deref(&self) -> &Node
         ensures { result.now ≡ self.now }
     {
-        &self.row
+        &self.row.node
     }
 }
 

@@ -5,7 +5,8 @@
 //!   writes them.
 //! - `pod_request`: what a pod asks, by its containers.
 //! - `name`: names, and the texts beside keys. `taint`: taints and tolerations. `objects`: nodes and pods, made of all these.
-//! - `event`: what the watch tells, and the rows that it carries, each with many owners. `version`: the numbers of events and
+//! - `event`: what the watch tells, and the rows that it carries, each with many owners. `shared_row`: a node's row, packed, so that
+//!   rows are compared fast. `version`: the numbers of events and
 //!   tickets.
 //! - `limits`: how much there may be of everything; `laws` says these numbers by contract. `fault`: why something is refused.
 #![tactic(auto)]
@@ -18,6 +19,7 @@ mod limits;
 mod name;
 mod objects;
 mod pod_request;
+mod shared_row;
 mod spelling;
 mod taint;
 mod version;

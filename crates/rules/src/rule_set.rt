@@ -21,10 +21,10 @@ pub trait Rules {
     // What the rules say, and how much their scores count.
     ghost answers: { Self → RuleSet };
 
-    // Notes are of this pod, and of this node with so much used of it.
+    // Notes are of this pod, and of this node with so much used of it, for this set.
     ghost OfPod: { Self.Notes → Pod → Type 0 };
 
-    ghost OfNode: { Self.Notes → Node → Res → Type 0 };
+    ghost OfNode: { Self → Self.Notes → Node → Res → Type 0 };
 
     /// How many rules there are: at most 16.
     fn count(&self) -> usize
@@ -45,14 +45,14 @@ pub trait Rules {
 
     /// Shows a node on which pods use so much, once a node. The notes are of the same pod as before.
     fn show_node(&mut self, notes: &mut Self::Notes, node: &SharedNode, used: &Res)
-        ensures node { OfNode notes.new node.now used.now }
+        ensures node { OfNode self.new notes.new node.now used.now }
         ensures pod { (pod : Pod) → OfPod notes.old pod → OfPod notes.new pod }
         ensures stays { self.new ≡ self.old };
 
     /// Asks the filter of the rule at a place. A rule without one lets every node pass.
     fn filter(&mut self, place: usize, notes: &mut Self::Notes) -> FilterVerdict
         requires { place < length (answers self.old).weights }
-        ensures says { (told : Told) → OfPod notes.old told.pod → OfNode notes.old told.node told.used
+        ensures says { (told : Told) → OfPod notes.old told.pod → OfNode self.old notes.old told.node told.used
             → (answers self.old).Filters place told result }
         ensures notes { notes.new ≡ notes.old }
         ensures stays { self.new ≡ self.old };
@@ -60,7 +60,7 @@ pub trait Rules {
     /// Asks the score of the rule at a place. A rule without one adds nothing: it gives 0.
     fn score(&mut self, place: usize, notes: &mut Self::Notes) -> ScoreVerdict
         requires { place < length (answers self.old).weights }
-        ensures says { (told : Told) → OfPod notes.old told.pod → OfNode notes.old told.node told.used
+        ensures says { (told : Told) → OfPod notes.old told.pod → OfNode self.old notes.old told.node told.used
             → (answers self.old).Scores place told result }
         ensures within { IsWithin result }
         ensures notes { notes.new ≡ notes.old }

@@ -41,7 +41,7 @@ impl Rules for Site {
 
     ghost OfPod = { λ seen pod. ⊤ };
 
-    ghost OfNode = { λ seen node used. seen.is_b ≡ (slice_index node.name 0 == 98) };
+    ghost OfNode = { λ rules seen node used. seen.is_b ≡ (slice_index node.name 0 == 98) };
 
     fn count(&self) -> usize {
         usize::from(self.there)

@@ -71,7 +71,7 @@ impl Rules for Tally {
 
     ghost OfPod = { λ notes pod. ⊤ };
 
-    ghost OfNode = { λ notes node used. ⊤ };
+    ghost OfNode = { λ rules notes node used. ⊤ };
 
     fn count(&self) -> usize {
         1

@@ -9,6 +9,6 @@ invariant-loop-place g l = record {
   same : l.notes ≡ l.fn.notes;
   last : l.place-end ≡ length (g.R.Rules.answers l.fn.rules).weights;
   within : l.place ≤ l.place-end;
-  before : (told : Told) → g.R.Rules.OfPod l.fn.notes told.pod → g.R.Rules.OfNode l.fn.notes told.node told.used →
+  before : (told : Told) → g.R.Rules.OfPod l.fn.notes told.pod → g.R.Rules.OfNode l.fn.rules l.fn.notes told.node told.used →
       PassBefore (g.R.Rules.answers l.fn.rules) l.place told;
 }

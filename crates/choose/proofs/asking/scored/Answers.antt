@@ -18,12 +18,13 @@ loop-place-init g c = record {
 
 pub loop-place-preserved : goal.loop-place-preserved
 loop-place-preserved g c =
-    let said : (told : Told) → g.R.Rules.OfPod c.args.notes.now told.pod → g.R.Rules.OfNode c.args.notes.now told.node told.used →
+    let said : (told : Told) → g.R.Rules.OfPod c.args.notes.now told.pod → g.R.Rules.OfNode c.args.rules.now c.args.notes.now told.node told.used →
     (g.R.Rules.answers c.args.rules.now).Scores c.loop-place.place told (score.Good c.in-Good.score) = λ told of_pod of_node.
     subst (λ r. (g.R.Rules.answers r).Scores c.loop-place.place told (score.Good c.in-Good.score)) c.loop-place.invariant.stays
     (c.in-Good.ensures.says told
     (subst (λ n. g.R.Rules.OfPod n told.pod) (sym c.loop-place.invariant.same) of_pod)
-    (subst (λ n. g.R.Rules.OfNode n told.node told.used) (sym c.loop-place.invariant.same) of_node)) in
+    (subst (λ n. g.R.Rules.OfNode c.loop-place.rules n told.node told.used) (sym c.loop-place.invariant.same)
+    (subst (λ r. g.R.Rules.OfNode r c.args.notes.now told.node told.used) (sym c.loop-place.invariant.stays) of_node))) in
     let weighs : slice_get (g.R.Rules.answers c.args.rules.now).weights c.loop-place.place ≡ Some c.weight.result =
     subst (λ r. slice_get (g.R.Rules.answers r).weights c.loop-place.place ≡ Some c.weight.result) (c.score.ensures.stays ∙ c.loop-place.invariant.stays) c.weight.ensures.value in
     let good : c.in-Good.score ≤ 100 = c.in-Good.ensures.within in

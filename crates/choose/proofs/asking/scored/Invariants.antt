@@ -12,6 +12,6 @@ invariant-loop-place g l = record {
   few : l.place-end ≤ 16;
   small : l.sum ≤ 1000 * l.place;
   places : length l.scores ≡ 16;
-  before : (told : Told) → g.R.Rules.OfPod l.fn.notes told.pod → g.R.Rules.OfNode l.fn.notes told.node told.used →
+  before : (told : Told) → g.R.Rules.OfPod l.fn.notes told.pod → g.R.Rules.OfNode l.fn.rules l.fn.notes told.node told.used →
       GoodBefore (g.R.Rules.answers l.fn.rules) told l.place l.sum l.scores;
 }
