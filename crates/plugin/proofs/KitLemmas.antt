@@ -43,7 +43,7 @@ pub as_many : (kit : List InstanceState) → length (map (λ (p : Ready). p.weig
 as_many kit = length-map (ready_parts kit) (λ (p : Ready). p.weight) ∙ length-map kit (λ (i : InstanceState). i.ready)
 
 -- the plugin at a place
-plugin_at : (kit : List InstanceState) (place : ℕ) (i : InstanceState) → slice_get kit place ≡ Some i → slice_get (ready_parts kit) place ≡ Some i.ready
+pub plugin_at : (kit : List InstanceState) (place : ℕ) (i : InstanceState) → slice_get kit place ≡ Some i → slice_get (ready_parts kit) place ≡ Some i.ready
 plugin_at kit place i there = slice_get-map (λ (i : InstanceState). i.ready) kit place ∙ ap (λ (o : Option InstanceState). option_map (λ i. i.ready) o) there
 
 -- what is said by an instance's plugin, is said by the plugin at its place

@@ -4,3 +4,5 @@ pub mod EntryLemmas
 pub mod MakingLemmas
 pub mod CallLemmas
 pub mod SaidLemmas
+pub mod KeptLemmas
+pub mod AskedLemmas

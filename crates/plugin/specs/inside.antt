@@ -4,3 +4,6 @@ pub mod OneAnswer
 pub mod Said
 pub mod Shown
 pub mod Member
+pub mod Answers
+pub mod Asked
+pub mod Kept

@@ -1,12 +1,14 @@
 //! A kit: one instance of each plugin.
-ghost use Rattle.std.specs.Prelude.{◌≡◌, ◌<◌, ◌≤◌, length, IfErr, IfOk, IfSome, slice_get};
+ghost use Rattle.std.specs.Prelude.{◌≡◌, ◌<◌, ◌≤◌, ◌↔◌, length, IfErr, IfOk, IfSome, IsSome, IsTrue, slice_get};
 ghost use Rattle.std.specs.List.{All};
 ghost use Rattle.plugin.specs.Plugins.{IsWeight};
 ghost use Rattle.rules.specs.Verdict.{IsWithin};
-ghost use Rattle.plugin.specs.Kit.{IsKitOf, ready_parts, IsAtImage, FilterSays, ScoreSays, OnlyItsStore};
+ghost use Rattle.plugin.specs.Kit.{IsKitOf, ready_parts, IsAtImage, FilterSays, ScoreSays, OnlyItsStore, called};
 ghost use Rattle.plugin.specs.Refused.{WhyNoKit};
-ghost use Rattle.whost.specs.declared.records.Versions.{Versions};
+ghost use Rattle.whost.specs.declared.records.Records.{Records as Told};
+ghost use Rattle.plugin.specs.inside.Asked.{Reaches};
 
+use crate::asked::Asked;
 use crate::fault::KitFault;
 use crate::member::Member;
 use crate::plugins::Plugins;
@@ -14,11 +16,13 @@ use rules::{FilterVerdict, ScoreVerdict};
 use std::alloc::Global;
 use std::marker::Model;
 use whost::Records;
+use wmach::Export;
 
 /// One instance of each plugin, in the order in which they are configured. It takes all its room when it is made. A thread needs
 /// a kit of its own, which can be moved to another thread; all kits of the same plugins say the same.
 #[derive(Drop)]
 pub struct Kit {
+    alloc: Global,
     members: Vec<Member>,
 }
 
@@ -52,7 +56,7 @@ impl Kit {
         for place in 0..plugins.count() {
             plugins.make_ready(alloc, place, &mut members)?;
         }
-        Ok(Kit { members })
+        Ok(Kit { alloc, members })
     }
 
     /// How many plugins there are: at most 16.
@@ -72,6 +76,19 @@ impl Kit {
         self.members[place].weight()
     }
 
+    /// Whether the plugin at a place has this to be called.
+    pub(crate) fn has(&self, place: usize, export: Export) -> bool
+        requires { place < length self.now }
+        ensures { IfSome (slice_get self.now place) (λ i. IsTrue result ↔ IsSome (called i.ready export)) }
+    {
+        self.members[place].has(export)
+    }
+
+    /// Where its memory is from.
+    pub(crate) fn alloc(&self) -> Global {
+        self.alloc
+    }
+
     /// How much fuel its calls have used so far, from 2^64 on from 0 again.
     pub(crate) fn spent(&self) -> u64 {
         let mut spent = 0u64;
@@ -81,15 +98,15 @@ impl Kit {
         spent
     }
 
-    /// What the filter of the plugin at a place says of this pod and all nodes, where it doesn't ask for the node, and where that is
-    /// known or is found out now.
-    pub(crate) fn filter_of_all(&mut self, place: usize, records: &Records) -> Option<FilterVerdict>
+    /// What the filter of the plugin at a place says, and how far that reaches. Only its store may change.
+    pub(crate) fn ask_filter(&mut self, place: usize, records: &Records) -> Asked<FilterVerdict>
         requires { place < length self.old }
-        ensures says { IfSome (slice_get self.old place) (λ i. IfSome result (λ said. (node : Versions) →
-            FilterSays i.ready (record records.now { node = node }) said)) }
+        ensures says { IfSome (slice_get self.old place) (λ i. (told : Told) → Reaches result.reach records.now told →
+            FilterSays i.ready told result.said) }
+        ensures few { place < 16 }
         ensures others { OnlyItsStore place self.old self.new }
     {
-        self.members[place].filter_of_all(records)
+        self.members[place].ask_filter(records)
     }
 
     /// Asks the filter of the plugin at a place, from its image. A plugin without one lets the node pass. No other instance
@@ -102,16 +119,16 @@ impl Kit {
         self.members[place].filter(records)
     }
 
-    /// What the score of the plugin at a place says of this pod and all nodes, where it doesn't ask for the node, and where that is
-    /// known or is found out now.
-    pub(crate) fn score_of_all(&mut self, place: usize, records: &Records) -> Option<ScoreVerdict>
+    /// What the score of the plugin at a place says, and how far that reaches. Only its store may change.
+    pub(crate) fn ask_score(&mut self, place: usize, records: &Records) -> Asked<ScoreVerdict>
         requires { place < length self.old }
-        ensures says { IfSome (slice_get self.old place) (λ i. IfSome result (λ said. (node : Versions) →
-            ScoreSays i.ready (record records.now { node = node }) said)) }
-        ensures within { IfSome result IsWithin }
+        ensures says { IfSome (slice_get self.old place) (λ i. (told : Told) → Reaches result.reach records.now told →
+            ScoreSays i.ready told result.said) }
+        ensures few { place < 16 }
+        ensures within { IsWithin result.said }
         ensures others { OnlyItsStore place self.old self.new }
     {
-        self.members[place].score_of_all(records)
+        self.members[place].ask_score(records)
     }
 
     /// Asks the score of the plugin at a place, from its image. A plugin without one gives 0. No other instance changes, and of

@@ -2,6 +2,7 @@
 ghost use Rattle.std.specs.Prelude.{◌≡◌};
 ghost use Rattle.plugin.specs.Kit.{ready_parts};
 
+use crate::kept::Kept;
 use crate::kit::Kit;
 use crate::shown::Shown;
 use quant::{Pod, Res, SharedNode};
@@ -11,10 +12,14 @@ use std::marker::Model;
 /// A kit, seen as a set of rules.
 ///
 /// What a set of rules owes is that it answers as before, whatever it was asked. So contracts see of the kit its plugins alone,
-/// each with the image from which its calls begin: what an instance's store is between two calls, no call sees.
+/// each with the image from which its calls begin: what an instance's store is between two calls, no call sees. Nor do they see
+/// what is kept of what plugins said.
 #[derive(Drop)]
 pub struct KitRules {
     kit: Kit,
+    kept: Kept,
+    // How often a rule was asked, from 2^64 on from 0 again.
+    asked: u64,
 }
 
 impl Model for KitRules {
@@ -27,6 +32,10 @@ impl Model for KitRules {
     ghost coded = { Prim.hlevel codes };
 
     ghost view = { λ rules. ready_parts rules.kit };
+
+    ghost use Rattle.plugin.specs.inside.Kept.{KeptHolds};
+
+    ghost invariant = { λ rules. KeptHolds (ready_parts rules.kit) rules.kept };
 }
 
 impl KitRules {
@@ -34,14 +43,20 @@ impl KitRules {
     pub fn new(kit: Kit) -> KitRules
         ensures { result ≡ ready_parts kit }
     {
-        KitRules { kit }
+        let kept = Kept::new(kit.alloc());
+        KitRules {
+            kit,
+            kept,
+            asked: 0,
+        }
     }
 }
 
 impl Rules for KitRules {
     ghost use Rattle.std.specs.Prelude.{◌≡◌};
-    ghost use Rattle.whost.specs.Handed.{pod_records, node_records};
+    ghost use Rattle.whost.specs.Handed.{pod_records};
     ghost use Rattle.plugin.specs.Kit.{rules_of};
+    ghost use Rattle.plugin.specs.inside.Shown.{IsOfNode};
     ghost use Rattle.plugin.specs.inside.OneAnswer.{one_answer};
 
     /// The records by which the plugins are told.
@@ -49,9 +64,9 @@ impl Rules for KitRules {
 
     ghost answers = { rules_of };
 
-    ghost OfPod = { λ records pod. records.pod ≡ pod_records pod };
+    ghost OfPod = { λ noted pod. noted.records.pod ≡ pod_records pod };
 
-    ghost OfNode = { λ kit records node used. records.node ≡ node_records node used };
+    ghost OfNode = { λ plugins noted node used. IsOfNode plugins noted node used };
 
     fn count(&self) -> usize {
         self.kit.count()
@@ -62,23 +77,25 @@ impl Rules for KitRules {
     }
 
     fn show_pod(&mut self, pod: &Pod) -> Shown {
-        Shown::of_pod(pod)
+        Shown::of_pod(&mut self.kept, pod)
     }
 
     fn show_node(&mut self, shown: &mut Shown, node: &SharedNode, used: &Res) {
-        shown.show_node(node, used);
+        shown.show_node(&mut self.kept, node, used);
     }
 
     fn filter(&mut self, place: usize, shown: &mut Shown) -> FilterVerdict {
-        shown.ask_filter(&mut self.kit, place)
+        self.asked = self.asked.wrapping_add(1);
+        shown.ask_filter(&mut self.kit, &mut self.kept, place)
     }
 
     fn score(&mut self, place: usize, shown: &mut Shown) -> ScoreVerdict {
-        shown.ask_score(&mut self.kit, place)
+        self.asked = self.asked.wrapping_add(1);
+        shown.ask_score(&mut self.kit, &mut self.kept, place)
     }
 
     fn spent(&self) -> u64 {
-        self.kit.spent()
+        self.kit.spent().wrapping_add(self.asked)
     }
 
     ghost say_one_thing = { one_answer };

@@ -5,7 +5,10 @@
 //! one instance of each, belongs to one thread, and can be moved to another; `KitRules` is a kit as a set of rules.
 #![tactic(auto)]
 
+mod answers;
+mod asked;
 mod fault;
+mod kept;
 mod kit;
 mod kit_rules;
 mod laws;

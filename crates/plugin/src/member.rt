@@ -1,20 +1,24 @@
 //! A plugin of a kit: its instance, and how it is asked.
-ghost use Rattle.std.specs.Prelude.{◌≡◌, IfErr, IfOk, IfSome};
+ghost use Rattle.std.specs.Prelude.{◌≡◌, ◌↔◌, IfErr, IfOk, IfSome, IsSome, IsTrue};
 ghost use Rattle.std.specs.Arc.{arc_value};
 ghost use Rattle.wbin.specs.Syntax.{module_of};
 ghost use Rattle.whost.specs.Image.{IsImage};
+ghost use Rattle.whost.specs.declared.records.Records.{Records as Told};
 ghost use Rattle.whost.specs.declared.records.Versions.{Versions};
+ghost use Rattle.whost.specs.Handed.{LookAlike};
+ghost use Rattle.plugin.specs.inside.Asked.{Reaches};
 ghost use Rattle.whost.specs.Refused.{WhyRefused};
 ghost use Rattle.rules.specs.Verdict.{IsWithin};
-ghost use Rattle.plugin.specs.Kit.{FilterSays, ScoreSays, IsAtImage};
+ghost use Rattle.plugin.specs.Kit.{FilterSays, ScoreSays, IsAtImage, called};
 
+use crate::asked::{Asked, Habit, Reach};
 use crate::said::Said;
 use crate::verdict::{filter_verdict, fuel_used, score_verdict};
 use rules::{FilterVerdict, ScoreVerdict};
 use std::alloc::Global;
 use std::marker::Model;
 use std::sync::Arc;
-use whost::{Instance, InstanceFault, Records};
+use whost::{Instance, InstanceFault, Records, Shows};
 use wmach::Export;
 use wtype::Checked;
 
@@ -29,6 +33,9 @@ pub struct Member {
     // What its filter and its score said of all nodes.
     filter: Said<FilterVerdict>,
     score: Said<ScoreVerdict>,
+    // How much they asked for lately.
+    filter_habit: Habit,
+    score_habit: Habit,
 }
 
 impl Model for Member {
@@ -78,6 +85,8 @@ impl Member {
             instance,
             filter,
             score,
+            filter_habit: Habit::new(),
+            score_habit: Habit::new(),
         })
     }
 
@@ -88,14 +97,127 @@ impl Member {
         self.weight
     }
 
+    /// Whether it has this to be called.
+    pub fn has(&self, export: Export) -> bool
+        ensures { IsTrue result ↔ IsSome (called self.now.ready export) }
+    {
+        self.instance.has(export)
+    }
+
     /// How much fuel its calls have used so far, from 2^64 on from 0 again.
     pub fn spent(&self) -> u64 {
         self.spent
     }
 
+    /// What its filter says, and how far that reaches: it is shown as little of the records as it was content with lately, and then
+    /// more.
+    pub fn ask_filter(&mut self, records: &Records) -> Asked<FilterVerdict>
+        ensures says { (told : Told) → Reaches result.reach records.now told → FilterSays self.old.ready told result.said }
+        ensures stays { self.new ≡ record self.old { store = self.new.store } }
+    {
+        let next = self.filter_habit.next();
+        if let Some(said) = self.filter_by_class(records, next) {
+            return Asked {
+                said,
+                reach: Reach::Class,
+            };
+        }
+        if let Some(said) = self.filter_by_row(records, next) {
+            return Asked {
+                said,
+                reach: Reach::Row,
+            };
+        }
+        if let Some(said) = self.filter_of_all(records) {
+            return Asked {
+                said,
+                reach: Reach::Here,
+            };
+        }
+        if let Some(said) = self.filter_by_node(records, next) {
+            return Asked {
+                said,
+                reach: Reach::Node,
+            };
+        }
+        Asked {
+            said: self.filter(records),
+            reach: Reach::Here,
+        }
+    }
+
+    // What its filter says where it asks for the pod's record of version 3 alone, if it is to be tried whether it does.
+    fn filter_by_class(&mut self, records: &Records, next: Reach) -> Option<FilterVerdict>
+        ensures says { IfSome result (λ said. (told : Told) → LookAlike Shows.Class records.now told →
+            FilterSays self.old.ready told said) }
+        ensures stays { self.new ≡ record self.old { store = self.new.store } }
+    {
+        if next != Reach::Class {
+            return None;
+        }
+        let said = self.filter_shown(records, Shows::Class);
+        if said.is_none() {
+            self.filter_habit.narrow(Reach::Row);
+        }
+        said
+    }
+
+    // What its filter says where it asks for the records of version 3 alone, if it is to be tried whether it does.
+    fn filter_by_row(&mut self, records: &Records, next: Reach) -> Option<FilterVerdict>
+        ensures says { IfSome result (λ said. (told : Told) → LookAlike Shows.ClassAndRow records.now told →
+            FilterSays self.old.ready told said) }
+        ensures stays { self.new ≡ record self.old { store = self.new.store } }
+    {
+        if next == Reach::Node || next == Reach::Here {
+            return None;
+        }
+        let said = self.filter_shown(records, Shows::ClassAndRow);
+        if said.is_none() {
+            self.filter_habit.narrow(Reach::Node);
+        }
+        said
+    }
+
+    // What its filter says where it asks for no more of the pod than its record of version 3, if that is to be tried.
+    fn filter_by_node(&mut self, records: &Records, next: Reach) -> Option<FilterVerdict>
+        ensures says { IfSome result (λ said. (told : Told) → LookAlike Shows.ClassAndNode records.now told →
+            FilterSays self.old.ready told said) }
+        ensures stays { self.new ≡ record self.old { store = self.new.store } }
+    {
+        if next == Reach::Here {
+            return None;
+        }
+        let said = self.filter_shown(records, Shows::ClassAndNode);
+        if said.is_none() {
+            self.filter_habit.narrow(Reach::Here);
+        }
+        said
+    }
+
+    // What its filter says where it asks for no more than is shown.
+    fn filter_shown(&mut self, records: &Records, shows: Shows) -> Option<FilterVerdict>
+        ensures says { IfSome result (λ said. (told : Told) → LookAlike shows records.now told →
+            FilterSays self.old.ready told said) }
+        ensures stays { self.new ≡ record self.old { store = self.new.store } }
+    {
+        if !self.instance.has(Export::Filter) {
+            return Some(FilterVerdict::Passes);
+        }
+        match self
+            .instance
+            .call_shown(records, shows, Export::Filter, self.fuel)
+        {
+            Some(outcome) => {
+                self.spent = self.spent.wrapping_add(fuel_used(outcome));
+                Some(filter_verdict(outcome))
+            }
+            None => None,
+        }
+    }
+
     /// What its filter says of this pod and all nodes, where it doesn't ask for the node, and where that is known or is found
     /// out now: by a call that isn't shown a node.
-    pub fn filter_of_all(&mut self, records: &Records) -> Option<FilterVerdict>
+    fn filter_of_all(&mut self, records: &Records) -> Option<FilterVerdict>
         ensures says { IfSome result (λ said. (node : Versions) →
             FilterSays self.old.ready (record records.now { node = node }) said) }
         ensures stays { self.new ≡ record self.old { store = self.new.store } }
@@ -133,9 +255,120 @@ impl Member {
         filter_verdict(outcome)
     }
 
+    /// What its score says, and how far that reaches: it is shown as little of the records as it was content with lately, and then
+    /// more.
+    pub fn ask_score(&mut self, records: &Records) -> Asked<ScoreVerdict>
+        ensures says { (told : Told) → Reaches result.reach records.now told → ScoreSays self.old.ready told result.said }
+        ensures within { IsWithin result.said }
+        ensures stays { self.new ≡ record self.old { store = self.new.store } }
+    {
+        let next = self.score_habit.next();
+        if let Some(said) = self.score_by_class(records, next) {
+            return Asked {
+                said,
+                reach: Reach::Class,
+            };
+        }
+        if let Some(said) = self.score_by_row(records, next) {
+            return Asked {
+                said,
+                reach: Reach::Row,
+            };
+        }
+        if let Some(said) = self.score_of_all(records) {
+            return Asked {
+                said,
+                reach: Reach::Here,
+            };
+        }
+        if let Some(said) = self.score_by_node(records, next) {
+            return Asked {
+                said,
+                reach: Reach::Node,
+            };
+        }
+        Asked {
+            said: self.score(records),
+            reach: Reach::Here,
+        }
+    }
+
+    // What its score says where it asks for the pod's record of version 3 alone, if it is to be tried whether it does.
+    fn score_by_class(&mut self, records: &Records, next: Reach) -> Option<ScoreVerdict>
+        ensures says { IfSome result (λ said. (told : Told) → LookAlike Shows.Class records.now told →
+            ScoreSays self.old.ready told said) }
+        ensures within { IfSome result IsWithin }
+        ensures stays { self.new ≡ record self.old { store = self.new.store } }
+    {
+        if next != Reach::Class {
+            return None;
+        }
+        let said = self.score_shown(records, Shows::Class);
+        if said.is_none() {
+            self.score_habit.narrow(Reach::Row);
+        }
+        said
+    }
+
+    // What its score says where it asks for the records of version 3 alone, if it is to be tried whether it does.
+    fn score_by_row(&mut self, records: &Records, next: Reach) -> Option<ScoreVerdict>
+        ensures says { IfSome result (λ said. (told : Told) → LookAlike Shows.ClassAndRow records.now told →
+            ScoreSays self.old.ready told said) }
+        ensures within { IfSome result IsWithin }
+        ensures stays { self.new ≡ record self.old { store = self.new.store } }
+    {
+        if next == Reach::Node || next == Reach::Here {
+            return None;
+        }
+        let said = self.score_shown(records, Shows::ClassAndRow);
+        if said.is_none() {
+            self.score_habit.narrow(Reach::Node);
+        }
+        said
+    }
+
+    // What its score says where it asks for no more of the pod than its record of version 3, if that is to be tried.
+    fn score_by_node(&mut self, records: &Records, next: Reach) -> Option<ScoreVerdict>
+        ensures says { IfSome result (λ said. (told : Told) → LookAlike Shows.ClassAndNode records.now told →
+            ScoreSays self.old.ready told said) }
+        ensures within { IfSome result IsWithin }
+        ensures stays { self.new ≡ record self.old { store = self.new.store } }
+    {
+        if next == Reach::Here {
+            return None;
+        }
+        let said = self.score_shown(records, Shows::ClassAndNode);
+        if said.is_none() {
+            self.score_habit.narrow(Reach::Here);
+        }
+        said
+    }
+
+    // What its score says where it asks for no more than is shown.
+    fn score_shown(&mut self, records: &Records, shows: Shows) -> Option<ScoreVerdict>
+        ensures says { IfSome result (λ said. (told : Told) → LookAlike shows records.now told →
+            ScoreSays self.old.ready told said) }
+        ensures within { IfSome result IsWithin }
+        ensures stays { self.new ≡ record self.old { store = self.new.store } }
+    {
+        if !self.instance.has(Export::Score) {
+            return Some(ScoreVerdict::Good(0));
+        }
+        match self
+            .instance
+            .call_shown(records, shows, Export::Score, self.fuel)
+        {
+            Some(outcome) => {
+                self.spent = self.spent.wrapping_add(fuel_used(outcome));
+                Some(score_verdict(outcome))
+            }
+            None => None,
+        }
+    }
+
     /// What its score says of this pod and all nodes, where it doesn't ask for the node, and where that is known or is found
     /// out now: by a call that isn't shown a node.
-    pub fn score_of_all(&mut self, records: &Records) -> Option<ScoreVerdict>
+    fn score_of_all(&mut self, records: &Records) -> Option<ScoreVerdict>
         ensures says { IfSome result (λ said. (node : Versions) →
             ScoreSays self.old.ready (record records.now { node = node }) said) }
         ensures within { IfSome result IsWithin }

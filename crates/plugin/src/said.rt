@@ -14,6 +14,7 @@ const CALLS_BETWEEN: u8 = 63;
 pub struct Said<V> {
     pub first: Vec<u8>,
     pub second: Vec<u8>,
+    pub third: Vec<u8>,
     pub said: Option<V>,
     /// After how many calls the plugin is to be asked again without a node.
     pub wait: u8,
@@ -27,6 +28,7 @@ impl<V: Copy> Said<V> {
         Ok(Said {
             first: Vec::with_capacity(alloc, RECORD_SIZE)?,
             second: Vec::with_capacity(alloc, RECORD_SIZE)?,
+            third: Vec::with_capacity(alloc, RECORD_SIZE)?,
             said: None,
             wait: 0,
         })
@@ -37,12 +39,16 @@ impl<V: Copy> Said<V> {
         ensures said { IfSome result (λ v. self.now.said ≡ Some v) }
         ensures first { IfSome result (λ v. self.now.first.items ≡ records.now.pod.first) }
         ensures second { IfSome result (λ v. self.now.second.items ≡ records.now.pod.second) }
+        ensures third { IfSome result (λ v. self.now.third.items ≡ records.now.pod.third) }
     {
         let said = self.said?;
         if self.first.as_slice() != records.pod().as_bytes() {
             return None;
         }
         if self.second.as_slice() != records.pod2().as_bytes() {
+            return None;
+        }
+        if self.third.as_slice() != records.pod3().as_bytes() {
             return None;
         }
         Some(said)
@@ -53,6 +59,7 @@ impl<V: Copy> Said<V> {
         ensures said { self.new.said ≡ self.old.said }
         ensures first { self.new.first ≡ self.old.first }
         ensures second { self.new.second ≡ self.old.second }
+        ensures third { self.new.third ≡ self.old.third }
     {
         if self.wait == 0 {
             return false;
@@ -66,6 +73,7 @@ impl<V: Copy> Said<V> {
         ensures said { IfSome self.new.said (λ v. said ≡ Some v) }
         ensures first { IfSome self.new.said (λ v. self.new.first.items ≡ records.now.pod.first) }
         ensures second { IfSome self.new.said (λ v. self.new.second.items ≡ records.now.pod.second) }
+        ensures third { IfSome self.new.said (λ v. self.new.third.items ≡ records.now.pod.third) }
     {
         self.said = None;
         if said.is_none() {
@@ -74,6 +82,7 @@ impl<V: Copy> Said<V> {
         }
         if copied(&mut self.first, records.pod().as_bytes())
             && copied(&mut self.second, records.pod2().as_bytes())
+            && copied(&mut self.third, records.pod3().as_bytes())
         {
             self.said = said;
         }

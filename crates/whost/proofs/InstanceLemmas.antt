@@ -1,6 +1,6 @@
 -- How an instance is made, and its calls, from what its machine does.
-use Rattle.std.proofs.Common.{◌≡◌, ◌≢◌, ℕ, zero, suc, true, false, List, Option, Some, None, refl, sym, ap, ◌∙◌, subst, inl, inr}
-use Rattle.std.specs.Prelude.{◌⊎◌}
+use Rattle.std.proofs.Common.{◌≡◌, ◌≢◌, ℕ, zero, suc, Bool, true, false, List, Option, Some, None, IfSome, refl, sym, ap, ◌∙◌, subst, inl, inr}
+use Rattle.std.specs.Prelude.{◌⊎◌, if◌then◌else◌}
 use Rattle.wbin.specs.Syntax.{ModuleParts, ModuleSyntax, module_of}
 use Rattle.wstore.specs.Store.{first_store}
 use Rattle.wmach.specs.declared.export.Export.{Export}
@@ -13,8 +13,10 @@ use Rattle.wmach.specs.Configuration.{Store, Setting}
 use Rattle.wmach.specs.Outcome.{HasOutcome}
 use Rattle.whost.specs.declared.records.Records.{Records}
 use Rattle.whost.specs.declared.records.Versions.{Versions}
-use Rattle.whost.specs.Handed.{record_of}
-use Rattle.whost.specs.inside.Sight.{pod_alone, handed, wants_record}
+use Rattle.whost.specs.declared.sight.Shows.{Shows}
+use Rattle.whost.specs.declared.sight.Shows.TheVariants.{ThisPod}
+use Rattle.whost.specs.Handed.{record_of, gives, LookAlike}
+use Rattle.whost.specs.inside.Sight.{handed, wants_record}
 use Rattle.whost.proofs.Unasked.{ends_alike}
 use Rattle.whost.specs.declared.fault.InstanceFault.{InstanceFault}
 use Rattle.whost.specs.declared.fault.InstanceFault.TheVariants.{DataOutOfBounds, ElementOutOfBounds, StartTrap, StartExhausted, NoMemory}
@@ -38,29 +40,47 @@ call_from_image before at_image after export records fuel outcome by_name is cal
       ends = subst (λ (given : ℕ → Option (List ℕ)). HasOutcome (record { module_syntax = module_of before.content; records = given }) before.image c.function fuel outcome after.store) (given_its_own export (record_of records) by_name) c.ends;
     }
 
--- a pod's records are among those of the pod and any node
-among : (records : Records) (node : Versions) (import : ℕ) → (pod_alone records import ≡ None) ⊎ (pod_alone records import ≡ record_of (record records { node = node }) import)
-among records node zero = inr refl
-among records node (suc zero) = inl refl
-among records node (suc (suc zero)) = inr refl
-among records node (suc (suc (suc n))) = inl refl
+-- what is shown of records is among those that look alike
+among : (shows : Shows) (one other : Records) → LookAlike shows one other → (import : ℕ) → (handed shows one import ≡ None) ⊎ (handed shows one import ≡ record_of other import)
+among shows one other alike import =
+    elim (gives shows import) as (λ (b : Bool).
+    (gives shows import ≡ b) → ((if b then record_of one import else None) ≡ None) ⊎ ((if b then record_of one import else None) ≡ record_of other import)) [
+      | true ↦ λ e. inr (alike import e)
+      | false ↦ λ e. inl refl
+    ] refl
+
+-- a pod's records look alike whatever the node is
+pub same_pod : (records : Records) (node : Versions) (import : ℕ) → gives ThisPod import ≡ true → record_of records import ≡ record_of (record records { node = node }) import
+same_pod records node zero e = refl
+same_pod records node (suc zero) e = absurd (cc e)
+same_pod records node (suc (suc zero)) e = refl
+same_pod records node (suc (suc (suc zero))) e = absurd (cc e)
+same_pod records node (suc (suc (suc (suc zero)))) e = refl
+same_pod records node (suc (suc (suc (suc (suc n))))) e = absurd (cc e)
 
 not_cut_off : (how : Outcome) → wants_record how ≡ false → (cost : ℕ) → ¬ (how ≡ Trap NoRecord cost)
 not_cut_off how whole cost e = let cut : wants_record how ≡ true = ap wants_record e in cc
 
--- and a call that is shown no node, and isn't cut off for want of one
-pub call_without_node : (before at_image after : MachineState) (export : Export) (records : Records) (fuel : ℕ) (how : Outcome) → export ≢ Start
-    → at_image ≡ record before { store = before.image } → wants_record how ≡ false → Calls at_image export (handed false records) fuel how after
-    → (node : Versions) → CallsFromImage before export (record records { node = node }) fuel how after
-call_without_node before at_image after export records fuel how by_name is whole calls node =
-    let c = subst (λ m. Calls m export (pod_alone records) fuel how after) is calls in
-    let alone = subst (λ (given : ℕ → Option (List ℕ)). HasOutcome (record { module_syntax = module_of before.content; records = given }) before.image c.function fuel how after.store) (given_its_own export (pod_alone records) by_name) c.ends in
+-- and a call that is handed over what is shown, and isn't cut off for want of more
+pub call_shown : (before at_image after : MachineState) (shows : Shows) (export : Export) (records : Records) (fuel : ℕ) (how : Outcome) → export ≢ Start
+    → at_image ≡ record before { store = before.image } → wants_record how ≡ false → Calls at_image export (handed shows records) fuel how after
+    → (other : Records) → LookAlike shows records other → CallsFromImage before export other fuel how after
+call_shown before at_image after shows export records fuel how by_name is whole calls other alike =
+    let c = subst (λ m. Calls m export (handed shows records) fuel how after) is calls in
+    let given_alone = subst (λ (given : ℕ → Option (List ℕ)). HasOutcome (record { module_syntax = module_of before.content; records = given }) before.image c.function fuel how after.store) (given_its_own export (handed shows records) by_name) c.ends in
     record {
       function = c.function;
       function_is = c.function_is;
-      ends = ends_alike (module_of before.content) (pod_alone records) (record_of (record records { node = node })) (among records node)
-          before.image c.function fuel how after.store (not_cut_off how whole) alone;
+      ends = ends_alike (module_of before.content) (handed shows records) (record_of other) (among shows records other alike)
+          before.image c.function fuel how after.store (not_cut_off how whole) given_alone;
     }
+
+-- what is said of this pod is said with each node
+pub of_this_pod : (before after : MachineState) (export : Export) (records : Records) (fuel : ℕ) (how : Option Outcome)
+    → IfSome how (λ outcome. (other : Records) → LookAlike ThisPod records other → CallsFromImage before export other fuel outcome after)
+    → IfSome how (λ outcome. (node : Versions) → CallsFromImage before export (record records { node = node }) fuel outcome after)
+of_this_pod before after export records fuel None calls = tt
+of_this_pod before after export records fuel (Some outcome) calls = λ node. calls (record records { node = node }) (same_pod records node)
 
 -- what a start function's end says of the whole
 refused_by_start : (m : ModuleSyntax) (fuel : ℕ) (fault : InstanceFault) → InBounds m (first_store m) → StartRefused m (with_segments m (first_store m)) fuel fault → WhyRefused m fuel fault

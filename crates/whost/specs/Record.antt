@@ -1,5 +1,6 @@
 -- The records that host functions hand over: what a module may know of a pod and of a node. In version 2 a list stands behind
--- what version 1 tells: a pod's tolerations, a node's taints.
+-- what version 1 tells: a pod's tolerations, a node's taints. Version 3 tells what version 2 does of a pod without its uid and of a
+-- node of which nothing is used: what many pods share, and what stays of a node while pods come and go.
 use Rattle.std.specs.Prelude.{ℕ, ◌+◌, Bool, true, false, List, [], ◌∷◌, ◌++◌, Option, Some, None, length, sum_by}
 use Rattle.std.specs.Int.{cast_unsigned, w32}
 use Rattle.std.specs.List.{flat_map}
@@ -22,6 +23,9 @@ first_version = 1
 
 abbrev pub second_version : ℕ
 second_version = 2
+
+abbrev pub third_version : ℕ
+third_version = 3
 
 -- the second byte tells what the record is of
 abbrev pub kind_pod : ℕ
@@ -120,6 +124,21 @@ node_bytes node used = first_version ∷ node_fields node used
 
 unfoldable pub node_bytes2 : Node → (used : Res) → List ℕ
 node_bytes2 node used = second_version ∷ node_fields node used ++ taints_field node.taints.items
+
+-- a pod without its uid: pods that differ in nothing else are one then
+abbrev pub without_uid : Pod → Pod
+without_uid pod = record pod { uid = [] }
+
+-- nothing is used
+abbrev pub nothing_used : Res
+nothing_used = record { cpu = record { 0 = 0 }; mem = record { 0 = 0 }; pods = 0 }
+
+-- a pod's record of version 3, and a node's
+unfoldable pub pod_bytes3 : Pod → List ℕ
+pod_bytes3 pod = third_version ∷ pod_fields (without_uid pod) ++ tolerations_field pod.tolerations.items
+
+unfoldable pub node_bytes3 : Node → List ℕ
+node_bytes3 node = third_version ∷ node_fields node nothing_used ++ taints_field node.taints.items
 
 -- how many bytes labels take
 abbrev pub labels_size : List Label → ℕ

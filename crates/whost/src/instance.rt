@@ -8,13 +8,15 @@ ghost use Rattle.wmach.specs.Outcome.{cost_of};
 ghost use Rattle.whost.specs.Image.{IsImage};
 ghost use Rattle.whost.specs.Refused.{WhyRefused};
 ghost use Rattle.whost.specs.Calls.{CallsFromImage};
+ghost use Rattle.whost.specs.Handed.{LookAlike};
+ghost use Rattle.whost.specs.declared.records.Records.{Records};
 ghost use Rattle.whost.specs.declared.records.Versions.{Versions};
 ghost use Rattle.whost.specs.inside.Sight.{wants_record};
 
 use crate::fault::InstanceFault;
 use crate::instantiation::{start, test_bounds, write_segments};
 use crate::records::Records;
-use crate::sight::Sight;
+use crate::sight::{Shows, Sight};
 use std::alloc::Global;
 use std::marker::Model;
 use std::sync::Arc;
@@ -89,9 +91,34 @@ impl Instance {
         self.reset();
         let sight = Sight {
             records,
-            shows_node: true,
+            shows: Shows::All,
         };
         self.machine.invoke(export, &sight, fuel)
+    }
+
+    /// Calls it likewise, but hands over of the records only what is shown: where it asks for another one, there is no outcome.
+    /// Else the outcome is that of its calls with all records that look alike.
+    pub fn call_shown(
+        &mut self,
+        records: &Records,
+        shows: Shows,
+        export: Export,
+        fuel: u64,
+    ) -> Option<Outcome>
+        requires there { IsSome (called_function (module_of self.old.content) export) }
+        requires by_name { export ≢ Export.Start }
+        ensures calls { IfSome result (λ outcome. (other : Records) → LookAlike shows records.now other →
+            CallsFromImage self.old export other fuel outcome self.new) }
+        ensures result { IfSome result (ResultFits (result_type export)) }
+        ensures stays { self.new ≡ record self.old { store = self.new.store } }
+    {
+        self.machine.reset();
+        let sight = Sight { records, shows };
+        let outcome = self.machine.invoke(export, &sight, fuel);
+        if wants_record(outcome) {
+            return None;
+        }
+        Some(outcome)
     }
 
     /// Calls it likewise, but shows it no node: where it asks for one, there is no outcome. Else the outcome is that of its calls
@@ -109,16 +136,7 @@ impl Instance {
         ensures result { IfSome result (ResultFits (result_type export)) }
         ensures stays { self.new ≡ record self.old { store = self.new.store } }
     {
-        self.machine.reset();
-        let sight = Sight {
-            records,
-            shows_node: false,
-        };
-        let outcome = self.machine.invoke(export, &sight, fuel);
-        if wants_record(outcome) {
-            return None;
-        }
-        Some(outcome)
+        self.call_shown(records, Shows::ThisPod, export, fuel)
     }
 
     /// Makes the store the image again.

@@ -7,7 +7,7 @@ ghost use Rattle.whost.specs.Refused.{BoundsRefused, StartRefused};
 
 use crate::fault::InstanceFault;
 use crate::records::Records;
-use crate::sight::Sight;
+use crate::sight::{Shows, Sight};
 use wmach::{Export, Machine, Outcome};
 
 // Whether each element segment lies within the table.
@@ -101,7 +101,7 @@ pub fn start(machine: &mut Machine, fuel: u64) -> Result<(), InstanceFault>
     }
     let sight = Sight {
         records: &Records::new(),
-        shows_node: false,
+        shows: Shows::ThisPod,
     };
     match machine.invoke(Export::Start, &sight, fuel) {
         Outcome::Value(_, _) => Ok(()),

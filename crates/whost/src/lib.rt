@@ -21,4 +21,5 @@ pub use instance::Instance;
 pub use laws::{calls_agree, fields_stand, labels_are_in_order, numbers_are_read_back, one_image};
 pub use record::{RECORD_SIZE, Record};
 pub use records::{Records, Versions};
-pub use rows::{node_record, node_record2, pod_record, pod_record2};
+pub use rows::{node_record, node_record2, node_record3, pod_record, pod_record2, pod_record3};
+pub use sight::Shows;

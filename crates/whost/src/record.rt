@@ -17,6 +17,9 @@ pub const RECORD_SIZE: usize = 8_192;
 /// The version that a record of version 2 begins with.
 pub(crate) const SECOND_VERSION: u8 = 2;
 
+/// The version that a record of version 3 begins with.
+pub(crate) const THIRD_VERSION: u8 = 3;
+
 // The byte of an effect. One that isn't given stands for every effect.
 fn effect_code(effect: Option<Effect>) -> u8
     ensures { result ≡ defined_effect effect }

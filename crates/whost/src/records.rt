@@ -1,32 +1,35 @@
-//! What a module is told of a pod and of the node that is looked at: their records, in both versions.
+//! What a module is told of a pod and of the node that is looked at: their records, in all versions.
 ghost use Rattle.std.specs.Prelude.{◌≡◌, []};
 ghost use Rattle.whost.specs.Handed.{pod_records, node_records};
 
 use crate::record::Record;
-use crate::rows::{node_record, pod_record};
+use crate::rows::{node_record, node_record3, pod_record, pod_record3};
 use quant::{Node, Pod, Res};
 use wmach::Host;
 
-/// A record in version 1 and in version 2.
+/// A record in versions 1, 2 and 3.
 #[derive(Debug, Drop)]
 pub struct Versions {
     first: Record,
     second: Record,
+    third: Record,
 }
 
 impl Versions {
-    // Two records of no bytes.
+    // Three records of no bytes.
     fn new() -> Versions
         ensures first { result.first ≡ [] }
         ensures second { result.second ≡ [] }
+        ensures third { result.third ≡ [] }
     {
         Versions {
             first: Record::new(),
             second: Record::new(),
+            third: Record::new(),
         }
     }
 
-    // Makes both those of a pod.
+    // Makes them those of a pod.
     #[tactic(auto, unfolding(crate::specs::Record::pod_bytes, crate::specs::Record::pod_bytes2))]
     fn show_pod(&mut self, pod: &Pod)
         ensures { self.new ≡ pod_records pod.now }
@@ -34,9 +37,10 @@ impl Versions {
         pod_record(pod, &mut self.first);
         self.second.copy_as_second(&self.first);
         self.second.put_tolerations(pod.tolerations.as_slice());
+        pod_record3(pod, &mut self.third);
     }
 
-    // Makes both those of a node on which pods use so much.
+    // Makes them those of a node on which pods use so much.
     #[tactic(auto, unfolding(crate::specs::Record::node_bytes, crate::specs::Record::node_bytes2))]
     fn show_node(&mut self, node: &Node, used: &Res)
         ensures { self.new ≡ node_records node.now used.now }
@@ -44,6 +48,7 @@ impl Versions {
         node_record(node, used, &mut self.first);
         self.second.copy_as_second(&self.first);
         self.second.put_taints(node.taints.as_slice());
+        node_record3(node, &mut self.third);
     }
 }
 
@@ -58,8 +63,8 @@ pub struct Records {
 impl Records {
     /// Records of no bytes.
     pub fn new() -> Records
-        ensures pod { result.pod ≡ record { first = []; second = [] } }
-        ensures node { result.node ≡ record { first = []; second = [] } }
+        ensures pod { result.pod ≡ record { first = []; second = []; third = [] } }
+        ensures node { result.node ≡ record { first = []; second = []; third = [] } }
     {
         Records {
             pod: Versions::new(),
@@ -79,6 +84,13 @@ impl Records {
         ensures { result.now ≡ self.now.pod.second }
     {
         &self.pod.second
+    }
+
+    /// The pod's record of version 3.
+    pub fn pod3(&self) -> &Record
+        ensures { result.now ≡ self.now.pod.third }
+    {
+        &self.pod.third
     }
 
     /// The node's record of version 1.
@@ -114,6 +126,8 @@ impl Host for Records {
             1 => Some(self.node.first.as_bytes()),
             2 => Some(self.pod.second.as_bytes()),
             3 => Some(self.node.second.as_bytes()),
+            4 => Some(self.pod.third.as_bytes()),
+            5 => Some(self.node.third.as_bytes()),
             _ => None,
         }
     }

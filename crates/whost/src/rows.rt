@@ -1,9 +1,9 @@
 //! The records of a pod and the records of a node, field by field.
 ghost use Rattle.std.specs.Prelude.{◌≡◌, ◌+◌, ◌≤◌, ◌++◌, length};
-ghost use Rattle.whost.specs.Record.{pod_fields, node_fields, pod_bytes, pod_bytes2, pod_size, node_bytes, node_bytes2, node_size, taints_size, tolerations_size};
+ghost use Rattle.whost.specs.Record.{pod_fields, node_fields, pod_bytes, pod_bytes2, pod_bytes3, pod_size, node_bytes, node_bytes2, node_bytes3, node_size, taints_size, tolerations_size};
 
-use crate::record::{Record, SECOND_VERSION};
-use quant::{Node, Pod, Res};
+use crate::record::{Record, SECOND_VERSION, THIRD_VERSION};
+use quant::{Bytes, Cpu, Node, Pod, Res};
 
 // The version that a record begins with.
 const FIRST_VERSION: u8 = 1;
@@ -13,22 +13,30 @@ const OF_POD: u8 = 1;
 
 const OF_NODE: u8 = 2;
 
-// Writes what both versions tell of a pod behind the version.
-fn put_pod(pod: &Pod, out: &mut Record)
-    requires { length out.old ≤ 1 }
-    ensures fields { out.new ≡ out.old ++ pod_fields pod.now }
-    ensures count { length out.new + 1 ≡ length out.old + pod_size pod.now }
+// What version 3 tells of what is used.
+const NOTHING_USED: Res = Res {
+    cpu: Cpu(0),
+    mem: Bytes(0),
+    pods: 0,
+};
+
+// Writes what all versions tell of a pod of this uid behind the version.
+fn put_pod(pod: &Pod, uid: &[u8], out: &mut Record)
+    requires short { length uid.now ≤ 63 }
+    requires begun { length out.old ≤ 1 }
+    ensures fields { out.new ≡ out.old ++ pod_fields (record pod.now { uid = uid.now }) }
+    ensures count { length out.new + 1 ≡ length out.old + pod_size (record pod.now { uid = uid.now }) }
     ensures most { length out.new ≤ length out.old + 4182 }
 {
     out.put_byte(OF_POD);
-    out.put_text(pod.uid.as_bytes());
+    out.put_text(uid);
     out.put_i32(pod.priority);
     out.put_u64(pod.request.cpu.0);
     out.put_u64(pod.request.mem.0);
     out.put_labels(pod.labels.as_slice());
 }
 
-// Writes what both versions tell of a node behind the version.
+// Writes what all versions tell of a node behind the version.
 fn put_node(node: &Node, used: &Res, out: &mut Record)
     requires { length out.old ≤ 1 }
     ensures fields { out.new ≡ out.old ++ node_fields node.now used.now }
@@ -52,7 +60,7 @@ pub fn pod_record(pod: &Pod, out: &mut Record)
 {
     out.clear();
     out.put_byte(FIRST_VERSION);
-    put_pod(pod, out);
+    put_pod(pod, pod.uid.as_bytes(), out);
 }
 
 /// Makes `out` the record of a pod in version 2, whatever stood in it.
@@ -64,7 +72,7 @@ pub fn pod_record2(pod: &Pod, out: &mut Record)
 {
     out.clear();
     out.put_byte(SECOND_VERSION);
-    put_pod(pod, out);
+    put_pod(pod, pod.uid.as_bytes(), out);
     out.put_tolerations(pod.tolerations.as_slice());
 }
 
@@ -90,5 +98,30 @@ pub fn node_record2(node: &Node, used: &Res, out: &mut Record)
     out.clear();
     out.put_byte(SECOND_VERSION);
     put_node(node, used, out);
+    out.put_taints(node.taints.as_slice());
+}
+
+/// Makes `out` the record of a pod in version 3, whatever stood in it.
+#[tactic(auto, unfolding(crate::specs::Record::pod_bytes3))]
+pub fn pod_record3(pod: &Pod, out: &mut Record)
+    ensures bytes { out.new ≡ pod_bytes3 pod.now }
+    ensures most { length out.new ≤ 6264 }
+{
+    out.clear();
+    out.put_byte(THIRD_VERSION);
+    put_pod(pod, &[], out);
+    let tolerations = pod.tolerations.as_slice();
+    out.put_tolerations(tolerations);
+}
+
+/// Makes `out` the record of a node in version 3, whatever stood in it.
+#[tactic(auto, unfolding(crate::specs::Record::node_bytes3))]
+pub fn node_record3(node: &Node, out: &mut Record)
+    ensures bytes { out.new ≡ node_bytes3 node.now }
+    ensures most { length out.new ≤ 5237 }
+{
+    out.clear();
+    out.put_byte(THIRD_VERSION);
+    put_node(node, &NOTHING_USED, out);
     out.put_taints(node.taints.as_slice());
 }

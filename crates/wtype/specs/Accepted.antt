@@ -26,10 +26,12 @@ abbrev pub ImportName : Type 0
 ImportName = List ℕ × List ℕ
 
 -- The functions of the host. A function's number is its place: those that hand over the records of version 1, of the pod and
--- of the node, and then those of version 2.
+-- of the node, then those of version 2, and those of version 3.
 abbrev pub host_functions : List ImportName
 host_functions =
-    (codes "sched", codes "pod") ∷ (codes "sched", codes "node") ∷ (codes "sched2", codes "pod") ∷ (codes "sched2", codes "node") ∷ []
+    (codes "sched", codes "pod") ∷ (codes "sched", codes "node")
+    ∷ (codes "sched2", codes "pod") ∷ (codes "sched2", codes "node")
+    ∷ (codes "sched3", codes "pod") ∷ (codes "sched3", codes "node") ∷ []
 
 -- the place of a name among these, which are counted from here
 abbrev pub place_among : List ImportName → (from : ℕ) → ImportName → Option ℕ

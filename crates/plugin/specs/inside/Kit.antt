@@ -2,7 +2,7 @@
 use Rattle.std.specs.Prelude.{◌≡◌, ◌≤◌, List, [], ◌∷◌, ◌++◌, length}
 use Rattle.std.specs.List.{All}
 use Rattle.plugin.specs.Plugins.{Configured, IsWeight}
-use Rattle.plugin.specs.Kit.{InstanceState, IsAtImage, at_image, IsReadyOf}
+use Rattle.plugin.specs.Kit.{InstanceState, IsAtImage, IsReadyOf}
 
 -- there is one more instance, behind the others: it is of this plugin, and where its calls begin
 pub record OneMoreReady (plugin : Configured) (old new : List InstanceState) : Type 0 where

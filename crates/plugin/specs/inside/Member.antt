@@ -11,6 +11,6 @@ ready_of m = record { weight = m.weight; fuel = m.fuel; content = m.instance.con
 
 -- what was noted is what it says
 pub record IsSound (m : Inside) : Type 0 where
-  pub filter : SaidOfAll (FilterSays (ready_of m)) m.filter.said m.filter.first.items m.filter.second.items
-  pub score : SaidOfAll (ScoreSays (ready_of m)) m.score.said m.score.first.items m.score.second.items
+  pub filter : SaidOfAll (FilterSays (ready_of m)) m.filter.said m.filter.first.items m.filter.second.items m.filter.third.items
+  pub score : SaidOfAll (ScoreSays (ready_of m)) m.score.said m.score.first.items m.score.second.items m.score.third.items
   pub within : IfSome m.score.said IsWithin

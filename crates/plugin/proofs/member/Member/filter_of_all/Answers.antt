@@ -12,8 +12,8 @@ use Rattle.plugin.proofs.member.Member.filter_of_all.Goals as goal
 
 pub returns-in-Some-clause-says : goal.returns-in-Some-clause-says
 returns-in-Some-clause-says c =
-    rw (sym c.self.view_is) (said_of_each (FilterSays (ready_of c.self.inside)) c.self.inside.filter.said c.self.inside.filter.first.items c.self.inside.filter.second.items c.in-Some.said c.args.records.now
-    c.self.invariant.filter c.in-Some.ensures.said c.in-Some.ensures.first c.in-Some.ensures.second)
+    rw (sym c.self.view_is) (said_of_each (FilterSays (ready_of c.self.inside)) c.self.inside.filter.said c.self.inside.filter.first.items c.self.inside.filter.second.items c.self.inside.filter.third.items c.in-Some.said c.args.records.now
+    c.self.invariant.filter c.in-Some.ensures.said c.in-Some.ensures.first c.in-Some.ensures.second c.in-Some.ensures.third)
 
 -- what is said now is said of each node
 says : (c : goal.After-note) → IfSome c.match-call_without_node.said (λ said. (node : Versions) → FilterSays (ready_of c.self.inside) (record c.args.records.now { node = node }) said)
@@ -28,10 +28,10 @@ pub invariant_of-self-2 : goal.invariant_of-self-2
 invariant_of-self-2 c =
     let same = same_plugin c.self.inside.weight c.self.inside.fuel c.self.inside.instance c.call_without_node.new.self c.call_without_node.ensures.stays in
     record {
-      filter = subst (λ (p : Ready). SaidOfAll (FilterSays p) c.note.new.self.said c.note.new.self.first.items c.note.new.self.second.items) same
-          (noted_of_all (FilterSays (ready_of c.self.inside)) c.match-call_without_node.said c.note.new.self.said c.note.new.self.first.items c.note.new.self.second.items c.args.records.now
-          c.note.ensures.said c.note.ensures.first c.note.ensures.second (says c));
-      score = subst (λ (p : Ready). SaidOfAll (ScoreSays p) c.self.inside.score.said c.self.inside.score.first.items c.self.inside.score.second.items) same c.self.invariant.score;
+      filter = subst (λ (p : Ready). SaidOfAll (FilterSays p) c.note.new.self.said c.note.new.self.first.items c.note.new.self.second.items c.note.new.self.third.items) same
+          (noted_of_all (FilterSays (ready_of c.self.inside)) c.match-call_without_node.said c.note.new.self.said c.note.new.self.first.items c.note.new.self.second.items c.note.new.self.third.items c.args.records.now
+          c.note.ensures.said c.note.ensures.first c.note.ensures.second c.note.ensures.third (says c));
+      score = subst (λ (p : Ready). SaidOfAll (ScoreSays p) c.self.inside.score.said c.self.inside.score.first.items c.self.inside.score.second.items c.self.inside.score.third.items) same c.self.invariant.score;
       within = c.self.invariant.within;
     }
 
