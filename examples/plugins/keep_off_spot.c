@@ -10,9 +10,9 @@ REASON(3, "the pod doesn't tolerate the taint spot")
 
 FILTER
 {
-    const struct pod *pod = read_pod2();
+    const struct pod *pod = read_pod3();
     struct taint taint;
-    for (struct walk taints = node_taints(read_node2()); next_taint(&taints, &taint);)
+    for (struct walk taints = node_taints(read_node3()); next_taint(&taints, &taint);)
         if (is(taint.key, "spot") && !tolerates(pod, &taint))
             // The node stays what it is, whatever pods come and go.
             return UNSCHEDULABLE_AND_UNRESOLVABLE;

@@ -10,9 +10,9 @@ REASON(3, "pods labelled data-class=personal run in the region eu-central-1 alon
 
 FILTER
 {
-    if (!is(pod_label(read_pod(), "data-class"), "personal"))
+    if (!is(pod_label(read_pod3(), "data-class"), "personal"))
         return PASS;
-    const u8 *region = node_label(read_node(), "topology.kubernetes.io/region");
+    const u8 *region = node_label(read_node3(), "topology.kubernetes.io/region");
     // Whatever pods come and go, the node stays where it is.
     return is(region, "eu-central-1") ? PASS : UNSCHEDULABLE_AND_UNRESOLVABLE;
 }

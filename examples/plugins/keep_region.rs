@@ -7,7 +7,7 @@
 #[path = "rust-template/src/sched.rs"]
 mod sched;
 
-use sched::{is, node, pod, PASS, UNSCHEDULABLE_AND_UNRESOLVABLE};
+use sched::{is, node3, pod3, PASS, UNSCHEDULABLE_AND_UNRESOLVABLE};
 
 sched::reads_label!("data-class");
 sched::reads_label!("topology.kubernetes.io/region");
@@ -15,10 +15,10 @@ sched::reason!(3, "pods labelled data-class=personal run in the region eu-centra
 
 #[no_mangle]
 pub extern "C" fn filter() -> i32 {
-    if !pod().label("data-class").map_or(false, |class| is(class, "personal")) {
+    if !pod3().label("data-class").map_or(false, |class| is(class, "personal")) {
         return PASS;
     }
-    match node().label("topology.kubernetes.io/region") {
+    match node3().label("topology.kubernetes.io/region") {
         Some(region) if is(region, "eu-central-1") => PASS,
         // Whatever pods come and go, the node stays where it is.
         _ => UNSCHEDULABLE_AND_UNRESOLVABLE,

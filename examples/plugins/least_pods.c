@@ -9,7 +9,7 @@ READS_NO_LABEL
 
 SCORE
 {
-    const struct pod *pod = read_pod();
+    const struct pod *pod = read_pod3();
     if (pod_cpu(pod) || pod_memory(pod)) return 0;
     const struct node *node = read_node();
     // A score is asked of nodes that pass every filter, so there is room for this pod.

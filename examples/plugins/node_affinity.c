@@ -160,7 +160,7 @@ static int term_holds(const struct node *node)
 
 static void first(void)
 {
-    entry.rest = pod_labels(read_pod());
+    entry.rest = pod_labels(read_pod3());
     go_on();
 }
 
@@ -169,7 +169,7 @@ FILTER
 {
     first();
     if (entry.kind == END) return PASS;
-    const struct node *node = read_node();
+    const struct node *node = read_node3();
     if (!all_hold(node)) return UNSCHEDULABLE_AND_UNRESOLVABLE;
     while (entry.kind == EITHER) {
         int one = term_holds(node);
@@ -187,7 +187,7 @@ SCORE
     while (entry.kind != PREFER && entry.kind != END)
         go_on();
     if (entry.kind == END) return 0;
-    const struct node *node = read_node();
+    const struct node *node = read_node3();
     u32 matched = 0, all = 0;
     while (entry.kind == PREFER) {
         u64 weight = (u64)number(value());

@@ -10,7 +10,7 @@ READS_LABEL("topology.kubernetes.io/zone")
 SCORE
 {
     // The wish comes first: most pods have none, and then no label of the node is read.
-    const u8 *wish = pod_label(read_pod(), "wished-zone");
+    const u8 *wish = pod_label(read_pod3(), "wished-zone");
     const struct node *node = read_node();
     int there = wish && same(wish, node_label(node, "topology.kubernetes.io/zone"));
     // A score is asked of nodes that pass every filter, so there is room for this pod.

@@ -16,12 +16,14 @@ enum { PASS = 0, UNSCHEDULABLE = 2, UNSCHEDULABLE_AND_UNRESOLVABLE = 3 };
 #define EXPORTED(name) __attribute__((export_name(name)))
 #define IMPORTED(name) __attribute__((import_module("sched"), import_name(name)))
 #define IMPORTED2(name) __attribute__((import_module("sched2"), import_name(name)))
+#define IMPORTED3(name) __attribute__((import_module("sched3"), import_name(name)))
 #define SECTION(name, text) __asm__(".section .custom_section." name ",\"\",@\n.ascii " text "\n");
 #else
 // On a machine of its own a plugin is an ordinary program, and its test gives the two records: see keep_region_test.c.
 #define EXPORTED(name)
 #define IMPORTED(name)
 #define IMPORTED2(name)
+#define IMPORTED3(name)
 #define SECTION(name, text)
 #endif
 #define FILTER EXPORTED("filter") int filter(void)
@@ -49,9 +51,14 @@ IMPORTED("node") u32 sched_node(void *to, u32 limit);
 // plugin that asks for version 1 alone has nothing of version 2.
 IMPORTED2("pod") u32 sched2_pod(void *to, u32 limit);
 IMPORTED2("node") u32 sched2_node(void *to, u32 limit);
+// Version 2 of a pod without its uid, and of a node of which nothing is used: what many pods share, and what stays of a node while pods
+// come and go. What a rule answers by these two alone is kept for all pods that are alike, so a site asks it seldom. Where it needs
+// what is used, let it ask for the pod in version 3 and for the node in another: that is kept while as much is used.
+IMPORTED3("pod") u32 sched3_pod(void *to, u32 limit);
+IMPORTED3("node") u32 sched3_node(void *to, u32 limit);
 
 // No record is longer. A layout of another version would be misread, so it traps. All fields but the tolerations and taints are
-// read alike from both versions; a plugin asks for one of them.
+// read alike from all versions; a plugin asks for one of them.
 struct pod { u8 bytes[8192]; };
 struct node { u8 bytes[8192]; };
 static inline const struct pod *read_pod(void)
@@ -81,6 +88,21 @@ static inline const struct node *read_node2(void)
     static struct node record;
     sched2_node(&record, sizeof record);
     if (record.bytes[0] != 2) __builtin_trap();
+    return &record;
+}
+
+static inline const struct pod *read_pod3(void)
+{
+    static struct pod record;
+    sched3_pod(&record, sizeof record);
+    if (record.bytes[0] != 3) __builtin_trap();
+    return &record;
+}
+static inline const struct node *read_node3(void)
+{
+    static struct node record;
+    sched3_node(&record, sizeof record);
+    if (record.bytes[0] != 3) __builtin_trap();
     return &record;
 }
 
@@ -266,7 +288,7 @@ enum { EQUAL = 1, EXISTS = 2 };
 struct taint { const u8 *key, *value; u8 effect; };
 struct toleration { const u8 *key, *value; u8 compares, effect; };
 
-// A walk over a node's taints or a pod's tolerations, in the order of the row, of what read_node2 or read_pod2 gave:
+// A walk over a node's taints or a pod's tolerations, in the order of the row, of what read_node2, read_node3, read_pod2 or read_pod3 gave:
 //
 //     struct taint taint;
 //     for (struct walk taints = node_taints(node); next_taint(&taints, &taint);)
@@ -275,7 +297,7 @@ struct toleration { const u8 *key, *value; u8 compares, effect; };
 // The list behind labels. Version 1 has none, so it traps there.
 static inline struct walk behind(const u8 *record, const u8 *labels)
 {
-    if (*record != 2) __builtin_trap();
+    if (*record < 2) __builtin_trap();
     for (u32 left = 2u * *labels++; left; left--)
         labels += 1 + *labels;
     struct walk list = { labels + 1, *labels };

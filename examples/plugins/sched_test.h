@@ -35,7 +35,7 @@ struct test_node {
     struct test_taint taints[8 + 1];
 };
 
-static struct { u8 bytes[8192]; u32 size; } test_records[2][2];
+static struct { u8 bytes[8192]; u32 size; } test_records[3][2];
 
 static inline void put(u8 **at, u64 number, int size)
 {
@@ -67,23 +67,25 @@ static inline void put_labels(u8 **at, const char *const *labels)
 }
 static inline void ask_about(struct test_pod pod, struct test_node node)
 {
-    for (u8 version = 1; version <= 2; version++) {
+    for (u8 version = 1; version <= 3; version++) {
         u8 *start = test_records[version - 1][0].bytes, *at = start;
-        put(&at, version, 1), put(&at, 1, 1), put_text(&at, pod.uid), put(&at, (u32)pod.priority, 4);
+        put(&at, version, 1), put(&at, 1, 1), put_text(&at, version == 3 ? "" : pod.uid), put(&at, (u32)pod.priority, 4);
         put(&at, pod.cpu, 8), put(&at, pod.memory, 8), put_labels(&at, pod.labels);
         u8 *count = at;
-        for (int i = *at++ = 0; version == 2 && pod.tolerations[i].compares; i++, ++*count)
+        for (int i = *at++ = 0; version > 1 && pod.tolerations[i].compares; i++, ++*count)
             put_text(&at, pod.tolerations[i].key), put(&at, pod.tolerations[i].compares, 1), put_text(&at, pod.tolerations[i].value), put(&at, pod.tolerations[i].effect, 1);
-        test_records[version - 1][0].size = (u32)((version == 2 ? at : count) - start);
+        test_records[version - 1][0].size = (u32)((version > 1 ? at : count) - start);
 
         start = at = test_records[version - 1][1].bytes;
         put(&at, version, 1), put(&at, 2, 1), put_text(&at, node.name), put(&at, node.unschedulable != 0, 1);
         put(&at, node.cpu, 8), put(&at, node.memory, 8), put(&at, node.pods, 4);
-        put(&at, node.used_cpu, 8), put(&at, node.used_memory, 8), put(&at, node.used_pods, 4), put_labels(&at, node.labels);
+        const int shows_used = version < 3;
+        put(&at, shows_used * node.used_cpu, 8), put(&at, shows_used * node.used_memory, 8), put(&at, shows_used * node.used_pods, 4);
+        put_labels(&at, node.labels);
         count = at;
-        for (int i = *at++ = 0; version == 2 && node.taints[i].key; i++, ++*count)
+        for (int i = *at++ = 0; version > 1 && node.taints[i].key; i++, ++*count)
             put_text(&at, node.taints[i].key), put_text(&at, node.taints[i].value), put(&at, node.taints[i].effect, 1);
-        test_records[version - 1][1].size = (u32)((version == 2 ? at : count) - start);
+        test_records[version - 1][1].size = (u32)((version > 1 ? at : count) - start);
     }
 }
 
@@ -97,3 +99,5 @@ u32 sched_pod(void *to, u32 limit) { return hand_over(to, limit, 1, 0); }
 u32 sched_node(void *to, u32 limit) { return hand_over(to, limit, 1, 1); }
 u32 sched2_pod(void *to, u32 limit) { return hand_over(to, limit, 2, 0); }
 u32 sched2_node(void *to, u32 limit) { return hand_over(to, limit, 2, 1); }
+u32 sched3_pod(void *to, u32 limit) { return hand_over(to, limit, 3, 0); }
+u32 sched3_node(void *to, u32 limit) { return hand_over(to, limit, 3, 1); }

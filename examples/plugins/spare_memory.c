@@ -10,7 +10,7 @@ REASON(2, "nodes of the zone edge-1 keep their last gibibyte of memory for pods 
 FILTER
 {
     // (what is answered before the node is asked for is asked once for all nodes)
-    const struct pod *pod = read_pod();
+    const struct pod *pod = read_pod3();
     if (pod_priority(pod) >= 1000 || pod_memory(pod) == 0)
         return PASS;
     const struct node *node = read_node();

@@ -128,6 +128,22 @@ mod host {
         }
     }
 
+    mod version3 {
+        // Version 2 of a pod without its uid, and of a node of which nothing is used.
+        #[cfg(not(before_rustc_1_82))]
+        #[link(wasm_import_module = "sched3")]
+        unsafe extern "C" {
+            pub fn pod(to: *mut u8, limit: usize) -> usize;
+            pub fn node(to: *mut u8, limit: usize) -> usize;
+        }
+        #[cfg(before_rustc_1_82)]
+        #[link(wasm_import_module = "sched3")]
+        extern "C" {
+            pub fn pod(to: *mut u8, limit: usize) -> usize;
+            pub fn node(to: *mut u8, limit: usize) -> usize;
+        }
+    }
+
     // No record is longer.
     const LIMIT: usize = 8192;
     static mut POD: [u8; LIMIT] = [0; LIMIT];
@@ -137,13 +153,23 @@ mod host {
     pub fn pod(version: u8) -> &'static [u8] {
         unsafe {
             let at = addr_of_mut!(POD).cast::<u8>();
-            from_raw_parts(at, if version == 1 { version1::pod(at, LIMIT) } else { version2::pod(at, LIMIT) })
+            let size = match version {
+                1 => version1::pod(at, LIMIT),
+                2 => version2::pod(at, LIMIT),
+                _ => version3::pod(at, LIMIT),
+            };
+            from_raw_parts(at, size)
         }
     }
     pub fn node(version: u8) -> &'static [u8] {
         unsafe {
             let at = addr_of_mut!(NODE).cast::<u8>();
-            from_raw_parts(at, if version == 1 { version1::node(at, LIMIT) } else { version2::node(at, LIMIT) })
+            let size = match version {
+                1 => version1::node(at, LIMIT),
+                2 => version2::node(at, LIMIT),
+                _ => version3::node(at, LIMIT),
+            };
+            from_raw_parts(at, size)
         }
     }
 
@@ -195,10 +221,17 @@ pub mod host {
     struct Record(Vec<u8>, Vec<u8>);
 
     std::thread_local! {
-        static ROWS: RefCell<[Record; 2]> = RefCell::default();
+        // Of the pod and the node, and of both as version 3 tells them.
+        static ROWS: RefCell<[Record; 4]> = RefCell::default();
     }
 
     pub fn ask_about(pod: &PodRow, node: &NodeRow) {
+        let alike = PodRow { uid: "", ..*pod };
+        let unused = NodeRow { used_cpu: 0, used_memory: 0, used_pods: 0, ..*node };
+        ROWS.with(|rows| *rows.borrow_mut() = [record_of_pod(pod), record_of_node(node), record_of_pod(&alike), record_of_node(&unused)]);
+    }
+
+    fn record_of_pod(pod: &PodRow) -> Record {
         let mut of_pod = Record(vec![1], count(pod.tolerations.len(), 16));
         of_pod.0.extend(text(pod.uid));
         of_pod.0.extend(pod.priority.to_le_bytes());
@@ -211,6 +244,10 @@ pub mod host {
             of_pod.1.extend(text(value));
             of_pod.1.push(effect);
         }
+        of_pod
+    }
+
+    fn record_of_node(node: &NodeRow) -> Record {
         let mut of_node = Record(vec![2], count(node.taints.len(), 8));
         of_node.0.extend(text(node.name));
         of_node.0.push(node.unschedulable.into());
@@ -225,7 +262,7 @@ pub mod host {
             of_node.1.extend(text(value));
             of_node.1.push(effect);
         }
-        ROWS.with(|rows| *rows.borrow_mut() = [of_pod, of_node]);
+        of_node
     }
 
     fn count(items: usize, most: usize) -> Vec<u8> {
@@ -249,9 +286,10 @@ pub mod host {
 
     // (a test's records are never given back)
     fn record(kind: usize, version: u8) -> &'static [u8] {
-        let Record(both, more) = ROWS.with(|rows| rows.borrow()[kind].clone());
+        let at = if version == 3 { kind + 2 } else { kind };
+        let Record(both, more) = ROWS.with(|rows| rows.borrow()[at].clone());
         assert!(!both.is_empty(), "ask_about says which pod and node");
-        [vec![version], both, if version == 2 { more } else { Vec::new() }].concat().leak()
+        [vec![version], both, if version > 1 { more } else { Vec::new() }].concat().leak()
     }
     pub(super) fn pod(version: u8) -> &'static [u8] {
         record(0, version)
@@ -294,6 +332,17 @@ pub fn pod2() -> Pod {
 /// The same node in version 2, which has its taints as well.
 pub fn node2() -> Node {
     Node(of_version(2, host::node(2)))
+}
+
+/// The same pod in version 3, which is version 2 without the uid: what many pods share. What a rule answers by it and by `node3` alone
+/// is kept for all pods that are alike, so a site asks it seldom.
+pub fn pod3() -> Pod {
+    Pod(of_version(3, host::pod(3)))
+}
+
+/// The same node in version 3, which is version 2 with nothing used: what stays of a node while pods come and go.
+pub fn node3() -> Node {
+    Node(of_version(3, host::node(3)))
 }
 
 // A layout of another version would be misread, so it traps; so does a record that ends too early.
@@ -365,7 +414,10 @@ fn is_setting(key: &[u8], name: &str) -> Option<bool> {
 
 // The list behind the labels, as how many there are and the items. Version 1 has none, so it traps there.
 fn behind(record: &'static [u8], between: usize) -> (u8, &'static [u8]) {
-    of_version(2, record);
+    // Version 1 has no such list.
+    if record.first() == Some(&1) {
+        unreachable()
+    }
     there(items(record, between))
 }
 
@@ -481,7 +533,7 @@ impl Pod {
     pub fn labels(self) -> Labels {
         labels(self.0, 20)
     }
-    /// Those of a pod that `pod2` gave.
+    /// Those of a pod that `pod2` or `pod3` gave.
     pub fn tolerations(self) -> Tolerations {
         let (count, items) = behind(self.0, 20);
         Tolerations(count, items)
@@ -552,7 +604,7 @@ impl Node {
         }
         if digits.is_empty() { unreachable() } else { number }
     }
-    /// Those of a node that `node2` gave.
+    /// Those of a node that `node2` or `node3` gave.
     pub fn taints(self) -> Taints {
         let (count, items) = behind(self.0, 41);
         Taints(count, items)
