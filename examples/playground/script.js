@@ -155,12 +155,13 @@ const script = (() => {
     const by_key = ([one], [other]) => (one < other ? -1 : 1);
     const labels_of = (it) => list_of([...it.labels].sort(by_key).map(([key, value]) => [...text_of(key), ...text_of(value)]));
     function records(by, on, has) {
-        const a_pod = [1, ...text_of(by.uid), ...little_endian(BigInt.asUintN(32, BigInt(by.priority)), 4), ...little_endian(by.cpu, 8), ...little_endian(by.memory, 8), ...labels_of(by)];
-        const sizes = [[on.cpu, 8], [on.memory, 8], [on.pods, 4], [has[0], 8], [has[1], 8], [has[2], 4]].flatMap(([it, size]) => little_endian(it, size));
-        const a_node = [2, ...text_of(on.name), on.is_marked ? 1 : 0, ...sizes, ...labels_of(on)];
+        const pod_of = (uid) => [1, ...text_of(uid), ...little_endian(BigInt.asUintN(32, BigInt(by.priority)), 4), ...little_endian(by.cpu, 8), ...little_endian(by.memory, 8), ...labels_of(by)];
+        const sizes = (there) => [[on.cpu, 8], [on.memory, 8], [on.pods, 4], [there[0], 8], [there[1], 8], [there[2], 4]].flatMap(([it, size]) => little_endian(it, size));
+        const node_of = (there) => [2, ...text_of(on.name), on.is_marked ? 1 : 0, ...sizes(there), ...labels_of(on)];
+        const a_pod = pod_of(by.uid), a_node = node_of(has);
         const tolerated = by.tolerations.map(([key, operator, value, effect]) => [...text_of(key), operator === "Exists" ? 2 : 1, ...text_of(value), EFFECTS[effect] ?? 0]);
         const tainted = on.taints.map(([key, value, effect]) => [...text_of(key), ...text_of(value), EFFECTS[effect]]);
-        const made = { "sched.pod": [1, ...a_pod], "sched.node": [1, ...a_node], "sched2.pod": [2, ...a_pod, ...list_of(tolerated)], "sched2.node": [2, ...a_node, ...list_of(tainted)] };
+        const made = { "sched.pod": [1, ...a_pod], "sched.node": [1, ...a_node], "sched2.pod": [2, ...a_pod, ...list_of(tolerated)], "sched2.node": [2, ...a_node, ...list_of(tainted)], "sched3.pod": [3, ...pod_of(""), ...list_of(tolerated)], "sched3.node": [3, ...node_of([0, 0, 0]), ...list_of(tainted)] };
         return Object.fromEntries(Object.entries(made).map(([key, bytes]) => [key, Uint8Array.from(bytes)]));
     }
 

@@ -19,7 +19,7 @@ TEST, RELATION = {I32: 0x45, I64: 0x50}, {I32: range(0x46, 0x50), I64: range(0x5
 LOADS = {I32: [0x28, 0x2c, 0x2d, 0x2e, 0x2f], I64: [0x29, *range(0x30, 0x36)]}
 STORES = {I32: [0x36, 0x3a, 0x3b], I64: [0x37, 0x3c, 0x3d, 0x3e]}
 EDGES = {I32: [0, 1, -1, 2, 31, 32, 255, 65_535, 2**31 - 1, -2**31], I64: [0, 1, -1, 63, 64, 2**32 - 1, 2**32, 2**63 - 1, -2**63]}
-IMPORTS = [("sched", "pod"), ("sched", "node"), ("sched2", "pod"), ("sched2", "node")]
+IMPORTS = [(module, it) for module in ("sched", "sched2", "sched3") for it in ("pod", "node")]
 
 
 def unsigned(number: int) -> bytes:

@@ -11,7 +11,7 @@ from typing import Callable, Iterator
 from . import opcodes
 from .module import FUNCTION, GLOBAL, KINDS, MEMORY, TABLE, Body, FunctionType, Malformed, Module, Reader, Section, function_names, read_as_far_as
 
-HOSTS = [("sched", "pod"), ("sched", "node"), ("sched2", "pod"), ("sched2", "node")]
+HOSTS = [(module, it) for module in ("sched", "sched2", "sched3") for it in ("pod", "node")]
 HOST_TYPE = FunctionType(bytes([opcodes.I32, opcodes.I32]), bytes([opcodes.I32]))
 EXPORTS = {"filter": FunctionType(b"", bytes([opcodes.I32])), "score": FunctionType(b"", bytes([opcodes.I64]))}
 MAGIC = b"\0asm"
@@ -226,7 +226,7 @@ def _bad_import(look: _Look) -> Iterator[str]:
         elif it.kind != FUNCTION or known != HOST_TYPE:
             yield f"`{it.module}.{it.name}` at {it.place:#x} is a {what}{f' {known}' if known else ''}, and has to be a function {HOST_TYPE}"
         function += it.kind == FUNCTION
-    yield "there are sched.pod, sched.node, sched2.pod and sched2.node; what else a rule needs it has to have (no --allow-undefined, no --import-memory)"
+    yield "there are pod and node of sched, of sched2 and of sched3; what else a rule needs it has to have (no --allow-undefined, no --import-memory)"
 
 
 def _callers(look: _Look, kind: int, function: int) -> str:

@@ -1,5 +1,5 @@
 # SPDX-License-Identifier: Apache-2.0
-"""What a plugin is told of a pod and a node: records of both versions, from rows of a script ("Script lines" and "Records" in docs/FORMATS.md)."""
+"""What a plugin is told of a pod and a node: records of all versions, from rows of a script ("Script lines" and "Records" in docs/FORMATS.md)."""
 from __future__ import annotations
 
 import struct
@@ -69,15 +69,20 @@ def _labels(row: Row) -> bytes:
 def pod_records(row: Row) -> Records:
     """Of a line `pod`."""
     size = asked(row)
-    body = b"\1" + _text(row["uid"]) + struct.pack("<iQQ", row.get("priority", 0), size.cpu, size.memory) + _labels(row)
+
+    def body(uid: str) -> bytes:
+        return b"\1" + _text(uid) + struct.pack("<iQQ", row.get("priority", 0), size.cpu, size.memory) + _labels(row)
     tolerations = [_text(key) + bytes([2 if operator == "Exists" else 1]) + _text(value) + bytes([_EFFECTS[effect]])
                    for key, operator, value, effect in row.get("tolerations", [])]
-    return {("sched", "pod"): b"\1" + body, ("sched2", "pod"): b"\2" + body + _listed(tolerations)}
+    return {("sched", "pod"): b"\1" + body(row["uid"]), ("sched2", "pod"): b"\2" + body(row["uid"]) + _listed(tolerations),
+            ("sched3", "pod"): b"\3" + body("") + _listed(tolerations)}
 
 
 def node_records(row: Row, used: Size) -> Records:
     """Of a line `node`, and what the pods ask for that are placed there, without the one that is decided on."""
-    body = b"\2" + _text(row["name"]) + bytes([row.get("unschedulable", False)]) + struct.pack(
-        "<QQIQQI", thousandths(row["cpu"]), size_in_bytes(row["mem"]), row["pods"], *used) + _labels(row)
+    def body(there: Size) -> bytes:
+        return b"\2" + _text(row["name"]) + bytes([row.get("unschedulable", False)]) + struct.pack(
+            "<QQIQQI", thousandths(row["cpu"]), size_in_bytes(row["mem"]), row["pods"], *there) + _labels(row)
     taints = [_text(key) + _text(value) + bytes([_EFFECTS[effect]]) for key, value, effect in row.get("taints", [])]
-    return {("sched", "node"): b"\1" + body, ("sched2", "node"): b"\2" + body + _listed(taints)}
+    return {("sched", "node"): b"\1" + body(used), ("sched2", "node"): b"\2" + body(used) + _listed(taints),
+            ("sched3", "node"): b"\3" + body(NOTHING) + _listed(taints)}
