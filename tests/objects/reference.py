@@ -232,7 +232,7 @@ def node(thing: Json, named: list[str]) -> Told:
     if None in room.values():
         raise Unsaid(AMOUNT)
     line = {"op": "node", "name": meta["name"], "cpu": room["cpu"], "mem": room["memory"], "pods": room["pods"], "taints": taints_of(spec)}
-    left_out = [f"resource {it}" for it in has if it not in MOST and has[it] != "0"]
+    left_out: list[str] = []
     return Told(line | {"unschedulable": bool(spec.get("unschedulable")), "labels": labels_of(meta, named, left_out)}, left_out)
 
 

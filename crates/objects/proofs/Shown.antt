@@ -7,7 +7,7 @@ use Rattle.std.proofs.lemmas.List.Folds.{list_all-append}
 use Rattle.std.specs.List.{list_all}
 use Rattle.std.specs.Option.{ok_or}
 use Rattle.serde_json.specs.Data.{Data, Items, no_items, item, Members, no_members, member}
-use Rattle.serde_json.specs.Find.{as_array, as_object, as_str, as_number, as_u64}
+use Rattle.serde_json.specs.Find.{as_array, as_object, as_number, as_u64}
 use Rattle.quant.specs.Name.{is_name_byte, is_name}
 use Rattle.quant.specs.declared.version.Version.{Version}
 use Rattle.quant.specs.declared.amount.Bytes.{Bytes}
@@ -29,10 +29,10 @@ use Rattle.objects.specs.Quantity.{◌>>=◌}
 use Rattle.objects.specs.Key.{key_of}
 use Rattle.objects.specs.Reading.{said, field, within}
 use Rattle.objects.specs.LeftOut.{shown, left_out, left_out_if, amount_refused, refused}
-use Rattle.objects.specs.Field.{name_at, flag_of, members_of, items_of, is_given, spelled, is_text_of}
+use Rattle.objects.specs.Field.{name_at, flag_of, members_of, items_of, is_given, spelled}
 use Rattle.quant.specs.declared.limits.TheConstants.{MAX_LABELS}
 use Rattle.objects.specs.Labels.{Kept, label_of, is_named, named_labels, with_label, unless_named, other_labels, count_members, all_labels, row_labels}
-use Rattle.objects.specs.NodeRow.{NodeTold, is_told, node_row}
+use Rattle.objects.specs.NodeRow.{NodeTold, node_row}
 use Rattle.objects.specs.NodeRow as node
 use Rattle.objects.specs.Demands.{each_item, items_give, array_gives, affinity, asks_spread, is_read_affinity, is_nothing, is_known, other_field, other_fields, fields_of, is_tied, volume, node_port, host_port_of, host_port, is_reckoned, other_resource, other_resources, members_give, object_gives, has, resources_of, container, containers, placement, demands, wishes}
 use Rattle.objects.specs.Allocatable.{allocatable}
@@ -287,13 +287,6 @@ tolerations_texts kept (item d rest) h =
     tolerations_texts (with_toleration kept (spelled keys.LabelKey d) (toleration_of kept.items d)) rest
     (toleration_texts kept (spelled keys.LabelKey d) (toleration_of kept.items d) h)
 
-node_resources_texts : (found : Members) → AreTexts (node.other_resources found)
-node_resources_texts no_members = none
-node_resources_texts (member key value rest) =
-    both (node.other_resource key value) (node.other_resources rest)
-    (either (is_told key || is_text_of (codes "0") (as_str value)) [] (left_out (codes "resource ") key) none (one (codes "resource ") key refl))
-    (node_resources_texts rest)
-
 -- what is read, where it is, passes
 record OkIs {B : Type 0} (P : B → Type 0) (r : Result B ObjectFault) : Type 0 where
   is : IfOk r P
@@ -332,7 +325,7 @@ node_row_texts names json =
     bind_ok (flag_of keys.Unschedulable (within keys.Spec keys.Unschedulable json)) _ (λ unschedulable.
     bind_ok (members_of keys.Labels (field keys.Labels meta)) _ (λ found.
     bind_ok (members_of keys.Allocatable (within keys.Status keys.Allocatable json)) _ (λ resources.
-    bind_with (row_labels names (node.other_resources resources) found) _ (labels_texts names (node.other_resources resources) found (node_resources_texts resources))
+    bind_with (row_labels names [] found) _ (labels_texts names [] found none)
     (λ kept h. last_ok _ h))))))))
 
 node_texts : (names : List ℕ) (json : Data) → IfOk (node_row names json) (λ row. AreTexts row.left_out)

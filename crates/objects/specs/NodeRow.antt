@@ -1,8 +1,7 @@
 -- The row that a node's object gives.
-use Rattle.std.specs.Prelude.{ℕ, Bool, ◌||◌, List, [], ◌∷◌, ◌++◌, nat_le, codes, bytes_eq, Option, Result, Ok, Err, if◌then◌else◌}
+use Rattle.std.specs.Prelude.{ℕ, Bool, List, [], ◌∷◌, ◌++◌, nat_le, Option, Result, Ok, Err, if◌then◌else◌}
 use Rattle.std.specs.Option.{ok_or}
-use Rattle.serde_json.specs.Data.{Data, Items, no_items, item, Members, no_members, member}
-use Rattle.serde_json.specs.Find.{as_str}
+use Rattle.serde_json.specs.Data.{Data, Items, no_items, item}
 use Rattle.quant.specs.declared.limits.TheConstants.{MAX_TAINTS}
 use Rattle.quant.specs.declared.amount.Res.{Res}
 use Rattle.quant.specs.declared.objects.Label.{Label}
@@ -17,8 +16,7 @@ use Rattle.objects.specs.Reading.{field, within}
 use Rattle.objects.specs.Container.{count}
 use Rattle.objects.specs.Allocatable.{allocatable}
 use Rattle.objects.specs.Sayable.{says_taint}
-use Rattle.objects.specs.LeftOut.{left_out}
-use Rattle.objects.specs.Field.{text_at, text_or, name_at, flag_of, members_of, items_of, is_text_of}
+use Rattle.objects.specs.Field.{text_at, text_or, name_at, flag_of, members_of, items_of}
 use Rattle.objects.specs.Labels.{Kept, row_labels}
 
 -- a node's row, and what it leaves out
@@ -51,18 +49,6 @@ taints value = do
   found ← items_of keys.Taints value
   if nat_le (count found) MAX_TAINTS then taints_of [] found else Err (TooMany keys.Taints)
 
--- whether a resource is one that a row tells
-abbrev pub is_told : (resource : List ℕ) → Bool
-is_told resource = bytes_eq resource (codes "cpu") || bytes_eq resource (codes "memory") || bytes_eq resource (codes "pods")
-
--- the names of the other resources of which a node has some
-abbrev pub other_resource : (key : List ℕ) → Data → List ℕ
-other_resource key value = if is_told key || is_text_of (codes "0") (as_str value) then [] else left_out (codes "resource ") key
-
-abbrev pub other_resources : Members → List ℕ
-other_resources no_members = []
-other_resources (member key value rest) = other_resource key value ++ other_resources rest
-
 -- the row of these parts
 abbrev pub node_of : (name : List ℕ) → Res → List Taint → (unschedulable : Bool) → Kept Label → NodeTold
 node_of name room taints unschedulable labels = record {
@@ -76,7 +62,8 @@ node_of name room taints unschedulable labels = record {
   left_out = labels.left_out;
 }
 
--- the row of a node's object, in which the labels of these names come first
+-- the row of a node's object, in which the labels of these names come first. Of its other resources nothing is said: a pod that asks for
+-- one isn't told
 unfoldable pub node_row : (names : List ℕ) → Data → Result NodeTold ObjectFault
 node_row names json = do
   meta ← ok_or (field keys.Metadata json) (BadField keys.Metadata)
@@ -86,5 +73,5 @@ node_row names json = do
   unschedulable ← flag_of keys.Unschedulable (within keys.Spec keys.Unschedulable json)
   found ← members_of keys.Labels (field keys.Labels meta)
   resources ← members_of keys.Allocatable (within keys.Status keys.Allocatable json)
-  kept ← row_labels names (other_resources resources) found
+  kept ← row_labels names [] found
   Ok (node_of name room taints unschedulable kept)
