@@ -86,6 +86,7 @@ impl LineReader {
             < R.bytes_left source.old + length self.old }
         ensures failed { IsErrOf result RunFault.Read → R.failure_count source.old < R.failure_count source.new }
         ensures kept { result ≢ Err RunFault.Read → R.failure_count source.new ≡ R.failure_count source.old }
+        ensures short { OnOk result (vec_len line.new ≤ 65537) }
         ensures faults { IfErr result (λ e. (e ≡ RunFault.Read) ⊎ (e ≡ RunFault.NoMemory)) }
     {
         self.next_front(MAX_KEPT, source, line, waits)
@@ -112,6 +113,7 @@ impl LineReader {
             < R.bytes_left source.old + length self.old }
         ensures failed { IsErrOf result RunFault.Read → R.failure_count source.old < R.failure_count source.new }
         ensures kept { result ≢ Err RunFault.Read → R.failure_count source.new ≡ R.failure_count source.old }
+        ensures short { OnOk result (vec_len line.new ≤ most) }
         ensures faults { IfErr result (λ e. (e ≡ RunFault.Read) ⊎ (e ≡ RunFault.NoMemory)) }
     {
         line.clear();

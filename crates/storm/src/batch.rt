@@ -1,5 +1,6 @@
 //! Lines of a script that are read at once, by several threads.
 ghost use Rattle.std.specs.Prelude.{◌≡◌, ◌≢◌, ◌⊎◌, ◌+◌, ◌^◌, ◌<◌, ◌≤◌, ◌++◌, ◌∷◌, [], option_to_list, true, false, map, take, drop, length, vec_len, Some, Ok, Err, IsErrOf, IfErr, OnOk, IsTrue};
+ghost use Rattle.std.specs.List.{sum_by};
 ghost use Rattle.std.specs.Io.KnownBytes.{prepend_known};
 ghost use denote.Param.Send.{IsSync};
 ghost use Rattle.storm.specs.inside.Lines.{AreRead, TakesLines, TakesLast};
@@ -13,6 +14,9 @@ use std::thread::{Threads, join};
 
 /// How many lines are read at once, at most.
 pub(crate) const BATCH: usize = 4_096;
+
+// No line is added to as many bytes of lines as these, so a batch of long lines is a short one.
+const BATCH_BYTES: usize = 1_048_576;
 
 // So few lines are read sooner than a thread is started.
 const FEW: usize = 32;
@@ -169,7 +173,8 @@ fn put(lines: &mut Vec<Vec<u8>>, line: Vec<u8>) -> Result<(), RunFault>
     Ok(())
 }
 
-/// Takes the next lines of a source, as many as are read at once or all that are left, and says whether more may be.
+/// Takes the next lines of a source, as many as are read at once or all that are left, and says whether more may be. They have 1 MiB
+/// and a line in all, at most.
 ///
 /// Errors: `Read`, and `NoMemory` where there is none for a line.
 pub(crate) fn take_lines<R: Source>(
@@ -185,6 +190,7 @@ pub(crate) fn take_lines<R: Source>(
     ensures ended { result ≡ Ok false → TakesLast (prepend_known reader.old (R.remaining source.old))
         reader.new (R.remaining source.new) (map (λ l. l.items) lines.new.items) }
     ensures few { OnOk result (vec_len lines.new ≤ R.bytes_left source.old + length reader.old) }
+    ensures short { OnOk result (sum_by (λ l. vec_len l) lines.new.items ≤ 1048576 + 65537) }
     ensures less { result ≡ Ok true → vec_len lines.new + (R.bytes_left source.new + length reader.new)
         ≤ R.bytes_left source.old + length reader.old }
     ensures failed { IsErrOf result RunFault.Read → R.failure_count source.old < R.failure_count source.new }
@@ -192,12 +198,17 @@ pub(crate) fn take_lines<R: Source>(
     ensures faults { IfErr result (λ e. (e ≡ RunFault.Read) ⊎ (e ≡ RunFault.NoMemory)) }
 {
     lines.clear();
+    let mut room = BATCH_BYTES;
     for _ in 0..BATCH {
         let mut line = Vec::new(alloc);
         if !reader.next_line(source, &mut line, &[])? {
             return Ok(false);
         }
+        room = room.saturating_sub(line.len());
         put(lines, line)?;
+        if room == 0 {
+            return Ok(true);
+        }
     }
     Ok(true)
 }
