@@ -25,6 +25,13 @@ const MAX_NODES: usize = 8_192;
 // takes some hundred bytes.
 const MAX_LINES: usize = 131_072;
 
+// A class that isn't asked for while so many rows have changed lets go of its rows, each of which is kilobytes large and may be
+// nobody else's by then.
+const MAX_CHANGES: u64 = 4_096;
+
+// Besides twice the nodes that were shown a class keeps lines of so many, be they gone or too full for its pods.
+const SPARE_LINES: usize = 64;
+
 /// What was said of a node.
 #[derive(Drop)]
 pub struct Line {
@@ -39,6 +46,10 @@ pub struct Class {
     pod: Vec<u8>,
     of_all: Answers,
     lines: Vec<Line>,
+    // How many nodes were shown for its last pod.
+    shown: usize,
+    // How many rows had changed when that one came.
+    changes: u64,
 }
 
 /// What is kept: for 64 classes, each of which gives way in turn.
@@ -46,7 +57,11 @@ pub struct Class {
 pub struct Kept {
     alloc: Global,
     classes: Vec<Class>,
+    // The class that gives way next, and the one whose age is looked at next.
     next: usize,
+    turn: usize,
+    // How many rows have changed, as far as that was seen.
+    changes: u64,
 }
 
 /// Where a node stands for a class, and from where on the next one is looked for.
@@ -63,6 +78,8 @@ pub struct Sighted {
     pub line: usize,
     pub of_all: Answers,
     pub known: Known,
+    /// Whether another row stood there.
+    pub is_changed: bool,
 }
 
 // Whether two amounts are the same.
@@ -175,6 +192,30 @@ fn insert_line(lines: &mut Vec<Line>, from: usize, node: &SharedNode, used: &Res
 }
 
 impl Class {
+    // One more pod of it comes, when so many rows have changed. Where it has many lines of nodes that weren't shown for the last pod,
+    // it begins anew.
+    fn come(&mut self, changes: u64)
+        ensures pod { self.new.pod ≡ self.old.pod }
+        ensures keeps { (plugins : List Ready) → ClassHolds plugins self.old → ClassHolds plugins self.new }
+    {
+        let most = self.shown.saturating_mul(2).saturating_add(SPARE_LINES);
+        if self.lines.len() > most {
+            self.lines.clear();
+        }
+        self.shown = 0;
+        self.changes = changes;
+    }
+
+    // Lets go of its rows where many rows have changed since its last pod.
+    fn grow_old(&mut self, changes: u64)
+        ensures pod { self.new.pod ≡ self.old.pod }
+        ensures keeps { (plugins : List Ready) → ClassHolds plugins self.old → ClassHolds plugins self.new }
+    {
+        if changes.wrapping_sub(self.changes) > MAX_CHANGES {
+            self.lines.clear();
+        }
+    }
+
     // The first line from a place on that is of a node of this name.
     fn find(&self, from: usize, name: &Name) -> Option<usize>
         ensures { IfSome result (λ at. at < length self.now.lines.items) }
@@ -195,12 +236,14 @@ impl Class {
             Holds plugins self.old.pod.items node.now used.now result.known }
         ensures of_all { result.of_all ≡ self.old.of_all }
     {
+        self.shown = self.shown.saturating_add(1);
         let of_all = self.of_all;
         if from < self.lines.len() && self.lines[from].is_of(node) {
             return Sighted {
                 line: from,
                 of_all,
                 known: self.lines[from].known_by(used),
+                is_changed: false,
             };
         }
         match self.find(from, &node.name) {
@@ -208,6 +251,7 @@ impl Class {
                 line,
                 of_all,
                 known: self.lines[line].show(node, used),
+                is_changed: true,
             },
             None => self.take_in(from, node, used),
         }
@@ -225,6 +269,7 @@ impl Class {
             line,
             of_all: self.of_all,
             known: nothing(),
+            is_changed: false,
         }
     }
 
@@ -282,6 +327,8 @@ impl Kept {
             alloc,
             classes: Vec::new(alloc),
             next: 0,
+            turn: 0,
+            changes: 0,
         }
     }
 
@@ -289,12 +336,47 @@ impl Kept {
     pub fn class_of(&mut self, pod: &Record) -> usize
         ensures { (plugins : List Ready) → KeptHolds plugins self.old → KeptHolds plugins self.new }
     {
+        self.let_one_grow_old();
+        match self.find(pod) {
+            Some(at) => {
+                self.have_come(at);
+                at
+            }
+            None => self.take_in(pod),
+        }
+    }
+
+    // One more pod of a class comes.
+    fn have_come(&mut self, at: usize)
+        requires { at < length self.old.classes.items }
+        ensures { (plugins : List Ready) → KeptHolds plugins self.old → KeptHolds plugins self.new }
+    {
+        self.classes[at].come(self.changes);
+    }
+
+    // Where the class of this record stands, if it is there.
+    fn find(&self, pod: &Record) -> Option<usize>
+        ensures { IfSome result (λ at. at < length self.now.classes.items) }
+    {
         for at in 0..self.classes.len() {
             if self.classes[at].pod.as_slice() == pod.as_bytes() {
-                return at;
+                return Some(at);
             }
         }
-        self.take_in(pod)
+        None
+    }
+
+    // Looks at the age of the next class in turn.
+    fn let_one_grow_old(&mut self)
+        ensures { (plugins : List Ready) → KeptHolds plugins self.old → KeptHolds plugins self.new }
+    {
+        let count = self.classes.len();
+        if count == 0 {
+            return;
+        }
+        let at = self.turn % count;
+        self.turn = at + 1;
+        self.classes[at].grow_old(self.changes);
     }
 
     // How many lines all classes have.
@@ -319,6 +401,8 @@ impl Kept {
             pod: own,
             of_all: no_answers(),
             lines: Vec::new(self.alloc),
+            shown: 0,
+            changes: self.changes,
         };
         if count == 0 || count < MAX_CLASSES && self.count_lines() < MAX_LINES {
             let _full = self.classes.push(class);
@@ -338,11 +422,34 @@ impl Kept {
         ensures of_all { (plugins : List Ready) → KeptHolds plugins self.old →
             AnswersHold (HearOfAll plugins pod.now) result.of_all }
     {
+        let sighted = self.look_up(spot, pod, node, used);
+        self.count(sighted.is_changed);
+        sighted
+    }
+
+    // Counts a row that has changed.
+    fn count(&mut self, is_changed: bool)
+        ensures { self.new.classes ≡ self.old.classes }
+    {
+        if is_changed {
+            self.changes = self.changes.wrapping_add(1);
+        }
+    }
+
+    // What is known of a node, as it was kept.
+    fn look_up(&mut self, spot: Spot, pod: &Record, node: &SharedNode, used: &Res) -> Sighted
+        ensures keeps { (plugins : List Ready) → KeptHolds plugins self.old → KeptHolds plugins self.new }
+        ensures known { (plugins : List Ready) → KeptHolds plugins self.old →
+            Holds plugins pod.now node.now used.now result.known }
+        ensures of_all { (plugins : List Ready) → KeptHolds plugins self.old →
+            AnswersHold (HearOfAll plugins pod.now) result.of_all }
+    {
         if !self.is_of(spot.class, pod) {
             return Sighted {
                 line: spot.line,
                 of_all: no_answers(),
                 known: nothing(),
+                is_changed: false,
             };
         }
         self.classes[spot.class].show(spot.next, node, used)
