@@ -247,12 +247,15 @@ impl Class {
             };
         }
         match self.find(from, &node.name) {
-            Some(line) => Sighted {
-                line,
-                of_all,
-                known: self.lines[line].show(node, used),
-                is_changed: true,
-            },
+            Some(line) => {
+                let is_changed = !self.lines[line].is_of(node);
+                Sighted {
+                    line,
+                    of_all,
+                    known: self.lines[line].show(node, used),
+                    is_changed,
+                }
+            }
             None => self.take_in(from, node, used),
         }
     }
