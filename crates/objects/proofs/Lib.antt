@@ -19,3 +19,4 @@ pub mod Named
 pub mod Names
 pub mod Changes
 pub mod Faults
+pub mod Marks

@@ -1,6 +1,7 @@
 -- What is left out is named in texts of JSON.
-use Rattle.std.proofs.Common.{◌≡◌, ℕ, ◌==◌, nat_le, Bool, true, false, cond, ◌||◌, not, List, [], ◌∷◌, ◌++◌, codes, decimal, length, bytes_eq, is_some, flat_map, Option, Some, None, option_and_then, Result, Ok, Err, IfOk, refl, sym, ap, ◌∙◌, arith, append-nil}
-use Rattle.std.proofs.lemmas.Bool.{and_parts, and_from}
+use Rattle.std.proofs.Common.{◌≡◌, ℕ, zero, suc, ◌+◌, ◌*◌, ◌≤◌, ◌==◌, nat_le, nat_lt, Bool, true, false, cond, ◌||◌, not, ◌&&◌, List, [], ◌∷◌, ◌++◌, take, drop, codes, decimal, length, bytes_eq, is_some, flat_map, Option, Some, None, option_and_then, Result, Ok, Err, IfOk, refl, sym, ap, ◌∙◌, arith, append-nil, append_assoc, length-append, leb-true, lit≤}
+use Rattle.std.proofs.lemmas.Bool.{and_parts, and_from, le-leb}
+use Rattle.std.proofs.lemmas.List.{length-take, length-drop}
 use Rattle.std.proofs.lemmas.Bool.Decides.{nat_tests}
 use Rattle.std.proofs.lemmas.List.Concat.{flat_map-append}
 use Rattle.std.proofs.lemmas.List.Folds.{list_all-append}
@@ -28,7 +29,7 @@ use Rattle.objects.specs.declared.translation.TheConstants.{MAX_OBJECT}
 use Rattle.objects.specs.Quantity.{◌>>=◌}
 use Rattle.objects.specs.Key.{key_of}
 use Rattle.objects.specs.Reading.{said, field, within}
-use Rattle.objects.specs.LeftOut.{shown, left_out, left_out_if, amount_refused, refused}
+use Rattle.objects.specs.LeftOut.{shown, left_out, left_out_if, amount_refused, refused, told_names, up_to_marks}
 use Rattle.objects.specs.Field.{name_at, flag_of, members_of, items_of, is_given, spelled}
 use Rattle.quant.specs.declared.limits.TheConstants.{MAX_LABELS}
 use Rattle.objects.specs.Labels.{Kept, label_of, is_named, named_labels, with_label, unless_named, other_labels, count_members, all_labels, row_labels}
@@ -43,12 +44,12 @@ use Rattle.objects.specs.declared.gone.Kind.{Kind}
 use Rattle.objects.specs.declared.gone.Kind.TheVariants as kinds
 use Rattle.objects.specs.Site.{Site}
 use Rattle.objects.specs.Told.{Told, nothing, unless_gone, gone_if, gone_told, in_metadata, node_of, node_told, waiting_row, scheduler_of, kept_back, waiting_of, waiting_told, bound_as, bound_told, has_ended, ended_told, node_name, placed_told, spec_told, there_told, pod_told, kind_of, kind_told, object_told, change_of, is_bookmark, changed_told, event_told, value_told, is_blank, parsed, parsed_told, text_told, line_told, told_or_uncounted, told}
-use Rattle.objects.specs.Shown.{stands_for_itself, in_marks, AreTexts, NamesAreTexts}
+use Rattle.objects.specs.Shown.{stands_for_itself, in_marks, is_short, AreTexts, NamesAreTexts}
 
 -- what keeps texts texts
 
 none : AreTexts []
-none = record { texts = []; plain = refl; are = refl }
+none = record { texts = []; plain = refl; short = refl; are = refl }
 
 name_byte : (b : ℕ) → is_name_byte b ≡ true → stands_for_itself b ≡ true
 name_byte b h = grind (arith, nat_tests)
@@ -61,23 +62,41 @@ name_plain (b ∷ bs) h =
 
 shown_plain : (name : List ℕ) → list_all stands_for_itself (shown name) ≡ true
 shown_plain name =
-    elim (list_all is_name_byte name) as (λ b. list_all is_name_byte name ≡ b → list_all stands_for_itself (cond b name (codes "?")) ≡ true) [
-      | true ↦ λ e. name_plain name e
+    let test = nat_le (length name) 317 && list_all is_name_byte name in
+    elim test as (λ b. test ≡ b → list_all stands_for_itself (cond b name (codes "?")) ≡ true) [
+      | true ↦ λ e. name_plain name (and_parts (nat_le (length name) 317) (list_all is_name_byte name) e).1
       | false ↦ λ e. refl
     ] refl
 
-one : (what name : List ℕ) → list_all stands_for_itself what ≡ true → AreTexts (left_out what name)
+shown_short : (name : List ℕ) → length (shown name) ≤ 317
+shown_short name =
+    let test = nat_le (length name) 317 && list_all is_name_byte name in
+    elim test as (λ b. test ≡ b → length (cond b name (codes "?")) ≤ 317) [
+      | true ↦ λ e. leb-true (length name) 317 (and_parts (nat_le (length name) 317) (list_all is_name_byte name) e).0
+      | false ↦ λ e. lit≤ tt
+    ] refl
+
+-- what stands before a name is plain and short
+abbrev fits : List ℕ → Bool
+fits what = list_all stands_for_itself what && nat_le (length what) 64
+
+one : (what name : List ℕ) → fits what ≡ true → AreTexts (left_out what name)
 unfolding left_out
-one what name h = record {
-  texts = (what ++ shown name) ∷ [];
-  plain = and_from _ _ (list_all-append stands_for_itself what (shown name) ∙ and_from _ _ h (shown_plain name)) refl;
-  are = sym (append-nil (in_marks (what ++ shown name)));
-}
+one what name h =
+    let parts = and_parts (list_all stands_for_itself what) (nat_le (length what) 64) h in
+    let len : length what ≤ 64 = leb-true (length what) 64 parts.1 in
+    record {
+      texts = (what ++ shown name) ∷ [];
+      plain = and_from _ _ (list_all-append stands_for_itself what (shown name) ∙ and_from _ _ parts.0 (shown_plain name)) refl;
+      short = and_from _ _ (le-leb (length (what ++ shown name)) 381 (omega (arith, length-append what (shown name), len, shown_short name))) refl;
+      are = sym (append-nil (in_marks (what ++ shown name)));
+    }
 
 both : (a b : List ℕ) → AreTexts a → AreTexts b → AreTexts (a ++ b)
 both a b p q = record {
   texts = p.texts ++ q.texts;
   plain = list_all-append (list_all stands_for_itself) p.texts q.texts ∙ and_from _ _ p.plain q.plain;
+  short = list_all-append is_short p.texts q.texts ∙ and_from _ _ p.short q.short;
   are = ap (λ x. x ++ b) p.are ∙ ap (λ y. flat_map in_marks p.texts ++ y) q.are ∙ sym (flat_map-append in_marks p.texts q.texts);
 }
 
@@ -85,10 +104,10 @@ either : (b : Bool) (x y : List ℕ) → AreTexts x → AreTexts y → AreTexts 
 either true x y p q = p
 either false x y p q = q
 
-one_if : (b : Bool) (what : List ℕ) → list_all stands_for_itself what ≡ true → AreTexts (left_out_if b what)
+one_if : (b : Bool) (what : List ℕ) → fits what ≡ true → AreTexts (left_out_if b what)
 one_if b what h = either b (left_out what []) [] (one what [] h) none
 
-why_plain : (why : QuantityFault) → list_all stands_for_itself (amount_refused why) ≡ true
+why_plain : (why : QuantityFault) → fits (amount_refused why) ≡ true
 why_plain amounts.NotAQuantity = refl
 why_plain amounts.FarExponent = refl
 why_plain amounts.Negative = refl
@@ -492,6 +511,110 @@ or_texts : (r : Result Told ObjectFault) → OkTexts r → AreTexts (told_or_unc
 or_texts (Ok t) h = h
 or_texts (Err e) h = fault e
 
-pub names_are_texts : NamesAreTexts
+all_texts : (site : Site) (by_uid : Bool) (version : Version) (line : List ℕ) → AreTexts (told site by_uid version line).left_out
 unfolding told
-names_are_texts site by_uid version line = or_texts (line_told site by_uid version line) (line_texts site by_uid version line)
+all_texts site by_uid version line = or_texts (line_told site by_uid version line) (line_texts site by_uid version line)
+
+-- ---- the first of them
+
+not_true : (b : Bool) → not b ≡ true → b ≡ false
+not_true true e = cc
+not_true false e = refl
+
+no_mark : (b : ℕ) → stands_for_itself b ≡ true → (b == 34) ≡ false
+no_mark b h =
+    let front = (and_parts (nat_le 32 b && nat_le b 126 && not (b == 34)) (not (b == 92)) h).0 in
+    not_true (b == 34) (and_parts (nat_le 32 b && nat_le b 126) (not (b == 34)) front).1
+
+-- a text has no quotation mark
+text_whole : (text rest : List ℕ) (n : ℕ) → list_all stands_for_itself text ≡ true → up_to_marks (suc n) (text ++ rest) ≡ text ++ up_to_marks (suc n) rest
+text_whole [] rest n h = refl
+text_whole (b ∷ text) rest n h =
+    let parts = and_parts (stands_for_itself b) (list_all stands_for_itself text) h in
+    ap (λ t. b ∷ up_to_marks (cond t n (suc n)) (text ++ rest)) (no_mark b parts.0) ∙ ap (λ t. b ∷ t) (text_whole text rest n parts.1)
+
+-- and two are around it
+marked_whole : (text rest : List ℕ) (n : ℕ) → list_all stands_for_itself text ≡ true → up_to_marks (suc (suc n)) (in_marks text ++ rest) ≡ in_marks text ++ up_to_marks n rest
+marked_whole text rest n h =
+    let front : List ℕ → List ℕ = λ t. 44 ∷ 32 ∷ 34 ∷ t in
+    ap (λ t. front (up_to_marks (suc n) t)) (append_assoc text (34 ∷ []) rest)
+    ∙ ap front (text_whole text (34 ∷ rest) n h)
+    ∙ ap front (sym (append_assoc text (34 ∷ []) (up_to_marks n rest)))
+
+nothing_whole : (n : ℕ) → up_to_marks n [] ≡ []
+nothing_whole zero = refl
+nothing_whole (suc n) = refl
+
+first_whole : (k n : ℕ) (texts : List (List ℕ)) → n ≡ k + k → list_all (list_all stands_for_itself) texts ≡ true
+    → up_to_marks n (flat_map in_marks texts) ≡ flat_map in_marks (take k texts)
+first_whole zero zero texts e h = refl
+first_whole zero (suc n) texts e h = absurd (omega (arith, e))
+first_whole (suc k) n [] e h = nothing_whole n
+first_whole (suc k) zero (t ∷ ts) e h = absurd (omega (arith, e))
+first_whole (suc k) (suc zero) (t ∷ ts) e h = absurd (omega (arith, e))
+first_whole (suc k) (suc (suc n)) (t ∷ ts) e h =
+    let parts = and_parts (list_all stands_for_itself t) (list_all (list_all stands_for_itself) ts) h in
+    marked_whole t (flat_map in_marks ts) n parts.0 ∙ ap (λ rest. in_marks t ++ rest) (first_whole k n ts (omega (arith, e)) parts.1)
+
+front_passes : {X : Type 0} (p : X → Bool) (k : ℕ) (xs : List X) → list_all p xs ≡ true → list_all p (take k xs) ≡ true
+front_passes p zero xs h = refl
+front_passes p (suc k) [] h = refl
+front_passes p (suc k) (x ∷ xs) h =
+    let parts = and_parts (p x) (list_all p xs) h in
+    and_from _ _ parts.0 (front_passes p k xs parts.1)
+
+-- so many texts at most
+record AtMost (n : ℕ) (names : List ℕ) : Type 0 where
+  are : AreTexts names
+  few : length are.texts ≤ n
+
+first_few : (names : List ℕ) → AreTexts names → AtMost 256 (up_to_marks 512 names)
+first_few names all = record {
+  are = record {
+    texts = take 256 all.texts;
+    plain = front_passes (list_all stands_for_itself) 256 all.texts all.plain;
+    short = front_passes is_short 256 all.texts all.short;
+    are = ap (up_to_marks 512) all.are ∙ first_whole 256 512 all.texts (omega arith) all.plain;
+  };
+  few = omega (arith, length-take 256 all.texts);
+}
+
+others_few : (b : Bool) → AtMost 1 (left_out_if b (codes "others"))
+unfolding one none
+others_few true = record { are = one (codes "others") [] refl; few = lit≤ tt }
+others_few false = record { are = none; few = lit≤ tt }
+
+told_few : (names : List ℕ) → AreTexts names → AtMost 257 (told_names names)
+unfolding told_names both
+told_few names all =
+    let first = first_few names all in
+    let more = nat_lt (length (up_to_marks 512 names)) (length names) in
+    let others = others_few more in
+    record {
+      are = both (up_to_marks 512 names) (left_out_if more (codes "others")) first.are others.are;
+      few = omega (arith, length-append first.are.texts others.are.texts, first.few, others.few);
+    }
+
+pub names_are_texts : NamesAreTexts
+names_are_texts site by_uid version line = (told_few (told site by_uid version line).left_out (all_texts site by_uid version line)).are
+
+-- ---- they are short
+
+marked_short : (text : List ℕ) → is_short text ≡ true → length (in_marks text) ≤ 385
+marked_short text h =
+    let len : length text ≤ 381 = leb-true (length text) 381 h in
+    omega (arith, length-append text (34 ∷ []), len)
+
+texts_short : (texts : List (List ℕ)) → list_all is_short texts ≡ true → length (flat_map in_marks texts) ≤ 385 * length texts
+texts_short [] h = omega arith
+texts_short (t ∷ ts) h =
+    let parts = and_parts (is_short t) (list_all is_short ts) h in
+    omega (arith, length-append (in_marks t) (flat_map in_marks ts), marked_short t parts.0, texts_short ts parts.1)
+
+pub told_names_are_short : (site : Site) (by_uid : Bool) (version : Version) (line items : List ℕ)
+    → items ≡ drop 2 (told_names (told site by_uid version line).left_out) → length items ≤ 100000
+told_names_are_short site by_uid version line items is =
+    let names = told_names (told site by_uid version line).left_out in
+    let few = told_few (told site by_uid version line).left_out (all_texts site by_uid version line) in
+    let whole : length names ≡ length (flat_map in_marks few.are.texts) = ap length few.are.are in
+    omega (arith, ap length is, length-drop 2 names, whole, texts_short few.are.texts few.are.short, few.few)

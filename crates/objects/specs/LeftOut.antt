@@ -1,5 +1,5 @@
 -- What a line doesn't tell of an object, by name: items of an array of JSON, each behind a comma and a space.
-use Rattle.std.specs.Prelude.{ℕ, Bool, List, [], ◌∷◌, ◌++◌, codes, if◌then◌else◌}
+use Rattle.std.specs.Prelude.{ℕ, zero, suc, ◌==◌, nat_le, nat_lt, Bool, ◌&&◌, List, [], ◌∷◌, ◌++◌, length, codes, if◌then◌else◌}
 use Rattle.std.specs.List.{list_all}
 use Rattle.quant.specs.Name.{is_name_byte}
 use Rattle.objects.specs.declared.fault.QuantityFault.{QuantityFault}
@@ -9,9 +9,10 @@ use Rattle.objects.specs.declared.fault.ObjectFault.{ObjectFault}
 use Rattle.objects.specs.declared.fault.ObjectFault.TheVariants.{LongLine, NotJson, UnknownEvent, IsList, BadField, BadName, Quantity, TooMany, PodResources, TooLarge, NoMemory}
 use Rattle.objects.specs.Key.{key_of}
 
--- a name as it stands there: names of other bytes than a script's may have aren't shown
+-- a name as it stands there: names of other bytes than a script's may have aren't shown, nor any of more than 317, which is the most that
+-- a key of the API has (a prefix of 253, a slash, and 63 more)
 abbrev pub shown : List ℕ → List ℕ
-shown name = if list_all is_name_byte name then name else codes "?"
+shown name = if nat_le (length name) 317 && list_all is_name_byte name then name else codes "?"
 
 -- one that is left out: what it is, and its own name
 unfoldable pub left_out : (what name : List ℕ) → List ℕ
@@ -41,3 +42,14 @@ refused (TooMany key) = left_out (codes "too many items: ") (key_of key)
 refused PodResources = left_out (codes "resources of the whole pod") []
 refused TooLarge = left_out (codes "what it asks for in all") []
 refused NoMemory = []
+
+-- names with so many quotation marks at most, of which each has two
+abbrev pub up_to_marks : (marks : ℕ) → List ℕ → List ℕ
+up_to_marks zero names = []
+up_to_marks (suc marks) [] = []
+up_to_marks (suc marks) (byte ∷ names) = byte ∷ up_to_marks (if byte == 34 then marks else suc marks) names
+
+-- the first 256 names, and where there are more that there are others
+unfoldable pub told_names : List ℕ → List ℕ
+told_names names =
+    up_to_marks 512 names ++ left_out_if (nat_lt (length (up_to_marks 512 names)) (length names)) (codes "others")

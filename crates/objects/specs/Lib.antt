@@ -17,6 +17,7 @@ pub mod PodRow
 pub mod Counted
 pub mod Site
 pub mod Told
+pub mod ObjectName
 pub mod Standing
 pub mod Shown
 pub mod Translation

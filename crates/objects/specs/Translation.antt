@@ -5,6 +5,7 @@ use Rattle.quant.specs.declared.event.Event.{Event}
 use Rattle.manifest.specs.Line.{meaning}
 use Rattle.manifest.specs.declared.command.Command.TheVariants as commands
 use Rattle.objects.specs.declared.translation.Translation.{Translation}
+use Rattle.objects.specs.LeftOut.{told_names}
 use Rattle.objects.specs.Told.{Told}
 
 -- no byte that ends a line
@@ -19,5 +20,5 @@ Spells (Some event) line = (meaning line ≡ Ok (commands.Event event)) × (is_o
 pub record IsTranslation (told : Told) (translation : Translation) : Type 0 where
   pub line : Spells told.event translation.line.items
   -- without the comma and the space before the first
-  pub left_out : translation.left_out.items ≡ drop 2 told.left_out
+  pub left_out : translation.left_out.items ≡ drop 2 (told_names told.left_out)
   pub uncounted : translation.uncounted ≡ told.uncounted

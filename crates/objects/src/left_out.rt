@@ -1,11 +1,17 @@
 //! The names of what a line doesn't tell of an object.
-ghost use Rattle.std.specs.Prelude.{◌≡◌, ◌++◌, IfOk};
+ghost use Rattle.std.specs.Prelude.{◌≡◌, ◌++◌, ◌≤◌, drop, length, take, IfOk};
 ghost use Rattle.std.specs.List.{list_all};
 ghost use Rattle.quant.specs.Name.{is_name_byte};
-ghost use Rattle.objects.specs.LeftOut.{shown, left_out, left_out_if, amount_refused, refused};
+ghost use Rattle.objects.specs.LeftOut.{shown, left_out, left_out_if, amount_refused, refused, told_names, up_to_marks};
 
 use crate::fault::{ObjectFault, QuantityFault};
-use std::alloc::AllocError;
+use std::alloc::{AllocError, Global};
+
+// The most bytes that a key of the API has: a prefix of 253, a slash, and 63 more. A longer name isn't shown.
+const MAX_SHOWN: usize = 317;
+
+// So many names are told of an object, each between two quotation marks.
+const MAX_MARKS: usize = 512;
 
 // Puts the name of one more behind those of others: what it is, and its own name.
 #[tactic(auto, unfolding(crate::specs::LeftOut::left_out))]
@@ -75,10 +81,14 @@ fn amount_refused(fault: QuantityFault) -> &'static str
 }
 
 // A name as it is shown.
-fn shown(name: &[u8]) -> &[u8]
+pub(crate) fn shown(name: &[u8]) -> &[u8]
     ensures { result.now ≡ shown name.now }
 {
-    if are_name_bytes(name) { name } else { b"?" }
+    if name.len() <= MAX_SHOWN && are_name_bytes(name) {
+        name
+    } else {
+        b"?"
+    }
 }
 
 // Whether a name of a script may have each of these bytes.
@@ -93,4 +103,41 @@ fn is_name_byte(byte: u8) -> bool
     ensures { result ≡ is_name_byte byte }
 {
     matches!(byte, b'0'..=b'9' | b'A'..=b'Z' | b'a'..=b'z' | b'-' | b'.' | b'/' | b'_')
+}
+
+// Where the first names end, of which so many are told.
+fn end_of_first(names: &[u8]) -> usize
+    ensures within { result ≤ length names.now }
+    ensures front { take result names.now ≡ up_to_marks 512 names.now }
+{
+    let mut marks = MAX_MARKS;
+    let mut at = 0;
+    while at < names.len() && marks > 0 {
+        if names[at] == b'"' {
+            marks -= 1;
+        }
+        at += 1;
+    }
+    at
+}
+
+// The names that are told, without the comma and the space in front of the first.
+#[tactic(auto, unfolding(crate::specs::LeftOut::told_names))]
+pub(crate) fn told_names(alloc: Global, names: &[u8]) -> Result<Vec<u8>, AllocError>
+    ensures { IfOk result (λ told. told.items ≡ drop 2 (told_names names.now)) }
+{
+    let end = end_of_first(names);
+    let mut told = without_comma(alloc, &names[..end])?;
+    put_left_out_if(&mut told, end < names.len(), "others")?;
+    Ok(told)
+}
+
+// Items of an array, without the comma and the space in front of the first.
+fn without_comma(alloc: Global, items: &[u8]) -> Result<Vec<u8>, AllocError>
+    ensures { IfOk result (λ rest. rest.items ≡ drop 2 items.now) }
+{
+    match items {
+        [_, _, rest @ ..] => Vec::from_slice(alloc, rest),
+        _ => Ok(Vec::new(alloc)),
+    }
 }

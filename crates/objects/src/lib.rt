@@ -15,7 +15,8 @@
 //! `specs/Told.antt`: `node_row` reads a node's row and `pod_row` a waiting pod's, with their `labels`,
 //! `taints` and `tolerations`; `demands` finds what keeps a pod from being told; `counted` says what a
 //! pod takes that stands on a node; and `gone` tells that an object is gone. What a field says is read by
-//! `field`, and what isn't told is named by `left_out`.
+//! `field`, and what isn't told is named by `left_out`; how people know a line's object is found by
+//! `naming`.
 //!
 //! `line` writes the line of a script that tells an event, and `line_field` its fields. Which events a
 //! line can say is defined in `specs/Sayable.antt`.
@@ -35,6 +36,7 @@ mod laws;
 mod left_out;
 mod line;
 mod line_field;
+mod naming;
 mod node;
 mod node_row;
 mod pod;
@@ -56,6 +58,7 @@ pub use fault::{ObjectFault, QuantityFault};
 pub use key::Key;
 pub use laws::left_out_is_named_in_texts;
 pub use line::write_line;
+pub use naming::object_name;
 pub use node::allocatable;
 pub use pod::pod_request;
 pub use quantity::{cpu_asked, cpu_offered, memory_asked, memory_offered, pods_offered};

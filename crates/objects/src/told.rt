@@ -517,7 +517,7 @@ fn is_space(byte: u8) -> bool
 
 // The JSON value that a line is, if it is one.
 #[tactic(auto, using(crate::proofs::Parsed::parsed_read, crate::proofs::Parsed::parsed_refused))]
-fn parse(alloc: Global, line: &[u8]) -> Result<Option<Value>, AllocError>
+pub(crate) fn parse(alloc: Global, line: &[u8]) -> Result<Option<Value>, AllocError>
     ensures { IfOk result (λ value. option_map view value ≡ parsed line.now) }
 {
     match Value::from_slice(alloc, line) {

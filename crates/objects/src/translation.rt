@@ -1,5 +1,5 @@
 //! From a line of the API to a script's.
-ghost use Rattle.std.specs.Prelude.{◌≡◌, [], drop, IfOk};
+ghost use Rattle.std.specs.Prelude.{◌≡◌, ◌≤◌, [], length, IfOk};
 ghost use Rattle.quant.specs.declared.event.Event.{Event};
 ghost use Rattle.objects.specs.Sayable.{IsVersion};
 ghost use Rattle.objects.specs.Site.{site_of};
@@ -9,7 +9,7 @@ ghost use Rattle.objects.specs.Translation.{Spells, IsTranslation};
 ghost use Rattle.objects.specs.inside.Said.{IsSaid};
 
 use crate::fault::ObjectFault;
-use crate::left_out::put_refused;
+use crate::left_out::{put_refused, told_names};
 use crate::line::write_line;
 use crate::site::Site;
 use crate::told::line_told;
@@ -27,7 +27,8 @@ pub struct Translation {
     /// The script's line, without its newline. It is empty where the object gives none.
     pub line: Vec<u8>,
     /// What is left out: items of an array of JSON, texts in quotation marks with a comma and a space
-    /// between them. Where the line is empty they say why.
+    /// between them, 256 at most and one more that says that there are others. Where the line is empty
+    /// they say why.
     pub left_out: Vec<u8>,
     /// Whether the line may be a pod on a node that no line of a script can count. Then `line` is
     /// empty, and whoever goes on without ending takes the pod's node for full.
@@ -55,10 +56,10 @@ pub struct Translation {
 ///   that is no JSON, a list, an object without a kind whose shape isn't certain, and a pod that stands
 ///   on a node and that no line can call by a name.
 ///
-/// What isn't told of an object is named in `left_out`.
+/// What isn't told of an object is named in `left_out`: the first 256 names, and that there are others.
 ///
 /// Errors: `AllocError`, which may come in place of any other answer.
-#[tactic(auto, using(crate::proofs::Standing::every_line_is_counted))]
+#[tactic(auto, using(crate::proofs::Standing::every_line_is_counted, crate::proofs::Shown::told_names_are_short))]
 pub fn translate(
     alloc: Global,
     line: &[u8],
@@ -68,12 +69,13 @@ pub fn translate(
 ) -> Result<Translation, AllocError>
     requires { IsVersion version }
     ensures told { IfOk result (IsTranslation (told (site_of site.now) by_uid version line.now)) }
+    ensures short { IfOk result (λ translation. length translation.left_out.items ≤ 100000) }
     ensures counted { IsCounted version line.now (told (site_of site.now) by_uid version line.now) }
 {
     let mut out = Vec::new(alloc);
     let (event, uncounted) = told(alloc, &mut out, line, site, by_uid, version)?;
     let line = spelled(alloc, event)?;
-    let left_out = without_comma(alloc, out.as_slice())?;
+    let left_out = told_names(alloc, out.as_slice())?;
     Ok(Translation {
         line,
         left_out,
@@ -116,15 +118,5 @@ fn spelled(alloc: Global, event: Option<Event>) -> Result<Vec<u8>, AllocError>
     match event {
         Some(event) => write_line(alloc, &event),
         None => Ok(Vec::new(alloc)),
-    }
-}
-
-// Items of an array, without the comma and the space in front of the first.
-fn without_comma(alloc: Global, items: &[u8]) -> Result<Vec<u8>, AllocError>
-    ensures { IfOk result (λ rest. rest.items ≡ drop 2 items.now) }
-{
-    match items {
-        [_, _, rest @ ..] => Vec::from_slice(alloc, rest),
-        _ => Ok(Vec::new(alloc)),
     }
 }

@@ -6,6 +6,7 @@ use Rattle.std.proofs.lemmas.Bool.{leb-true, ne_eqb}
 use Rattle.std.proofs.lemmas.List.Elements.{All-append, All-cons, All-drop, All-nil}
 use Rattle.quant.specs.declared.limits.TheConstants.{MAX_VERSION}
 use Rattle.objects.specs.declared.translation.Translation.{Translation}
+use Rattle.objects.specs.LeftOut.{told_names}
 use Rattle.objects.specs.Shown.{AreTexts, in_marks, stands_for_itself}
 use Rattle.objects.specs.Told.{Told, told}
 use Rattle.objects.specs.Translation.{IsTranslation}
@@ -60,10 +61,10 @@ told_of manner version line given is =
 left_out_line : (manner : Manner) (version : ℕ) (line : List ℕ) (given : Told) (translation : Translation) → told_under manner version line ≡ Some given
     → IsTranslation given translation → IsLine translation.left_out.items
 left_out_line manner version line given translation gives is =
-    let texts : AreTexts given.left_out =
-    subst (λ (t : Told). AreTexts t.left_out) (told_of manner version line given gives) (names_are_texts manner.site manner.by_uid (record { 0 = version }) line) in
-    let whole : IsLine given.left_out = subst IsLine (sym texts.are) (all_marked texts.texts texts.plain) in
-    subst IsLine (sym is.left_out) (All-drop (λ b. is_newline b ≡ false) 2 given.left_out whole)
+    let texts : AreTexts (told_names given.left_out) =
+    subst (λ (t : Told). AreTexts (told_names t.left_out)) (told_of manner version line given gives) (names_are_texts manner.site manner.by_uid (record { 0 = version }) line) in
+    let whole : IsLine (told_names given.left_out) = subst IsLine (sym texts.are) (all_marked texts.texts texts.plain) in
+    subst IsLine (sym is.left_out) (All-drop (λ b. is_newline b ≡ false) 2 (told_names given.left_out) whole)
 
 -- ---- an answer
 

@@ -1,0 +1,93 @@
+//! How people know the object that a line of the API tells of.
+ghost use Rattle.std.specs.Prelude.{◌≡◌, ◌++◌, Some, IfOk};
+ghost use Rattle.serde_json.specs.View.{view};
+ghost use Rattle.objects.specs.ObjectName.{kind_shown, namespace_shown, known_as, by_metadata, object_name, name_if, name_in};
+
+use crate::field::spelled;
+use crate::key::Key;
+use crate::left_out::shown;
+use crate::reading::field;
+use crate::told::parse;
+use crate::translation::MAX_OBJECT;
+use serde_json::Value;
+use std::alloc::{AllocError, Global};
+
+/// The name by which people know the object of a line of the API: its kind, its namespace, where it has
+/// one, and its name, as `Pod shop/web-1`. It is empty where the line is no JSON, is longer than
+/// `MAX_OBJECT`, or has no name.
+///
+/// Errors: `AllocError`, which may come in place of any answer.
+#[tactic(auto, unfolding(crate::specs::ObjectName::name_in))]
+pub fn object_name(alloc: Global, line: &[u8]) -> Result<Vec<u8>, AllocError>
+    ensures { IfOk result (λ name. name.items ≡ name_in line.now) }
+{
+    if line.len() > MAX_OBJECT {
+        return Ok(Vec::new(alloc));
+    }
+    match parse(alloc, line)? {
+        Some(json) => name_of(alloc, &json),
+        None => Ok(Vec::new(alloc)),
+    }
+}
+
+// The name of an object, or of the one that an event of the watch holds.
+fn name_of(alloc: Global, json: &Value) -> Result<Vec<u8>, AllocError>
+    ensures { IfOk result (λ name. name.items ≡ name_if (Some (view json.now))) }
+{
+    match field(json, Key::Object) {
+        Some(held) => name_alone(alloc, held),
+        None => name_alone(alloc, json),
+    }
+}
+
+// The name of an object that stands alone.
+#[tactic(auto, unfolding(crate::specs::ObjectName::object_name))]
+fn name_alone(alloc: Global, json: &Value) -> Result<Vec<u8>, AllocError>
+    ensures { IfOk result (λ name. name.items ≡ object_name (view json.now)) }
+{
+    let kind = spelled(json, Key::Kind);
+    match field(json, Key::Metadata) {
+        Some(meta) => {
+            let namespace = spelled(meta, Key::Namespace);
+            known_as(alloc, kind, namespace, spelled(meta, Key::Name))
+        }
+        None => Ok(Vec::new(alloc)),
+    }
+}
+
+// The name of these parts, where there is one.
+fn known_as(alloc: Global, kind: &str, namespace: &str, name: &str) -> Result<Vec<u8>, AllocError>
+    ensures { IfOk result (λ text. text.items ≡ known_as kind.now namespace.now name.now) }
+{
+    let mut text = Vec::new(alloc);
+    if name.is_empty() {
+        return Ok(text);
+    }
+    text.extend_from_slice(kind_shown(kind))?;
+    text.extend_from_slice(b" ")?;
+    put_namespace(&mut text, namespace)?;
+    text.extend_from_slice(shown(name.as_bytes()))?;
+    Ok(text)
+}
+
+// A kind as it is shown: an item of a raw list says none.
+fn kind_shown(kind: &str) -> &[u8]
+    ensures { result.now ≡ kind_shown kind.now }
+{
+    if kind.is_empty() {
+        b"object"
+    } else {
+        shown(kind.as_bytes())
+    }
+}
+
+// Puts a namespace and the slash behind it, where there is one.
+fn put_namespace(text: &mut Vec<u8>, namespace: &str) -> Result<(), AllocError>
+    ensures { IfOk result (λ _. text.new.items ≡ text.old.items ++ namespace_shown namespace.now) }
+{
+    if namespace.is_empty() {
+        return Ok(());
+    }
+    text.extend_from_slice(shown(namespace.as_bytes()))?;
+    text.extend_from_slice(b"/")
+}
