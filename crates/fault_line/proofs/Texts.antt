@@ -32,3 +32,11 @@ pub four_added : (old first second third new a b c d : List ℕ) → first ≡ o
     → new ≡ old ++ (a ++ b ++ c ++ d)
 four_added old first second third new a b c d p q r s =
     s ∙ (ap (λ m. m ++ d) (three_added old first second third a b c p q r) ∙ append_assoc old (a ++ b ++ c) d)
+
+pub two_added : (old first new a b : List ℕ) → first ≡ old ++ a → new ≡ first ++ b → new ≡ old ++ (a ++ b)
+two_added old first new a b p q = q ∙ (ap (λ m. m ++ b) p ∙ append_assoc old a b)
+
+pub five_added : (old first second third fourth new a b c d e : List ℕ) → first ≡ old ++ a → second ≡ first ++ b → third ≡ second ++ c → fourth ≡ third ++ d
+    → new ≡ fourth ++ e → new ≡ old ++ (a ++ b ++ c ++ d ++ e)
+five_added old first second third fourth new a b c d e p q r s t =
+    t ∙ (ap (λ m. m ++ e) (four_added old first second third fourth a b c d p q r s) ∙ append_assoc old (a ++ b ++ c ++ d) e)

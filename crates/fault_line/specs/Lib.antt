@@ -1,3 +1,5 @@
+pub mod Excerpt
+pub mod Unread
 pub mod Fault
 pub mod Message
 pub mod Refusal

@@ -11,6 +11,7 @@ use Rattle.engine.specs.declared.fault.RunFault.{RunFault}
 use Rattle.engine.specs.declared.fault.RunFault.TheVariants.{Line, NoMemory, Read, Write, NoPlace}
 use Rattle.command.specs.Fault.{number_of, name_of}
 use Rattle.fault_line.specs.Text.{fault_text}
+use Rattle.fault_line.specs.Unread.{file_text, object_or_it}
 use Rattle.fault_line.specs.Refusal.{refusal_text}
 use Rattle.fault_line.specs.declared.fault.Fault.{Fault}
 use Rattle.command.specs.declared.fault.WordFault.TheVariants.{BadWords}
@@ -20,7 +21,7 @@ use Rattle.command.specs.declared.misuse.Part.{Part}
 use Rattle.command.specs.declared.count.Count.{Count}
 use Rattle.command.specs.declared.count.Count.TheVariants as count
 use Rattle.command.specs.declared.misuse.Part.TheVariants as part
-use Rattle.fault_line.specs.declared.fault.Fault.TheVariants.{Words, Misused, Plugin, Unread, Run, Uncounted}
+use Rattle.fault_line.specs.declared.fault.Fault.TheVariants.{Words, Misused, Plugin, Unread, UnreadModule, Run, Uncounted}
 
 -- the field in which a fault stands, where there is one
 abbrev pub field_text : Option Field → List ℕ
@@ -67,16 +68,18 @@ usage = codes "\nusage: wsched run [--workers N] [SPEC]...\n       wsched explai
 
 -- what is to be done about a line that may be a pod on a node that can't be counted
 abbrev pub count_it : List ℕ
-count_it = codes "; it may be a pod on a node, and no script line can count it: --answers says why, and kubectl get .. -o json | jq -c '.items[]' gives one object a line"
+count_it = codes " may be a pod on a node, and no script line can count it: --answers says why, and kubectl get .. -o json | jq -c '.items[]' gives one object a line"
 
 -- why the program ended early
 abbrev pub text_of : Fault → List ℕ
 text_of (Words fault) = fault_text (number_of fault) (name_of fault)
 text_of (Misused misuse) = fault_text (number_of BadWords) (name_of BadWords) ++ misuse_text misuse ++ usage
 text_of (Plugin name refusal) = codes "plugin " ++ name ++ codes ": " ++ refusal_text refusal
-text_of (Unread name) = codes "plugin " ++ name ++ codes ": " ++ fault_text (run.number_of Read) (run.name_of Read)
+text_of (Unread unread) =
+    codes "plugin " ++ unread.plugin ++ codes ": " ++ fault_text (run.number_of Read) (run.name_of Read) ++ file_text unread.fault
+text_of (UnreadModule fault) = fault_text (run.number_of Read) (run.name_of Read) ++ file_text fault
 text_of (Run fault) = run_text fault
-text_of (Uncounted number) = codes "line " ++ decimal number ++ codes ": 6 Uncounted" ++ count_it
+text_of (Uncounted line) = codes "line " ++ decimal line.number ++ codes ": 6 Uncounted; " ++ object_or_it line.object.items ++ count_it
 
 -- the line that tells it
 unfoldable pub message_of : Fault → List ℕ

@@ -3,6 +3,7 @@ ghost use Rattle.std.specs.Prelude.{◌≡◌};
 ghost use Rattle.fault_line.specs.Fault.{status_of};
 
 use crate::refusal::Refusal;
+use crate::unread::{FileFault, LineUncounted, PluginUnread};
 use command::{Misuse, WordFault};
 use engine::RunFault;
 use quant::Name;
@@ -20,16 +21,19 @@ pub enum Fault {
     /// The module of the plugin of this name was refused.
     #[error("plugin {}: refused {}", .0.as_str(), .1)]
     Plugin(Name, Refusal),
-    /// The file of the plugin of this name couldn't be opened or read.
-    #[error("plugin {}: {}", .0.as_str(), RunFault::Read)]
-    Unread(Name),
+    /// The file of a plugin couldn't be opened or read.
+    #[error("plugin {}: {}", .0.plugin.as_str(), RunFault::Read)]
+    Unread(PluginUnread),
+    /// The file of a module that is to be checked couldn't be opened or read.
+    #[error("{}", RunFault::Read)]
+    UnreadModule(FileFault),
     /// The run of a script ended early.
     #[error("{0}")]
     Run(RunFault),
-    /// The line of this number, counted from 1, can't be counted: it may be a pod on a node, and no line of a script can say that it
-    /// is there, or there is no version left.
-    #[error("line {0}: 6 Uncounted")]
-    Uncounted(u64),
+    /// A line of objects can't be counted: it may be a pod on a node, and no line of a script can say that it is there, or there is
+    /// no version left.
+    #[error("line {}: 6 Uncounted", .0.number)]
+    Uncounted(LineUncounted),
 }
 
 impl Fault {
@@ -43,7 +47,9 @@ impl Fault {
             Fault::Words(WordFault::BadWords) | Fault::Misused(_) => 2,
             Fault::Words(WordFault::NoMemory)
             | Fault::Run(RunFault::NoMemory | RunFault::NoPlace) => 3,
-            Fault::Unread(_) | Fault::Run(RunFault::Read | RunFault::Write) => 4,
+            Fault::Unread(_)
+            | Fault::UnreadModule(_)
+            | Fault::Run(RunFault::Read | RunFault::Write) => 4,
         }
     }
 }

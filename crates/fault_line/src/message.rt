@@ -1,13 +1,15 @@
 //! The line by which the program tells a fault.
 ghost use Rattle.std.specs.Prelude.{◌≡◌, ◌+◌, ◌^◌, ◌<◌, ◌≤◌, ◌++◌, codes, length, decimal};
 ghost use Rattle.fault_line.specs.Fault.{status_of};
-ghost use Rattle.fault_line.specs.declared.fault.Fault.TheVariants.{Misused, Uncounted, Unread};
+ghost use Rattle.fault_line.specs.declared.fault.Fault.TheVariants.{Misused, Uncounted, Unread, UnreadModule};
 ghost use Rattle.fault_line.specs.Text.{fault_text};
+ghost use Rattle.fault_line.specs.Unread.{file_text, object_or_it};
 ghost use Rattle.fault_line.specs.Refusal.{refusal_text};
 ghost use Rattle.fault_line.specs.Message.{Tells, line_fault_text, run_text, part_name, count_letter, misuse_text, usage, text_of, message_of};
 
 use crate::fault::Fault;
 use crate::refusal::{Refusal, push_refusal};
+use crate::unread::{FileFault, LineUncounted, PluginUnread};
 use arrayvec::ArrayVec;
 use command::{Count, Misuse, Part, WordFault};
 use engine::{RunFault, Sink, write_all};
@@ -25,7 +27,7 @@ const USAGE: &[u8] =
 
 // What is to be done about a line that may be a pod on a node that can't be counted.
 const COUNT_IT: &[u8] =
-    b"; it may be a pod on a node, and no script line can count it: --answers says why, and kubectl get .. -o json | jq -c '.items[]' gives one object a line";
+    b" may be a pod on a node, and no script line can count it: --answers says why, and kubectl get .. -o json | jq -c '.items[]' gives one object a line";
 
 /// A line that is made without memory, so that want of memory can be told.
 pub type Message = ArrayVec<u8, MAX_MESSAGE>;
@@ -172,29 +174,72 @@ fn push_plugin_fault(message: &mut Message, name: &Name, refusal: Refusal)
     push_refusal(message, refusal);
 }
 
-// Adds which plugin's file couldn't be read.
+// Adds that a read failed.
 #[tactic(auto, using(crate::proofs::Lengths::run_name_short))]
-fn push_unread(message: &mut Message, name: &Name)
-    requires { length message.old.items + 103 ≤ 400 }
-    ensures text { message.new.items ≡ message.old.items ++ text_of (Unread name.now) }
-    ensures len { length message.new.items ≤ length message.old.items + 103 }
+fn push_read(message: &mut Message)
+    requires { length message.old.items + 31 ≤ 400 }
+    ensures text { message.new.items ≡ message.old.items ++ fault_text 3 (codes "Read") }
+    ensures len { length message.new.items ≤ length message.old.items + 31 }
 {
     let fault = RunFault::Read;
-    push(message, b"plugin ");
-    push(message, name.as_bytes());
-    push(message, b": ");
     push_fault(message, fault.number(), fault.name());
 }
 
-// Adds that the object on the line of this number can't be counted, and what is to be done.
-fn push_uncounted(message: &mut Message, number: u64)
-    requires { length message.old.items + 200 ≤ 400 }
-    ensures text { message.new.items ≡ message.old.items ++ text_of (Uncounted number) }
-    ensures len { length message.new.items ≤ length message.old.items + 200 }
+// Adds which file couldn't be read, and why.
+#[tactic(auto, unfolding(crate::specs::Unread::file_text))]
+fn push_file(message: &mut Message, fault: &FileFault)
+    requires { length message.old.items + 214 ≤ 400 }
+    ensures text { message.new.items ≡ message.old.items ++ file_text fault.now }
+    ensures len { length message.new.items ≤ length message.old.items + 214 }
+{
+    push(message, b"; ");
+    push(message, fault.file.as_slice());
+    push(message, b": ");
+    push(message, fault.cause.words().as_bytes());
+}
+
+// Adds which module's file couldn't be read, and why.
+fn push_unread_module(message: &mut Message, fault: &FileFault)
+    requires { length message.old.items + 245 ≤ 400 }
+    ensures text { message.new.items ≡ message.old.items ++ text_of (UnreadModule fault.now) }
+    ensures len { length message.new.items ≤ length message.old.items + 245 }
+{
+    push_read(message);
+    push_file(message, fault);
+}
+
+// Adds which plugin's file couldn't be read, and why.
+fn push_unread(message: &mut Message, unread: &PluginUnread)
+    requires { length message.old.items + 317 ≤ 400 }
+    ensures text { message.new.items ≡ message.old.items ++ text_of (Unread unread.now) }
+    ensures len { length message.new.items ≤ length message.old.items + 317 }
+{
+    push(message, b"plugin ");
+    push(message, unread.plugin.as_bytes());
+    push(message, b": ");
+    push_read(message);
+    push_file(message, &unread.fault);
+}
+
+// What can't be counted, as people know it.
+fn object_or_it(object: &[u8]) -> &[u8]
+    requires { length object.now ≤ 160 }
+    ensures text { result.now ≡ object_or_it object.now }
+    ensures short { length result.now ≤ 160 }
+{
+    if object.is_empty() { b"it" } else { object }
+}
+
+// Adds which line can't be counted, and what is to be done.
+fn push_uncounted(message: &mut Message, line: &LineUncounted)
+    requires { length message.old.items + 390 ≤ 400 }
+    ensures text { message.new.items ≡ message.old.items ++ text_of (Uncounted line.now) }
+    ensures len { length message.new.items ≤ length message.old.items + 390 }
 {
     push(message, b"line ");
-    push_number(message, number);
-    push(message, b": 6 Uncounted");
+    push_number(message, line.number);
+    push(message, b": 6 Uncounted; ");
+    push(message, object_or_it(line.object.as_slice()));
     push(message, COUNT_IT);
 }
 
@@ -209,9 +254,10 @@ fn fault_message(fault: &Fault) -> Message
         Fault::Words(fault) => push_fault(&mut message, fault.number(), fault.name()),
         Fault::Misused(misuse) => push_words_fault(&mut message, *misuse),
         Fault::Plugin(name, refusal) => push_plugin_fault(&mut message, name, *refusal),
-        Fault::Unread(name) => push_unread(&mut message, name),
+        Fault::Unread(unread) => push_unread(&mut message, unread),
+        Fault::UnreadModule(fault) => push_unread_module(&mut message, fault),
         Fault::Run(fault) => push_run_fault(&mut message, *fault),
-        Fault::Uncounted(number) => push_uncounted(&mut message, *number),
+        Fault::Uncounted(line) => push_uncounted(&mut message, line),
     }
     push(&mut message, b"\n");
     message

@@ -1,6 +1,5 @@
 -- A run of a site's script keeps its promise at each of its ends.
 use Rattle.std.proofs.Common.{◌≡◌, ◌≢◌, ◌⊎◌, ◌∙◌, ◌<◌, ◌≤◌, ℕ, Bool, List, Ok, Err, inl, inr, refl, sym, subst, ap, arith}
-use Rattle.quant.specs.declared.name.Name.{Name}
 use Rattle.plugin.specs.Kit.{Ready, rules_of}
 use Rattle.rules.specs.RuleSet.{RuleSet}
 use Rattle.choose.specs.Kits as choosing
@@ -13,7 +12,8 @@ use Rattle.engine.specs.declared.fault.RunFault.TheVariants as run_fault
 use Rattle.command.specs.Words.{SpecSyntax}
 use Rattle.command.specs.declared.fault.WordFault.TheVariants as word_fault
 use Rattle.fault_line.specs.declared.fault.Fault.{Fault}
-use Rattle.fault_line.specs.declared.fault.Fault.TheVariants.{Words, Misused, Plugin, Unread, Run, Uncounted}
+use Rattle.fault_line.specs.declared.fault.Fault.TheVariants.{Words, Misused, Plugin, Unread, UnreadModule, Run, Uncounted}
+use Rattle.fault_line.specs.declared.unread.PluginUnread.{PluginUnread}
 use Rattle.fault_line.specs.Fault.{status_of}
 use Rattle.serving.specs.Run.{IsSiteRun, TellsFailures, TellsFault}
 use Rattle.serving.specs.Site.{AreSiteKits, IsToldAs, SiteFaulty, SiteFront, SiteRefused, UnreadPlugin, WhyNoModules, WhyNoPlugin, WhyNoSite, named_of}
@@ -23,19 +23,20 @@ use Rattle.serving.proofs.SiteOutput.{site_done, site_front, site_line, done_fro
 -- ---- what is told of failures
 
 -- what is so where a fault is told, besides that it is
-abbrev pub Besides : (Left NotBegun : Type 0) (NoFile : Name → Type 0) → (source out : DeviceUse) → Fault → Type 0
+abbrev pub Besides : (Left NotBegun : Type 0) (NoFile : PluginUnread → Type 0) → (source out : DeviceUse) → Fault → Type 0
 Besides Left NotBegun NoFile source out (Run run_fault.NoPlace) = Left × out.IsUntouched × (source.failures_new ≡ source.failures_old) × (out.failures_new ≡ out.failures_old)
 Besides Left NotBegun NoFile source out (Run run_fault.Read) = (NotBegun × source.IsUntouched × out.IsUntouched) ⊎ (source.failures_old < source.failures_new)
 Besides Left NotBegun NoFile source out (Run run_fault.Write) = out.failures_old < out.failures_new
 Besides Left NotBegun NoFile source out (Run run_fault.NoMemory) = (source.failures_new ≡ source.failures_old) × (out.failures_new ≡ out.failures_old)
 Besides Left NotBegun NoFile source out (Run (run_fault.Line number why)) = (source.failures_new ≡ source.failures_old) × (out.failures_new ≡ out.failures_old)
-Besides Left NotBegun NoFile source out (Unread name) = NoFile name × source.IsUntouched × out.IsUntouched
+Besides Left NotBegun NoFile source out (Unread unread) = NoFile unread × source.IsUntouched × out.IsUntouched
 Besides Left NotBegun NoFile source out (Plugin name why) = (source.failures_new ≡ source.failures_old) × (out.failures_new ≡ out.failures_old)
 Besides Left NotBegun NoFile source out (Misused why) = (source.failures_new ≡ source.failures_old) × (out.failures_new ≡ out.failures_old)
 Besides Left NotBegun NoFile source out (Words why) = (source.failures_new ≡ source.failures_old) × (out.failures_new ≡ out.failures_old)
-Besides Left NotBegun NoFile source out (Uncounted number) = (source.failures_new ≡ source.failures_old) × (out.failures_new ≡ out.failures_old)
+Besides Left NotBegun NoFile source out (UnreadModule fault) = ⊥
+Besides Left NotBegun NoFile source out (Uncounted line) = (source.failures_new ≡ source.failures_old) × (out.failures_new ≡ out.failures_old)
 
-module _ (Left NotBegun : Type 0) (NoFile : Name → Type 0) (source out err : DeviceUse) (ended : ℕ) where
+module _ (Left NotBegun : Type 0) (NoFile : PluginUnread → Type 0) (source out err : DeviceUse) (ended : ℕ) where
   -- a fault that leaves the devices' failures as they were is told
   kept : (n : ℕ) → ended ≡ n → n ≢ 0 → n ≢ 4 → (n ≡ 3 → TellsFault err (Run run_fault.NoMemory)
       ⊎ (TellsFault err (Run run_fault.NoPlace) × Left × out.IsUntouched))
@@ -54,7 +55,8 @@ module _ (Left NotBegun : Type 0) (NoFile : Name → Type 0) (source out err : D
       kept 3 is (λ e. omega (arith, e)) (λ e. omega (arith, e)) (λ _. inl (rw no_memory_told at tells)) besides
   told (Misused why) is tells besides = kept 2 is (λ e. omega (arith, e)) (λ e. omega (arith, e)) (λ e. absurd (omega (arith, e))) besides
   told (Plugin name why) is tells besides = kept 1 is (λ e. omega (arith, e)) (λ e. omega (arith, e)) (λ e. absurd (omega (arith, e))) besides
-  told (Uncounted number) is tells besides = kept 1 is (λ e. omega (arith, e)) (λ e. omega (arith, e)) (λ e. absurd (omega (arith, e))) besides
+  told (UnreadModule fault) is tells besides = absurd besides
+  told (Uncounted line) is tells besides = kept 1 is (λ e. omega (arith, e)) (λ e. omega (arith, e)) (λ e. absurd (omega (arith, e))) besides
   told (Run (run_fault.Line number why)) is tells besides = kept 1 is (λ e. omega (arith, e)) (λ e. omega (arith, e)) (λ e. absurd (omega (arith, e))) besides
   told (Run run_fault.NoMemory) is tells besides = kept 3 is (λ e. omega (arith, e)) (λ e. omega (arith, e)) (λ _. inl tells) besides
   told (Run run_fault.NoPlace) is tells (unread, unwritten, reads, writes) =
@@ -71,10 +73,10 @@ module _ (Left NotBegun : Type 0) (NoFile : Name → Type 0) (source out err : D
     failed = λ _. inr (inl (tells, besides));
     failures_told = λ other. absurd (other is);
   }
-  told (Unread name) is tells besides = record {
+  told (Unread unread) is tells besides = record {
     quiet = λ e. absurd (omega (arith, is, e));
     room = λ e. absurd (omega (arith, is, e));
-    failed = λ _. inr (inr (name, tells, besides.0, besides.1, besides.2));
+    failed = λ _. inr (inr (unread, tells, besides.0, besides.1, besides.2));
     failures_told = λ other. absurd (other is);
   }
 
@@ -88,7 +90,7 @@ module _ (Left NotBegun : Type 0) (NoFile : Name → Type 0) (source out err : D
   }
 
 -- what is so besides where a run ends early
-pub besides_run : {T : Type 0} (Left NotBegun : Type 0) (NoFile : Name → Type 0) (rules : RuleSet) (telling : Telling) (source out : DeviceUse) (fault : RunFault)
+pub besides_run : {T : Type 0} (Left NotBegun : Type 0) (NoFile : PluginUnread → Type 0) (rules : RuleSet) (telling : Telling) (source out : DeviceUse) (fault : RunFault)
     → IsRun {T = T} rules telling source out (Err fault) → (fault ≡ run_fault.NoPlace → Left × out.IsUntouched) → Besides Left NotBegun NoFile source out (Run fault)
 besides_run Left NotBegun NoFile rules telling source out (run_fault.Line number why) run none = (run.read_told (λ e. cc), run.write_told (λ e. cc))
 besides_run Left NotBegun NoFile rules telling source out run_fault.NoMemory run none = (run.read_told (λ e. cc), run.write_told (λ e. cc))
@@ -106,7 +108,8 @@ plugin_status name bytes (Words why) why_not = absurd why_not
 plugin_status name bytes (Misused why) why_not = absurd why_not
 plugin_status name bytes (Plugin named why) why_not = inl refl
 plugin_status name bytes (Unread named) why_not = absurd why_not
-plugin_status name bytes (Uncounted number) why_not = absurd why_not
+plugin_status name bytes (UnreadModule fault) why_not = absurd why_not
+plugin_status name bytes (Uncounted line) why_not = absurd why_not
 plugin_status name bytes (Run run_fault.NoMemory) why_not = inr refl
 plugin_status name bytes (Run (run_fault.Line number why)) why_not = absurd why_not
 plugin_status name bytes (Run run_fault.Read) why_not = absurd why_not
@@ -123,14 +126,15 @@ site_status specs modules fault (inr (inr refused)) = by refused.none.told
     by (inr (is, plugin)) = inl (ap status_of plugin)
 
 -- then the devices' failures are as they were
-besides_no_site : (Left NotBegun : Type 0) (NoFile : Name → Type 0) (source out : DeviceUse) (fault : Fault) → (status_of fault ≡ 1) ⊎ (fault ≡ Run run_fault.NoMemory)
+besides_no_site : (Left NotBegun : Type 0) (NoFile : PluginUnread → Type 0) (source out : DeviceUse) (fault : Fault) → (status_of fault ≡ 1) ⊎ (fault ≡ Run run_fault.NoMemory)
     → source.failures_new ≡ source.failures_old → out.failures_new ≡ out.failures_old → Besides Left NotBegun NoFile source out fault
 besides_no_site Left NotBegun NoFile source out fault (inr memory) reads writes = subst (Besides Left NotBegun NoFile source out) (sym memory) (reads, writes)
 besides_no_site Left NotBegun NoFile source out (Words why) (inl one) reads writes = (reads, writes)
 besides_no_site Left NotBegun NoFile source out (Misused why) (inl one) reads writes = (reads, writes)
 besides_no_site Left NotBegun NoFile source out (Plugin name why) (inl one) reads writes = (reads, writes)
-besides_no_site Left NotBegun NoFile source out (Uncounted number) (inl one) reads writes = (reads, writes)
-besides_no_site Left NotBegun NoFile source out (Unread name) (inl one) reads writes = absurd (omega (arith, one))
+besides_no_site Left NotBegun NoFile source out (UnreadModule fault) (inl one) reads writes = absurd (omega (arith, one))
+besides_no_site Left NotBegun NoFile source out (Uncounted line) (inl one) reads writes = (reads, writes)
+besides_no_site Left NotBegun NoFile source out (Unread unread) (inl one) reads writes = absurd (omega (arith, one))
 besides_no_site Left NotBegun NoFile source out (Run (run_fault.Line number why)) (inl one) reads writes = (reads, writes)
 besides_no_site Left NotBegun NoFile source out (Run run_fault.NoMemory) (inl one) reads writes = (reads, writes)
 besides_no_site Left NotBegun NoFile source out (Run run_fault.Read) (inl one) reads writes = absurd (omega (arith, one))
@@ -138,7 +142,7 @@ besides_no_site Left NotBegun NoFile source out (Run run_fault.Write) (inl one) 
 besides_no_site Left NotBegun NoFile source out (Run run_fault.NoPlace) (inl one) reads writes = absurd (omega (arith, one))
 
 -- and why there is none is told
-pub no_site_told : (Left NotBegun : Type 0) (NoFile : Name → Type 0) (source out err : DeviceUse) (ended : ℕ) (specs : List SpecSyntax) (modules : List (List ℕ)) (fault : Fault) → WhyNoSite specs modules fault
+pub no_site_told : (Left NotBegun : Type 0) (NoFile : PluginUnread → Type 0) (source out err : DeviceUse) (ended : ℕ) (specs : List SpecSyntax) (modules : List (List ℕ)) (fault : Fault) → WhyNoSite specs modules fault
     → ended ≡ status_of fault → TellsFault err fault → source.failures_new ≡ source.failures_old → out.failures_new ≡ out.failures_old → TellsFailures Left NotBegun NoFile source out err ended
 no_site_told Left NotBegun NoFile source out err ended specs modules fault why is tells reads writes =
     told Left NotBegun NoFile source out err ended fault is tells (besides_no_site Left NotBegun NoFile source out fault (site_status specs modules fault why) reads writes)
@@ -147,12 +151,13 @@ no_site_told Left NotBegun NoFile source out err ended specs modules fault why i
 
 -- memory was wanting, or a plugin's file couldn't be read
 why_none : (specs : List SpecSyntax) (failures_old failures_new : ℕ) (fault : Fault) → WhyNoModules specs failures_old failures_new fault
-    → ((fault ≡ Run run_fault.NoMemory) × (failures_new ≡ failures_old)) ⊎ ((name : Name) × (fault ≡ Unread name) × UnreadPlugin specs failures_old failures_new name)
+    → ((fault ≡ Run run_fault.NoMemory) × (failures_new ≡ failures_old)) ⊎ ((unread : PluginUnread) × (fault ≡ Unread name) × UnreadPlugin specs failures_old failures_new unread)
 why_none specs failures_old failures_new (Words fault) why = absurd why
 why_none specs failures_old failures_new (Misused fault) why = absurd why
 why_none specs failures_old failures_new (Plugin name fault) why = absurd why
-why_none specs failures_old failures_new (Uncounted number) why = absurd why
-why_none specs failures_old failures_new (Unread name) why = inr (name, refl, why)
+why_none specs failures_old failures_new (UnreadModule unread) why = absurd why
+why_none specs failures_old failures_new (Uncounted line) why = absurd why
+why_none specs failures_old failures_new (Unread unread) why = inr (unread, refl, why)
 why_none specs failures_old failures_new (Run run_fault.NoMemory) why = inl (refl, why)
 why_none specs failures_old failures_new (Run (run_fault.Line number fault)) why = absurd why
 why_none specs failures_old failures_new (Run run_fault.Read) why = absurd why
@@ -181,7 +186,7 @@ pub no_modules_told : (Left NotBegun : Type 0) (source out err : DeviceUse) (end
 no_modules_told Left NotBegun source out err ended specs failures_old failures_new fault why is tells unread unwritten reads writes =
     told Left NotBegun (UnreadPlugin specs failures_old failures_new) source out err ended fault is tells (by (why_none specs failures_old failures_new fault why))
   where
-    by : ((fault ≡ Run run_fault.NoMemory) × (failures_new ≡ failures_old)) ⊎ ((name : Name) × (fault ≡ Unread name) × UnreadPlugin specs failures_old failures_new name)
+    by : ((fault ≡ Run run_fault.NoMemory) × (failures_new ≡ failures_old)) ⊎ ((unread : PluginUnread) × (fault ≡ Unread name) × UnreadPlugin specs failures_old failures_new unread)
         → Besides Left NotBegun (UnreadPlugin specs failures_old failures_new) source out fault
     by (inl (memory, same)) = subst (Besides Left NotBegun (UnreadPlugin specs failures_old failures_new) source out) (sym memory) (reads, writes)
     by (inr (name, is, lacks)) = subst (Besides Left NotBegun (UnreadPlugin specs failures_old failures_new) source out) (sym is) (lacks, unread, unwritten)
@@ -286,7 +291,7 @@ run_given explains A B specs source out err ended weaker run = record {
     front (inr (modules, given, begins)) = inr (modules, weaker modules given, begins)
 
 -- and of failures, where less is said of why nothing was begun and of files
-pub failures_given : (Left A B : Type 0) (NoFileA NoFileB : Name → Type 0) (source out err : DeviceUse) (ended : ℕ) → (A → B) → ((name : Name) → NoFileA name → NoFileB name)
+pub failures_given : (Left A B : Type 0) (NoFileA NoFileB : PluginUnread → Type 0) (source out err : DeviceUse) (ended : ℕ) → (A → B) → ((unread : PluginUnread) → NoFileA unread → NoFileB unread)
     → TellsFailures Left A NoFileA source out err ended → TellsFailures Left B NoFileB source out err ended
 failures_given Left A B NoFileA NoFileB source out err ended weaker lacking failures = record {
   quiet = failures.quiet;
@@ -297,10 +302,10 @@ failures_given Left A B NoFileA NoFileB source out err ended weaker lacking fail
   where
     by : TellsFault err (Run run_fault.Read) × ((A × source.IsUntouched × out.IsUntouched) ⊎ (source.failures_old < source.failures_new))
         ⊎ (TellsFault err (Run run_fault.Write) × (out.failures_old < out.failures_new)
-        ⊎ ((name : Name) × TellsFault err (Unread name) × NoFileA name × source.IsUntouched × out.IsUntouched))
+        ⊎ ((unread : PluginUnread) × TellsFault err (Unread unread) × NoFileA unread × source.IsUntouched × out.IsUntouched))
         → TellsFault err (Run run_fault.Read) × ((B × source.IsUntouched × out.IsUntouched) ⊎ (source.failures_old < source.failures_new))
         ⊎ (TellsFault err (Run run_fault.Write) × (out.failures_old < out.failures_new)
-        ⊎ ((name : Name) × TellsFault err (Unread name) × NoFileB name × source.IsUntouched × out.IsUntouched))
+        ⊎ ((unread : PluginUnread) × TellsFault err (Unread unread) × NoFileB unread × source.IsUntouched × out.IsUntouched))
     by (inl (tells, inl (begun, unread, unwritten))) = inl (tells, inl (weaker begun, unread, unwritten))
     by (inl (tells, inr read)) = inl (tells, inr read)
     by (inr (inl write)) = inr (inl write)

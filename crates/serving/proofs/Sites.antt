@@ -15,7 +15,7 @@ use Rattle.serving.specs.Verdict.{front_of}
 use Rattle.engine.specs.declared.fault.RunFault.TheVariants as run_fault
 use Rattle.engine.specs.declared.named_rule.NamedRule.{NamedRule}
 use Rattle.fault_line.specs.declared.fault.Fault.{Fault}
-use Rattle.fault_line.specs.declared.fault.Fault.TheVariants.{Words, Misused, Plugin, Unread, Run, Uncounted}
+use Rattle.fault_line.specs.declared.fault.Fault.TheVariants.{Words, Misused, Plugin, Unread, UnreadModule, Run, Uncounted}
 use Rattle.serving.specs.Site.{ArePlugins, IsPlugin, ModuleRefused, WhyNoModules, WhyNoPlugin, AreFromFiles, named_of}
 use Rattle.serving.specs.inside.Site.{WhyNoModule}
 
@@ -182,13 +182,20 @@ many_modules bytes_of contents specs modules are =
 
 -- where one can't be had, there are none
 pub no_modules : (specs : List Spec) (first old new : ℕ) (i : ℕ) (spec : Spec) (fault : Fault) → slice_get specs i ≡ Some spec → old ≡ first
-    → WhyNoModule spec.name old new fault → WhyNoModules (map syntax_of specs) first new fault
+    → WhyNoModule (syntax_of spec) old new fault → WhyNoModules (map syntax_of specs) first new fault
 no_modules specs first old new i spec (Words fault) at same why = absurd why
 no_modules specs first old new i spec (Misused fault) at same why = absurd why
 no_modules specs first old new i spec (Plugin name fault) at same why = absurd why
-no_modules specs first old new i spec (Uncounted number) at same why = absurd why
-no_modules specs first old new i spec (Unread name) at same why =
-    record { place = i; spec = syntax_of spec; spec_is = at_image syntax_of specs i spec at; named = sym why.0; failed = omega (arith, same, why.1) }
+no_modules specs first old new i spec (Uncounted line) at same why = absurd why
+no_modules specs first old new i spec (UnreadModule unread) at same why = absurd why
+no_modules specs first old new i spec (Unread unread) at same why = record {
+  place = i;
+  spec = syntax_of spec;
+  spec_is = at_image syntax_of specs i spec at;
+  named = sym why.0;
+  file = why.1;
+  failed = omega (arith, same, why.2);
+}
 no_modules specs first old new i spec (Run run_fault.NoMemory) at same why = why ∙ same
 no_modules specs first old new i spec (Run (run_fault.Line number fault)) at same why = absurd why
 no_modules specs first old new i spec (Run run_fault.Read) at same why = absurd why

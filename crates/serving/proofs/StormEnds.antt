@@ -1,7 +1,7 @@
 -- A storm of a site's script keeps its promise at each of its ends.
 use Rattle.std.proofs.Common.{◌≡◌, ◌⊎◌, ◌∙◌, ◌<◌, ◌≤◌, ℕ, Bool, true, false, List, [], ◌∷◌, map, length, Ok, Err, inl, inr, refl, sym, subst, ap, arith, get_or}
 use Rattle.std.proofs.lemmas.List.{get_or-map, length-map}
-use Rattle.quant.specs.declared.name.Name.{Name}
+use Rattle.fault_line.specs.declared.unread.PluginUnread.{PluginUnread}
 use Rattle.desk.specs.declared.step.Step.{Step}
 use Rattle.desk.specs.History.{Call, Legal}
 use Rattle.desk.specs.Shared.{Desk}
@@ -175,7 +175,7 @@ module _ (AreGiven : List (List ℕ) → Type 0) (specs : List SpecSyntax) (cycl
 -- ---- what is told of failures
 
 -- the audit answered: no fault is told
-pub audit_told : (Left NotBegun : Type 0) (NoFile : Name → Type 0) (source out err : DeviceUse) (ended : ℕ) (answer : Bool) → ended ≡ audit_status answer → err.IsUntouched
+pub audit_told : (Left NotBegun : Type 0) (NoFile : PluginUnread → Type 0) (source out err : DeviceUse) (ended : ℕ) (answer : Bool) → ended ≡ audit_status answer → err.IsUntouched
     → source.failures_new ≡ source.failures_old → out.failures_new ≡ out.failures_old → TellsFailures Left NotBegun NoFile source out err ended
 audit_told Left NotBegun NoFile source out err ended true is untold reads writes = record {
   quiet = λ _. untold;
@@ -191,7 +191,7 @@ audit_told Left NotBegun NoFile source out err ended false is untold reads write
 }
 
 -- what is so besides where a storm ends early
-pub besides_storm : {D : Type 0} (NotBegun : Type 0) (NoFile : Name → Type 0) (kits_in : D → List (List Ready)) (deciders : List D) (binders : ℕ) (source out : DeviceUse) (fault : RunFault)
+pub besides_storm : {D : Type 0} (NotBegun : Type 0) (NoFile : PluginUnread → Type 0) (kits_in : D → List (List Ready)) (deciders : List D) (binders : ℕ) (source out : DeviceUse) (fault : RunFault)
     → IsStormRun (λ d. choosing.rules_of rules_of (kits_in d)) deciders binders source out (Err fault) → Besides (Unit {0}) NotBegun NoFile source out (Run fault)
 besides_storm NotBegun NoFile kits_in deciders binders source out (run_fault.Line number why) run = (run.read_told (λ e. cc), run.write_told (λ e. cc))
 besides_storm NotBegun NoFile kits_in deciders binders source out run_fault.NoMemory run = (run.read_told (λ e. cc), run.write_told (λ e. cc))

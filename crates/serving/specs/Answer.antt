@@ -8,7 +8,7 @@ use Rattle.fault_line.specs.declared.fault.Fault.{Fault}
 use Rattle.fault_line.specs.declared.fault.Fault.TheVariants.{Run, Words}
 use Rattle.fault_line.specs.Fault.{status_of}
 use Rattle.translator.specs.Translate.{Manner, IsTranslated}
-use Rattle.serving.specs.Check.{IsCheck}
+use Rattle.serving.specs.Check.{CannotRead, IsCheck}
 use Rattle.serving.specs.Run.{IsSiteRun, TellsFailures, TellsFault, told_of}
 use Rattle.serving.specs.Site.{AreFromFiles, UnreadPlugin}
 use Rattle.serving.specs.Storm.{IsSiteStorm}
@@ -30,7 +30,7 @@ files_of contents failures old new = record { contents = contents old; failures_
 -- status. `Unkeyed` says that there are no keys: then nothing is begun.
 pub record IsPlannedRun (explains : Bool) (specs : List SpecSyntax) (Unkeyed : Type 0) (files : FilesUse) (source out err : DeviceUse) (ended : ℕ) : Type 0 where
   pub run : IsSiteRun explains (AreFromFiles files.contents specs) specs source out err ended
-  -- without a place nothing is read; a file that failed is told with the plugin whose file it is
+  -- without a place nothing is read; a file that failed is told by its name, with the plugin whose file it is
   pub failures : TellsFailures source.IsUntouched Unkeyed (UnreadPlugin specs files.failures_old files.failures_new) source out err ended
   -- and at any other status no file has failed
   pub files_told : ended ≢ 4 → files.failures_new ≡ files.failures_old
@@ -43,7 +43,7 @@ pub record IsPlannedStorm (cycles binders : ℕ) (specs : List SpecSyntax) (Unke
 
 -- a check of the module in this file ended with this status, and the source is as it was
 pub record IsFileCheck (file : List ℕ) (files : FilesUse) (source out err : DeviceUse) (ended : ℕ) : Type 0 where
-  pub check : IsCheck (files.contents file) (files.failures_old < files.failures_new) out err ended
+  pub check : IsCheck (files.contents file) (CannotRead file files.failures_old files.failures_new) out err ended
   pub files_told : ended ≢ 4 → files.failures_new ≡ files.failures_old
   pub unread : source.IsUntouched
 

@@ -17,6 +17,8 @@ use Rattle.engine.specs.declared.fault.RunFault.TheVariants as run_fault
 use Rattle.command.specs.Words.{SpecSyntax}
 use Rattle.fault_line.specs.declared.fault.Fault.{Fault}
 use Rattle.fault_line.specs.declared.fault.Fault.TheVariants.{Plugin, Unread, Run}
+use Rattle.fault_line.specs.declared.unread.PluginUnread.{PluginUnread}
+use Rattle.fault_line.specs.Excerpt.{excerpt_of}
 use Rattle.fault_line.specs.declared.refusal.Refusal.TheVariants.{NotReady}
 use Rattle.fault_line.specs.Fault.{status_of}
 use Rattle.serving.specs.Verdict.{IsRefusedFor, front_of}
@@ -70,19 +72,20 @@ WritesSiteFront explains specs modules script old new = (kit : List Ready) × Is
 abbrev pub AreFromFiles : (contents : List ℕ → Option (List ℕ)) → List SpecSyntax → (modules : List (List ℕ)) → Type 0
 AreFromFiles contents specs modules = AllZip (λ spec bytes. IfSome (contents spec.file) (λ whole. bytes ≡ front_of whole)) specs modules
 
--- The file of the plugin of this name couldn't be read, where files have failed this often before and by now: the words configure the plugin.
-pub record UnreadPlugin (specs : List SpecSyntax) (failures_old failures_new : ℕ) (name : List ℕ) : Type 0 where
+-- A plugin's file couldn't be read, where files have failed this often before and by now: the words configure the plugin by this file.
+pub record UnreadPlugin (specs : List SpecSyntax) (failures_old failures_new : ℕ) (unread : PluginUnread) : Type 0 where
   pub place : ℕ
   pub spec : SpecSyntax
   pub spec_is : slice_get specs place ≡ Some spec
-  pub named : spec.name ≡ name
+  pub named : spec.name ≡ unread.plugin
+  pub file : unread.fault.file.items ≡ excerpt_of spec.file
   pub failed : failures_old < failures_new
 
 -- Why there are no modules of the plugins that the words configure: memory was wanting, and no file has failed; or a plugin's file couldn't be
 -- read.
 abbrev pub WhyNoModules : List SpecSyntax → (failures_old failures_new : ℕ) → Fault → Type 0
 WhyNoModules specs failures_old failures_new (Run run_fault.NoMemory) = failures_new ≡ failures_old
-WhyNoModules specs failures_old failures_new (Unread name) = UnreadPlugin specs failures_old failures_new name
+WhyNoModules specs failures_old failures_new (Unread unread) = UnreadPlugin specs failures_old failures_new unread
 WhyNoModules specs failures_old failures_new _ = ⊥
 
 -- so many kits are those of one site

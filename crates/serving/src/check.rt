@@ -5,10 +5,11 @@ ghost use Rattle.engine.specs.Device.{AppendsFront, use_of};
 ghost use Rattle.engine.specs.declared.fault.RunFault.TheVariants as run_fault;
 ghost use Rattle.fault_line.specs.declared.fault.Fault.TheVariants.{Run};
 ghost use Rattle.fault_line.specs.Message.{Tells, message_of};
-ghost use Rattle.serving.specs.Check.{IsCheck};
+ghost use Rattle.serving.specs.Check.{CannotRead, IsCheck};
 ghost use Rattle.serving.specs.Verdict.{status_for, verdict_line};
 
 use crate::folder::Files;
+use crate::site::file_fault;
 use crate::verdict::{Verdict, line_of, verdict_on};
 use engine::{RunFault, Sink, write_all};
 use fault_line::{Fault, report};
@@ -21,7 +22,7 @@ use wbin::LONGEST;
 pub fn check_module<W: Sink, E: Sink>(alloc: Global, bytes: &[u8], out: &mut W, err: &mut E) -> u8
     requires writes { W.failure_count out.old < 10 ^ 18 }
     requires tells { E.failure_count err.old < 10 ^ 18 }
-    ensures { IsCheck (Some bytes.now) ⊥ (use_of W.written W.failure_count out.old out.new)
+    ensures { IsCheck (Some bytes.now) (λ _. ⊥) (use_of W.written W.failure_count out.old out.new)
         (use_of E.written E.failure_count err.old err.new) result }
 {
     match verdict_on(alloc, bytes) {
@@ -52,7 +53,8 @@ fn tell<W: Sink, E: Sink>(verdict: Verdict, out: &mut W, err: &mut E) -> u8
 }
 
 /// Says on `out` whether the file of this name has a module that is accepted, as `check_module`
-/// does. That the file can't be opened or read goes to `err` as one line, and nothing is written.
+/// does. That the file can't be opened or read goes to `err` as one line, with its name and the cause, and
+/// nothing is written.
 pub fn check_file<F: Files, W: Sink, E: Sink>(
     alloc: Global,
     name: &str,
@@ -63,14 +65,15 @@ pub fn check_file<F: Files, W: Sink, E: Sink>(
     requires reads { F.failure_count files.old < 10 ^ 18 }
     requires writes { W.failure_count out.old < 10 ^ 18 }
     requires tells { E.failure_count err.old < 10 ^ 18 }
-    ensures check { IsCheck (F.contents files.old name.now) (F.failure_count files.old < F.failure_count files.new)
-        (use_of W.written W.failure_count out.old out.new) (use_of E.written E.failure_count err.old err.new) result }
+    ensures check { IsCheck (F.contents files.old name.now)
+        (CannotRead name.now (F.failure_count files.old) (F.failure_count files.new)) (use_of W.written W.failure_count out.old out.new) (use_of E.written E.failure_count err.old err.new) result }
 
     // And that is told of a file that failed: at any other status none has.
     ensures files_told { result ≢ 4 → F.failure_count files.new ≡ F.failure_count files.old }
 {
     match files.read_front(alloc, name, LONGEST + 1) {
         Ok(bytes) => check_module(alloc, bytes.as_slice(), out, err),
-        Err(fault) => report(Fault::Run(fault), err),
+        Err(RunFault::NoMemory) => report(Fault::Run(RunFault::NoMemory), err),
+        Err(_) => report(Fault::UnreadModule(file_fault(name, files.cause())), err),
     }
 }

@@ -1,12 +1,14 @@
 //! The files that are read, over std's files.
-ghost use Rattle.std.specs.Prelude.{◌≡◌, ◌^◌, ◌<◌, ◌≤◌, ◌⊎◌, ℕ, List, Option, Some, None, IfErr, IfOk, IfSome, OnOk, length, take};
+ghost use Rattle.std.specs.Prelude.{◌≡◌, ◌+◌, ◌^◌, ◌<◌, ◌≤◌, ◌⊎◌, ℕ, List, Option, Some, None, IfErr, IfOk, IfSome, OnOk, length, take};
 ghost use Rattle.engine.specs.Device.{CountsFailure};
 ghost use Rattle.engine.specs.declared.fault.RunFault.TheVariants.{Read, NoMemory};
 
 use crate::device::Input;
 use engine::{DeviceFailed, RunFault, Source};
+use fault_line::Cause;
 use std::alloc::Global;
 use std::fs;
+use std::io::ErrorKind;
 
 /// Files that are found by their names.
 pub trait Files {
@@ -28,6 +30,9 @@ pub trait Files {
         ensures wanting { IfErr result (λ e. e ≡ NoMemory → failure_count self.new ≡ failure_count self.old) }
         ensures read { OnOk result (failure_count self.new ≡ failure_count self.old) }
         ensures same { contents self.new ≡ contents self.old };
+
+    /// Why the last file that couldn't be opened or read couldn't, as far as the system says it.
+    fn cause(&self) -> Cause;
 }
 
 /// The files of a runtime. What they have isn't known.
@@ -35,6 +40,7 @@ pub trait Files {
 pub struct Folder<'a, R: fs::Files> {
     files: &'a R,
     failures: u64,
+    cause: Cause,
 }
 
 impl<'a, R: fs::Files> Folder<'a, R> {
@@ -42,7 +48,34 @@ impl<'a, R: fs::Files> Folder<'a, R> {
     pub fn new(files: &'a R) -> Folder<'a, R>
         ensures { result.failures ≡ 0 }
     {
-        Folder { files, failures: 0 }
+        Folder {
+            files,
+            failures: 0,
+            cause: Cause::Other,
+        }
+    }
+
+    // That one more file couldn't be opened or read, for this cause.
+    fn failed(&mut self, cause: Cause) -> RunFault
+        requires { self.old.failures < 10 ^ 18 }
+        ensures fault { result ≡ Read }
+        ensures counted { self.new.failures ≡ self.old.failures + 1 }
+    {
+        self.failures += 1;
+        self.cause = cause;
+        RunFault::Read
+    }
+}
+
+// What the system's error says of a file that can't be opened.
+fn cause_of(error: ErrorKind) -> Cause {
+    match error {
+        ErrorKind::NotFound => Cause::Missing,
+        ErrorKind::PermissionDenied => Cause::Denied,
+        ErrorKind::NotADirectory | ErrorKind::InvalidFilename | ErrorKind::InvalidInput => {
+            Cause::BadName
+        }
+        _ => Cause::Other,
     }
 }
 
@@ -53,14 +86,20 @@ impl<R: fs::Files> Files for Folder<'_, R> {
 
     fn read_front(&mut self, alloc: Global, name: &str, most: usize) -> Result<Vec<u8>, RunFault> {
         let mut bytes = vec![in alloc; 0; most]?;
-        if let Ok(file) = fs::open(self.files, name)
-            && let Ok(len) = fill(&mut Input::new(file), bytes.as_mut_slice())
-        {
-            bytes.truncate(len);
-            return Ok(bytes);
+        match fs::open(self.files, name) {
+            Ok(file) => {
+                if let Ok(len) = fill(&mut Input::new(file), bytes.as_mut_slice()) {
+                    bytes.truncate(len);
+                    return Ok(bytes);
+                }
+                Err(self.failed(Cause::Unreadable))
+            }
+            Err(error) => Err(self.failed(cause_of(error.kind()))),
         }
-        self.failures += 1;
-        Err(RunFault::Read)
+    }
+
+    fn cause(&self) -> Cause {
+        self.cause
     }
 }
 

@@ -25,7 +25,9 @@ mod with_kits;
 
 pub use check::{check_file, check_module};
 pub use device::{Input, Output};
-pub use fault_line::{Fault, Refusal, report};
+pub use fault_line::{
+    Cause, Fault, FileFault, LineUncounted, PluginUnread, Refusal, excerpt_of, report,
+};
 pub use folder::{Files, Folder};
 pub use laws::{decided_by_calls, one_site_output};
 pub use program::answer;

@@ -11,6 +11,7 @@ ghost use Rattle.command.specs.Within.{AreWithinLimits, IsWithinLimits};
 ghost use Rattle.command.specs.Words.{syntax_of};
 ghost use Rattle.engine.specs.declared.fault.RunFault.TheVariants as run_fault;
 ghost use Rattle.fault_line.specs.declared.fault.Fault.TheVariants.{Run};
+ghost use Rattle.fault_line.specs.Excerpt.{excerpt_of};
 ghost use Rattle.serving.specs.Site.{IsToldAs, AreFromFiles, ArePlugins, AreSiteKits, IsPlugin, NoKit, ModuleRefused, WhyNoModules, WhyNoPlugin, WhyNoSite};
 ghost use Rattle.serving.specs.inside.Site.{WhyNoModule};
 ghost use Rattle.serving.specs.Verdict.{front_of};
@@ -19,7 +20,7 @@ use crate::folder::Files;
 use crate::verdict::{Unaccepted, accepted_in};
 use command::Spec;
 use engine::RunFault;
-use fault_line::{Fault, Refusal};
+use fault_line::{Cause, Fault, FileFault, PluginUnread, Refusal, excerpt_of};
 use plugin::{AddFault, Kit, KitFault, KitRules, Plugin, Plugins, kits_are_alike};
 use quant::Name;
 use std::alloc::Global;
@@ -174,13 +175,27 @@ fn module_in<F: Files>(alloc: Global, spec: &Spec<'_>, files: &mut F) -> Result<
     requires { F.failure_count files.old < 10 ^ 18 }
     ensures front { IfOk result (λ bytes. IfSome (F.contents files.old spec.now.file.now) (λ whole. bytes.items
         ≡ front_of whole)) }
-    ensures failed { IfErr result (WhyNoModule spec.now.name (F.failure_count files.old) (F.failure_count files.new)) }
+    ensures failed { IfErr result (WhyNoModule (syntax_of spec.now) (F.failure_count files.old)
+        (F.failure_count files.new)) }
     ensures read { OnOk result (F.failure_count files.new ≡ F.failure_count files.old) }
     ensures same { F.contents files.new ≡ F.contents files.old }
 {
     match files.read_front(alloc, spec.file, LONGEST + 1) {
         Ok(bytes) => Ok(bytes),
         Err(RunFault::NoMemory) => Err(NO_MEMORY),
-        Err(_) => Err(Fault::Unread(spec.name.copied())),
+        Err(_) => Err(Fault::Unread(PluginUnread {
+            plugin: spec.name.copied(),
+            fault: file_fault(spec.file, files.cause()),
+        })),
+    }
+}
+
+/// That the file of this name couldn't be opened or read.
+pub(crate) fn file_fault(name: &str, cause: Cause) -> FileFault
+    ensures { result.file.items ≡ excerpt_of name.now }
+{
+    FileFault {
+        file: excerpt_of(name.as_bytes()),
+        cause,
     }
 }

@@ -7,9 +7,12 @@ use Rattle.engine.specs.Device.{DeviceUse, AppendsFront}
 use Rattle.engine.specs.Lines.{lines_of, TakesFront}
 use Rattle.engine.specs.declared.fault.RunFault.{RunFault}
 use Rattle.engine.specs.declared.fault.RunFault.TheVariants as run_fault
+use Rattle.objects.specs.ObjectName.{name_in}
 use Rattle.objects.specs.Told.{Told}
 use Rattle.fault_line.specs.declared.fault.Fault.{Fault}
 use Rattle.fault_line.specs.declared.fault.Fault.TheVariants.{Run, Uncounted}
+use Rattle.fault_line.specs.declared.unread.LineUncounted.{LineUncounted}
+use Rattle.fault_line.specs.Excerpt.{excerpt_of}
 use Rattle.fault_line.specs.Fault.{status_of}
 use Rattle.fault_line.specs.Message.{Tells, message_of}
 use Rattle.translator.specs.declared.waiting.Stopped.{Stopped}
@@ -44,13 +47,14 @@ module _ (manner : Manner) (input out_old out_new err_old err_new : Option (List
     pub whole : IfSome input (λ text. IsWholeTranslation manner text answers left_out × (left ≡ Some []))
 
   -- all of those in front of a line are, which can't be counted
-  pub record UpToLine (number : ℕ) (given : Option Told) : Type 0 where
+  pub record UpToLine (number : ℕ) (kept : List ℕ) (given : Option Told) : Type 0 where
     pub answers : List ℕ
     pub left_out : List ℕ
     pub writes : Appends out_old out_new answers
     pub tells : Appends err_old err_new left_out
     pub front : IfSome input (λ text. BeginsTranslation manner text answers left_out)
-    pub line : given ≡ None → IfSome input (λ text. EndsAtLine manner text number answers left_out)
+    pub line : (lost : LineUncounted) → lost.number ≡ number → lost.object.items ≡ excerpt_of (name_in kept) → given ≡ None
+        → IfSome input (λ text. EndsAtLine manner text lost answers left_out)
 
 -- before anything is read, nothing is
 pub front_of_nothing : (manner : Manner) (input out err : Option (List ℕ)) → Front manner input out out err err
@@ -108,7 +112,7 @@ module _ (manner : Manner) (input rest out_old out_now err_old err_now : Option 
   -- a line can't be answered, and nothing waits
   pub line_now : (later : Option (List ℕ)) (line : List ℕ) (version number : ℕ) → TakesFront 2097153 rest later line
       → IsGoing manner input rest out_old out_now err_old err_now [] [] version number
-      → UpToLine manner input out_old out_now err_old err_now (number + 1) (told_under manner version line)
+      → UpToLine manner input out_old out_now err_old err_now (number + 1) line (told_under manner version line)
   line_now later line version number took so_far =
       let front : IfSome input (λ text. BeginsTranslation manner text (so_far.written ++ []) (so_far.told ++ [])) =
       known_front manner input rest _ _ _ _ _ _ so_far.at [] [] [] [] refl refl in
@@ -119,7 +123,7 @@ module _ (manner : Manner) (input rest out_old out_now err_old err_now : Option 
         tells = so_far.err;
         front = subst (λ told. IfSome input (λ text. BeginsTranslation manner text so_far.written told)) (append-nil so_far.told)
             (subst (λ written. IfSome input (λ text. BeginsTranslation manner text written (so_far.told ++ []))) (append-nil so_far.written) front);
-        line = λ none. known_line manner input rest later line _ _ version number took none so_far.at;
+        line = λ lost counted named none. known_line manner input rest later line _ _ version number lost took counted named none so_far.at;
       }
 
 -- the whole begins it too
@@ -221,9 +225,9 @@ module _ {T : Type 0} (manner : Manner) (source out err : DeviceUse) where
   at_end (Err stopped) out_was err_was whole begun counts failed same alike reads = written_not stopped out_was err_was failed same alike reads begun
 
   -- a line can't be counted, or memory was wanting for it
-  pub at_line : (fault : Fault) (number : ℕ) (given : Option Told) → IsLineEnd number given fault → NoneFailed source out err
-      → UpToLine manner source.old out.old out.new err.old err.new number given → IsStopped {T = T} manner source out err (Err (By fault))
-  at_line (Run run_fault.NoMemory) number given is none up_to = record {
+  pub at_line : (fault : Fault) (number : ℕ) (kept : List ℕ) (given : Option Told) → IsLineEnd number kept given fault → NoneFailed source out err
+      → UpToLine manner source.old out.old out.new err.old err.new number kept given → IsStopped {T = T} manner source out err (Err (By fault))
+  at_line (Run run_fault.NoMemory) number kept given is none up_to = record {
     answers = up_to.answers;
     left_out = up_to.left_out;
     writes = up_to.writes;
@@ -233,17 +237,17 @@ module _ {T : Type 0} (manner : Manner) (source out err : DeviceUse) where
     ends = no_line manner source.old up_to.answers up_to.left_out (By (Run run_fault.NoMemory)) (λ text. tt);
     front = up_to.front;
   }
-  at_line (Uncounted n) number given is none up_to = record {
+  at_line (Uncounted lost) number kept given is none up_to = record {
     answers = up_to.answers;
     left_out = up_to.left_out;
     writes = up_to.writes;
     tells = up_to.tells;
     done = tt;
     failed = none;
-    ends = subst (λ m. IfSome source.old (λ text. EndsAtLine manner text m up_to.answers up_to.left_out)) (sym is.0) (up_to.line is.1);
+    ends = up_to.line lost is.0 is.1 is.2;
     front = up_to.front;
   }
-  at_line _ number given is none up_to = absurd is
+  at_line _ number kept given is none up_to = absurd is
 
 -- ---- when it is told
 
@@ -298,13 +302,13 @@ module _ {T : Type 0} (manner : Manner) (source out : DeviceUse) (err_old err_wa
     front = stopped.front;
     failures_told = λ other. absurd (other is);
   }
-  told_at_end (Uncounted number) stopped is tells = record {
+  told_at_end (Uncounted lost) stopped is tells = record {
     status = inr (inl is);
     answers = stopped.answers;
     left_out = stopped.left_out;
     writes = stopped.writes;
     done = λ e. absurd (omega (arith, is, e));
-    uncounted = λ _. (number, behind err_old err_was err_now failures_old failures_was failures_now Touched stopped.left_out (Uncounted number) stopped.tells stopped.failed.2 tells, stopped.ends);
+    uncounted = λ _. (lost, behind err_old err_was err_now failures_old failures_was failures_now Touched stopped.left_out (Uncounted lost) stopped.tells stopped.failed.2 tells, stopped.ends);
     room = λ e. absurd (omega (arith, is, e));
     failed = λ e. absurd (omega (arith, is, e));
     front = stopped.front;

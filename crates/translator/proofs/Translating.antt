@@ -1,5 +1,5 @@
 -- How far a translation has come: what is written and what waits answers the lines that were taken.
-use Rattle.std.proofs.Common.{◌≡◌, ◌∙◌, ℕ, ◌+◌, Bool, false, cond, leb, List, [], ◌∷◌, ◌++◌, length, take, Option, Some, None, IfSome, ⊎_elim, refl, sym, subst, ap, arith, append_assoc}
+use Rattle.std.proofs.Common.{◌≡◌, ◌∙◌, ℕ, ◌+◌, Bool, true, false, cond, leb, List, [], ◌∷◌, ◌++◌, length, take, Option, Some, None, IfSome, ⊎_elim, refl, sym, subst, ap, arith, append_assoc}
 use Rattle.std.specs.Prelude.{nat_le}
 use Rattle.std.proofs.KnownBytes.{Appends-trans, Appends-nil}
 use Rattle.std.proofs.lemmas.Bool.{lt-leb, cases_lt}
@@ -11,11 +11,14 @@ use Rattle.engine.specs.inside.Device.{WritesSome}
 use Rattle.engine.specs.Lines.{lines_of, TakesFront}
 use Rattle.engine.proofs.Taking.{lines_of-nil}
 use Rattle.objects.specs.declared.translation.Translation.{Translation}
+use Rattle.objects.specs.ObjectName.{name_in}
 use Rattle.objects.specs.Site.{Site}
 use Rattle.objects.specs.Told.{Told, line_told, told_or_uncounted, told}
 use Rattle.objects.specs.Translation.{IsTranslation}
+use Rattle.fault_line.specs.declared.unread.LineUncounted.{LineUncounted}
+use Rattle.fault_line.specs.Excerpt.{excerpt_of}
 use Rattle.translator.specs.declared.waiting.Waiting.{Waiting}
-use Rattle.translator.specs.Translate.{Manner, AreTranslated, BeginsTranslation, EndsAtLine, IsWholeTranslation, answer_text, answers_text, left_out_text, left_out_texts, next_version, told_under, unless_uncounted}
+use Rattle.translator.specs.Translate.{Manner, AreTranslated, BeginsTranslation, EndsAtLine, IsWholeTranslation, answer_text, answers_text, left_out_line, left_out_text, left_out_texts, next_version, told_under, unless_uncounted}
 use Rattle.translator.specs.inside.Translate.{IsLineAnswered}
 
 -- ---- a line of which the front is kept
@@ -41,6 +44,25 @@ pub told_under-kept : (manner : Manner) (version : ℕ) (text : List ℕ) → to
 unfolding told_under
 told_under-kept manner version text =
     ap (λ t. cond (nat_le version MAX_VERSION) (unless_uncounted manner.answers t) None) (told-kept manner.site manner.by_uid (record { 0 = version }) text)
+
+-- and names its object
+name-kept : (text : List ℕ) → name_in (take 2097153 text) ≡ name_in text
+unfolding name_in
+name-kept text = ⊎_elim
+    (λ long.
+    let short_of : leb (length (take 2097153 text)) 2097152 ≡ false = lt-leb (length (take 2097153 text)) 2097152 (omega (arith, length-take 2097153 text)) in
+    let too_long : leb (length text) 2097152 ≡ false = lt-leb (length text) 2097152 (omega arith) in
+    rw (short_of, too_long) refl)
+    (λ short. ap name_in (take_all 2097153 text short))
+    (cases_lt 2097153 (length text))
+
+-- so what is told beside its answer is what is told of the line
+left_out-kept : (answers : Bool) (number : ℕ) (text : List ℕ) (translation : Translation)
+    → left_out_text answers number (take 2097153 text) translation ≡ left_out_text answers number text translation
+unfolding left_out_text
+left_out-kept true number text translation = refl
+left_out-kept false number text translation =
+    ap (λ object. left_out_line number object translation.line.items translation.left_out.items) (name-kept text)
 
 -- ---- translations
 
@@ -73,14 +95,18 @@ answers_more answers (t ∷ ts) translation =
     ∙ sym (append_assoc (answer_text answers t) (answers_text answers ts) (answer_text answers translation))
 
 -- and what is told beside it
-left_out_more : (answers : Bool) (first number : ℕ) (translations : List Translation) (translation : Translation) → number ≡ first + length translations
-    → left_out_texts answers first (translations ++ translation ∷ []) ≡ left_out_texts answers first translations ++ left_out_text answers number translation
-left_out_more answers first number [] translation is =
+left_out_more : (answers : Bool) (first number : ℕ) (lines : List (List ℕ)) (line : List ℕ) (translations : List Translation) (translation : Translation)
+    → length translations ≡ length lines → number ≡ first + length lines
+    → left_out_texts answers first (lines ++ line ∷ []) (translations ++ translation ∷ [])
+    ≡ left_out_texts answers first lines translations ++ left_out_text answers number line translation
+left_out_more answers first number [] line [] translation many is =
     let same : first ≡ number = omega arith in
-    append-nil (left_out_text answers first translation) ∙ ap (λ n. left_out_text answers n translation) same
-left_out_more answers first number (t ∷ ts) translation is =
-    ap (λ text. left_out_text answers first t ++ text) (left_out_more answers (first + 1) number ts translation (omega arith))
-    ∙ sym (append_assoc (left_out_text answers first t) (left_out_texts answers (first + 1) ts) (left_out_text answers number translation))
+    append-nil (left_out_text answers first line translation) ∙ ap (λ n. left_out_text answers n line translation) same
+left_out_more answers first number [] line (t ∷ ts) translation many is = absurd (omega (arith, many))
+left_out_more answers first number (l ∷ lines) line [] translation many is = absurd (omega (arith, many))
+left_out_more answers first number (l ∷ lines) line (t ∷ ts) translation many is =
+    ap (λ text. left_out_text answers first l t ++ text) (left_out_more answers (first + 1) number lines line ts translation (omega (arith, many)) (omega (arith, is)))
+    ∙ sym (append_assoc (left_out_text answers first l t) (left_out_texts answers (first + 1) lines ts) (left_out_text answers number line translation))
 
 -- ---- the translation so far
 
@@ -93,7 +119,7 @@ pub record IsAt (manner : Manner) (input rest written waits told tells : List �
   pub translations : List Translation
   pub are : AreTranslated manner 1 lines translations version
   pub answers_are : answers_text manner.answers translations ≡ written ++ waits
-  pub left_out_are : left_out_texts manner.answers 1 translations ≡ told ++ tells
+  pub left_out_are : left_out_texts manner.answers 1 lines translations ≡ told ++ tells
 
 abbrev pub IsKnownAt : Manner → (input rest : Option (List ℕ)) → (written waits told tells : List ℕ) → (version number : ℕ) → Type 0
 IsKnownAt manner None rest written waits told tells version number = Unit {0}
@@ -180,6 +206,8 @@ module _ (manner : Manner) where
       let are = one_more manner 1 so_far.lines text so_far.translations answered.translation version answered.told so_far.are gives answered.is in
       let many : length so_far.translations ≡ length so_far.lines = as_many manner 1 so_far.lines so_far.translations version so_far.are in
       let count : number ≡ length so_far.lines = so_far.many in
+      let beside : left_out_text manner.answers (number + 1) line answered.translation ≡ left_out_text manner.answers (number + 1) text answered.translation =
+      ap (λ l. left_out_text manner.answers (number + 1) l answered.translation) took.1 ∙ left_out-kept manner.answers (number + 1) text answered.translation in
       record {
         lines = so_far.lines ++ text ∷ [];
         cut = so_far.cut ∙ (ap (λ l. so_far.lines ++ l) took.2 ∙ sym (append_assoc so_far.lines (text ∷ []) (lines_of later)));
@@ -189,9 +217,10 @@ module _ (manner : Manner) where
         answers_are = answers_more manner.answers so_far.translations answered.translation
             ∙ (ap (λ t. t ++ answer_text manner.answers answered.translation) so_far.answers_are
             ∙ (append_assoc written old.answers.items (answer_text manner.answers answered.translation) ∙ ap (λ t. written ++ t) (sym answered.answers)));
-        left_out_are = left_out_more manner.answers 1 (number + 1) so_far.translations answered.translation (omega arith)
-            ∙ (ap (λ t. t ++ left_out_text manner.answers (number + 1) answered.translation) so_far.left_out_are
-            ∙ (append_assoc told old.left_out.items (left_out_text manner.answers (number + 1) answered.translation) ∙ ap (λ t. told ++ t) (sym answered.left_out)));
+        left_out_are = left_out_more manner.answers 1 (number + 1) so_far.lines text so_far.translations answered.translation many (omega arith)
+            ∙ (ap (λ t. t ++ left_out_text manner.answers (number + 1) text answered.translation) so_far.left_out_are
+            ∙ (append_assoc told old.left_out.items (left_out_text manner.answers (number + 1) text answered.translation)
+            ∙ ap (λ t. told ++ t) (sym (answered.left_out ∙ ap (λ t. old.left_out.items ++ t) beside))));
       }
 
   pub going_answered : (input rest later out_old out_now err_old err_now : Option (List ℕ)) (line : List ℕ) (version next number : ℕ) (old new : Waiting)
@@ -241,23 +270,25 @@ module _ (manner : Manner) where
           next = version;
           are = subst (λ l. AreTranslated manner 1 l so_far.translations version) all so_far.are;
           answers_are = sym (so_far.answers_are ∙ append-nil written);
-          left_out_are = sym (so_far.left_out_are ∙ append-nil told);
+          left_out_are = sym (ap (λ l. left_out_texts manner.answers 1 l so_far.translations) (sym all) ∙ (so_far.left_out_are ∙ append-nil told));
         },
         ap Some ended.1,
       )
 
   -- a line can't be counted
-  pub known_line : (input rest later : Option (List ℕ)) (line written told : List ℕ) (version number : ℕ) → TakesFront 2097153 rest later line → told_under manner version line ≡ None
-      → IsKnownAt manner input rest written [] told [] version number → IfSome input (λ text. EndsAtLine manner text (number + 1) written told)
-  known_line None rest later line written told version number took none so_far = tt
-  known_line (Some input) None later line written told version number took none so_far = absurd so_far
-  known_line (Some input) (Some rest) None line written told version number took none so_far = absurd took
-  known_line (Some input) (Some rest) (Some later) line written told version number took none so_far = record {
+  pub known_line : (input rest later : Option (List ℕ)) (line written told : List ℕ) (version number : ℕ) (lost : LineUncounted) → TakesFront 2097153 rest later line
+      → lost.number ≡ number + 1 → lost.object.items ≡ excerpt_of (name_in line) → told_under manner version line ≡ None
+      → IsKnownAt manner input rest written [] told [] version number → IfSome input (λ text. EndsAtLine manner text lost written told)
+  known_line None rest later line written told version number lost took counted named none so_far = tt
+  known_line (Some input) None later line written told version number lost took counted named none so_far = absurd so_far
+  known_line (Some input) (Some rest) None line written told version number lost took counted named none so_far = absurd took
+  known_line (Some input) (Some rest) (Some later) line written told version number lost took counted named none so_far = record {
     lines = so_far.lines;
     line = took.0;
     later = lines_of later;
     cut = so_far.cut ∙ ap (λ l. so_far.lines ++ l) took.2;
-    number_is = ap (λ n. n + 1) so_far.many;
+    number_is = counted ∙ ap (λ n. n + 1) so_far.many;
+    object_is = named ∙ ap (λ l. excerpt_of (name_in l)) took.1 ∙ ap excerpt_of (name-kept took.0);
     translations = so_far.translations;
     next = version;
     are = so_far.are;

@@ -5,6 +5,7 @@ use Rattle.quant.specs.declared.event.Event.{Event}
 use Rattle.quant.specs.declared.limits.TheConstants.{MAX_VERSION}
 use Rattle.command.specs.declared.asked.TranslatePlan.{TranslatePlan}
 use Rattle.objects.specs.declared.translation.Translation.{Translation}
+use Rattle.objects.specs.ObjectName.{name_in}
 use Rattle.objects.specs.Site.{Site}
 use Rattle.objects.specs.Told.{Told, told}
 use Rattle.objects.specs.Translation.{IsTranslation}
@@ -13,6 +14,8 @@ use Rattle.engine.specs.Lines.{lines_of}
 use Rattle.engine.specs.declared.fault.RunFault.TheVariants as run_fault
 use Rattle.fault_line.specs.declared.fault.Fault.{Fault}
 use Rattle.fault_line.specs.declared.fault.Fault.TheVariants.{Run, Uncounted}
+use Rattle.fault_line.specs.declared.unread.LineUncounted.{LineUncounted}
+use Rattle.fault_line.specs.Excerpt.{excerpt_of}
 use Rattle.fault_line.specs.Message.{Tells, message_of}
 
 -- how objects are told: of which site, whether pods are called by their uid, and whether each answer is an object that also says
@@ -73,19 +76,25 @@ unfoldable pub answer_text : (answers : Bool) → Translation → List ℕ
 answer_text false translation = translation.line.items ++ codes "\n"
 answer_text true translation = answer_object translation.uncounted translation.line.items translation.left_out.items
 
+-- the line's object, as people know it, where it has a name
+abbrev pub in_parentheses : (object : List ℕ) → List ℕ
+in_parentheses [] = []
+in_parentheses (x ∷ more) = codes " (" ++ x ∷ more ++ codes ")"
+
 -- what is said of a line that gives one, and of a line that gives none
 abbrev pub left_out_words : (line : List ℕ) → List ℕ
 left_out_words [] = codes " is left out: "
 left_out_words (x ∷ more) = codes ": left out: "
 
-abbrev pub left_out_line : (number : ℕ) → (line left_out : List ℕ) → List ℕ
-left_out_line number line [] = []
-left_out_line number line (x ∷ more) = codes "line " ++ decimal number ++ left_out_words line ++ x ∷ more ++ codes "\n"
+abbrev pub left_out_line : (number : ℕ) → (object gives left_out : List ℕ) → List ℕ
+left_out_line number object gives [] = []
+left_out_line number object gives (x ∷ more) =
+    codes "line " ++ decimal number ++ in_parentheses object ++ left_out_words gives ++ x ∷ more ++ codes "\n"
 
--- what is told beside the answer to the line of this number: what is left out, where no answer says it
-unfoldable pub left_out_text : (answers : Bool) → (number : ℕ) → Translation → List ℕ
-left_out_text true number translation = []
-left_out_text false number translation = left_out_line number translation.line.items translation.left_out.items
+-- what is told beside the answer to the line of this number: what is left out of its object, where no answer says it
+unfoldable pub left_out_text : (answers : Bool) → (number : ℕ) → (line : List ℕ) → Translation → List ℕ
+left_out_text true number line translation = []
+left_out_text false number line translation = left_out_line number (name_in line) translation.line.items translation.left_out.items
 
 -- the answers to all lines
 abbrev pub answers_text : (answers : Bool) → List Translation → List ℕ
@@ -93,10 +102,10 @@ answers_text answers [] = []
 answers_text answers (translation ∷ translations) = answer_text answers translation ++ answers_text answers translations
 
 -- what is told beside them, the first of which has this number
-abbrev pub left_out_texts : (answers : Bool) → (number : ℕ) → List Translation → List ℕ
-left_out_texts answers number [] = []
-left_out_texts answers number (translation ∷ translations) =
-    left_out_text answers number translation ++ left_out_texts answers (number + 1) translations
+abbrev pub left_out_texts : (answers : Bool) → (number : ℕ) → (lines : List (List ℕ)) → List Translation → List ℕ
+left_out_texts answers number (line ∷ lines) (translation ∷ translations) =
+    left_out_text answers number line translation ++ left_out_texts answers (number + 1) lines translations
+left_out_texts answers number _ _ = []
 
 -- these are the answers to all lines of the input, and what is told beside them
 pub record IsWholeTranslation (manner : Manner) (input answers left_out : List ℕ) : Type 0 where
@@ -104,22 +113,23 @@ pub record IsWholeTranslation (manner : Manner) (input answers left_out : List �
   pub next : ℕ
   pub are : AreTranslated manner 1 (lines_of input) translations next
   pub answers_are : answers ≡ answers_text manner.answers translations
-  pub left_out_are : left_out ≡ left_out_texts manner.answers 1 translations
+  pub left_out_are : left_out ≡ left_out_texts manner.answers 1 (lines_of input) translations
 
--- The line of this number is the first behind which there is no going on: these are the answers to the lines in front of it, and
--- what is told beside them.
-pub record EndsAtLine (manner : Manner) (input : List ℕ) (number : ℕ) (answers left_out : List ℕ) : Type 0 where
+-- This line is the first behind which there is no going on: these are the answers to the lines in front of it, and what is told beside
+-- them.
+pub record EndsAtLine (manner : Manner) (input : List ℕ) (lost : LineUncounted) (answers left_out : List ℕ) : Type 0 where
   pub lines : List (List ℕ)
   pub line : List ℕ
   pub later : List (List ℕ)
   pub cut : lines_of input ≡ lines ++ line ∷ later
-  pub number_is : number ≡ length lines + 1
+  pub number_is : lost.number ≡ length lines + 1
+  pub object_is : lost.object.items ≡ excerpt_of (name_in line)
   pub translations : List Translation
   pub next : ℕ
   pub are : AreTranslated manner 1 lines translations next
   pub uncounted : told_under manner next line ≡ None
   pub answers_are : answers ≡ answers_text manner.answers translations
-  pub left_out_are : left_out ≡ left_out_texts manner.answers 1 translations
+  pub left_out_are : left_out ≡ left_out_texts manner.answers 1 lines translations
 
 -- these are beginnings of the answers to the first lines, which may be all, and of what is told beside them
 pub record BeginsTranslation (manner : Manner) (input answers left_out : List ℕ) : Type 0 where
@@ -132,7 +142,7 @@ pub record BeginsTranslation (manner : Manner) (input answers left_out : List �
   pub answers_rest : List ℕ
   pub answers_begin : answers_text manner.answers translations ≡ answers ++ answers_rest
   pub left_out_rest : List ℕ
-  pub left_out_begin : left_out_texts manner.answers 1 translations ≡ left_out ++ left_out_rest
+  pub left_out_begin : left_out_texts manner.answers 1 lines translations ≡ left_out ++ left_out_rest
 
 -- ---- a translation
 
@@ -153,9 +163,9 @@ pub record IsTranslated (manner : Manner) (source out err : DeviceUse) (ended : 
   -- each line is answered, no fault is told, and everything is read
   pub done : ended ≡ 0 → Appends err.old err.new left_out
       × IfSome source.old (λ input. IsWholeTranslation manner input answers left_out × (source.new ≡ Some []))
-  -- each line is answered up to one that can't be counted, and that is told
-  pub uncounted : ended ≡ 1 → (number : ℕ) × TellsBehind err left_out (Uncounted number)
-      × IfSome source.old (λ input. EndsAtLine manner input number answers left_out)
+  -- each line is answered up to one that can't be counted, and that is told with its object's name
+  pub uncounted : ended ≡ 1 → (lost : LineUncounted) × TellsBehind err left_out (Uncounted lost)
+      × IfSome source.old (λ input. EndsAtLine manner input lost answers left_out)
   -- memory was wanting, and that is told
   pub room : ended ≡ 3 → TellsBehind err left_out (Run run_fault.NoMemory)
   -- a read or a write failed, and that is told; or it couldn't be told what is left out

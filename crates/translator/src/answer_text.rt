@@ -1,9 +1,9 @@
 //! The texts that answer a line of a translation.
-ghost use Rattle.std.specs.Prelude.{◌≡◌, IfOk};
-ghost use Rattle.translator.specs.Translate.{answer_object, answer_text, left_out_text, left_out_words, line_or_null};
+ghost use Rattle.std.specs.Prelude.{◌≡◌, ◌++◌, IfOk};
+ghost use Rattle.translator.specs.Translate.{answer_object, answer_text, left_out_text, left_out_words, in_parentheses, line_or_null};
 
 use itoa::Buffer;
-use objects::Translation;
+use objects::{Translation, object_name};
 use std::alloc::{AllocError, Global};
 
 // The line of a script, or `null` where there is none, in an object of JSON.
@@ -60,23 +60,38 @@ fn answer_object(alloc: Global, translation: &Translation) -> Result<Vec<u8>, Al
     Ok(text)
 }
 
-// What is told beside the answer to the line of this number: what is left out, where no answer says it.
+// Puts a line's object, as people know it, where it has a name.
+fn put_object(text: &mut Vec<u8>, object: &[u8]) -> Result<(), AllocError>
+    ensures { IfOk result (λ _. text.new.items ≡ text.old.items ++ in_parentheses object.now) }
+{
+    if object.is_empty() {
+        return Ok(());
+    }
+    text.extend_from_slice(b" (")?;
+    text.extend_from_slice(object)?;
+    text.extend_from_slice(b")")
+}
+
+// What is told beside the answer to the line of this number: what is left out of its object, where no answer says it.
 #[tactic(auto, unfolding(crate::specs::Translate::left_out_text))]
 pub(crate) fn left_out_text(
     alloc: Global,
     answers: bool,
     number: u64,
+    line: &[u8],
     translation: &Translation,
 ) -> Result<Vec<u8>, AllocError>
-    ensures { IfOk result (λ text. text.items ≡ left_out_text answers number translation.now) }
+    ensures { IfOk result (λ text. text.items ≡ left_out_text answers number line.now translation.now) }
 {
     let mut text = Vec::new(alloc);
     if answers || translation.left_out.is_empty() {
         return Ok(text);
     }
+    let object = object_name(alloc, line)?;
     let mut digits = Buffer::new();
     text.extend_from_slice(b"line ")?;
     text.extend_from_slice(digits.format(number).as_bytes())?;
+    put_object(&mut text, &object)?;
     text.extend_from_slice(left_out_words(&translation.line))?;
     text.extend_from_slice(&translation.left_out)?;
     text.extend_from_slice(b"\n")?;

@@ -1,5 +1,5 @@
 //! A translation of objects of the Kubernetes API to the lines of a script, one for each.
-ghost use Rattle.std.specs.Prelude.{◌≡◌, ◌^◌, ◌<◌, ◌≤◌, ◌++◌, ◌&&◌, not, IfOk, IfErr, OnOk, OnErr};
+ghost use Rattle.std.specs.Prelude.{◌≡◌, ◌^◌, ◌<◌, ◌≤◌, ◌++◌, ◌&&◌, not, None, IfOk, IfErr, OnOk, OnErr};
 ghost use Rattle.engine.specs.Device.{use_of};
 ghost use Rattle.objects.specs.Told.{Told};
 ghost use Rattle.objects.specs.Translation.{IsTranslation};
@@ -10,8 +10,8 @@ use crate::answer_text::{answer_text, left_out_text};
 use crate::waiting::{Stopped, Waiting};
 use command::TranslatePlan;
 use engine::{LineReader, RunFault, Sink, Source};
-use fault_line::{Fault, report};
-use objects::{MAX_OBJECT, Site, Translation, translate};
+use fault_line::{Fault, LineUncounted, excerpt_of, report};
+use objects::{MAX_OBJECT, Site, Translation, object_name, translate};
 use quant::{MAX_VERSION, Version};
 use std::alloc::{AllocError, Global};
 
@@ -21,7 +21,7 @@ const MAX_KEPT: usize = MAX_OBJECT + 1;
 /// Reads objects from `source`, one a line, writes what each gives a script to `out`, also one a line, and gives the exit status.
 /// What is left out of an object goes to `err`, unless the answers say it. So does a fault, as one line, and a failed write of that
 /// line changes nothing. A line that may be a pod on a node which no line of a script can count ends the translation, unless the
-/// answers say that.
+/// answers say that. What is told of an object names it, where it has a name.
 pub fn serve_translation<R: Source, W: Sink, E: Sink>(
     alloc: Global,
     plan: &TranslatePlan<'_>,
@@ -91,10 +91,10 @@ fn answer_line(
     ensures kept { OnErr result ((waits.new.answers.items ≡ waits.old.answers.items)
         × (waits.new.left_out.items ≡ waits.old.left_out.items)) }
     ensures next { version.old ≤ version.new }
-    ensures ends { IfErr result (IsLineEnd number (told_under (manner_of plan.now) version.old line.now)) }
+    ensures ends { IfErr result (IsLineEnd number line.now (told_under (manner_of plan.now) version.old line.now)) }
 {
     let translation = translation_under(alloc, plan, line, number, *version)?;
-    match wait_for(alloc, plan.answers, number, &translation, waits) {
+    match wait_for(alloc, plan.answers, number, line, &translation, waits) {
         Ok(()) => {
             *version = version_behind(*version, &translation);
             Ok(())
@@ -115,10 +115,10 @@ fn translation_under(
     requires { 1 ≤ version }
     ensures given { IfOk result (TranslatesTo (told_under (manner_of plan.now) version line.now)) }
     ensures within { IfOk result (λ _. version ≤ MAX_VERSION) }
-    ensures ends { IfErr result (IsLineEnd number (told_under (manner_of plan.now) version line.now)) }
+    ensures ends { IfErr result (IsLineEnd number line.now (told_under (manner_of plan.now) version line.now)) }
 {
     if version > MAX_VERSION {
-        return Err(Fault::Uncounted(number));
+        return Err(uncounted(alloc, line, number));
     }
     let site = Site {
         scheduler: plan.scheduler,
@@ -128,9 +128,22 @@ fn translation_under(
         return Err(Fault::Run(RunFault::NoMemory));
     };
     if is_unanswered(plan.answers, &translation) {
-        return Err(Fault::Uncounted(number));
+        return Err(uncounted(alloc, line, number));
     }
     Ok(translation)
+}
+
+// That a line can't be counted, with its object's name, if there is memory to find it.
+fn uncounted(alloc: Global, line: &[u8], number: u64) -> Fault
+    ensures { IsLineEnd number line.now None result }
+{
+    match object_name(alloc, line) {
+        Ok(object) => Fault::Uncounted(LineUncounted {
+            number,
+            object: excerpt_of(&object),
+        }),
+        Err(_) => Fault::Run(RunFault::NoMemory),
+    }
 }
 
 // Whether a line may be a pod on a node that can't be counted, and no answer says so.
@@ -145,18 +158,19 @@ fn wait_for(
     alloc: Global,
     answers: bool,
     number: u64,
+    line: &[u8],
     translation: &Translation,
     waits: &mut Waiting,
 ) -> Result<(), AllocError>
     ensures answers { OnOk result (waits.new.answers.items
         ≡ waits.old.answers.items ++ answer_text answers translation.now) }
     ensures left_out { OnOk result (waits.new.left_out.items
-        ≡ waits.old.left_out.items ++ left_out_text answers number translation.now) }
+        ≡ waits.old.left_out.items ++ left_out_text answers number line.now translation.now) }
     ensures kept { OnErr result ((waits.new.answers.items ≡ waits.old.answers.items)
         × (waits.new.left_out.items ≡ waits.old.left_out.items)) }
 {
     let answer = answer_text(alloc, answers, translation)?;
-    let left_out = left_out_text(alloc, answers, number, translation)?;
+    let left_out = left_out_text(alloc, answers, number, line, translation)?;
     waits.add(&answer, &left_out)
 }
 

@@ -11,6 +11,8 @@ use Rattle.fault_line.specs.declared.fault.Fault.TheVariants.{Run, Uncounted}
 use Rattle.translator.specs.declared.waiting.Stopped.{Stopped}
 use Rattle.translator.specs.declared.waiting.Stopped.TheVariants.{By, Untold}
 use Rattle.translator.specs.declared.waiting.Waiting.{Waiting}
+use Rattle.objects.specs.ObjectName.{name_in}
+use Rattle.fault_line.specs.Excerpt.{excerpt_of}
 use Rattle.translator.specs.Translate.{Manner, told_under, next_version, answer_text, left_out_text, IsWholeTranslation, EndsAtLine, BeginsTranslation}
 
 -- this is the translation of what is told
@@ -25,13 +27,13 @@ pub record IsLineAnswered (manner : Manner) (number version : ℕ) (line : List 
   pub is : IsTranslation told translation
   pub next_is : next ≡ next_version version told.event
   pub answers : new.answers.items ≡ old.answers.items ++ answer_text manner.answers translation
-  pub left_out : new.left_out.items ≡ old.left_out.items ++ left_out_text manner.answers number translation
+  pub left_out : new.left_out.items ≡ old.left_out.items ++ left_out_text manner.answers number line translation
 
 -- the line ends it by its fault, or for want of memory
-abbrev pub IsLineEnd : (number : ℕ) → (given : Option Told) → Fault → Type 0
-IsLineEnd number given (Run run_fault.NoMemory) = Unit {0}
-IsLineEnd number given (Uncounted n) = (n ≡ number) × (given ≡ None)
-IsLineEnd number given _ = ⊥
+abbrev pub IsLineEnd : (number : ℕ) → (line : List ℕ) → (given : Option Told) → Fault → Type 0
+IsLineEnd number line given (Run run_fault.NoMemory) = Unit {0}
+IsLineEnd number line given (Uncounted lost) = (lost.number ≡ number) × (lost.object.items ≡ excerpt_of (name_in line)) × (given ≡ None)
+IsLineEnd number line given _ = ⊥
 
 -- no device has failed
 abbrev pub NoneFailed : (source out err : DeviceUse) → Type 0
@@ -45,14 +47,14 @@ FailedAt source out err (By (Run run_fault.Read)) =
     (source.failures_old < source.failures_new) × (out.failures_new ≡ out.failures_old) × (err.failures_new ≡ err.failures_old)
 FailedAt source out err (By (Run run_fault.Write)) =
     (source.failures_new ≡ source.failures_old) × (out.failures_old < out.failures_new) × (err.failures_new ≡ err.failures_old)
-FailedAt source out err (By (Uncounted number)) = NoneFailed source out err
+FailedAt source out err (By (Uncounted lost)) = NoneFailed source out err
 FailedAt source out err Untold =
     (source.failures_new ≡ source.failures_old) × (out.failures_new ≡ out.failures_old) × (err.failures_old < err.failures_new)
 FailedAt source out err _ = ⊥
 
 -- where it is stopped by a line, what is written is what stands before it
 abbrev pub EndsAt : Manner → (input answers left_out : List ℕ) → Stopped → Type 0
-EndsAt manner input answers left_out (By (Uncounted number)) = EndsAtLine manner input number answers left_out
+EndsAt manner input answers left_out (By (Uncounted lost)) = EndsAtLine manner input lost answers left_out
 EndsAt manner input answers left_out _ = Unit {0}
 
 -- a translation came to this, before a fault is told

@@ -22,7 +22,7 @@ returns-in-Ok-clause-check g c =
       quiet = checked.quiet;
       room = checked.room;
       failed = λ four. elim (checked.failed four) [
-        | inl (tells, unread, untouched) ↦ absurd unread
+        | inl (fault, tells, unread, untouched) ↦ absurd unread
         | inr write ↦ inr write
       ];
       failures_told = checked.failures_told;

@@ -83,7 +83,7 @@ returns-in-Err g c =
     let said = rw c.in-Err.ensures.kept.1 at c.in_ok-flush.ensures.told in
     let yes : c.in_ok-next_front.field-0 ≡ true = search rules in
     let took = c.in_ok-next_front.ensures.found (ap Ok yes) in
-    at_line _ _ _ _ c.in-Err.fault (c.lines.number + 1) _ (rw c.deref-in-lines.ensures.value at c.in-Err.ensures.ends) (
+    at_line _ _ _ _ c.in-Err.fault (c.lines.number + 1) _ _ (rw c.deref-in-lines.ensures.value at c.in-Err.ensures.ends) (
       c.in_ok-next_front.ensures.kept (λ eq. cc) ∙ at.reads,
       c.in_ok-flush.ensures.counts.0 ∙ (c.in_ok-flush_if.ensures.counts.0 ∙ at.writes),
       c.in_ok-flush.ensures.counts.1 ∙ (c.in_ok-flush_if.ensures.counts.1 ∙ at.tells),
