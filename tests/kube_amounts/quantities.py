@@ -34,12 +34,15 @@ def glance(text: str, what: str, is_up: bool) -> tuple[str | None, bool]:
     sign, whole, part, ten, two, exponent = found.groups(default="")
     if not whole + part:
         return NO_DIGIT, True
-    if len(exponent.lstrip("+-")) > 2:
+    if not int(whole + part):
+        # (nothing is nothing, by any exponent)
+        return None, True
+    if len(exponent.lstrip("+-").lstrip("0")) > 2:
         return FAR, True
     power = int(exponent) if exponent else TENS.get(ten, 0)
     value = int(whole + part) * Fraction(10) ** (PLACES[what] + power - len(part)) * 2 ** TWOS.get(two, 0)
     size = -(-value // 1) if is_up else value // 1
-    named = BELOW if sign == "-" and value else ABOVE if size > MOST[what] else None
+    named = BELOW if sign == "-" else ABOVE if size > MOST[what] else None
     return named, value.denominator == 1
 
 
