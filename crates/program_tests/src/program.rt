@@ -1,10 +1,6 @@
 //! What the program ends with, over devices that take and give a few bytes at a time, are interrupted
 //! and fail, and over files in the folder that a test runs in.
 mod checks;
-mod explained;
-mod keep_region;
-mod long_script;
-mod modules;
 mod plugins;
 mod scripts;
 mod storms;
@@ -13,7 +9,10 @@ mod translations;
 use command::{Misuse, Part, WordFault};
 use engine::RunFault;
 use quant::Name;
-use serving::{Fault, Folder, Input, Output, Refusal, answer};
+use serving::{
+    Cause, Fault, FileFault, Folder, Input, LineUncounted, Output, PluginUnread, Refusal, answer,
+    excerpt_of,
+};
 use std::alloc::{AllocError, Global};
 use std::hash::RandomState;
 use std::io::{Read, Write};
@@ -122,13 +121,9 @@ type Want<'a> = (u8, &'a str, &'a str);
 // What is given, and what it is to end with.
 type Row = (Given<'static>, Want<'static>);
 
-// A name, the plugins, the script, and the output.
-type Answered = (
-    &'static str,
-    &'static [&'static str],
-    &'static [u8],
-    &'static str,
-);
+// One function of a type from nothing to an i32, exported as `filter`. It gives 0: the node passes.
+const PASSES: &[u8] =
+    b"\0asm\x01\0\0\0\x01\x05\x01\x60\0\x01\x7F\x03\x02\x01\0\x07\x0A\x01\x06filter\0\0\x0A\x06\x01\x04\0\x41\0\x0B";
 
 // Files, each with its name.
 type Stored = &'static [(&'static str, &'static [u8])];
@@ -220,67 +215,31 @@ fn first_other_end<R: fs::Files + Wait + Threads + Copy + Send + Sync + 'static>
     None
 }
 
-// Words for 1, 2 and 64 workers, each with how many bytes are moved at most.
-type Ways = &'static [(&'static [&'static str], usize)];
+// How many bytes are moved at a time, at most.
+const PIECES: &[usize] = &[1, 9, 65_536];
 
-const RUNS: Ways = &[
-    (&["run"], 1),
-    (&["run", "--workers", "2"], 64),
-    (&["run", "--workers", "64"], 65_536),
-];
-
-const EXPLAINS: Ways = &[
-    (&["explain"], 1),
-    (&["explain", "--workers", "2"], 64),
-    (&["explain", "--workers", "64"], 65_536),
-];
-
-fn runs() -> Ways {
-    RUNS
+fn pieces() -> &'static [usize] {
+    PIECES
 }
 
-fn explains() -> Ways {
-    EXPLAINS
-}
-
-// Whether a script without a faulty line is answered so in each of these ways.
-fn is_answered<R: fs::Files + Wait + Threads + Copy + Send + Sync + 'static>(
+// Whether the program ends with this, however many bytes are moved at a time.
+fn ends_in_pieces<R: fs::Files + Wait + Threads + Copy + Send + Sync + 'static>(
     rt: &R,
     alloc: Global,
     keys: Option<RandomState>,
-    ways: Ways,
-    row: &Answered,
+    given: Given,
+    want: Want,
 ) -> bool {
-    let (_, plugins, script, out) = *row;
-    for (args, most) in ways {
+    for most in pieces() {
         let given = Given {
-            args,
-            plugins,
-            script,
             most: *most,
-            ..RUN
+            ..given
         };
-        if !ends(rt, alloc, keys, given, (0, out, "")) {
+        if !ends(rt, alloc, keys, given, want) {
             return false;
         }
     }
     true
-}
-
-// The first row that is answered otherwise.
-fn first_other<R: fs::Files + Wait + Threads + Copy + Send + Sync + 'static>(
-    rt: &R,
-    alloc: Global,
-    keys: Option<RandomState>,
-    ways: Ways,
-    rows: &'static [Answered],
-) -> Option<&'static str> {
-    for row in rows {
-        if !is_answered(rt, alloc, keys, ways, row) {
-            return Some(row.0);
-        }
-    }
-    None
 }
 
 // Whether all these are written.
@@ -312,7 +271,20 @@ fn plugin_fault() -> Option<Fault> {
 }
 
 fn unread_fault() -> Option<Fault> {
-    Some(Fault::Unread(Name::new(b"s").ok()?))
+    Some(Fault::Unread(PluginUnread {
+        plugin: Name::new(b"s").ok()?,
+        fault: FileFault {
+            file: excerpt_of(b"s.wasm"),
+            cause: Cause::Missing,
+        },
+    }))
+}
+
+fn uncounted_fault() -> Fault {
+    Fault::Uncounted(LineUncounted {
+        number: 7,
+        object: excerpt_of(b""),
+    })
 }
 
 // Whether faults are told by their numbers and their names.
@@ -325,7 +297,7 @@ fn are_told(alloc: Global) -> bool {
         Fault::Words(WordFault::BadWords),
         Fault::Misused(Misuse::Plugin(Part::Name, 3)),
         Fault::Run(RunFault::NoPlace),
-        Fault::Uncounted(7)
+        uncounted_fault()
     );
     match text {
         Ok(text) => text.as_str() == FAULTS,

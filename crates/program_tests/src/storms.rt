@@ -107,7 +107,8 @@ impl Gate for Pair {
     }
 }
 
-/// A binder that waits in its first bind for another binder's first. Its bind fails where it waits in vain.
+/// A binder that waits in its first bind for another binder's first. Its bind fails where it waits in vain, and where it isn't told a
+/// pod's name and then its node's.
 #[derive(Drop)]
 struct Hand {
     pair: Pair,
@@ -126,7 +127,8 @@ impl Binder for Hand {
     }
 
     fn bind(&mut self, uid: &Name, node: &Name) -> BindAnswer {
-        let answer = if self.pair.begin() {
+        let is_told = uid.as_str().starts_with('p') && node.as_str() == "a";
+        let answer = if self.pair.begin() && is_told {
             BindAnswer::Done
         } else {
             BindAnswer::Failed
