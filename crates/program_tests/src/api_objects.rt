@@ -257,7 +257,7 @@ const TRANSLATIONS: &[(&str, &str, &str, &str)] = &[
             {"key":"dedicated","value":"db","effect":"NoSchedule"}]},"status":{"allocatable":{"cpu":"3920m",
             "memory":"15Gi","pods":"110","ephemeral-storage":"95Gi","hugepages-2Mi":"0"}}}"#,
         r#"{"op":"node","v":7,"name":"n1","cpu":"3920m","mem":"16106127360","pods":110,"labels":[["zone","a"]],"taints":[["dedicated","db","NoSchedule"]],"unschedulable":false}"#,
-        r#""resource ephemeral-storage", "label note""#,
+        r#""label note""#,
     ),
     (
         "a node whose amount can't be read, as it was changed to",
