@@ -24,8 +24,8 @@ WHY = {
 # How a rule's code is told behind its name.
 CODES = {"2": "", "3": " for good"}
 RULES = ("plugin", "final")
-# How many bytes an event's message has at most ("Event v1 events.k8s.io", note): of what rules say of themselves that is left out which
-# makes it longer, so that it pushes out no number.
+# How many bytes an event's message has at most ("Event v1 events.k8s.io", note): of what rules say
+# of themselves that is left out which makes it longer, so that it pushes out no number.
 LONGEST = 1024
 # Of each rule, by its name, what it says of its codes.
 Reasons = Mapping[str, Mapping[int, str]]

@@ -15,7 +15,8 @@ from reference import Json, Site, Told
 
 # The most bytes of a line that is read.
 LONGEST = 2**21
-# What an entry begins with that has a name behind it, and what others there are. All else is a fault of the object.
+# What an entry begins with that has a name behind it, and what others there are. All else is a
+# fault of the object.
 NAMED = ("label ", "resource ", "volume ", "toleration of ", "host port ", "it is for the scheduler ", "field ")
 PLAIN = re.compile(r"[A-Za-z0-9._/-]*")
 FAULT = "a fault"
@@ -57,7 +58,8 @@ def differs(want: Told, said: Json) -> str | None:
     expected = {named(it) for it in want.left_out}
     if line != want.line:
         return f"line {line}, and not {want.line}"
-    # (of a row that can't be said the first fault is enough, and of one that is kept back nobody looks for a fault)
+    # (of a row that can't be said the first fault is enough, and of one that is kept back nobody
+    # looks for a fault)
     is_row = want.line and want.line["op"] in ("node", "pod", "bound")
     is_enough = not is_row and expected - {FAULT} <= left_out <= expected and (left_out or not expected)
     if left_out != expected and not is_enough:

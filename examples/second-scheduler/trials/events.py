@@ -156,7 +156,8 @@ def few_events(site: Site) -> str:
 # What the two rules say of their rejections.
 BY_REGION = "rejected by keep_region for good (pods labelled data-class=personal run in the region eu-central-1 alone)"
 BY_AFFINITY = "rejected by node_affinity for good (the node isn't what the pod's node selector, its node affinity or its volumes ask for)"
-# What is asked for by pods that fit none of nine nodes, and what is said of them: wsched's own filters come first, then the rules in order.
+# What is asked for by pods that fit none of nine nodes, and what is said of them: wsched's own
+# filters come first, then the rules in order.
 REJECTED: dict[str, tuple[Thing, Thing, str, str]] = {
     "personal": ({"data-class": "personal"}, {}, "2", f"3 Insufficient cpu, 6 node(s) were {BY_REGION}"),
     "selects": ({}, {"zone": "b"}, "100m", f"9 node(s) were {BY_AFFINITY}"),
@@ -198,7 +199,8 @@ def by_rules(site: Site) -> str:
     return f"{len(REJECTED)} pods, as: {said_of(site, 'both')[0]}"
 
 
-# Rules, and the reason that each module has: six as long as may be, one that is longer, and one that is no text.
+# Rules, and the reason that each module has: six as long as may be, one that is longer, and one
+# that is no text.
 LONG = "\u00fc" * 100
 REASONS = {**{f"rule-{i}": LONG.encode() for i in range(6)}, "longer": b"x" * 201, "no-text": b"no \xff"}
 
