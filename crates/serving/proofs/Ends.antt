@@ -151,7 +151,7 @@ no_site_told Left NotBegun NoFile source out err ended specs modules fault why i
 
 -- memory was wanting, or a plugin's file couldn't be read
 why_none : (specs : List SpecSyntax) (failures_old failures_new : ℕ) (fault : Fault) → WhyNoModules specs failures_old failures_new fault
-    → ((fault ≡ Run run_fault.NoMemory) × (failures_new ≡ failures_old)) ⊎ ((unread : PluginUnread) × (fault ≡ Unread name) × UnreadPlugin specs failures_old failures_new unread)
+    → ((fault ≡ Run run_fault.NoMemory) × (failures_new ≡ failures_old)) ⊎ ((unread : PluginUnread) × (fault ≡ Unread unread) × UnreadPlugin specs failures_old failures_new unread)
 why_none specs failures_old failures_new (Words fault) why = absurd why
 why_none specs failures_old failures_new (Misused fault) why = absurd why
 why_none specs failures_old failures_new (Plugin name fault) why = absurd why
@@ -186,7 +186,7 @@ pub no_modules_told : (Left NotBegun : Type 0) (source out err : DeviceUse) (end
 no_modules_told Left NotBegun source out err ended specs failures_old failures_new fault why is tells unread unwritten reads writes =
     told Left NotBegun (UnreadPlugin specs failures_old failures_new) source out err ended fault is tells (by (why_none specs failures_old failures_new fault why))
   where
-    by : ((fault ≡ Run run_fault.NoMemory) × (failures_new ≡ failures_old)) ⊎ ((unread : PluginUnread) × (fault ≡ Unread name) × UnreadPlugin specs failures_old failures_new unread)
+    by : ((fault ≡ Run run_fault.NoMemory) × (failures_new ≡ failures_old)) ⊎ ((unread : PluginUnread) × (fault ≡ Unread unread) × UnreadPlugin specs failures_old failures_new unread)
         → Besides Left NotBegun (UnreadPlugin specs failures_old failures_new) source out fault
     by (inl (memory, same)) = subst (Besides Left NotBegun (UnreadPlugin specs failures_old failures_new) source out) (sym memory) (reads, writes)
     by (inr (name, is, lacks)) = subst (Besides Left NotBegun (UnreadPlugin specs failures_old failures_new) source out) (sym is) (lacks, unread, unwritten)

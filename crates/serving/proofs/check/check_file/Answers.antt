@@ -32,36 +32,3 @@ returns-in-Ok-clause-check g c =
       ];
     }
 
--- ---- it wasn't
-
-pub returns-in-Err-clause-check : goal.returns-in-Err-clause-check
-returns-in-Err-clause-check g c = elim c.in-Err.ensures.faults [
-  | inl read ↦
-      let four = c.report.ensures.status ∙ ap (λ f. status_of (Run f)) read in
-      record {
-        status = inr (inr (inr four));
-        told = λ low. absurd (omega (arith, low, four));
-        quiet = λ low. absurd (omega (arith, low, four));
-        room = λ three. absurd (omega (arith, three, four));
-        failed = λ _. inl (subst (λ f. Tells (g.E.Sink.written c.args.err.now) (g.E.Sink.written c.report.new.err) (g.E.Sink.failure_count c.args.err.now) (g.E.Sink.failure_count c.report.new.err) (message_of (Run f))) read c.report.ensures.told, c.in-Err.ensures.failed read, refl);
-        failures_told = λ _. refl;
-        front = inl refl;
-      }
-  | inr memory ↦
-      let three = c.report.ensures.status ∙ ap (λ f. status_of (Run f)) memory in
-      record {
-        status = inr (inr (inl three));
-        told = λ low. absurd (omega (arith, low, three));
-        quiet = λ low. absurd (omega (arith, low, three));
-        room = λ _. (subst (λ f. Tells (g.E.Sink.written c.args.err.now) (g.E.Sink.written c.report.new.err) (g.E.Sink.failure_count c.args.err.now) (g.E.Sink.failure_count c.report.new.err) (message_of (Run f))) memory c.report.ensures.told, refl);
-        failed = λ four. absurd (omega (arith, four, three));
-        failures_told = λ _. refl;
-        front = inl refl;
-      }
-]
-
-pub returns-in-Err-clause-files_told : goal.returns-in-Err-clause-files_told
-returns-in-Err-clause-files_told g c other = elim c.in-Err.ensures.faults [
-  | inl read ↦ absurd (other (c.report.ensures.status ∙ ap (λ f. status_of (Run f)) read))
-  | inr memory ↦ c.in-Err.ensures.wanting memory
-]
