@@ -218,7 +218,7 @@ fn first_other_end<R: fs::Files + Wait + Threads + Copy + Send + Sync + 'static>
 // How many bytes are moved at a time, at most.
 const PIECES: &[usize] = &[1, 9, 65_536];
 
-fn pieces() -> &'static [usize] {
+fn piece_sizes() -> &'static [usize] {
     PIECES
 }
 
@@ -230,7 +230,7 @@ fn ends_in_pieces<R: fs::Files + Wait + Threads + Copy + Send + Sync + 'static>(
     given: Given,
     want: Want,
 ) -> bool {
-    for most in pieces() {
+    for most in piece_sizes() {
         let given = Given {
             most: *most,
             ..given

@@ -31,4 +31,3 @@ returns-in-Ok-clause-check g c =
         | inr told ↦ inr (fronts_whole known c.as_slice.result.now (g.W.Sink.written c.args.out.now) (g.W.Sink.written c.check_module.new.out) front told)
       ];
     }
-
