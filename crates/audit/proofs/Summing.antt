@@ -1,5 +1,5 @@
--- What holds of all rows holds of all that they show; sums over slots are sums over the places in them, and pieces of slots have
--- together what all have.
+-- What holds of all rows holds of all that they show; sums over slots are sums over the places in
+-- them, and pieces of slots have together what all have.
 use Rattle.std.proofs.Common.{◌≡◌, ℕ, suc, ◌+◌, ◌*◌, ◌^◌, ◌<◌, ◌≤◌, Bool, List, [], ◌∷◌, length, map, take, get_or, cond, true, false, bytes_eq, Option, Some, None, Result, Ok, Err, IfOk, sum_by, arith, ◌↔◌, subst, refl, sym, ap, ◌∙◌, inl, inr, Bor}
 use Rattle.std.specs.Bool.{IsTrue}
 use Rattle.std.specs.List.{All, AllZip, Contains, flat_map}

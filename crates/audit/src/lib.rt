@@ -1,4 +1,5 @@
-//! Whether what a look shows as used is what the book's places use: the places are summed anew, in one pass over them.
+//! Whether what a look shows as used is what the book's places use: the places are summed anew, in
+//! one pass over them.
 #![tactic(auto)]
 
 mod pieces;

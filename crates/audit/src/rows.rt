@@ -19,9 +19,10 @@ fn are_used(rows: &[Row], pieces: &[Sums]) -> bool
         .all(|row| is_used(&row.used, pieces, &row.node.name))
 }
 
-/// Whether each row of a look shows as used just what the places of a book on its node's name add up to. What the book keeps
-/// of it isn't asked: the places are summed anew, each once, in pieces of which several threads take one at a time, and then each row
-/// is compared. Its time grows with the places and with the rows, and not with their product.
+/// Whether each row of a look shows as used just what the places of a book on its node's name add
+/// up to. What the book keeps of it isn't asked: the places are summed anew, each once, in pieces
+/// of which several threads take one at a time, and then each row is compared. Its time grows with
+/// the places and with the rows, and not with their product.
 ///
 /// Errors: `NoMemory` where there is no memory for the sums.
 pub fn audit<R: Threads + Sync>(

@@ -8,10 +8,12 @@ use quant::{Bytes, Cpu, Name, Res};
 use std::alloc::{AllocError, Global};
 use std::collections::BTreeMap;
 
-/// So many slots are summed together: few enough that their sums fit a `Res`, and enough that the tables are few.
+/// So many slots are summed together: few enough that their sums fit a `Res`, and enough that the
+/// tables are few.
 pub(crate) const PIECE: usize = 16_384;
 
-/// What some places add up to, by the name of their node. A tree of names, since nobody can choose names by which it is slow.
+/// What some places add up to, by the name of their node. A tree of names, since nobody can choose
+/// names by which it is slow.
 #[derive(Drop)]
 pub(crate) struct Sums {
     pub(crate) by_node: BTreeMap<Name, Res>,

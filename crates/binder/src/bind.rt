@@ -46,9 +46,10 @@ fn report(job: &Job, done: bool) -> Step
     }
 }
 
-/// Asks a binder for one bind and applies the step that reports it: `BindDone` where the binder counts one more bind as done,
-/// and else `Forget`. A binder that was asked for `MAX_BINDS` binds isn't asked again, and its jobs are forgotten. It waits for
-/// the desk's lock, and as long as the binder does.
+/// Asks a binder for one bind and applies the step that reports it: `BindDone` where the binder
+/// counts one more bind as done, and else `Forget`. A binder that was asked for `MAX_BINDS` binds
+/// isn't asked again, and its jobs are forgotten. It waits for the desk's lock, and as long as the
+/// binder does.
 ///
 /// Errors: `Unreported` at the desk's want of memory. The binder was asked all the same.
 pub fn bind_job<J: Naming, R: Wait>(

@@ -6,8 +6,8 @@ ghost use Rattle.binder.specs.Binds.{bind_on, dones_of};
 use crate::answer::BindAnswer;
 use quant::Name;
 
-/// It tells the cluster of places. It counts the binds that it was asked for and those that were done, and keeps the last, as a
-/// `Tally` does.
+/// It tells the cluster of places. It counts the binds that it was asked for and those that were
+/// done, and keeps the last, as a `Tally` does.
 pub trait Binder: Drop {
     // How many binds it was asked for.
     ghost asks: { Self → ℕ };

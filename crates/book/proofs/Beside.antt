@@ -1,4 +1,5 @@
--- What stands beside the rows of nodes: a list with an amount for each name, in the order of the rows.
+-- What stands beside the rows of nodes: a list with an amount for each name, in the order of the
+-- rows.
 use Rattle.std.proofs.Common.{◌≡◌, ℕ, zero, suc, ◌<◌, true, false, List, [], ◌∷◌, map, length, get_or, set, refl, sym, ap, subst, ◌∙◌, inl, inr, arith}
 use Rattle.std.specs.declared.cmp.Ordering.TheVariants.{Less, Equal}
 use Rattle.std.specs.Ordering.{ordering_reverse}

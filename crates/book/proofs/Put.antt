@@ -55,7 +55,8 @@ module _ {K V X : Type 0} {R : K → K → Ordering} (o : IsTotalOrder R) (f : X
   earlier_less (y ∷ ys) h zero (suc j) d lt in_range = below_each (f y).0 ys (both_true _ _ h).0 j d (omega arith)
   earlier_less (y ∷ ys) h (suc i) (suc j) d lt in_range = earlier_less ys (both_true _ _ h).1 i j d (omega arith) (omega arith)
 
-  -- a key that is greater than each item before a place, and less than each from it on, is put there
+  -- a key that is greater than each item before a place, and less than each from it on, is put
+  -- there
   pub put_gap : (xs : List X) (at : ℕ) (x : X) → at ≤ length xs
       → ((j : ℕ) (d : X) → 0 ≤ j → j < at → R (f (get_or xs j d)).0 (f x).0 ≡ Less)
       → ((j : ℕ) (d : X) → at ≤ j → j < length xs → R (f (get_or xs j d)).0 (f x).0 ≡ Greater)

@@ -1,4 +1,5 @@
--- Which assumed places expire: those whose bind was reported done long ago, and which the cluster hasn't confirmed since.
+-- Which assumed places expire: those whose bind was reported done long ago, and which the cluster
+-- hasn't confirmed since.
 use Rattle.std.specs.Prelude.{◌≡◌, ◌+◌, Bool, true, false, not, List, ℕ, Option, None, Some, nat_le}
 use Rattle.std.specs.Ordering.{is_lt}
 use Rattle.std.specs.List.{list_any}
@@ -15,7 +16,8 @@ abbrev pub is_overdue : Moment → Option Moment → Bool
 is_overdue now None = false
 is_overdue now (Some at) = nat_le (at.0 + EXPIRY) now.0
 
--- an assumed place whose bind was reported done so long ago expires. One whose bind wasn't never does
+-- an assumed place whose bind was reported done so long ago expires. One whose bind wasn't never
+-- does
 abbrev pub has_expired : Moment → Status → Bool
 has_expired now (Assumed ticket finished) = is_overdue now finished
 has_expired now Bound = false

@@ -28,7 +28,8 @@ used_by places node =
       pods = sum_by (λ place. (share node place).pods) places;
     }
 
--- what the pods on a node use together, whether the node is there or not: the sum over the uids that have a place
+-- what the pods on a node use together, whether the node is there or not: the sum over the uids
+-- that have a place
 abbrev pub used : Places → List ℕ → Res
 used places node = used_by (values places) node
 

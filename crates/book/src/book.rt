@@ -62,8 +62,9 @@ impl Book {
     ghost use Rattle.book.specs.Expiry.{is_expired, IsFirstExpired, NoneExpired};
     ghost use Rattle.book.specs.declared.step.ClusterStep.TheVariants as steps;
 
-    /// An empty book, with room for as much as the limits say. It is the one call of a book that takes memory.
-    /// The keys are of the hash by which names are found, and nobody who chooses names is to know them.
+    /// An empty book, with room for as much as the limits say. It is the one call of a book that
+    /// takes memory. The keys are of the hash by which names are found, and nobody who chooses
+    /// names is to know them.
     ///
     /// Errors: `NoMemory`.
     pub fn new(alloc: Global, keys: RandomState, limits: Limits) -> Result<Self, NoMemory>
@@ -82,8 +83,8 @@ impl Book {
 
     /// Takes a step, or refuses it and changes nothing. Neither takes memory.
     ///
-    /// The time of a look-up among places doesn't depend on how many there are; that of one among nodes grows
-    /// with the logarithm of their number.
+    /// The time of a look-up among places doesn't depend on how many there are; that of one among
+    /// nodes grows with the logarithm of their number.
     pub fn step(&mut self, step: ClusterStep) -> Reply
         ensures reply { result ≡ reply self.old step }
         ensures after { self.new ≡ after self.old step }
@@ -256,7 +257,8 @@ impl Book {
         fits(row.allocatable, used, request).map_err(|_| Refusal::NoRoom)
     }
 
-    // Whether the pod has an assumed place that this ticket names, and whose bind wasn't reported done.
+    // Whether the pod has an assumed place that this ticket names, and whose bind wasn't reported
+    // done.
     fn check_ticket(&self, uid: &Name, ticket: Ticket, queued: bool) -> Result<(), Refusal>
         ensures { result_err result ≡ refusal_by_ticket self.now uid.now ticket queued }
     {
@@ -289,12 +291,14 @@ impl Book {
         Ok(Reply::Done)
     }
 
-    /// Takes away the expired place with the least uid, and answers that uid: an assumed place expires where its bind
-    /// was reported done `EXPIRY` milliseconds before this moment or earlier. It takes no memory.
+    /// Takes away the expired place with the least uid, and answers that uid: an assumed place
+    /// expires where its bind was reported done `EXPIRY` milliseconds before this moment or
+    /// earlier. It takes no memory.
     ///
-    /// Where nothing expires, the time is that of one comparison for each 4,096 places that there is room for. What expires at a
-    /// moment is found and put in order at the first call for it, in time that grows with its number and that number's
-    /// logarithm; each call then takes one place out.
+    /// Where nothing expires, the time is that of one comparison for each 4,096 places that there
+    /// is room for. What expires at a moment is found and put in order at the first call for it, in
+    /// time that grows with its number and that number's logarithm; each call then takes one place
+    /// out.
     pub fn expire(&mut self, now: Moment) -> Option<Name>
         ensures first { IfSome result (IsFirstExpired self.old.places now) }
         ensures gone { IfSome result (λ uid. self.new ≡ without_place self.old uid) }
@@ -304,7 +308,8 @@ impl Book {
         self.places.expire(&mut self.nodes, now)
     }
 
-    /// Whether a place expires at this moment, so that `expire` would answer a uid. The time is as there where nothing expires.
+    /// Whether a place expires at this moment, so that `expire` would answer a uid. The time is as
+    /// there where nothing expires.
     pub fn expires(&self, now: Moment) -> bool
         ensures some { IsTrue result → (uid : List ℕ) × (is_expired self.now.places now uid ≡ true) }
         ensures none { result ≡ false → NoneExpired self.now.places now }
@@ -319,8 +324,8 @@ impl Book {
         self.places.get(uid)
     }
 
-    /// Where a node's row is among the rows, or where it would go. A node with pods is found at once, where no rows came or went
-    /// since the last step that placed or took one there.
+    /// Where a node's row is among the rows, or where it would go. A node with pods is found at
+    /// once, where no rows came or went since the last step that placed or took one there.
     pub fn find_row(&self, node: &Name) -> Result<usize, usize>
         ensures found { IfOk result (IsRowOf (rows_in self.now.nodes) node.now) }
         ensures absent { IfErr result (IsGapFor (rows_in self.now.nodes) node.now) }

@@ -13,8 +13,9 @@ pub(crate) const NEVER: u64 = u64::MAX;
 // How many milliseconds have one earliest among them kept beside them.
 const BLOCK: usize = 64;
 
-/// A millisecond for each slot. The earliest one of each block of slots is kept beside them, and the earliest one of each block of
-/// these beside these, so that a search for early ones passes over all that has none.
+/// A millisecond for each slot. The earliest one of each block of slots is kept beside them, and
+/// the earliest one of each block of these beside these, so that a search for early ones passes
+/// over all that has none.
 #[derive(Drop)]
 pub(crate) struct Finishes {
     each: Vec<u64>,
@@ -89,7 +90,8 @@ impl Finishes {
     }
 }
 
-// One of the milliseconds has changed from what it was before. The earliest of its block is found anew only where that one was it.
+// One of the milliseconds has changed from what it was before. The earliest of its block is found
+// anew only where that one was it.
 fn keep_earliest(each: &[u64], earliest: &mut Vec<u64>, at: usize, before: u64)
     requires here { at < length each.now }
     requires kept { IsEarliest (slice_set each.now at before) earliest.old.items }

@@ -2,12 +2,15 @@
 //!
 //! All room is made by `Book::new`; a step takes no memory.
 //!
-//! - `step` is what happens and what is answered, `refusal` why a step is refused, and `place` where a pod is, and how sure that is.
+//! - `step` is what happens and what is answered, `refusal` why a step is refused, and `place`
+//!   where a pod is, and how sure that is.
 //! - `book` does each kind of step, over `nodes` and `places`.
 //! - `nodes`: the rows in the order of their names, each with what is used of it.
-//! - `places`: the places by uid, and each node's total, changed with every place and never summed anew. `finishes` has when binds
-//!   were reported done, and `overdue` the uids whose places expire, in order: so a tick doesn't look at each place.
-//! - `limits`: how large all this may grow, and how long a place stays whose bind was reported done.
+//! - `places`: the places by uid, and each node's total, changed with every place and never summed
+//!   anew. `finishes` has when binds were reported done, and `overdue` the uids whose places
+//!   expire, in order: so a tick doesn't look at each place.
+//! - `limits`: how large all this may grow, and how long a place stays whose bind was reported
+//!   done.
 #![tactic(auto)]
 
 mod book;

@@ -4,7 +4,8 @@ ghost use Rattle.quant.specs.declared.limits.TheConstants.{MAX_NODES, MAX_PLACED
 
 use quant::{MAX_NODES, MAX_PLACED, MAX_QUEUED};
 
-/// How many milliseconds after its bind was reported done an assumed place that the cluster hasn't confirmed stays.
+/// How many milliseconds after its bind was reported done an assumed place that the cluster hasn't
+/// confirmed stays.
 pub const EXPIRY: u64 = 30_000;
 
 /// How many nodes, placed pods and queued pods there is room for. Each may be 0.

@@ -87,7 +87,8 @@ impl Nodes {
         }
     }
 
-    /// Whether the row beside which `keep` wrote an amount last has this name, so that `find` finds it at once without a slot.
+    /// Whether the row beside which `keep` wrote an amount last has this name, so that `find` finds
+    /// it at once without a slot.
     pub(crate) fn is_last(&self, name: &Name) -> bool {
         match self.rows.get(self.last) {
             Some(row) => row.name == *name,
@@ -95,7 +96,8 @@ impl Nodes {
         }
     }
 
-    /// Where the row of this name is, or where it would go. The slot tells names apart as in `keep`, if it is known.
+    /// Where the row of this name is, or where it would go. The slot tells names apart as in
+    /// `keep`, if it is known.
     pub(crate) fn find(&self, name: &Name, slot: Option<usize>) -> Result<usize, usize>
         ensures found { IfOk result (IsRowOf (rows_in self.now.map) name.now) }
         ensures absent { IfErr result (IsGapFor (rows_in self.now.map) name.now) }
@@ -157,8 +159,9 @@ impl Nodes {
         }
     }
 
-    /// So much is used of a node from now on, if it is there. The slot tells names apart, as far as it can: where it had this name
-    /// at the last call and no rows came or went since, the row is found at once.
+    /// So much is used of a node from now on, if it is there. The slot tells names apart, as far as
+    /// it can: where it had this name at the last call and no rows came or went since, the row is
+    /// found at once.
     pub(crate) fn keep(&mut self, name: &Name, used: Res, slot: usize)
         ensures map { self.new.map ≡ self.old.map }
         ensures room { self.new.room ≡ self.old.room }

@@ -15,9 +15,11 @@ use name_table::NameTable;
 use quant::{MAX_PLACED, Name};
 use std::alloc::{AllocError, Global};
 
-/// The uids of the places whose binds were reported done up to a limit, in the order of their bytes.
+/// The uids of the places whose binds were reported done up to a limit, in the order of their
+/// bytes.
 ///
-/// A place that goes leaves its uid behind. Where one more bind is reported done, they have to be gathered anew.
+/// A place that goes leaves its uid behind. Where one more bind is reported done, they have to be
+/// gathered anew.
 #[derive(Drop)]
 pub(crate) struct Overdue {
     pub(crate) names: Vec<Name>,

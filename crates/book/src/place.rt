@@ -35,7 +35,8 @@ impl Status {
     ghost use Rattle.book.specs.Step.{first_of, is_bound, has_ticket, is_finished, finished_status};
     ghost use Rattle.book.specs.inside.Finishes.{finish_of};
 
-    // An assumed place is what a ticket names, if it is the place's own, until its bind is reported done.
+    // An assumed place is what a ticket names, if it is the place's own, until its bind is reported
+    // done.
     pub(crate) fn check(self, named: Ticket) -> Result<(), Refusal>
         ensures { result_err result ≡ first_of ((is_bound self, Refusal.Confirmed) ∷
             (not (has_ticket named self), Refusal.StaleTicket) ∷ (is_finished self, Refusal.Confirmed) ∷ []) }

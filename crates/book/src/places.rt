@@ -33,8 +33,8 @@ const NOTHING: Res = Res {
     pods: 0,
 };
 
-/// The places of pods, by uid. What the pods on a node use is kept, so that neither a look-up nor a change
-/// depends on how many places there are.
+/// The places of pods, by uid. What the pods on a node use is kept, so that neither a look-up nor a
+/// change depends on how many places there are.
 ///
 /// A node's total goes with its last pod, so that there are no more totals than places.
 #[derive(Drop)]
@@ -45,7 +45,8 @@ pub(crate) struct Places {
     // When the bind of the place in each slot was reported done.
     finishes: Finishes,
     overdue: Overdue,
-    // The slot of the place that was put or finished last, at which the next pod is looked for first. It is a guess.
+    // The slot of the place that was put or finished last, at which the next pod is looked for
+    // first. It is a guess.
     last: usize,
 }
 
@@ -114,7 +115,8 @@ impl Places {
         self.totals.get(node).copied().unwrap_or(NOTHING)
     }
 
-    /// The slot of a node's total, which `put` and `remove` told the nodes with it, where a pod is on the node.
+    /// The slot of a node's total, which `put` and `remove` told the nodes with it, where a pod is
+    /// on the node.
     pub(crate) fn total_slot(&self, node: &Name) -> Option<usize> {
         self.totals.find(node)
     }
@@ -136,7 +138,8 @@ impl Places {
         }
     }
 
-    /// Gives a pod a place, instead of the one that it may have. What is used of nodes is shown beside their rows.
+    /// Gives a pod a place, instead of the one that it may have. What is used of nodes is shown
+    /// beside their rows.
     ///
     /// Errors: `Full` where it has none and there is no room for one more; nothing changes.
     pub(crate) fn put(&mut self, nodes: &mut Nodes, uid: Name, place: Place) -> Result<(), Refusal>
@@ -180,7 +183,8 @@ impl Places {
         }
     }
 
-    /// Takes a pod's place away, and tells whether it had one. What is used of its node is shown beside the node's row.
+    /// Takes a pod's place away, and tells whether it had one. What is used of its node is shown
+    /// beside the node's row.
     pub(crate) fn remove(&mut self, nodes: &mut Nodes, uid: &Name) -> bool
         ensures nodes { (nodes.new.map ≡ nodes.old.map) × (nodes.new.room ≡ nodes.old.room) }
         ensures shown { IsShown (used self.old.map) nodes.old → IsShown (used self.new.map) nodes.new }
@@ -232,8 +236,9 @@ impl Places {
 
     /// Takes the expired place with the least uid away, and answers that uid.
     ///
-    /// The first call for a moment finds what expires, passing over all blocks of slots that have none, and puts it in order. The
-    /// next ones for that moment take it from there, until a place is put or finished.
+    /// The first call for a moment finds what expires, passing over all blocks of slots that have
+    /// none, and puts it in order. The next ones for that moment take it from there, until a place
+    /// is put or finished.
     pub(crate) fn expire(&mut self, nodes: &mut Nodes, now: Moment) -> Option<Name>
         ensures nodes { (nodes.new.map ≡ nodes.old.map) × (nodes.new.room ≡ nodes.old.room) }
         ensures shown { IsShown (used self.old.map) nodes.old → IsShown (used self.new.map) nodes.new }
@@ -309,7 +314,8 @@ fn add(totals: &mut NameTable<Res>, node: &Name, request: &Request) -> (usize, R
     }
 }
 
-// Takes a pod out of its node's total, which goes with the last pod. The slot of that total, and what it is now.
+// Takes a pod out of its node's total, which goes with the last pod. The slot of that total, and
+// what it is now.
 fn take(totals: &mut NameTable<Res>, node: &Name, request: &Request) -> (usize, Res)
     requires within { IsWithin (one_pod request.now) (total_at (map_of totals.old) node.now) }
     requires last { (total_at (map_of totals.old) node.now).pods ≡ 1 →

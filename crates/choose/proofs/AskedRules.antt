@@ -16,7 +16,8 @@ use Rattle.choose.specs.inside.Verdict.{nothing_added}
 use Rattle.choose.specs.Choice.{AreVerdicts}
 use Rattle.choose.specs.inside.Finding.{IsBuiltIn}
 
--- the scores of the rules before a place are good, this is their weighted sum, and these are they in their places
+-- the scores of the rules before a place are good, this is their weighted sum, and these are they
+-- in their places
 pub record GoodBefore (rules : RuleSet) (told : Told) (place sum : ℕ) (shown : List ℕ) : Type 0 where
   pub scores : List ℕ
   pub many : length scores ≡ place

@@ -174,7 +174,8 @@ and_false : (x y : Bool) → (x && y) ≡ false → x ≡ true → y ≡ false
 and_false true y e is = e
 and_false false y e is = cc
 
--- one node more beside the one that was found, which is worth something: it goes before that one, or doesn't
+-- one node more beside the one that was found, which is worth something: it goes before that one,
+-- or doesn't
 over_found : (by : Worth) (rows : List Shown) (verdicts : List Verdict) (i w : ℕ) (found : Found) → length verdicts ≡ length rows → i < length rows →
     StandsFirst by (judged rows verdicts) (take i (judged rows verdicts)) (Some found) → worth_of by (node_at (judged rows verdicts) i).verdict ≡ Some w →
     (before : Bool) → goes_before rows (record { at = i; worth = w }) found ≡ before →

@@ -3,7 +3,8 @@ use Rattle.std.proofs.Common.{◌≡◌, ℕ, ◌+◌, ◌<◌, List, [], ◌∷
 use Rattle.std.specs.List.{AllZip}
 use Rattle.std.proofs.lemmas.List.{map_more, take_more_set}
 
--- what holds of the elements of two lists pair by pair, and of two more, holds of each two put together
+-- what holds of the elements of two lists pair by pair, and of two more, holds of each two put
+-- together
 pub all_zip_append : {A B : Type 0} (R : A → B → Type 0) (xs : List A) (vs : List B) (ys : List A) (ws : List B) → AllZip R xs vs → AllZip R ys ws → AllZip R (xs ++ ys) (vs ++ ws)
 all_zip_append R [] [] ys ws first second = second
 all_zip_append R [] (v ∷ vs) ys ws first second = absurd first

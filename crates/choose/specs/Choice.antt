@@ -45,7 +45,8 @@ count_of (Passes count score scores) = count
 abbrev pub most_of : List Judged → ℕ
 most_of nodes = greatest_by (λ node. count_of node.verdict) nodes
 
--- the total of a node that passes with so many of these taints and this score, where `most` is that greatest number
+-- the total of a node that passes with so many of these taints and this score, where `most` is that
+-- greatest number
 abbrev pub total : (most count score : ℕ) → ℕ
 total most count score = score + taint_score count most
 
@@ -98,15 +99,16 @@ pub record LeastErring (nodes : List Judged) (node : Judged) : Type 0 where
   pub says_nothing : errs node.verdict ≡ true
   pub least : All (λ other. errs other.verdict ≡ true → is_before other.name node.name ≡ false) nodes
 
--- a node of the greatest worth, and of the least name among those that are worth as much, where not every verdict is worth
--- something
+-- a node of the greatest worth, and of the least name among those that are worth as much, where not
+-- every verdict is worth something
 pub record IsFirst (nodes : List Judged) (worth : Verdict → Option ℕ) (node : Judged) (greatest : ℕ) : Type 0 where
   pub there : Contains nodes node
   pub has : worth node.verdict ≡ Some greatest
   pub none_greater : All (λ other. IfSome (worth other.verdict) (λ w. w ≤ greatest)) nodes
   pub none_earlier : All (λ other. worth other.verdict ≡ Some greatest → is_before other.name node.name ≡ false) nodes
 
--- a node that passes with this total, where no node that passes has a greater one and none with an equal one a lesser name
+-- a node that passes with this total, where no node that passes has a greater one and none with an
+-- equal one a lesser name
 abbrev pub IsBest : List Judged → (name : List ℕ) → (total : ℕ) → Type 0
 IsBest nodes name total = (verdict : Verdict) × IsFirst nodes (total_of (most_of nodes)) (record { name = name; verdict = verdict }) total
 
@@ -114,8 +116,9 @@ IsBest nodes name total = (verdict : Verdict) × IsFirst nodes (total_of (most_o
 abbrev pub NonePasses : List Judged → Type 0
 NonePasses nodes = All (λ node. total_of (most_of nodes) node.verdict ≡ None) nodes
 
--- The decision by the verdicts on all nodes. Where a node errs, the one of the least name decides; else the best one that
--- passes is chosen; where none passes, it is told how many are rejected for which reason.
+-- The decision by the verdicts on all nodes. Where a node errs, the one of the least name decides;
+-- else the best one that passes is chosen; where none passes, it is told how many are rejected for
+-- which reason.
 abbrev pub IsChoice : List Judged → Decision → Type 0
 IsChoice nodes (decision.PluginError place name why) = LeastErring nodes (record { name = name; verdict = Errs place why })
 IsChoice nodes (decision.Node name total) =

@@ -21,8 +21,8 @@ OneVerdict rules = (pod : Pod) (shown : Shown) (one other : Verdict) → HasVerd
 abbrev pub HaveOwnNames : List Shown → Type 0
 HaveOwnNames nodes = (i j : ℕ) → i < length nodes → j < length nodes → name_at nodes i ≡ name_at nodes j → i ≡ j
 
--- There is one decision among nodes that have names of their own: one node is chosen or none, with one total; one error is
--- told or none.
+-- There is one decision among nodes that have names of their own: one node is chosen or none, with
+-- one total; one error is told or none.
 abbrev pub OneDecision : RuleSet → Type 0
 OneDecision rules =
     (nodes : List Shown) (pod : Pod) (one other : Decision) → HaveOwnNames nodes → Choice rules nodes pod one → Choice rules nodes pod other → one ≡ other
@@ -37,7 +37,8 @@ pub record VerdictsDecide (rules : RuleSet) : Type 0 where
   -- there is one list of verdicts on the nodes
   pub one : (pod : Pod) (nodes : List Shown) (verdicts others : List Verdict) →
       AreVerdicts rules pod nodes verdicts → AreVerdicts rules pod nodes others → verdicts ≡ others
-  -- the decision by the verdicts on the nodes is the choice among them, and the choice is the decision by them
+  -- the decision by the verdicts on the nodes is the choice among them, and the choice is the
+  -- decision by them
   pub decide : (pod : Pod) (nodes : List Shown) (verdicts : List Verdict) (decision : Decision) →
       AreVerdicts rules pod nodes verdicts → IsChoice (judged nodes verdicts) decision → Choice rules nodes pod decision
   pub decided : (pod : Pod) (nodes : List Shown) (verdicts : List Verdict) (decision : Decision) →

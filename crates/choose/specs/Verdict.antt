@@ -29,7 +29,8 @@ too_little (Err shortage.Cpu) = Some Cpu
 too_little (Err shortage.Memory) = Some Memory
 too_little (Err shortage.Pods) = Some Pods
 
--- the first of the built-in filters that rejects a node: its mark, its taints, and then what it has for pods
+-- the first of the built-in filters that rejects a node: its mark, its taints, and then what it has
+-- for pods
 abbrev pub first_reason : Option TaintRejection → Result (Unit {0}) Shortage → Option Reason
 first_reason (Some taint.Marked) room = Some Marked
 first_reason (Some taint.Tainted) room = Some Taint
@@ -89,7 +90,8 @@ no_scores = replicate 16 0
 abbrev pub in_places : List ℕ → List ℕ
 in_places scores = scores ++ drop (length scores) no_scores
 
--- all rules give good scores, and this is what they add: their weighted sum, and the scores in their places
+-- all rules give good scores, and this is what they add: their weighted sum, and the scores in
+-- their places
 pub record ScoresAdd (rules : RuleSet) (told : Told) (added : Added) : Type 0 where
   pub scores : List ℕ
   pub all : length scores ≡ length rules.weights
@@ -111,7 +113,8 @@ abbrev pub Scored : RuleSet → (told : Told) → Result Added Verdict → Type 
 Scored rules told (Ok added) = ScoresAdd rules told added
 Scored rules told (Err verdict) = ScoreErrs rules told verdict
 
--- a node that passes: its untolerated taints `PreferNoSchedule`, its score for free room with what the rules add, and their scores
+-- a node that passes: its untolerated taints `PreferNoSchedule`, its score for free room with what
+-- the rules add, and their scores
 abbrev pub passing : Shown → Pod → Added → Verdict
 passing shown pod added =
     Passes (prefer_not shown.node pod) (least_allocated_score shown.node.allocatable shown.used pod.request + added.sum) added.scores
@@ -127,7 +130,8 @@ pub record ByScores (rules : RuleSet) (pod : Pod) (shown : Shown) (verdict : Ver
   pub are : Scored rules (told_of pod shown) scored
   pub is : verdict ≡ made_by shown pod scored
 
--- the verdict on a node that no built-in filter rejects: the first filter of the rules that doesn't pass, else by the scores
+-- the verdict on a node that no built-in filter rejects: the first filter of the rules that doesn't
+-- pass, else by the scores
 pub record ByRules (rules : RuleSet) (pod : Pod) (shown : Shown) (verdict : Verdict) : Type 0 where
   pub filtered : Option Verdict
   pub are : Filtered rules (told_of pod shown) filtered

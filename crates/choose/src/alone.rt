@@ -1,5 +1,6 @@
-//! The choice where there is no rule. Nodes that are shown stand in the order of their names, so one pass finds the node that
-//! goes first: the first one of the greatest total. No verdict is written, and no memory is taken.
+//! The choice where there is no rule. Nodes that are shown stand in the order of their names, so
+//! one pass finds the node that goes first: the first one of the greatest total. No verdict is
+//! written, and no memory is taken.
 ghost use Rattle.std.specs.Prelude.{◌≡◌, ℕ, ◌≤◌, ◌<◌, true, length, map, IfSome};
 ghost use Rattle.desk.specs.Plain.{is_plain};
 ghost use Rattle.desk.specs.Shown.{shown};
@@ -35,7 +36,8 @@ struct Pass {
     most: u8,
 }
 
-/// Where a pod goes, by a look at the nodes, where there is no rule: as `choose` decides it, but no memory is taken.
+/// Where a pod goes, by a look at the nodes, where there is no rule: as `choose` decides it, but no
+/// memory is taken.
 pub fn choose_alone<R: Rules>(snapshot: &Snapshot, pod: &Pod, _rules: &R) -> Decision
     requires { length (R.answers _rules.now).weights ≡ 0 }
     ensures { Choice (R.answers _rules.now) snapshot.now pod.now result }
@@ -55,8 +57,8 @@ fn decide_alone(rows: &[Row], pod: &Pod) -> Decision
     }
 }
 
-// The best node that passes, if one does. A node without untolerated taints has its total whatever others have; so a second
-// pass is made only where one with such taints passes.
+// The best node that passes, if one does. A node without untolerated taints has its total whatever
+// others have; so a second pass is made only where one with such taints passes.
 fn best_alone(rows: &[Row], pod: &Pod) -> Option<Found>
     requires { AreInOrder (map shown rows.now) }
     ensures first { let nodes = judged_alone pod.now (map shown rows.now) in
@@ -70,7 +72,8 @@ fn best_alone(rows: &[Row], pod: &Pod) -> Option<Found>
     pass_over(rows, pod, pass.most).first
 }
 
-// The first node among those of the greatest total, where so many untolerated taints count as the most.
+// The first node among those of the greatest total, where so many untolerated taints count as the
+// most.
 fn pass_over(rows: &[Row], pod: &Pod, most: u8) -> Pass
     requires { AreInOrder (map shown rows.now) }
     ensures first { let nodes = judged_alone pod.now (map shown rows.now) in

@@ -16,7 +16,8 @@ pub struct Added {
     pub scores: [u8; 16],
 }
 
-/// What the filters of the rules make of the node that is shown, in their order: the first that doesn't pass ends it.
+/// What the filters of the rules make of the node that is shown, in their order: the first that
+/// doesn't pass ends it.
 pub fn filtered<R: Rules>(notes: &mut R::Notes, rules: &mut R) -> Option<Verdict>
     ensures is { (told : Told) → R.OfPod notes.old told.pod → R.OfNode rules.old notes.old told.node told.used
         → Filtered (R.answers rules.old) told result }

@@ -17,7 +17,8 @@ use taints::normalize;
 pub enum Worth {
     /// Only erring nodes count, all alike.
     Error,
-    /// Only nodes that pass count, by their totals, where the most untolerated taints of a node that passes are these.
+    /// Only nodes that pass count, by their totals, where the most untolerated taints of a node
+    /// that passes are these.
     Total(u8),
 }
 
@@ -44,8 +45,8 @@ impl Worth {
     }
 }
 
-/// The total of a node that passes with so many untolerated taints `PreferNoSchedule` and this score, where the most that a
-/// node has which passes are these.
+/// The total of a node that passes with so many untolerated taints `PreferNoSchedule` and this
+/// score, where the most that a node has which passes are these.
 pub fn total(most: u8, count: u8, score: u16) -> u32
     requires { count ≤ most }
     ensures { result ≡ total most count score }

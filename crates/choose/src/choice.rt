@@ -14,12 +14,13 @@ use quant::{Name, Pod};
 use rules::Rules;
 use std::alloc::Global;
 
-/// The decision by the verdicts on nodes, in their order. Where a node errs, the one of the least name decides. Else the node
-/// of the greatest total among those that pass is chosen, and among those of equal totals the one of the least name. Where no
-/// node passes, it is told how many are rejected for which reason.
+/// The decision by the verdicts on nodes, in their order. Where a node errs, the one of the least
+/// name decides. Else the node of the greatest total among those that pass is chosen, and among
+/// those of equal totals the one of the least name. Where no node passes, it is told how many are
+/// rejected for which reason.
 ///
-/// A node's total is its score and, for its untolerated taints `PreferNoSchedule`, what `taints::normalize` gives beside the
-/// most that a node has which passes.
+/// A node's total is its score and, for its untolerated taints `PreferNoSchedule`, what
+/// `taints::normalize` gives beside the most that a node has which passes.
 pub fn decide(rows: &[Row], verdicts: &[Verdict]) -> Decision
     requires { length verdicts.now ≡ length rows.now }
     ensures { IsChoice (judged (map shown rows.now) verdicts.now) result }

@@ -37,7 +37,8 @@ pub trait Decider {
             (last self.new)) }
         ensures kits { kits self.new ≡ kits self.old };
 
-    /// Where a pod goes, as `decide` says it. Which verdicts it was decided by isn't told then, so that none need be written.
+    /// Where a pod goes, as `decide` says it. Which verdicts it was decided by isn't told then, so
+    /// that none need be written.
     ///
     /// Errors: as those of `decide`.
     fn choose<R: Threads + Wait + Sync>(

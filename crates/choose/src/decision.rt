@@ -30,9 +30,10 @@ pub enum Verdict {
     RejectedBy(usize, Rejection),
     /// The rule at this place said nothing of it, for this cause.
     Errs(usize, Cause),
-    /// It is for the pod: how many of its taints `PreferNoSchedule` the pod doesn't tolerate; the node's score but for these
-    /// taints, which count beside those of all nodes; and the scores of the rules that it has in it, by their places. There
-    /// are at most 16 rules, and a place without one has 0.
+    /// It is for the pod: how many of its taints `PreferNoSchedule` the pod doesn't tolerate; the
+    /// node's score but for these taints, which count beside those of all nodes; and the scores of
+    /// the rules that it has in it, by their places. There are at most 16 rules, and a place
+    /// without one has 0.
     Passes(u8, u16, [u8; 16]),
 }
 

@@ -16,8 +16,8 @@ use rules::Rules;
 use std::alloc::{AllocError, Global};
 use taints::{Rejection, prefer_count, rejected_by};
 
-/// The first of the built-in filters that rejects a node: its mark, its taints, its CPU, its memory and its number of pods. A
-/// plain node isn't looked into.
+/// The first of the built-in filters that rejects a node: its mark, its taints, its CPU, its memory
+/// and its number of pods. A plain node isn't looked into.
 #[tactic(auto, using(crate::proofs::Plain::keeps_none_off), unfolding(crate::specs::Verdict::built_in))]
 pub(crate) fn built_in(row: &Row, pod: &Pod) -> Option<Reason>
     ensures { result ≡ built_in (shown row.now) pod.now }
@@ -37,7 +37,8 @@ pub(crate) fn built_in(row: &Row, pod: &Pod) -> Option<Reason>
     }
 }
 
-// How many of a node's taints `PreferNoSchedule` a pod doesn't tolerate. A plain node isn't looked into.
+// How many of a node's taints `PreferNoSchedule` a pod doesn't tolerate. A plain node isn't looked
+// into.
 #[tactic(auto, using(crate::proofs::Plain::is_preferred))]
 fn untolerated(row: &Row, pod: &Pod) -> u8
     ensures { result ≡ prefer_not row.now.node pod.now }
@@ -77,7 +78,8 @@ pub(crate) fn built_in_verdict(row: &Row, pod: &Pod) -> Verdict
     }
 }
 
-/// The verdict on a node. The rules are shown it where no built-in filter rejects it; the pod was shown to them already.
+/// The verdict on a node. The rules are shown it where no built-in filter rejects it; the pod was
+/// shown to them already.
 pub fn verdict_of<R: Rules>(row: &Row, pod: &Pod, notes: &mut R::Notes, rules: &mut R) -> Verdict
     requires { R.OfPod notes.old pod.now }
     ensures is { HasVerdict (R.answers rules.old) pod.now (shown row.now) result }
@@ -97,8 +99,8 @@ pub fn verdict_of<R: Rules>(row: &Row, pod: &Pod, notes: &mut R::Notes, rules: &
     }
 }
 
-/// Writes the verdicts on nodes into the places for them, in the nodes' order. Where there is a rule the pod is shown to the
-/// rules, once. No memory is taken.
+/// Writes the verdicts on nodes into the places for them, in the nodes' order. Where there is a
+/// rule the pod is shown to the rules, once. No memory is taken.
 pub fn judge<R: Rules>(rows: &[Row], pod: &Pod, rules: &mut R, verdicts: &mut [Verdict])
     requires { length verdicts.old ≡ length rows.now }
     ensures are { AreVerdicts (R.answers rules.old) pod.now (map shown rows.now) verdicts.new }

@@ -8,12 +8,14 @@ pub fn one_verdict<R: Rules>(_rules: &R)
     ensures { OneVerdict (R.answers _rules.now) }
 {}
 
-/// There is one decision where no two nodes have one name: one node is chosen or none, and one error is told or none.
+/// There is one decision where no two nodes have one name: one node is chosen or none, and one
+/// error is told or none.
 pub fn one_decision<R: Rules>(_rules: &R)
     ensures { OneDecision (R.answers _rules.now) }
 {}
 
-/// The choice depends on the verdicts on the nodes alone, which may be made part by part and put together in the nodes' order.
+/// The choice depends on the verdicts on the nodes alone, which may be made part by part and put
+/// together in the nodes' order.
 pub fn verdicts_decide<R: Rules>(_rules: &R)
     ensures { VerdictsDecide (R.answers _rules.now) }
 {}

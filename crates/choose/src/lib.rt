@@ -1,13 +1,15 @@
 //! Which node a pod goes to: what is decided of each node, and the choice among all of them.
 //!
-//! What is decided of a node depends on that node, the pod and the rules alone (`verdict_of`), and the choice on these verdicts
-//! alone (`decide`), so verdicts may be made in parts and put together in the nodes' order. However many share the work, and in
-//! however many threads, what they come to is what a `Decider` promises.
+//! What is decided of a node depends on that node, the pod and the rules alone (`verdict_of`), and
+//! the choice on these verdicts alone (`decide`), so verdicts may be made in parts and put together
+//! in the nodes' order. However many share the work, and in however many threads, what they come to
+//! is what a `Decider` promises.
 //!
 //! - `decision`: what is decided of a node, a `Verdict`, and of a pod, a `Decision`.
-//! - `judging`: the verdicts on nodes, by the built-in filters and scores, and by the rules of a site: `asking`.
-//! - `choice`: the decision by the verdicts of all nodes. `best` has the node that goes first, and `counts` how many are rejected for
-//!   which reason.
+//! - `judging`: the verdicts on nodes, by the built-in filters and scores, and by the rules of a
+//!   site: `asking`.
+//! - `choice`: the decision by the verdicts of all nodes. `best` has the node that goes first, and
+//!   `counts` how many are rejected for which reason.
 //! - `alone`: the choice where there is no rule, without verdicts.
 //! - `decider`: what promises this choice, whoever shares the work.
 //! - `laws`: what holds of every choice.

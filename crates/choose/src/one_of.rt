@@ -9,7 +9,8 @@ use quant::SharedPod;
 use std::sync::Wait;
 use std::thread::Threads;
 
-/// One of two deciders, which decides as that one does: so that a list of deciders may have some of each kind.
+/// One of two deciders, which decides as that one does: so that a list of deciders may have some of
+/// each kind.
 #[derive(Drop)]
 pub enum OneOf<A: Drop, B: Drop> {
     First(A),

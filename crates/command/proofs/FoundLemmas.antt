@@ -67,7 +67,8 @@ found_by (Some p) name rows first second =
     let rows_are : p.1 ≡ rows = ap (λ o. unwrap_or o rows) (sym second) in
     ap₂ (λ n r. found (Some (n, r))) name_is rows_are
 
--- a run, what explains one, a storm, a translation, the version, and a command that is none of these
+-- a run, what explains one, a storm, a translation, the version, and a command that is none of
+-- these
 pub run_by : (name : Text) (rows : List Row) (workers : ℕ) (specs : List SpecSyntax) → bytes_eq name (codes "run") ≡ true → plan_found rows ≡ Some (workers, specs)
     → found (Some (name, rows)) ≡ Some (run workers specs)
 run_by name rows workers specs is_run plan = rw (is_run, plan) refl

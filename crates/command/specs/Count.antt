@@ -31,7 +31,8 @@ number_up_to most digits =
     if is_numeral digits && nat_le 1 (digits_value 10 digits) && nat_le (digits_value 10 digits) most
     then Some (digits_value 10 digits) else None
 
--- the number that the word behind an option spells, with or without a plus before it, or what it is where there is none
+-- the number that the word behind an option spells, with or without a plus before it, or what it is
+-- where there is none
 abbrev pub number_for : Count → Option (List ℕ) → Option ℕ
 number_for count None = Some (unless_told count)
 number_for count (Some word) = number_up_to (most_of count) (without_leading_plus word)

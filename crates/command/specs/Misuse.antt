@@ -1,4 +1,5 @@
--- What is wrong with words that ask for nothing, told to whoever wrote them: the first word that can't stand where it does.
+-- What is wrong with words that ask for nothing, told to whoever wrote them: the first word that
+-- can't stand where it does.
 use Rattle.std.specs.Prelude.{ℕ, ◌+◌, ◌-◌, ◌==◌, ◌&&◌, ◌||◌, not, Bool, true, false, List, [], ◌∷◌, take, drop, codes, bytes_eq, Option, Some, None, is_some, option_map, option_and_then, unwrap_or, nat_eq, if◌then◌else◌}
 use Rattle.std.specs.Option.{option_map_or}
 use Rattle.std.specs.List.{position, starts_with}
@@ -59,8 +60,8 @@ wrong_plugin number word = option_map (λ part. Plugin part number) (wrong_part 
 abbrev pub is_hyphened : (word : List ℕ) → Bool
 is_hyphened word = starts_with nat_eq word (45 ∷ [])
 
--- a word that is no option where one could stand: one with a hyphen in front is taken for an option that isn't there, and else it is
--- to be a plugin
+-- a word that is no option where one could stand: one with a hyphen in front is taken for an option
+-- that isn't there, and else it is to be a plugin
 abbrev pub wrong_other : (number : ℕ) → (word : List ℕ) → Option Misuse
 wrong_other number word = if is_hyphened word then Some (Plugin Spec number) else wrong_plugin number word
 
@@ -74,27 +75,30 @@ abbrev pub wrong_at : (is_storm : Bool) → (number : ℕ) → (word : List ℕ)
 wrong_at is_storm number word None = wrong_other number word
 wrong_at is_storm number word (Some sides) = wrong_value number word (count_named is_storm sides.0) sides.1
 
--- what is wrong with the word of this number behind a command: one that may be anything, the value of an option, or one behind the
--- end of the options
+-- what is wrong with the word of this number behind a command: one that may be anything, the value
+-- of an option, or one behind the end of the options
 unfoldable pub wrong_word : (is_storm : Bool) → (number : ℕ) → ReadAs → (word : List ℕ) → Option Misuse
 wrong_word is_storm number Anything word = if is_option is_storm word then None else wrong_at is_storm number word (at_equals word)
 wrong_word is_storm number (Value count) word = wrong_count number count word
 wrong_word is_storm number NoOption word = wrong_plugin number word
 
--- what the next word is read as: the value of an option that stands before it, no option behind a `--`, and else anything
+-- what the next word is read as: the value of an option that stands before it, no option behind a
+-- `--`, and else anything
 abbrev pub read_behind : (is_storm : Bool) → ReadAs → (word : List ℕ) → ReadAs
 read_behind is_storm Anything word =
     if bytes_eq word (codes "--") then NoOption else option_map_or Value (count_named is_storm word) Anything
 read_behind is_storm (Value count) word = Anything
 read_behind is_storm NoOption word = NoOption
 
--- behind the last word, which has this number: its value is missing, or each word may stand where it does, but not all together
+-- behind the last word, which has this number: its value is missing, or each word may stand where
+-- it does, but not all together
 abbrev pub at_end : (number : ℕ) → ReadAs → Misuse
 at_end number Anything = Together
 at_end number (Value count) = Number count number
 at_end number NoOption = Together
 
--- what is wrong with words behind a command, of which the first has this number: the first that is wrong, or what is at their end
+-- what is wrong with words behind a command, of which the first has this number: the first that is
+-- wrong, or what is at their end
 abbrev pub misuse_in : (is_storm : Bool) → (number : ℕ) → ReadAs → List (List ℕ) → Misuse
 misuse_in is_storm number read_as [] = at_end (number - 1) read_as
 misuse_in is_storm number read_as (word ∷ rest) =

@@ -36,13 +36,15 @@ next_behind Anything word = if asks_name word then Name else if ends_options wor
 next_behind Name word = Anything
 next_behind Nothing word = Nothing
 
--- behind the last word, which has this number: a name is missing, or each word may stand where it does, but not all together
+-- behind the last word, which has this number: a name is missing, or each word may stand where it
+-- does, but not all together
 abbrev pub at_last : (number : ℕ) → NextWord → Misuse
 at_last number Anything = Together
 at_last number Name = Scheduler number
 at_last number Nothing = Together
 
--- what is wrong with words, of which the first has this number and may be this: the first that is wrong, or what is at their end
+-- what is wrong with words, of which the first has this number and may be this: the first that is
+-- wrong, or what is at their end
 abbrev pub wrong_among : (number : ℕ) → NextWord → List (List ℕ) → Misuse
 wrong_among number next [] = at_last (number - 1) next
 wrong_among number next (word ∷ rest) = unwrap_or (wrong_next number next word) (wrong_among (number + 1) (next_behind next word) rest)

@@ -1,5 +1,7 @@
--- What the program's words ask for: `run [--workers N] [SPEC]...`, `explain` with the same words behind it, `storm [--cycles C] [--binders B] [--flaky] [SPEC]...`, where
--- a SPEC is `NAME:WEIGHT:FUEL:FILE`, `check MODULE`, `translate [--scheduler NAME] [--labels KEY,..] [--by-uid] [--answers]`, or `version`.
+-- What the program's words ask for: `run [--workers N] [SPEC]...`, `explain` with the same words
+-- behind it, `storm [--cycles C] [--binders B] [--flaky] [SPEC]...`, where a SPEC is
+-- `NAME:WEIGHT:FUEL:FILE`, `check MODULE`, `translate [--scheduler NAME] [--labels KEY,..]
+-- [--by-uid] [--answers]`, or `version`.
 use Rattle.std.specs.Prelude.{ℕ, ◌+◌, ◌==◌, ◌&&◌, nat_le, not, Bool, true, false, List, [], ◌∷◌, take, drop, length, map, codes, bytes_eq, Option, Some, None, option_map, option_and_then, unwrap_or, Result, Ok, Err, if◌then◌else◌}
 use Rattle.std.specs.List.{list_any, position}
 use Rattle.clap.specs.declared.builder.action.ArgAction.TheVariants.{Set, SetTrue, Append}
@@ -16,17 +18,19 @@ use Rattle.command.specs.declared.count.Count.{Count}
 use Rattle.command.specs.declared.count.Count.TheVariants.{Workers, Cycles, Binders}
 use Rattle.command.specs.Count.{name_of, number_for, number_up_to}
 
--- a plugin, as words configure it: its name, how often its score counts, how much fuel its start function and each of its calls
--- have, and the file that its module is in
+-- a plugin, as words configure it: its name, how often its score counts, how much fuel its start
+-- function and each of its calls have, and the file that its module is in
 pub record SpecSyntax : Type 0 where
   pub name : List ℕ
   pub weight : ℕ
   pub fuel : ℕ
   pub file : List ℕ
 
--- what the program can be asked for: a run by so many workers with these plugins, or what explains one, a storm of so many threads that run cycles and so
--- many that bind pods, of which every third bind fails or not, to check the module in the file of this name, or to translate objects for this
--- scheduler, with the labels of these keys first, with pods called by their uid or not, and with answers that also say what is left out or not, or which program this is
+-- what the program can be asked for: a run by so many workers with these plugins, or what explains
+-- one, a storm of so many threads that run cycles and so many that bind pods, of which every third
+-- bind fails or not, to check the module in the file of this name, or to translate objects for this
+-- scheduler, with the labels of these keys first, with pods called by their uid or not, and with
+-- answers that also say what is left out or not, or which program this is
 pub data Asked : Type 0 where
   run : (workers : ℕ) → (specs : List SpecSyntax) → Asked
   explain : (workers : ℕ) → (specs : List SpecSyntax) → Asked

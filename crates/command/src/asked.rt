@@ -42,7 +42,8 @@ pub struct StormPlan<'a> {
 pub struct TranslatePlan<'a> {
     /// The name of the scheduler whose pods are told.
     pub scheduler: &'a str,
-    /// The keys of the labels that the site's rules read, with commas between them. It is empty where none are named.
+    /// The keys of the labels that the site's rules read, with commas between them. It is empty
+    /// where none are named.
     pub labels: &'a str,
     /// Whether pods are called by their uid.
     pub by_uid: bool,
@@ -57,11 +58,13 @@ pub enum Words<'a> {
     Run(Plan<'a>),
     /// To run a script, and to tell of each cycle what was decided of each node.
     Explain(Plan<'a>),
-    /// To have many threads apply the lines of a script and place its pods at once, and to say whether the state is right then.
+    /// To have many threads apply the lines of a script and place its pods at once, and to say
+    /// whether the state is right then.
     Storm(StormPlan<'a>),
     /// To say whether the module in the file of this name is accepted.
     Check(&'a str),
-    /// To read objects of the Kubernetes API from standard input, and to write the lines of a script that they give.
+    /// To read objects of the Kubernetes API from standard input, and to write the lines of a
+    /// script that they give.
     Translate(TranslatePlan<'a>),
     /// To say which program this is, and its version.
     Version,

@@ -206,7 +206,8 @@ fn storm_of<'a>(alloc: Global, matches: &ArgMatches<'a>) -> Result<StormPlan<'a>
     })
 }
 
-// The scheduler whose pods a translation tells: the default one where none is named (Kubernetes, "Configure Multiple Schedulers").
+// The scheduler whose pods a translation tells: the default one where none is named (Kubernetes,
+// "Configure Multiple Schedulers").
 fn scheduler_behind<'a>(matches: &ArgMatches<'a>) -> &'a str
     ensures { result.now ≡ scheduler_found (rows_of (found_of matches.now)) }
 {
@@ -287,14 +288,15 @@ fn found_in<'a, S: AsStr>(alloc: Global, args: &'a [S]) -> Result<ArgMatches<'a>
     }
 }
 
-/// Reads the words that follow the program's name: `run [--workers N] [SPEC]...`, `explain` with the same words behind it,
-/// `storm [--cycles C] [--binders B] [--flaky] [SPEC]...`, `check MODULE`, `translate [--scheduler NAME] [--labels KEY,..] [--by-uid] [--answers]` or
-/// `version`.
+/// Reads the words that follow the program's name: `run [--workers N] [SPEC]...`, `explain` with
+/// the same words behind it, `storm [--cycles C] [--binders B] [--flaky] [SPEC]...`, `check
+/// MODULE`, `translate [--scheduler NAME] [--labels KEY,..] [--by-uid] [--answers]` or `version`.
 ///
-/// N is a whole number from 1 to 64, and 1 where it isn't told; C and B are from 1 to 8, and 2 where they aren't. A SPEC is `NAME:WEIGHT:FUEL:FILE`,
-/// cut at its first three colons: a name of its own, a weight from 1 to 10 and fuel from 1 to 10^9 in
-/// digits alone, and a file. There are at most 16. A scheduler's NAME is any text, and `default-scheduler` where it isn't told. A
-/// `--` ends the options. No command, a request for help, and `--version` are bad words.
+/// N is a whole number from 1 to 64, and 1 where it isn't told; C and B are from 1 to 8, and 2
+/// where they aren't. A SPEC is `NAME:WEIGHT:FUEL:FILE`, cut at its first three colons: a name of
+/// its own, a weight from 1 to 10 and fuel from 1 to 10^9 in digits alone, and a file. There are at
+/// most 16. A scheduler's NAME is any text, and `default-scheduler` where it isn't told. A `--`
+/// ends the options. No command, a request for help, and `--version` are bad words.
 ///
 /// Errors: `BadWords`, and `NoMemory`, which says nothing of the words.
 pub fn words<'a, S: AsStr>(alloc: Global, args: &'a [S]) -> Result<Words<'a>, WordFault>

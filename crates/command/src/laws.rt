@@ -11,7 +11,8 @@ pub fn worked_examples()
     ensures { WorkedExamples }
 {}
 
-/// A word is an option's number exactly where `clap`'s reader of whole numbers from 1 to the option's most takes it.
+/// A word is an option's number exactly where `clap`'s reader of whole numbers from 1 to the
+/// option's most takes it.
 pub fn counts_are_read_as_by_clap()
     ensures { (count : Count) (word : List ℕ) → is_some (number_for count (Some word))
         ≡ is_unsigned_in 1 (most_of count) word }

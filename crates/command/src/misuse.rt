@@ -26,7 +26,8 @@ pub enum Part {
     Fuel,
 }
 
-/// What is wrong with words that ask for nothing. Words are counted from 1, and the program's name isn't one.
+/// What is wrong with words that ask for nothing. Words are counted from 1, and the program's name
+/// isn't one.
 #[derive(Clone, Copy, Debug, PartialEq, Eq, Error)]
 pub enum Misuse {
     /// The first word is no command, or there is none.
@@ -38,14 +39,16 @@ pub enum Misuse {
     /// This part of the word of this number isn't that of a plugin.
     #[error(" {0} of word {1}")]
     Plugin(Part, usize),
-    /// The word of this number is no scheduler's name, where one belongs, or it is the option for one and the last word.
+    /// The word of this number is no scheduler's name, where one belongs, or it is the option for
+    /// one and the last word.
     #[error(" NAME of word {0}")]
     Scheduler(usize),
     /// The word of this number is no option, and nothing else belongs there.
     #[error(" OPTION of word {0}")]
     Unknown(usize),
-    /// Each word may stand where it does, but not all: an option or a name comes twice, there are more than 16 plugins, or
-    /// `check` has another number of words than one, or `version` one at all.
+    /// Each word may stand where it does, but not all: an option or a name comes twice, there are
+    /// more than 16 plugins, or `check` has another number of words than one, or `version` one at
+    /// all.
     #[error("")]
     Together,
 }
@@ -147,7 +150,8 @@ fn is_hyphened(word: &str) -> bool
     word.as_bytes().starts_with(b"-")
 }
 
-// What is wrong with a word that is no option where one could stand: `clap` takes one with a hyphen in front for an option.
+// What is wrong with a word that is no option where one could stand: `clap` takes one with a hyphen
+// in front for an option.
 fn wrong_other(number: usize, word: &str) -> Option<Misuse>
     ensures { result ≡ wrong_other number word.now }
 {

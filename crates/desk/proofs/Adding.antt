@@ -42,7 +42,8 @@ adds_goes log v e old len pre false is =
       rw is tt,
     )
 
--- whatever the history is, the exchange adds the call to all that was seen, or finds that the history is longer
+-- whatever the history is, the exchange adds the call to all that was seen, or finds that the
+-- history is longer
 pub adds_moves : (v : List Call) (e : Call) (old : ℕ) → length v ≡ old
     → Moves IsKept shown moved 0 (v, (no_nib, None)) (λ n. either (n == old) (old + 1) n) (IsAdded (step 0 old (old + 1) e) (v, (no_nib, None)))
 adds_moves v e old len cs log kept pre away =

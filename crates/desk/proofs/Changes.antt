@@ -1,4 +1,5 @@
--- How the nodes of a cluster, and what is used of each, change where one node, or where one pod is, changes.
+-- How the nodes of a cluster, and what is used of each, change where one node, or where one pod is,
+-- changes.
 use Rattle.std.proofs.Common.{◌≡◌, ◌≢◌, ℕ, ◌<◌, ◌≤◌, Bool, true, false, cond, List, [], ◌∷◌, length, map, get_or, set, Option, None, Some, refl, sym, ap, subst, ◌∙◌, inl, inr, arith}
 use Rattle.std.specs.Prelude.{nat_lt, ⊤, ◌==◌}
 use Rattle.std.specs.Global.{Vec}

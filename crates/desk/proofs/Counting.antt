@@ -80,7 +80,8 @@ module _ {X Y : Type 0} (number : X → ℕ) where
           let read : fin.get (fin.remove m k) e.0 ≡ fin.get m e.0 = read_without m k e.0 ∙ ap (λ b. cond b None (fin.get m e.0)) (test_turned e.0 k ∙ other) in
           omega (arith, sum_by-cons (λ (x : Name × Y). of_option number (fin.get (fin.remove m k) x.0)) e es, sum_by-cons (λ (x : Name × Y). of_option number (fin.get m x.0)) e es, ap (of_option number) read, later rest)
 
-  -- where a list has each name at which a map has something that counts, the map adds up to what it has at the list's names
+  -- where a list has each name at which a map has something that counts, the map adds up to what it
+  -- has at the list's names
   pub sum_names : (es : List (Name × Y)) → fin.is_sorted name_cmp es ≡ true → (m : FinMap name_cmp X) → ((q : Name) → fin.find name_cmp q es ≡ None → of_option number (fin.get m q) ≡ 0) → sum_at m es ≡ sum_by number (fin.values m)
   sum_names [] sorted m only = sym (empty_sum number m (λ q. only q refl))
   sum_names (e ∷ es) sorted m only =

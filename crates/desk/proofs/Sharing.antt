@@ -31,7 +31,8 @@ use Rattle.desk.specs.Calm.{IsCalm, HasRoom}
 use Rattle.desk.specs.Shown.{Shown}
 use Rattle.std.specs.List.{All}
 
--- a history that begins with what a pass has seen, and has as many of its calls, goes on with others'
+-- a history that begins with what a pass has seen, and has as many of its calls, goes on with
+-- others'
 pub goes_on : (p : Caller) (seen l : List Call) → IsPrefix seen l → HasCallsOf p seen → HasCallsOf p l → GoesOn p.number seen l
 goes_on p seen l begins before own =
     let parts = calls_parts p.number seen begins.0 in
@@ -43,8 +44,8 @@ module _ (book : Book) (limits : Limits) (x : Held) (stands : Stands book limits
   counts : (k : ℕ) → slice_index x.desk.state.calls k ≡ calls_of k x.prefix.list
   counts = leaves_counts x.prefix.list x.desk stands.leaves
 
-  -- a pass whose history begins the published one, and which counts its calls alike, may go on to it, where no pass has a
-  -- call that wasn't handed out
+  -- a pass whose history begins the published one, and which counts its calls alike, may go on to
+  -- it, where no pass has a call that wasn't handed out
   pub is_ahead : (handed : ℕ) (p : Pass) → HasCallsOf p.caller p.seen → IsPrefix p.seen x.prefix.list → slice_index x.desk.state.calls p.caller.number ≡ p.caller.calls
       → HasNoCalls handed x.desk.state.calls → IsAhead (record { limits = limits; handed = handed }) p x.prefix.list
   is_ahead handed p before begins alike none =

@@ -1,4 +1,5 @@
--- Where a pod stands: its entry and its place go together, and what was popped and not answered is in flight for that pass, without a place.
+-- Where a pod stands: its entry and its place go together, and what was popped and not answered is
+-- in flight for that pass, without a place.
 use Rattle.std.proofs.Common.{◌≡◌, ℕ, Bool, true, false, cond, not, ◌||◌, ◌&&◌, if◌then◌else◌, List, [], ◌∷◌, ◌++◌, Option, None, Some, is_some, unwrap_or, refl, sym, ap, subst, ◌∙◌}
 use Rattle.std.specs.Prelude.{⊤, nat_le, ◌+◌, MatchOption}
 use Rattle.std.specs.Option.{option_map}
@@ -218,7 +219,8 @@ same_hold at Bound = refl
 
 -- ---- the two together
 
--- what stands together: an assumed place and an entry in flight, or a bound place and no entry, or no place
+-- what stands together: an assumed place and an entry in flight, or a bound place and no entry, or
+-- no place
 abbrev pub Fits : Flight → Option Bool → Type 0
 Fits flight None = ⊤
 Fits flight (Some true) = flight ≡ None
@@ -463,7 +465,8 @@ module _ (s : State) (q : Name) where
 
 -- ---- whole histories
 
--- what is known of a name: its entry and its place fit, and it waits for the pass that the history has it unanswered by
+-- what is known of a name: its entry and its place fit, and it waits for the pass that the history
+-- has it unanswered by
 pub record Stands (s : State) (l : List Call) (q : Name) : Type 0 where
   pub fits : Fits (flight_at s.queue q) (hold_of (fin.get s.cluster.places q))
   pub waits : waits_by (flight_at s.queue q) (hold_of (fin.get s.cluster.places q)) ≡ unanswered_by l q

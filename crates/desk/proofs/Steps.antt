@@ -58,13 +58,15 @@ abbrev pub mark_by : Status → Option Moment
 mark_by (Assumed ticket finished) = finished
 mark_by Bound = None
 
--- whether a pod that was put so last, and whose bind was reported done then, has no place at this moment
+-- whether a pod that was put so last, and whose bind was reported done then, has no place at this
+-- moment
 abbrev pub is_nowhere : Put → Option Moment → Moment → Bool
 is_nowhere (Chosen node ticket) mark clock = is_overdue clock mark
 is_nowhere (Told node request) mark clock = false
 is_nowhere Nowhere mark clock = true
 
--- a place, or none, as it is at this moment where the pod was put so last and its bind was reported done then
+-- a place, or none, as it is at this moment where the pod was put so last and its bind was reported
+-- done then
 abbrev pub IsPut : Option Place → Put → Option Moment → Moment → Type 0
 IsPut None put mark clock = is_nowhere put mark clock ≡ true
 IsPut (Some place) put mark clock = (put ≡ put_by place.node place.request place.status) × (mark ≡ mark_by place.status) × (has_expired clock place.status ≡ false)

@@ -25,7 +25,8 @@ use Rattle.desk.specs.History.{Call, AreAnswered, state_after}
 use Rattle.desk.specs.Laws.{ticket_in, tickets_of, TicketsOnce, TicketsInOrder}
 use Rattle.desk.proofs.Steps.{done_by, unheld}
 
--- what a step that gives a ticket, or none, makes of the last ticket: the next one is given, or the last one stays
+-- what a step that gives a ticket, or none, makes of the last ticket: the next one is given, or the
+-- last one stays
 abbrev Follows : ℕ → ℕ → Option Ticket → Type 0
 Follows old new None = new ≡ old
 Follows old new (Some ticket) = (ticket.0 ≡ old + 1) × (new ≡ old + 1)

@@ -1,4 +1,5 @@
--- Calm histories: in one no node loses room, and the cluster binds a pod only where it was placed already.
+-- Calm histories: in one no node loses room, and the cluster binds a pod only where it was placed
+-- already.
 use Rattle.std.specs.Prelude.{◌≡◌, List, ◌∷◌, ◌++◌, Some, ⊤}
 use Rattle.std.specs.Bool.{IsTrue}
 use Rattle.std.specs.List.{All}
@@ -16,7 +17,8 @@ abbrev pub KeepsRoom : List Call → Node → Type 0
 KeepsRoom before node =
     All (λ c. (row : Node) → accepted (row_in node.name) c ≡ Some (Some row) → IsWithin row.allocatable node.allocatable) before
 
--- a step that is calm after these calls: a node keeps its room, and a pod is bound where it has its place, with its request
+-- a step that is calm after these calls: a node keeps its room, and a pod is bound where it has its
+-- place, with its request
 abbrev pub IsCalmStep : List Call → Step → Type 0
 IsCalmStep before (Event (NodeSet version node)) = KeepsRoom before node
 IsCalmStep before (Event (NodeGone version name)) = ⊤

@@ -209,11 +209,13 @@ finish_in uid clock (Fail other how) = None
 finish_in uid clock (Tick now) = None
 finish_in uid clock Count = None
 
--- when a pod's bind was reported done, if it was since the pod was last put. The clock stands at 0 at first
+-- when a pod's bind was reported done, if it was since the pod was last put. The clock stands at 0
+-- at first
 abbrev pub finished_of : List Call → Name → Option Moment
 finished_of l uid = unwrap_or (last_said_at (λ clock. accepted (finish_in uid clock)) (record { 0 = 0 }) l) None
 
--- the place that a pod has which was put so, last came to wait as this pod, and whose bind was reported done then or not
+-- the place that a pod has which was put so, last came to wait as this pod, and whose bind was
+-- reported done then or not
 abbrev pub place_by : Option Put → Option Pod → Option Moment → Option Place
 place_by (Some (Chosen node ticket)) (Some pod) finished = Some (record { node = node; request = pod.request; status = Assumed ticket finished })
 place_by (Some (Told node request)) pod finished = Some (record { node = node; request = request; status = Bound })
@@ -223,8 +225,9 @@ place_by put pod finished = None
 abbrev pub unless_expired : Moment → Option Place → Option Place
 unless_expired now o = if stands (has_expired now) o then None else o
 
--- the place of a pod, by the last accepted step that puts it. An assumed one has the request of the pod's last
--- accepted PodPending, and goes with the accepted tick that comes to the moment at which it expires
+-- the place of a pod, by the last accepted step that puts it. An assumed one has the request of the
+-- pod's last accepted PodPending, and goes with the accepted tick that comes to the moment at which
+-- it expires
 abbrev pub place_of : List Call → Name → Option Place
 place_of l uid = unless_expired (clock_of l) (place_by (put_of l uid) (pending_of l uid) (finished_of l uid))
 
@@ -270,7 +273,8 @@ rows_of l = found_at (row_of l) (filter_map (λ c. node_in c.step) l)
 abbrev pub places_of : List Call → Places
 places_of l = found_at (place_of l) (filter_map (λ c. pod_in c.step) l)
 
--- the snapshot of a history: its nodes in the order of their names' bytes, each with the sum over the pods that it places there
+-- the snapshot of a history: its nodes in the order of their names' bytes, each with the sum over
+-- the pods that it places there
 abbrev pub snap : List Call → List Shown
 snap l = map (λ e. record { node = e.1; used = used (places_of l) e.0 }) (entries (rows_of l))
 
@@ -298,7 +302,8 @@ pub record FitsThere (l : List Call) (pass : ℕ) (uid node : Name) : Type 0 whe
   pub named : row.node.name ≡ node
   pub fits : fit_of row.node.allocatable row.used pod.request ≡ Ok tt
 
--- where a step of a pass is answered by a ticket, the pod fits on the node after the calls before it
+-- where a step of a pass is answered by a ticket, the pod fits on the node after the calls before
+-- it
 abbrev pub IsFairTicket : List Call → ℕ → Step → Reply → Type 0
 IsFairTicket before pass (Assume uid node) (Given ticket) = FitsThere before pass uid node
 IsFairTicket before pass e answer = ⊤

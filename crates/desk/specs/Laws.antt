@@ -1,4 +1,5 @@
--- What holds of all legal histories: tickets are given once, a pod has one place or one entry, and what is popped and not answered is what `Count` tells.
+-- What holds of all legal histories: tickets are given once, a pod has one place or one entry, and
+-- what is popped and not answered is what `Count` tells.
 use Rattle.std.specs.Prelude.{◌≡◌, ℕ, ◌+◌, not, if◌then◌else◌, List, ◌∷◌, ◌++◌, length, Option, None, Some, is_some, unwrap_or, count_by}
 use Rattle.std.specs.Bool.{IsTrue}
 use Rattle.std.specs.List.{filter_map}
@@ -61,7 +62,8 @@ pub record GoesWithPlace (s : State) (uid : Name) : Type 0 where
 abbrev pub EntryGoesWithPlace : Type 0
 EntryGoesWithPlace = (limits : Limits) (passes : ℕ) (l : List Call) → Legal limits passes l → (uid : Name) → GoesWithPlace (state_after (opening limits) l) uid
 
--- which pass holds the pod after an answered step of this pass: the one that pops it, or none, where the step ends what a pop began
+-- which pass holds the pod after an answered step of this pass: the one that pops it, or none,
+-- where the step ends what a pop began
 abbrev pub pop_in : Name → ℕ → Step → Reply → Option (Option ℕ)
 pop_in uid pass Pop (Popped pod) = if_named pod.uid uid (Some pass)
 pop_in uid pass (Assume other node) (Given ticket) = if_named other uid None
@@ -89,8 +91,9 @@ holder_of (Some entry) = holder entry.state
 abbrev pub waiting_for : State → Name → Option ℕ
 waiting_for s uid = if is_placed s.cluster uid then None else holder_of (entry_of s.queue uid)
 
--- what each pass popped that was not answered since is what is in flight for it and has no place; of that there is as much as
--- `Count` tells, and all that is in flight beside it are the assumed pods
+-- what each pass popped that was not answered since is what is in flight for it and has no place;
+-- of that there is as much as `Count` tells, and all that is in flight beside it are the assumed
+-- pods
 pub record InFlightIs (s : State) (l : List Call) : Type 0 where
   pub which : (uid : Name) → unanswered_by l uid ≡ waiting_for s uid
   pub count : (counts s).in_flight ≡ count_by (λ item. is_some (waiting_for s item.0)) (entries s.queue.entries)

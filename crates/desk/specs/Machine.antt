@@ -1,8 +1,8 @@
 -- The desk as a machine: its state, and what each step does and answers.
 --
--- Where book and queue decide a step together, its tests stand in `Rattle.book.specs.Step`, which is told what the
--- queue has, and its effect is put together here, one case a step. The tests go in this order, and the first that
--- stands refuses the step, which then changes nothing:
+-- Where book and queue decide a step together, its tests stand in `Rattle.book.specs.Step`, which
+-- is told what the queue has, and its effect is put together here, one case a step. The tests go in
+-- this order, and the first that stands refuses the step, which then changes nothing:
 --
 --   NodeSet     Old; Full (a new name, and the nodes are full)
 --   NodeGone    Old; NoNode
@@ -156,8 +156,8 @@ after_expiry q places now = record q { entries = from_entries (map (λ item. (it
 abbrev pub moved_if_expired : State → Moment → QueueState → QueueState
 moved_if_expired s now queue = if any_expired s.cluster.places now then after_move queue now else queue
 
--- at this moment: the places that expire go and their pods back off, with one move if there are any; then what has backed off
--- or waited long enough is active
+-- at this moment: the places that expire go and their pods back off, with one move if there are
+-- any; then what has backed off or waited long enough is active
 abbrev pub ticked_to : State → Moment → State
 ticked_to s now =
     record s {
@@ -190,7 +190,8 @@ step s pass (Event (NodeSet version node)) = both s (of_node s (NodeSet version 
 step s pass (Event (NodeGone version name)) = both s (of_node s (NodeGone version name)) s.queue
 -- the pod has an active entry that came now, with no attempts
 step s pass (Event (PodPending version pod)) = both s (of_pod s pod.uid (PodPending version pod)) (after_add s.queue pod s.clock)
--- the pod is bound there, whether the node is there or not, in place of where it was, and its entry goes
+-- the pod is bound there, whether the node is there or not, in place of where it was, and its entry
+-- goes
 step s pass (Event (PodBound version uid node request)) = both s (of_pod s uid (PodBound version uid node request)) (after_remove s.queue uid)
 -- the pod's place and entry go, and there is a move if it had a place
 step s pass (Event (PodGone version uid)) = both s (of_pod s uid (PodGone version uid)) (moved_if_placed s uid (after_remove s.queue uid))
@@ -205,7 +206,8 @@ step s pass (Forget uid ticket) = both s (cluster.Forget uid ticket (has_entry s
 -- the entry backs off or is unschedulable
 step s pass (Fail uid how) =
     unless (refusal_to_fail s pass uid) s (record { state = record s { queue = after_fail s.queue uid (pass_number pass) how s.clock }; reply = replies.Done })
--- the clock is this moment, what expires is gone, and what has backed off or waited long enough is active
+-- the clock is this moment, what expires is gone, and what has backed off or waited long enough is
+-- active
 step s pass (Tick now) = unless (refusal_to_tick s now) s (record { state = ticked_to s now; reply = replies.Done })
 -- nothing changes
 step s pass Count = record { state = s; reply = replies.Counts (counts s) }
@@ -222,6 +224,7 @@ counted s pass = record s { calls = slice_set s.calls pass (slice_index s.calls 
 abbrev pub after : State → ℕ → Step → State
 after s pass e = counted (step s pass e).state pass
 
--- what a look shows: the nodes in the order of their names' bytes, each with what the pods on it use
+-- what a look shows: the nodes in the order of their names' bytes, each with what the pods on it
+-- use
 abbrev pub snapshot : book.Cluster → List Shown
 snapshot c = map (λ e. record { node = e.1; used = used c.places e.0 }) (entries c.nodes)

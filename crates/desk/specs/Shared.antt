@@ -1,4 +1,5 @@
--- A desk that many passes share: what a pass has seen, what is published, and what each call tells its pass.
+-- A desk that many passes share: what a pass has seen, what is published, and what each call tells
+-- its pass.
 use Rattle.std.specs.Prelude.{◌≡◌, ℕ, ◌+◌, ◌<◌, List, [], ◌∷◌, ◌++◌}
 use Rattle.book.specs.declared.limits.Limits.{Limits}
 use Rattle.book.specs.Cluster.{Cluster}
@@ -25,16 +26,16 @@ pub record Desk : Type 0 where
 abbrev pub IsPassOf : Pass → Desk → Type 0
 IsPassOf p desk = p.caller.number < desk.handed
 
--- a history that a pass may go on to: it is legal, begins with what the pass has seen, and has of the pass's calls just
--- those that it made
+-- a history that a pass may go on to: it is legal, begins with what the pass has seen, and has of
+-- the pass's calls just those that it made
 pub record IsAhead (desk : Desk) (p : Pass) (l : List Call) : Type 0 where
   pub legal : Legal desk.limits desk.handed l
   pub goes_on : GoesOn p.caller.number p.seen l
   pub own : HasCallsOf p.caller l
 
--- a step of a pass was answered so: the pass now has seen a legal history, which begins with what it had seen, goes on with
--- calls of other passes, and ends with this call; it has just the calls of the pass that it made. A ticket is fair by the
--- history before the call
+-- a step of a pass was answered so: the pass now has seen a legal history, which begins with what
+-- it had seen, goes on with calls of other passes, and ends with this call; it has just the calls
+-- of the pass that it made. A ticket is fair by the history before the call
 pub record IsApplied (desk : Desk) (p : Pass) (e : Step) (answer : Reply) (p' : Pass) : Type 0 where
   pub until : List Call
   pub ahead : IsAhead desk p until
@@ -44,8 +45,8 @@ pub record IsApplied (desk : Desk) (p : Pass) (e : Step) (answer : Reply) (p' : 
   pub own : HasCallsOf p'.caller p'.seen
   pub fair : IsFairTicket until p.caller.number e answer
 
--- a look showed these rows: they are the snapshot of the history that the pass now has seen, which it could go on to; where
--- that history is calm, no node has more used than it can allot
+-- a look showed these rows: they are the snapshot of the history that the pass now has seen, which
+-- it could go on to; where that history is calm, no node has more used than it can allot
 pub record IsLooked (desk : Desk) (p : Pass) (rows : List Shown) (p' : Pass) : Type 0 where
   pub ahead : IsAhead desk p p'.seen
   pub same : p'.caller ≡ p.caller
@@ -60,7 +61,8 @@ pub record Met (desk : Desk) (p q p' q' : Pass) : Type 0 where
   pub first_new : p' ≡ record p { seen = list }
   pub second_new : q' ≡ record q { seen = list }
 
--- a desk was closed by a pass: the book is as a history left it that the pass could go on to, and now has seen
+-- a desk was closed by a pass: the book is as a history left it that the pass could go on to, and
+-- now has seen
 pub record Closed (desk : Desk) (p p' : Pass) (book : Cluster) : Type 0 where
   pub list : List Call
   pub ahead : IsAhead desk p list

@@ -19,7 +19,8 @@ use std::alloc::{AllocError, Global};
 use std::marker::Model;
 use std::sync::Arc;
 
-/// A call that is to be published: what it changes, how many calls of its pass were then answered, and the history with it.
+/// A call that is to be published: what it changes, how many calls of its pass were then answered,
+/// and the history with it.
 #[derive(Drop)]
 pub struct Order {
     pub(crate) change: Change,
@@ -28,8 +29,8 @@ pub struct Order {
     pub(crate) prefix: Prefix,
 }
 
-/// What looks read: the nodes with what is used of each, how many calls of each pass were answered, and the history that left it
-/// so.
+/// What looks read: the nodes with what is used of each, how many calls of each pass were answered,
+/// and the history that left it so.
 #[derive(Drop)]
 pub struct Board {
     alloc: Global,
@@ -188,7 +189,8 @@ impl Board {
         self.calls[pass]
     }
 
-    /// Whether so many calls of this pass were answered, and none of the passes from this number on.
+    /// Whether so many calls of this pass were answered, and none of the passes from this number
+    /// on.
     pub(crate) fn counts_alike(&self, pass: usize, calls: u64, handed: usize) -> bool
         requires { pass < MAX_PASSES }
         ensures calls { IsTrue result → slice_index self.now.calls pass ≡ calls }
@@ -197,8 +199,8 @@ impl Board {
         self.calls[pass] == calls && has_none_from(&self.calls, handed)
     }
 
-    /// The rows of the nodes, with what is used of each. Rows that have the same nodes are taken over, and what is used written
-    /// into them.
+    /// The rows of the nodes, with what is used of each. Rows that have the same nodes are taken
+    /// over, and what is used written into them.
     pub(crate) fn show(&self, before: Option<Vec<Row>>) -> Result<Arc<Vec<Row>>, NoMemory>
         requires { IfSome before (λ rows. nodes_of rows.items ≡ self.now.nodes) }
         ensures { IfOk result (λ rows. map shown (arc_value rows).items ≡ rows_shown self.now) }

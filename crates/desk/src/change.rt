@@ -10,8 +10,8 @@ pub struct Total {
     pub used: Res,
 }
 
-/// A change of the rows. What it changes is told by places among them, so that it costs the same however many there are, but for
-/// rows that come or go and for places that expire.
+/// A change of the rows. What it changes is told by places among them, so that it costs the same
+/// however many there are, but for rows that come or go and for places that expire.
 #[derive(Drop)]
 pub enum Change {
     /// None.

@@ -20,8 +20,9 @@ use std::sync::{Mutex, MutexGuard, Wait};
 // How often the lock is tried before a thread sleeps: some tens of steps.
 const TRIES: u32 = 1_000;
 
-/// A desk that many passes share, each from one thread at a time. A step is decided, written and published under the one
-/// lock; a look reads what is published, without the lock, and waits for nobody.
+/// A desk that many passes share, each from one thread at a time. A step is decided, written and
+/// published under the one lock; a look reads what is published, without the lock, and waits for
+/// nobody.
 ///
 /// It isn't `Drop`: end it by `close` or `discard`.
 pub struct Desk<J: Naming> {
@@ -48,8 +49,9 @@ impl<J: Naming> Model for Desk<J> {
 }
 
 impl<J: Naming> Desk<J> {
-    /// A desk with no nodes and no pods, that has handed out no pass, over a history that is empty yet. Names are looked up
-    /// under the keys, so that nobody can choose names that are slow to look up.
+    /// A desk with no nodes and no pods, that has handed out no pass, over a history that is empty
+    /// yet. Names are looked up under the keys, so that nobody can choose names that are slow to
+    /// look up.
     ///
     /// Errors: `NoMemory`.
     pub fn new(
@@ -65,8 +67,8 @@ impl<J: Naming> Desk<J> {
         Desk::for_passes(blank, alloc, keys, limits, MAX_PASSES)
     }
 
-    /// The same for one to `MAX_PASSES` passes, with a reader's place for each and no more: a call that is published goes
-    /// through all readers' places, whether they were handed out or not.
+    /// The same for one to `MAX_PASSES` passes, with a reader's place for each and no more: a call
+    /// that is published goes through all readers' places, whether they were handed out or not.
     ///
     /// Errors: `NoMemory`.
     pub fn for_passes(
@@ -91,9 +93,11 @@ impl<J: Naming> Desk<J> {
         })
     }
 
-    /// Hands out a pass, which has made no call and seen nothing. All passes are handed out before the desk is shared.
+    /// Hands out a pass, which has made no call and seen nothing. All passes are handed out before
+    /// the desk is shared.
     ///
-    /// Errors: `NoPlace` where all were handed out, and where no reader's place was got; nothing changes.
+    /// Errors: `NoPlace` where all were handed out, and where no reader's place was got; nothing
+    /// changes.
     pub fn pass(&mut self) -> Result<Pass<J>, NoPlace>
         ensures pass { IfOk result (λ pass. pass ≡ record {
           caller = record { number = self.old.handed; calls = 0 };
@@ -118,11 +122,13 @@ impl<J: Naming> Desk<J> {
         Ok(pass)
     }
 
-    /// Does a step, or refuses it and changes nothing but the pass's count of calls. It waits for the lock.
+    /// Does a step, or refuses it and changes nothing but the pass's count of calls. It waits for
+    /// the lock.
     ///
-    /// Errors: `NoMemory` where `MAX_CALLS` calls of the pass were answered, where a popped pod or a node that is told of can have
-    /// no further owner, where places expire and there is no memory for what is used of each node, and where there is no room to
-    /// publish a call; nothing changes.
+    /// Errors: `NoMemory` where `MAX_CALLS` calls of the pass were answered, where a popped pod or
+    /// a node that is told of can have no further owner, where places expire and there is no memory
+    /// for what is used of each node, and where there is no room to publish a call; nothing
+    /// changes.
     pub fn apply<R: Wait>(&self, rt: &R, pass: &mut Pass<J>, step: Step) -> Result<Reply, NoMemory>
         requires of { IsPassOf pass.old self.now }
         requires timely { IsTimely step }
@@ -143,7 +149,8 @@ impl<J: Naming> Desk<J> {
         answer
     }
 
-    // Takes the lock. A step takes less time than a thread to go to sleep, so it is tried for a while first.
+    // Takes the lock. A step takes less time than a thread to go to sleep, so it is tried for a
+    // while first.
     fn held<R: Wait>(&self, rt: &R) -> MutexGuard<'_, Option<UnderLock<J>>> {
         for _ in 0..TRIES {
             if let Some(place) = self.lock.try_lock() {
@@ -154,9 +161,9 @@ impl<J: Naming> Desk<J> {
         self.lock.lock(rt)
     }
 
-    /// Shows the nodes and what is used of them, as they are published. It takes no lock and waits for nobody. It copies the
-    /// totals of each node, and a pointer to each; but no pointer where the pass's last snapshot was dropped, and no call since
-    /// then told of a node.
+    /// Shows the nodes and what is used of them, as they are published. It takes no lock and waits
+    /// for nobody. It copies the totals of each node, and a pointer to each; but no pointer where
+    /// the pass's last snapshot was dropped, and no call since then told of a node.
     ///
     /// Errors: `NoMemory`; nothing changes.
     pub fn look(&self, pass: &mut Pass<J>) -> Result<Snapshot, NoMemory>
@@ -167,7 +174,8 @@ impl<J: Naming> Desk<J> {
         pass.look(self.handed)
     }
 
-    /// Tells each of two passes what the other has seen: both then have seen one history. It waits for the lock.
+    /// Tells each of two passes what the other has seen: both then have seen one history. It waits
+    /// for the lock.
     pub fn meet<R: Wait>(&self, rt: &R, first: &mut Pass<J>, second: &mut Pass<J>)
         requires first { IsPassOf first.old self.now }
         requires second { IsPassOf second.old self.now }
@@ -187,8 +195,8 @@ impl<J: Naming> Desk<J> {
         unreachable!()
     }
 
-    /// Ends the desk, and gives its book. The pass then has seen the history that left the book so: all calls that it made
-    /// or was told of are among it.
+    /// Ends the desk, and gives its book. The pass then has seen the history that left the book so:
+    /// all calls that it made or was told of are among it.
     pub fn close<R: Wait>(self, rt: &R, pass: &mut Pass<J>) -> Book
         requires { IsPassOf pass.old self }
         ensures { Closed self pass.old pass.new result }

@@ -1,4 +1,5 @@
-//! The state of a desk, and each step on it. It has one owner: what passes share it by is a lock, and a board for looks.
+//! The state of a desk, and each step on it. It has one owner: what passes share it by is a lock,
+//! and a board for looks.
 ghost use Rattle.std.specs.Prelude.{◌≡◌, ◌≤◌, ◌<◌, ◌+◌, ℕ, map, IfOk, IfSome, IsErr, IsSome, MatchResult, slice_index};
 ghost use Rattle.std.specs.Bool.{IsTrue};
 ghost use Rattle.book.specs.Expiry.{any_expired, without_expired};
@@ -16,7 +17,8 @@ use std::alloc::Global;
 use std::hash::RandomState;
 use std::marker::Model;
 
-/// Book, queue and clock, and how many calls of each pass were answered. Each step is done or refused here.
+/// Book, queue and clock, and how many calls of each pass were answered. Each step is done or
+/// refused here.
 #[derive(Drop)]
 pub struct Core {
     alloc: Global,
@@ -259,7 +261,8 @@ impl Core {
         }
     }
 
-    // Time goes on to this moment: what expires goes, with a move if anything does, and what waited long enough is active.
+    // Time goes on to this moment: what expires goes, with a move if anything does, and what waited
+    // long enough is active.
     fn tick(&mut self, now: Moment) -> Result<Reply, Refusal>
         requires { now.0 ≤ LATEST_MOMENT }
         ensures { IsDone self.old (step self.old.state 0 (Step.Tick now)) result self.new }
@@ -320,8 +323,8 @@ impl Core {
         }
     }
 
-    // Does a step for a pass, or refuses it, and says so. It takes no memory, and hands out the pod that goes first, if the step
-    // hands one out. No call is counted.
+    // Does a step for a pass, or refuses it, and says so. It takes no memory, and hands out the pod
+    // that goes first, if the step hands one out. No call is counted.
     fn do_step(&mut self, pass: usize, step: Step, first: Option<SharedPod>) -> Reply
         requires timely { IsTimely step }
         requires first { first ≡ handed_by self.old.state step }
@@ -364,8 +367,8 @@ impl Core {
         book
     }
 
-    // Does a step for a pass, or refuses it, says so, and counts the call. It takes no memory, and hands out the pod that goes
-    // first, if the step hands one out.
+    // Does a step for a pass, or refuses it, says so, and counts the call. It takes no memory, and
+    // hands out the pod that goes first, if the step hands one out.
     pub(crate) fn take_call(&mut self, pass: usize, step: Step, first: Option<SharedPod>) -> Reply
         requires handed { pass < MAX_PASSES }
         requires fits { slice_index self.old.state.calls pass < MAX_CALLS }
@@ -383,8 +386,8 @@ impl Core {
     }
 }
 
-// The places that expire at this moment go, the one with the least uid first, and their pods back off from now on. Whether there
-// were any.
+// The places that expire at this moment go, the one with the least uid first, and their pods back
+// off from now on. Whether there were any.
 fn expire_all(book: &mut Book, queue: &mut Queue, now: Moment) -> bool
     requires { now.0 ≤ LATEST_MOMENT }
     ensures any { result ≡ any_expired book.old.places now }

@@ -1,5 +1,5 @@
-//! The history that all passes of a desk share. It exists in the proofs alone: what threads share is a word, its
-//! length, and a `Prefix` is a beginning of it that was seen.
+//! The history that all passes of a desk share. It exists in the proofs alone: what threads share
+//! is a word, its length, and a `Prefix` is a beginning of it that was seen.
 ghost use Rattle.std.specs.Prelude.{◌≡◌, [], IfSome};
 ghost use Rattle.std.specs.Bool.{IsTrue};
 ghost use mathlib.Core.List.{IsPrefix};

@@ -1,15 +1,17 @@
 //! The desk: every step of the scheduler goes through it, in one history that all callers share.
 //!
-//! - `Desk` is what threads share, and a `Pass` is a caller's leave to use it. A step is done under a lock; a look takes none.
-//! - What a step does and answers is done by `Core`, the state of a desk with one owner. Its definition is
-//!   `specs/Machine.antt`. It says with each step what changed of the rows of nodes, a `Change`, by whose rows the step may change,
-//!   its `Subject` (`desk_core/noting.rt`).
-//! - What looks read is a `Board`: the rows, what is used of each, and the counts of calls, one copy for looks and one to write, each
-//!   with the prefix of the history that left it so; an `Order` is a call's change on its way there. `UnderLock` has the core and both
-//!   boards, and makes each call one step of what is published. The rule of what is published is `BoardRule`.
-//! - The history exists in the proofs alone: `Prefix` is a beginning of it that was seen, `Head` the word that threads share,
-//!   its length. `HistoryRule` says how it grows: by one `NextCall` at a time. `Naming` tells one desk from another, and `Blank`
-//!   is a history before it has a name.
+//! - `Desk` is what threads share, and a `Pass` is a caller's leave to use it. A step is done under
+//!   a lock; a look takes none.
+//! - What a step does and answers is done by `Core`, the state of a desk with one owner. Its
+//!   definition is `specs/Machine.antt`. It says with each step what changed of the rows of nodes,
+//!   a `Change`, by whose rows the step may change, its `Subject` (`desk_core/noting.rt`).
+//! - What looks read is a `Board`: the rows, what is used of each, and the counts of calls, one
+//!   copy for looks and one to write, each with the prefix of the history that left it so; an
+//!   `Order` is a call's change on its way there. `UnderLock` has the core and both boards, and
+//!   makes each call one step of what is published. The rule of what is published is `BoardRule`.
+//! - The history exists in the proofs alone: `Prefix` is a beginning of it that was seen, `Head`
+//!   the word that threads share, its length. `HistoryRule` says how it grows: by one `NextCall` at
+//!   a time. `Naming` tells one desk from another, and `Blank` is a history before it has a name.
 //! - `Step`, `Reply` and `Counts` are what is asked and answered.
 //!   `Snapshot` is what a look shows.
 //! - What holds of every history are the laws.

@@ -18,8 +18,9 @@ use left_right::reader::Reader;
 use std::marker::Model;
 use std::sync::Arc;
 
-/// A caller's leave to use a desk, from one thread at a time: its number among the desk's passes, and how many of its
-/// calls were answered. Contracts see the history that it has seen too, of which memory has the length.
+/// A caller's leave to use a desk, from one thread at a time: its number among the desk's passes,
+/// and how many of its calls were answered. Contracts see the history that it has seen too, of
+/// which memory has the length.
 #[derive(Drop)]
 pub struct Pass<J: Naming> {
     number: usize,
@@ -86,8 +87,9 @@ impl<J: Naming> Pass<J> {
         self.calls
     }
 
-    /// Whether the published history begins with what the pass has seen, has just the calls that it made, and none of a
-    /// pass that wasn't handed out. It is always so; but what threads share tells a proof no more than its rule.
+    /// Whether the published history begins with what the pass has seen, has just the calls that it
+    /// made, and none of a pass that wasn't handed out. It is always so; but what threads share
+    /// tells a proof no more than its rule.
     pub(crate) fn may_go_on(&self, board: &Board, handed: usize) -> bool
         requires stands { IsBoard J.book J.limits board.now }
         requires of { self.now.caller.number < handed }
@@ -169,7 +171,8 @@ impl<J: Naming> Pass<J> {
     }
 }
 
-// The rows that were shown last, where nobody else owns them and no call since then tells of a node.
+// The rows that were shown last, where nobody else owns them and no call since then tells of a
+// node.
 fn rows_again<J: Naming>(last: Option<Last>, now: &Prefix) -> Option<Vec<Row>>
     requires last { IfSome last (λ last. WereShown J.book J.limits last.prefix (arc_value last.rows).items) }
     requires book { now.now.book ≡ J.book }

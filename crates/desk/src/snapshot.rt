@@ -14,7 +14,8 @@ pub struct Row {
     pub node: SharedNode,
     /// What the pods on the node use together.
     pub used: Res,
-    // What a choice reads of most nodes stands here too, so that it needn't look where the node lies.
+    // What a choice reads of most nodes stands here too, so that it needn't look where the node
+    // lies.
     allocatable: Allocatable,
     plain: bool,
     ghost allocatable_is: { allocatable ≡ node.allocatable },
@@ -99,7 +100,8 @@ impl Snapshot {
         &self.rows
     }
 
-    /// The rows stand in the order of their nodes' names, and no two nodes have one name. It does nothing: its contract is the law.
+    /// The rows stand in the order of their nodes' names, and no two nodes have one name. It does
+    /// nothing: its contract is the law.
     pub fn stands_in_order(&self)
         ensures { AreInOrder self.now }
     {

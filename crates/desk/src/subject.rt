@@ -1,7 +1,8 @@
 //! Whose rows a step may change.
 use quant::{Name, Res, SharedNode};
 
-/// Whose rows a step may change, with all that has to be there before the step, since after it nothing may fail.
+/// Whose rows a step may change, with all that has to be there before the step, since after it
+/// nothing may fail.
 #[derive(Drop)]
 pub enum Subject {
     /// Nobody's.

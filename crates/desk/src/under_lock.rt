@@ -1,4 +1,5 @@
-//! What lies under a desk's lock: the desk itself, and the one way to change what is published of it.
+//! What lies under a desk's lock: the desk itself, and the one way to change what is published of
+//! it.
 ghost use Rattle.std.specs.Prelude.{◌≡◌, ◌+◌, ◌<◌, ◌≤◌, ◌++◌, ◌∷◌, [], fold, drop, slice_index, IfOk, OnErr, IsErr, MatchBool};
 ghost use Rattle.desk.specs.inside.Board.{IsBoard, IsSubject, board_after, board_of};
 ghost use Rattle.desk.specs.Caller.{IsTimely};
@@ -28,7 +29,8 @@ use std::marker::Model;
 use std::mem::size_of;
 use std::sync::Wait;
 
-/// What lies under the lock. Contracts see the desk with one owner, and the history that left it so.
+/// What lies under the lock. Contracts see the desk with one owner, and the history that left it
+/// so.
 pub struct UnderLock<J: Naming> {
     // Behind a pointer, since a call takes what lies under the lock apart and makes it anew.
     core: Box<Core>,
@@ -53,8 +55,8 @@ impl<J: Naming> Model for UnderLock<J> {
     ghost invariant = { λ l. IsPublished J.book J.limits (record { desk = l.core.value; prefix = l.prefix }) l.writer.desk.shown.value (drop l.writer.behind l.writer.log.items) };
 }
 
-/// What has to be there before a step, since after it nothing may fail: the history with the call, the pod that it hands out, and
-/// whose rows it may change.
+/// What has to be there before a step, since after it nothing may fail: the history with the call,
+/// the pod that it hands out, and whose rows it may change.
 pub(crate) struct Ready {
     prefix: Prefix,
     pod: Option<SharedPod>,
@@ -78,8 +80,9 @@ fn no_order(board: &Board) -> Order
     }
 }
 
-// A row of values of at most 1,024 bytes has room for four from its first one on, and at most three calls are kept at once:
-// the one for which room was made, the last one, which the other copy lacks, and the one that comes.
+// A row of values of at most 1,024 bytes has room for four from its first one on, and at most three
+// calls are kept at once: the one for which room was made, the last one, which the other copy
+// lacks, and the one that comes.
 const _: () = prove!(size_of::<Order>() <= 1_024);
 
 // Adds a call to those that are to be published. It waits for room, where there is none.
@@ -152,7 +155,8 @@ fn new_writer<J: Naming>(
 }
 
 impl<J: Naming> UnderLock<J> {
-    /// A desk on which nothing was done, with room for as much as the limits say, and for so many readers.
+    /// A desk on which nothing was done, with room for as much as the limits say, and for so many
+    /// readers.
     pub(crate) fn new(
         alloc: Global,
         keys: RandomState,

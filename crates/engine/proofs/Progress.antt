@@ -84,7 +84,8 @@ all_answered_more rules telling s between s' (first ∷ done) asked text more so
 
 -- ---- the run so far
 
--- Of a known script this rest is left, `old` was written before the run and `now` by now, and so on.
+-- Of a known script this rest is left, `old` was written before the run and `now` by now, and so
+-- on.
 pub record IsAt (rules : RuleSet) (telling : Telling) (script rest : List ℕ) (old now : Option (List ℕ)) (pending : List ℕ) (state : State) (number : ℕ) (text : List ℕ) : Type 0 where
   pub writes : Appends old now text
   pub done : List Command

@@ -48,7 +48,8 @@ lines_of-last text line some =
 
 -- ---- what is known of a source, from one piece to the next
 
--- a line was taken so far, of what was known at first, as `taken`, of which so many bytes are kept at most
+-- a line was taken so far, of what was known at first, as `taken`, of which so many bytes are kept
+-- at most
 pub record IsTaken (most : ℕ) (first now : Option (List ℕ)) (line : List ℕ) (begun : Bool) (taken : List ℕ) : Type 0 where
   pub is_line : IsLine taken
   pub kept_is : line ≡ take most taken
@@ -134,7 +135,8 @@ TakesFront-last most first rest now line begun taken begins ended so_far =
     let line_taken : TakesFront most first (prepend_known [] rest) line = last_whole most first rest line taken so_far.is_line so_far.kept_is some ended.1 read in
     subst (λ t. TakesFront most first (prepend_known t rest) line) (sym ended.0) line_taken
 
--- Nothing waits where what was left has no newline. So nothing waits behind a piece without a newline: it is what was left, or nothing was.
+-- Nothing waits where what was left has no newline. So nothing waits behind a piece without a
+-- newline: it is what was left, or nothing was.
 pub told-still : (old more piece waits : List ℕ) → (IsLine old → waits ≡ []) → (0 < length old → more ≡ old) → IsLine piece → more ≡ piece → waits ≡ []
 told-still [] more piece waits told same line cut = told (λ k d inside. absurd (omega arith))
 told-still (x ∷ xs) more piece waits told same line cut = told (subst IsLine (sym cut ∙ same (omega arith)) line)

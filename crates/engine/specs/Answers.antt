@@ -31,7 +31,8 @@ limits = record { nodes = MAX_NODES; placed = MAX_PLACED; queued = MAX_QUEUED; f
 abbrev pub opening : State
 opening = machine.opening limits
 
--- the step that a command asks for; a dump is a look, and then this step. A cycle is more than a step
+-- the step that a command asks for; a dump is a look, and then this step. A cycle is more than a
+-- step
 abbrev pub step_of : Command → Option Step
 step_of (commands.Event event) = Some (steps.Event event)
 step_of (commands.Tick now) = Some (steps.Tick now)
@@ -66,8 +67,9 @@ look_lines state _ = []
 unfoldable pub text_of : State → Step → List ℕ
 text_of state step = look_lines state step ++ reply_lines (machine.reply state 0 step)
 
--- This step is done and answered; or, where there is none, a cycle, with what is told of the nodes, and with what it came to. What is told
--- of nodes is whole lines that begin with two spaces, and the rest is whole lines of which none does.
+-- This step is done and answered; or, where there is none, a cycle, with what is told of the nodes,
+-- and with what it came to. What is told of nodes is whole lines that begin with two spaces, and
+-- the rest is whole lines of which none does.
 abbrev pub AnsweredBy : RuleSet → (telling : Telling) → State → Option Step → State → List ℕ → Type 0
 AnsweredBy rules telling s (Some step) s' text = (s' ≡ after s step) × (text ≡ text_of s step) × AreLines false text
 AnsweredBy rules telling s None s' text =

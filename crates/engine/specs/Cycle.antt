@@ -1,4 +1,5 @@
--- One cycle of a pass, told by what the pass has seen: each part goes on from there, while other passes may make calls between.
+-- One cycle of a pass, told by what the pass has seen: each part goes on from there, while other
+-- passes may make calls between.
 use Rattle.std.specs.Prelude.{◌≡◌, ℕ, ◌⊎◌, List, Option, Some, None}
 use Rattle.quant.specs.declared.name.Name.{Name}
 use Rattle.quant.specs.declared.objects.Pod.{Pod}
@@ -23,7 +24,8 @@ pub record IsFailed (desk : Desk) (p : Pass) (uid : Name) (how : Failure) (p' : 
   pub answer : Reply
   pub applied : IsApplied desk p (Fail uid how) answer p'
 
--- what follows the answer to `Assume`: with a ticket the pod has its place; where it is refused, it fails, to be tried again
+-- what follows the answer to `Assume`: with a ticket the pod has its place; where it is refused, it
+-- fails, to be tried again
 abbrev pub AfterAssume : Desk → Pass → (uid node : Name) → (total : ℕ) → Reply → Cycled → Pass → Type 0
 AfterAssume desk p uid node total (replies.Ticket ticket) came p' = (came ≡ cycled.Assumed uid node total ticket) × (p' ≡ p)
 AfterAssume desk p uid node total (replies.Refused why) came p' = (came ≡ cycled.Lost uid why) × IsFailed desk p uid Again p'
@@ -67,8 +69,9 @@ AfterPop rules desk p (replies.Ticket ticket) came p' = ⊥
 AfterPop rules desk p (replies.Counts n) came p' = ⊥
 AfterPop rules desk p (replies.Refused why) came p' = ⊥
 
--- A cycle of a pass came to this: the pass popped a pod, then looked, and chose by what it saw. Between these calls it made no
--- other, and what it saw holds all that it had seen, its Pop among it.
+-- A cycle of a pass came to this: the pass popped a pod, then looked, and chose by what it saw.
+-- Between these calls it made no other, and what it saw holds all that it had seen, its Pop among
+-- it.
 pub record IsCycle (rules : RuleSet) (desk : Desk) (p : Pass) (came : Cycled) (p' : Pass) : Type 0 where
   pub answer : Reply
   pub popped : Pass
@@ -109,7 +112,8 @@ MayLook desk p p' = (p' ≡ p) ⊎ ((rows : List Shown) × IsLooked desk p rows 
 abbrev pub MayBeRefused : Desk → Pass → (uid : Name) → Pass → Type 0
 MayBeRefused desk p uid p' = (p' ≡ p) ⊎ ((node : Name) × (why : Refusal) × IsApplied desk p (Assume uid node) (replies.Refused why) p')
 
--- the pod is failed, to be tried again, and none is told; or that was not answered either, and the pod is told
+-- the pod is failed, to be tried again, and none is told; or that was not answered either, and the
+-- pod is told
 abbrev pub IsGivenUp : Desk → Pass → (uid : Name) → (held : Option Name) → Pass → Type 0
 IsGivenUp desk p uid None p' = IsFailed desk p uid Again p'
 IsGivenUp desk p uid (Some held) p' = (held ≡ uid) × (p' ≡ p)
@@ -133,7 +137,7 @@ pub record IsPoppedInVain (desk : Desk) (p : Pass) (held : Option Name) (p' : Pa
   pub pops : IsApplied desk p Pop (replies.Popped pod) popped
   pub in_vain : IsInVain desk popped pod.uid held p'
 
--- A cycle was cut short: `Pop` was not answered; or a pod was popped, and at most refused one place and failed. It is told
--- exactly where it was popped and not failed.
+-- A cycle was cut short: `Pop` was not answered; or a pod was popped, and at most refused one place
+-- and failed. It is told exactly where it was popped and not failed.
 abbrev pub IsCutShort : Desk → Pass → (held : Option Name) → Pass → Type 0
 IsCutShort desk p held p' = ((held ≡ None) × (p' ≡ p)) ⊎ IsPoppedInVain desk p held p'

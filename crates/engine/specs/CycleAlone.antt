@@ -14,7 +14,8 @@ use Rattle.choose.specs.Choice.{Choice}
 use Rattle.engine.specs.declared.one_cycle.Cycled.{Cycled}
 use Rattle.engine.specs.declared.one_cycle.Cycled.TheVariants as cycled
 
--- what follows the answer to `Assume`: with a ticket the pod has its place; where it is refused, it fails, to be tried again
+-- what follows the answer to `Assume`: with a ticket the pod has its place; where it is refused, it
+-- fails, to be tried again
 abbrev pub AfterAssumeAlone : State → (uid node : Name) → (total : ℕ) → Reply → Cycled → State → Type 0
 AfterAssumeAlone s uid node total (replies.Ticket ticket) came s' = (came ≡ cycled.Assumed uid node total ticket) × (s' ≡ s)
 AfterAssumeAlone s uid node total (replies.Refused why) came s' = (came ≡ cycled.Lost uid why) × (s' ≡ after s 0 (Fail uid Again))

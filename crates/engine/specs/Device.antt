@@ -10,7 +10,8 @@ CountsFailure old new r = MatchResult r (λ _. new ≡ old) (λ _. new ≡ old +
 abbrev pub AppendsFront : Option (List ℕ) → Option (List ℕ) → List ℕ → Type 0
 AppendsFront old new text = (front rest : List ℕ) × (text ≡ front ++ rest) × Appends old new front
 
--- What a call makes of a device: its bytes, where they are known, and how many reads or writes of it have failed, before the call and after.
+-- What a call makes of a device: its bytes, where they are known, and how many reads or writes of
+-- it have failed, before the call and after.
 pub record DeviceUse : Type 1 where
   pub old : Option (List ℕ)
   pub new : Option (List ℕ)

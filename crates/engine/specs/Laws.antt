@@ -8,7 +8,8 @@ use Rattle.rules.specs.RuleSet.{RuleSet}
 use Rattle.choose.specs.Kits.{JudgeAlike}
 use Rattle.engine.specs.Output.{IsOutput, BeginsOutput}
 
--- There is one output of a script: it depends on the script, the rules, their names and weights as they are told, and whether verdicts are told alone.
+-- There is one output of a script: it depends on the script, the rules, their names and weights as
+-- they are told, and whether verdicts are told alone.
 abbrev pub OneOutput : RuleSet → Type 0
 OneOutput rules = (telling : Telling) (script one other : List ℕ) → IsOutput rules telling script one → IsOutput rules telling script other → one ≡ other
 
@@ -25,21 +26,22 @@ abbrev pub FrontsAgree : RuleSet → Type 0
 FrontsAgree rules =
     (telling : Telling) (script one other : List ℕ) → BeginsOutput rules telling script one → BeginsOutput rules telling script other → Begins one other ⊎ Begins other one
 
--- The output of a script by one kit is its output by another that judges alike. A decider's kits do, so that how many they are
--- changes nothing.
+-- The output of a script by one kit is its output by another that judges alike. A decider's kits
+-- do, so that how many they are changes nothing.
 abbrev pub SameOutput : {Kit : Type 0} → (answers : Kit → RuleSet) → (one other : Kit) → Type 0
 SameOutput answers one other =
     (telling : Telling) (script text : List ℕ) → JudgeAlike answers (one ∷ other ∷ []) → IsOutput (answers one) telling script text → IsOutput (answers other) telling script text
 
--- A text is another, with lines put in before parts of it that begin with two spaces: of each pair the first is put in, and the second is
--- of the other.
+-- A text is another, with lines put in before parts of it that begin with two spaces: of each pair
+-- the first is put in, and the second is of the other.
 pub record IsWithLines (plain text : List ℕ) : Type 0 where
   pub parts : List (List ℕ × List ℕ)
   pub text_is : text ≡ flat_map (λ part. part.0 ++ part.1) parts
   pub plain_is : plain ≡ flat_map (λ part. part.1) parts
   pub indented : All (λ part. AreLines true part.0) parts
 
--- What explains a script's cycles is its output without explanations, with lines put in that begin with two spaces.
+-- What explains a script's cycles is its output without explanations, with lines put in that begin
+-- with two spaces.
 abbrev pub ExplainedOutput : RuleSet → Type 0
 ExplainedOutput rules =
     (named : List NamedRule) (script text : List ℕ) → IsOutput rules (telling named true) script text →

@@ -11,7 +11,8 @@ without_empty_end [] = []
 without_empty_end (part ∷ []) = if length part == 0 then [] else part ∷ []
 without_empty_end (part ∷ next ∷ parts) = part ∷ without_empty_end (next ∷ parts)
 
--- the lines, without their newlines: what stands between newlines, and behind the last one what is there
+-- the lines, without their newlines: what stands between newlines, and behind the last one what is
+-- there
 unfoldable pub lines_of : List ℕ → List (List ℕ)
 lines_of script = without_empty_end (slice_split is_newline script)
 
@@ -19,7 +20,8 @@ lines_of script = without_empty_end (slice_split is_newline script)
 abbrev pub IsLine : List ℕ → Type 0
 IsLine text = All (λ b. is_newline b ≡ false) text
 
--- where the text is known, its first line was taken off, of which the first so many bytes are kept as `line`
+-- where the text is known, its first line was taken off, of which the first so many bytes are kept
+-- as `line`
 abbrev pub TakesFront : (most : ℕ) → Option (List ℕ) → Option (List ℕ) → List ℕ → Type 0
 TakesFront most None new line = ⊤
 TakesFront most (Some old) None line = ⊥

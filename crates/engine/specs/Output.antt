@@ -17,7 +17,8 @@ taken command = Ok command
 unfoldable pub first_fault : List ℕ → Option (ℕ × LineFault)
 first_fault script = fault_from taken 1 (lines_of script)
 
--- the output of a script for these rules, which have these names: the answers to its lines in order, up to the first faulty one
+-- the output of a script for these rules, which have these names: the answers to its lines in
+-- order, up to the first faulty one
 pub record IsOutput (rules : RuleSet) (telling : Telling) (script text : List ℕ) : Type 0 where
   pub end : State
   pub answered : AllAnswered rules telling opening (asked_in taken (lines_of script)) end text

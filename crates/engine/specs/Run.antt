@@ -8,7 +8,8 @@ use Rattle.engine.specs.declared.fault.RunFault.TheVariants.{Line, Read, Write}
 use Rattle.engine.specs.Device.{DeviceUse}
 use Rattle.engine.specs.Output.{first_fault, WritesOutput, WritesFront}
 
--- A run by these rules, which have these names, took its script from this source, wrote to this sink, and came to this.
+-- A run by these rules, which have these names, took its script from this source, wrote to this
+-- sink, and came to this.
 pub record IsRun {T : Type 0} (rules : RuleSet) (telling : Telling) (source sink : DeviceUse) (result : Result T RunFault) : Type 0 where
   -- no line is faulty, the output is written whole, and everything is read
   pub done : OnOk result (IfSome source.old (λ script. (first_fault script ≡ None) × WritesOutput rules telling script sink.old sink.new × (source.new ≡ Some [])))

@@ -1,5 +1,6 @@
--- What a script's lines ask for, in order and up to the first faulty one. `taken` is what a command is taken as: itself by a run; a storm
--- takes the commands that the watch tells, and has a fault for others.
+-- What a script's lines ask for, in order and up to the first faulty one. `taken` is what a command
+-- is taken as: itself by a run; a storm takes the commands that the watch tells, and has a fault
+-- for others.
 use Rattle.std.specs.Prelude.{ℕ, ◌+◌, ◌==◌, List, [], ◌∷◌, length, Option, Some, None, Result, Ok, Err, if◌then◌else◌}
 use Rattle.manifest.specs.declared.command.Command.{Command}
 use Rattle.manifest.specs.declared.fault.LineFault.{LineFault}

@@ -24,7 +24,8 @@ use Rattle.choose.specs.Choice.{judged, most_of, total, AreVerdicts}
 use Rattle.engine.specs.declared.named_rule.NamedRule.{NamedRule}
 use Rattle.engine.specs.Text.{line_of, cause_text, name_at}
 
--- what the answers to cycles tell: rules by these names and weights, in their order, and the verdict on each node or not
+-- what the answers to cycles tell: rules by these names and weights, in their order, and the
+-- verdict on each node or not
 pub record Telling : Type 0 where
   pub named : List NamedRule
   pub explains : Bool
@@ -49,10 +50,11 @@ unfoldable pub taint_text : Option Taint → List ℕ
 taint_text None = []
 taint_text (Some taint) = codes " " ++ taint.key ++ (codes "=" ++ taint.value) ++ (codes ":" ++ effect_name taint.effect)
 
--- Why a built-in filter rejects a node that is shown, for a pod: of taints the first that keeps the pod off, and of an amount of which
--- there is too little how much the pod asks for, of how much is free. CPU is in thousandths of a core, memory in bytes; a pod asks for
--- one place among a node's pods. Where there is too little of several amounts, the one is told for which the node counts: the first of
--- CPU, memory and pods.
+-- Why a built-in filter rejects a node that is shown, for a pod: of taints the first that keeps the
+-- pod off, and of an amount of which there is too little how much the pod asks for, of how much is
+-- free. CPU is in thousandths of a core, memory in bytes; a pod asks for one place among a node's
+-- pods. Where there is too little of several amounts, the one is told for which the node counts:
+-- the first of CPU, memory and pods.
 unfoldable pub reason_text : Pod → Shown → Reason → List ℕ
 reason_text pod shown reason.Marked = codes "marked"
 reason_text pod shown reason.Taint = codes "taint" ++ taint_text (first_untolerated shown.node pod)
@@ -77,8 +79,9 @@ part_text part = codes " " ++ part.0.name ++ (codes " " ++ decimal part.0.weight
 abbrev pub parts_text : List NamedRule → (scores : List ℕ) → List ℕ
 parts_text named scores = flat_map part_text (zip named scores)
 
--- The total of a node that is shown and passes, and what it is the sum of: the score for what the pod would leave free, the one for
--- taints that only make the node less preferred, and each rule's score as often as its weight says.
+-- The total of a node that is shown and passes, and what it is the sum of: the score for what the
+-- pod would leave free, the one for taints that only make the node less preferred, and each rule's
+-- score as often as its weight says.
 unfoldable pub total_text : List NamedRule → (most : ℕ) → Pod → Shown → (count score : ℕ) → (scores : List ℕ) → List ℕ
 total_text named most pod shown count score scores =
     codes "total " ++ decimal (total most count score)
@@ -88,7 +91,8 @@ total_text named most pod shown count score scores =
 
 -- ---- a verdict
 
--- the verdict on a node that is shown, where the most untolerated taints of a node that passes are these
+-- the verdict on a node that is shown, where the most untolerated taints of a node that passes are
+-- these
 unfoldable pub verdict_text : List NamedRule → (most : ℕ) → Pod → Shown → Verdict → List ℕ
 verdict_text named most pod shown (Rejected reason) = reason_text pod shown reason
 verdict_text named most pod shown (RejectedBy place how) = codes "plugin " ++ name_at named place ++ (codes " " ++ decimal (code_of how))
@@ -106,8 +110,9 @@ verdict_lines named pod nodes verdicts = flat_map (verdict_line named (most_of (
 
 -- ---- a cycle
 
--- What is told of the nodes, by the answer to `Pop`: where a pod was popped, the verdict on each node for it, by which it is decided, with
--- what the node has and what is used of it as the decision sees them.
+-- What is told of the nodes, by the answer to `Pop`: where a pod was popped, the verdict on each
+-- node for it, by which it is decided, with what the node has and what is used of it as the
+-- decision sees them.
 abbrev pub Explains : RuleSet → (named : List NamedRule) → State → Reply → List ℕ → Type 0
 Explains rules named s (replies.Popped pod) text =
     (verdicts : List Verdict) × AreVerdicts rules pod (snapshot s.cluster) verdicts × (text ≡ verdict_lines named pod (snapshot s.cluster) verdicts)

@@ -30,7 +30,8 @@ refused_line why = line_of (codes "refused " ++ decimal (number_of why) ++ codes
 unfoldable pub share_text : ℕ → ℕ → List ℕ
 share_text used whole = decimal used ++ codes "/" ++ decimal whole
 
--- a node: its cpu in thousandths of a core, its memory in bytes and its pods, each as used and allocatable
+-- a node: its cpu in thousandths of a core, its memory in bytes and its pods, each as used and
+-- allocatable
 unfoldable pub node_line : Node → Res → List ℕ
 node_line node used =
     line_of

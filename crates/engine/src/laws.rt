@@ -3,22 +3,24 @@ ghost use Rattle.engine.specs.Laws.{OneOutput, FrontsBeginOutput, FrontsAgree, S
 
 use rules::Rules;
 
-/// A script has one output: it depends on the script, the rules, and their names and weights as they are told, and on no order in
-/// which threads took their turns. What a run writes that is cut short begins it.
+/// A script has one output: it depends on the script, the rules, and their names and weights as
+/// they are told, and on no order in which threads took their turns. What a run writes that is cut
+/// short begins it.
 pub fn one_output<K: Rules>(_kit: &K)
     ensures whole { OneOutput (K.answers _kit.now) }
     ensures front { FrontsBeginOutput (K.answers _kit.now) }
     ensures fronts { FrontsAgree (K.answers _kit.now) }
 {}
 
-/// By kits that judge alike a script has the same output. A run goes by its decider's first kit, which stands for all of them: so
-/// the same script gives the same bytes by any decider, with any number of workers.
+/// By kits that judge alike a script has the same output. A run goes by its decider's first kit,
+/// which stands for all of them: so the same script gives the same bytes by any decider, with any
+/// number of workers.
 pub fn same_output<K: Rules>(_one: &K, _other: &K)
     ensures { SameOutput K.answers _one.now _other.now }
 {}
 
-/// What explains the cycles of a script is its output, with lines put in that begin with two spaces. Without these lines it is the
-/// output, byte for byte, since no line of that begins so.
+/// What explains the cycles of a script is its output, with lines put in that begin with two
+/// spaces. Without these lines it is the output, byte for byte, since no line of that begins so.
 pub fn explained_output<K: Rules>(_kit: &K)
     ensures explained { ExplainedOutput (K.answers _kit.now) }
     ensures plain { PlainOutput (K.answers _kit.now) }

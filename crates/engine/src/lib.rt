@@ -1,16 +1,19 @@
 //! The engine: it reads a script line by line, does what each line asks of a desk, and writes the
 //! answers.
 //!
-//! - `run` is the whole of it. Its source and its sink are the traits of `device`, after std's `Read`
-//!   and `Write`; `write_all` writes to a sink what must be written whole.
-//! - Lines are cut off the source in pieces of 64 KiB, and of a line no more is kept than a line may
-//!   have and one byte, by which it is known to be too long.
-//! - The desk is one that many passes can share, with one pass; its state is what that pass has seen.
-//! - A session has that desk, and makes the text that answers a command; `verdicts` has the lines that explain a cycle.
+//! - `run` is the whole of it. Its source and its sink are the traits of `device`, after std's
+//!   `Read` and `Write`; `write_all` writes to a sink what must be written whole.
+//! - Lines are cut off the source in pieces of 64 KiB, and of a line no more is kept than a line
+//!   may have and one byte, by which it is known to be too long.
+//! - The desk is one that many passes can share, with one pass; its state is what that pass has
+//!   seen.
+//! - A session has that desk, and makes the text that answers a command; `verdicts` has the lines
+//!   that explain a cycle.
 //! - `one_cycle` has the cycle of any pass, and `untold_cycle` the one of which no verdict is told.
 //! - Each way to end early is a `RunFault`, which has a number and a name.
-//! - That a script has one output, whoever runs it and with however many workers, are the laws `one_output` and `same_output`;
-//!   that an explained one is the same with lines put in is `explained_output`.
+//! - That a script has one output, whoever runs it and with however many workers, are the laws
+//!   `one_output` and `same_output`; that an explained one is the same with lines put in is
+//!   `explained_output`.
 //!
 //! Output is written before more input is read, and before 64 KiB of it wait.
 #![tactic(auto)]

@@ -65,8 +65,9 @@ impl LineReader {
         newline_at(&self.buffer[self.start..self.end]).is_some()
     }
 
-    /// Takes the next line of a source, of which it keeps the first 65,537 bytes, and says whether there was one. `waits` is the
-    /// output that is not yet written: nothing, where the source is read.
+    /// Takes the next line of a source, of which it keeps the first 65,537 bytes, and says whether
+    /// there was one. `waits` is the output that is not yet written: nothing, where the source is
+    /// read.
     ///
     /// Errors: `Read`, and `NoMemory` where there is none for the line.
     pub fn next_line<R: Source>(
@@ -170,7 +171,8 @@ impl LineReader {
         Ok(())
     }
 
-    // Takes what there is of a line, of which so many bytes are kept at most, and says whether its end was there.
+    // Takes what there is of a line, of which so many bytes are kept at most, and says whether its
+    // end was there.
     fn take_piece(&mut self, most: usize, line: &mut Vec<u8>) -> Result<bool, AllocError>
         requires { vec_len line.old ≤ most }
         ensures { IfOk result (λ ended. (text : List ℕ) × IsLine text

@@ -18,8 +18,8 @@ use std::marker::Model;
 use std::sync::Wait;
 use std::thread::Threads;
 
-// A shared desk with its only pass. Contracts see its state, which is the one that the pass has seen, since nobody else
-// makes a call.
+// A shared desk with its only pass. Contracts see its state, which is the one that the pass has
+// seen, since nobody else makes a call.
 //
 // It isn't `Drop`: end it by `end`.
 pub(crate) struct LoneDesk<J: Naming> {
@@ -96,7 +96,8 @@ impl<J: Naming> LoneDesk<J> {
         pop(&self.desk, rt, &mut self.pass)
     }
 
-    // Looks for a place for a pod that was popped, by a decider, and does what is decided of it. It may wait.
+    // Looks for a place for a pod that was popped, by a decider, and does what is decided of it. It
+    // may wait.
     pub(crate) fn place<R: Wait + Threads + Sync, D: Decider>(
         &mut self,
         rt: &R,

@@ -44,8 +44,8 @@ pub enum Cycled {
     },
 }
 
-/// A cycle was cut short for want of memory. Where a pod was popped and could not be failed either, it is told: it stays in
-/// flight for the pass, which may fail it later.
+/// A cycle was cut short for want of memory. Where a pod was popped and could not be failed either,
+/// it is told: it stays in flight for the pass, which may fail it later.
 #[derive(Debug, Drop, PartialEq, Eq)]
 pub struct CutShort {
     /// The pod that is still in flight.
@@ -244,8 +244,8 @@ pub(crate) fn place<J: Naming, T: Wait + Threads + Sync, D: Decider>(
     }
 }
 
-/// Looks for a place for a pod that the pass popped, and does what is decided of it, as `place` does; by which verdicts, isn't
-/// told, so that none need be written.
+/// Looks for a place for a pod that the pass popped, and does what is decided of it, as `place`
+/// does; by which verdicts, isn't told, so that none need be written.
 ///
 /// Errors: as `cycle`.
 pub(crate) fn place_untold<J: Naming, T: Wait + Threads + Sync, D: Decider>(
@@ -267,11 +267,13 @@ pub(crate) fn place_untold<J: Naming, T: Wait + Threads + Sync, D: Decider>(
     }
 }
 
-/// One cycle of a pass: it pops a pod, looks at the nodes, chooses one by the built-in rules and the decider's, and assumes the
-/// pod there. A pod for which no node is left fails as unschedulable; one for which a rule errs, or whose place is refused
-/// since it was chosen, fails to be tried again.
+/// One cycle of a pass: it pops a pod, looks at the nodes, chooses one by the built-in rules and
+/// the decider's, and assumes the pod there. A pod for which no node is left fails as
+/// unschedulable; one for which a rule errs, or whose place is refused since it was chosen, fails
+/// to be tried again.
 ///
-/// Errors: `CutShort`, for want of memory. A popped pod was then failed, to be tried again, or it is told that it could not.
+/// Errors: `CutShort`, for want of memory. A popped pod was then failed, to be tried again, or it
+/// is told that it could not.
 pub fn cycle<J: Naming, T: Wait + Threads + Sync, D: Decider>(
     desk: &Desk<J>,
     rt: &T,

@@ -104,7 +104,8 @@ fn answer_line<J: Naming, T: Wait + Threads + Sync, D: Decider>(
     }
 }
 
-// Does what the lines of a script ask of a new desk, up to the first faulty one, and writes the answers.
+// Does what the lines of a script ask of a new desk, up to the first faulty one, and writes the
+// answers.
 fn run_lines<J: Naming, T: Wait + Threads + Sync, D: Decider, R: Source, W: Sink>(
     rt: &T,
     alloc: Global,
@@ -192,11 +193,11 @@ fn run_desk<J: Naming, T: Wait + Threads + Sync, D: Decider, R: Source, W: Sink>
 }
 
 /// Reads a script to its end or its first faulty line, does what its lines ask of a new desk with
-/// one pass, and writes the answers. A cycle goes by the decider; the names and weights of its rules are
-/// handed in beside it, in their order, as they are to be told. Where cycles are to be explained, the
-/// line of each that popped a pod has those of the nodes that it saw in front. Names are looked up under
-/// the keys.
-/// A line ends at a newline, which the last one may lack; an empty line is passed over and counted.
+/// one pass, and writes the answers. A cycle goes by the decider; the names and weights of its
+/// rules are handed in beside it, in their order, as they are to be told. Where cycles are to be
+/// explained, the line of each that popped a pod has those of the nodes that it saw in front. Names
+/// are looked up under the keys. A line ends at a newline, which the last one may lack; an empty
+/// line is passed over and counted.
 ///
 /// Before more is read, all answers so far are written, so that a peer that waits for them goes on.
 /// While whole lines are there, fewer than 64 KiB of output wait, and the answer to one line.

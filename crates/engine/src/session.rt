@@ -52,8 +52,9 @@ impl<J: Naming> Session<J> {
         })
     }
 
-    // Does what a command asks for, and adds the answer to the output. The decider's rules have these names and weights, in their order, and
-    // what was decided of each node is told too where a cycle is to be explained.
+    // Does what a command asks for, and adds the answer to the output. The decider's rules have
+    // these names and weights, in their order, and what was decided of each node is told too where
+    // a cycle is to be explained.
     pub(crate) fn answer<R: Wait + Threads + Sync, D: Decider>(
         &mut self,
         rt: &R,
@@ -131,7 +132,8 @@ impl<J: Naming> Session<J> {
         Ok(())
     }
 
-    // Does a cycle, and adds the line that tells what it came to, with those of the nodes in front where it is to be explained.
+    // Does a cycle, and adds the line that tells what it came to, with those of the nodes in front
+    // where it is to be explained.
     fn cycle<R: Wait + Threads + Sync, D: Decider>(
         &mut self,
         rt: &R,
@@ -150,8 +152,8 @@ impl<J: Naming> Session<J> {
         Ok(())
     }
 
-    // Does a cycle, and adds the lines of the nodes that it saw where it is to be explained. Nobody else makes a call, so a look
-    // before the decision shows what it sees.
+    // Does a cycle, and adds the lines of the nodes that it saw where it is to be explained. Nobody
+    // else makes a call, so a look before the decision shows what it sees.
     fn told_cycle<R: Wait + Threads + Sync, D: Decider>(
         &mut self,
         rt: &R,

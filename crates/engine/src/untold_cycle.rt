@@ -10,7 +10,8 @@ use desk::{Desk, Naming, NoMemory, Pass};
 use std::sync::Wait;
 use std::thread::Threads;
 
-/// One cycle of a pass, as `cycle` makes one; by which verdicts it was decided, isn't told, so that none need be written.
+/// One cycle of a pass, as `cycle` makes one; by which verdicts it was decided, isn't told, so that
+/// none need be written.
 ///
 /// Errors: as `cycle`.
 pub fn cycle_untold<J: Naming, T: Wait + Threads + Sync, D: Decider>(

@@ -203,8 +203,8 @@ fn push_line(
     out.extend_from_slice(b"\n")
 }
 
-/// Adds the lines of all nodes, in their order, each with the verdict on it for the pod. The rules have these names and weights,
-/// in their order.
+/// Adds the lines of all nodes, in their order, each with the verdict on it for the pod. The rules
+/// have these names and weights, in their order.
 pub(crate) fn push_verdicts(
     out: &mut Vec<u8>,
     named: &[NamedRule],

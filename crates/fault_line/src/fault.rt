@@ -30,15 +30,16 @@ pub enum Fault {
     /// The run of a script ended early.
     #[error("{0}")]
     Run(RunFault),
-    /// A line of objects can't be counted: it may be a pod on a node, and no line of a script can say that it is there, or there is
-    /// no version left.
+    /// A line of objects can't be counted: it may be a pod on a node, and no line of a script can
+    /// say that it is there, or there is no version left.
     #[error("line {}: 6 Uncounted", .0.number)]
     Uncounted(LineUncounted),
 }
 
 impl Fault {
-    /// The exit status: 1 at a faulty line, a refused module or an object that can't be counted, 2 at bad words, 3 for want of
-    /// memory or of a place at the desk, 4 when a read or a write failed.
+    /// The exit status: 1 at a faulty line, a refused module or an object that can't be counted, 2
+    /// at bad words, 3 for want of memory or of a place at the desk, 4 when a read or a write
+    /// failed.
     pub fn status(&self) -> u8
         ensures { result ≡ status_of self.now }
     {

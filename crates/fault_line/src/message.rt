@@ -18,7 +18,8 @@ use manifest::LineFault;
 use quant::Name;
 
 // Room for the longest line: a number has up to 20 digits, a fault's name up to 20 bytes, a field's
-// key up to 13, and a plugin's name up to 63. Each `push_..` says how much of the room it wants at most.
+// key up to 13, and a plugin's name up to 63. Each `push_..` says how much of the room it wants at
+// most.
 const MAX_MESSAGE: usize = 400;
 
 // What the program's words may be, a command a line.

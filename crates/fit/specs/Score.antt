@@ -1,11 +1,12 @@
--- How much of a node would be left with a pod on it (Kubernetes, "Scheduler Configuration", "Scheduling plugins":
--- NodeResourcesFit with the strategy LeastAllocated).
+-- How much of a node would be left with a pod on it (Kubernetes, "Scheduler Configuration",
+-- "Scheduling plugins": NodeResourcesFit with the strategy LeastAllocated).
 use Rattle.std.specs.Prelude.{ℕ, ◌+◌, ◌-◌, ◌*◌, ◌/◌, ◌||◌, ◌==◌, nat_le, nat_lt, if◌then◌else◌, Option, Some, None, Result, Ok, Err}
 use Rattle.quant.specs.declared.amount.Res.{Res}
 use Rattle.quant.specs.declared.amount.Request.{Request}
 use Rattle.fit.specs.declared.room.Shortage.{Shortage}
 
--- the hundredths of a resource that are left, rounded down: none where there is nothing allocatable or more is used
+-- the hundredths of a resource that are left, rounded down: none where there is nothing allocatable
+-- or more is used
 abbrev pub part_left : (allocatable used : ℕ) → ℕ
 part_left allocatable used =
     if (allocatable == 0) || nat_lt allocatable used then 0 else (allocatable - used) * 100 / allocatable

@@ -11,8 +11,9 @@ use std::marker::Model;
 
 /// What is allocatable of a node. Contracts see the amounts alone.
 ///
-/// A score needs the hundredths of what is left. They are guessed by a product with a factor that stands beside each amount, and
-/// the guess is tried, since that takes less time than a division. It is never too low.
+/// A score needs the hundredths of what is left. They are guessed by a product with a factor that
+/// stands beside each amount, and the guess is tried, since that takes less time than a division.
+/// It is never too low.
 #[derive(Drop)]
 pub struct Allocatable {
     amounts: Res,
@@ -51,8 +52,9 @@ impl Allocatable {
         self.amounts
     }
 
-    /// How free a node would be with the pod on it, as `least_allocated` tells. Nothing is divided, but for a few amounts whose
-    /// hundredths lie just below a whole number, and for memory of 64 PiB and more.
+    /// How free a node would be with the pod on it, as `least_allocated` tells. Nothing is divided,
+    /// but for a few amounts whose hundredths lie just below a whole number, and for memory of 64
+    /// PiB and more.
     #[inline]
     #[tactic(auto, unfolding(crate::specs::Score::least_allocated_score))]
     pub fn least_allocated(&self, used: Res, request: Request) -> u8
@@ -64,8 +66,9 @@ impl Allocatable {
         (cpu + mem) / 2
     }
 
-    /// How free a node would be with the pod on it, as `least_allocated` tells, where the pod fits, as `fits` tells, and that is at
-    /// least so much. Where it is less, mostly no more than two products are made.
+    /// How free a node would be with the pod on it, as `least_allocated` tells, where the pod fits,
+    /// as `fits` tells, and that is at least so much. Where it is less, mostly no more than two
+    /// products are made.
     #[inline]
     pub fn score_from(&self, least: u32, used: Res, request: Request) -> Option<u8>
         ensures value { result ≡ score_from least (fit_of self.now used request)

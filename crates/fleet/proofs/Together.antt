@@ -1,4 +1,5 @@
--- What kits that judge alike found of some nodes and of those behind them, each of them finds of all these nodes.
+-- What kits that judge alike found of some nodes and of those behind them, each of them finds of
+-- all these nodes.
 use Rattle.std.proofs.Common.{◌≡◌, ◌<◌, List, [], ◌∷◌, ◌++◌, length, get_or, subst}
 use Rattle.std.specs.List.{All, Contains}
 use Rattle.std.proofs.lemmas.List.Elements.{Contains-get_or, Contains-append_left, Contains-append_right}

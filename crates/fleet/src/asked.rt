@@ -132,7 +132,8 @@ pub struct History<J: Site> {
     ghost counted: { count ≡ length seen.log },
 }
 
-/// What a pool was asked, with its number among all that it was asked: no two have one number. Contracts see what was asked.
+/// What a pool was asked, with its number among all that it was asked: no two have one number.
+/// Contracts see what was asked.
 #[derive(Drop)]
 pub struct Order<J: Site> {
     asked: Asked,

@@ -2,8 +2,8 @@
 ghost use Rattle.std.specs.Prelude.{◌≡◌, ◌<◌, ◌≤◌};
 ghost use Rattle.fleet.specs.Pieces.{begins};
 
-/// The place at which a piece begins, where so many nodes are cut into so many pieces. That of the number of pieces, behind the
-/// last one, is the number of nodes.
+/// The place at which a piece begins, where so many nodes are cut into so many pieces. That of the
+/// number of pieces, behind the last one, is the number of nodes.
 #[tactic(auto, using(crate::proofs::Cutting::begins_by_parts, crate::proofs::Cutting::begins_within))]
 pub fn begin(nodes: usize, pieces: usize, piece: usize) -> usize
     requires some { 0 < pieces }

@@ -18,7 +18,8 @@ use std::thread::Threads;
 /// The most kits of a fleet.
 pub const MAX_KITS: usize = quant::MAX_WORKERS;
 
-/// Kits that judge alike, one a worker, and the room for the verdicts of a decision, which stays between two decisions.
+/// Kits that judge alike, one a worker, and the room for the verdicts of a decision, which stays
+/// between two decisions.
 #[derive(Drop)]
 pub struct Fleet<K: Rules + Send> {
     kits: Vec<K>,
@@ -54,7 +55,8 @@ impl<K: Rules + Send + Drop> Fleet<K> {
 }
 
 impl<K: Rules + Send> Fleet<K> {
-    /// A fleet of 1 to 64 kits that judge alike, as those of the same plugins do. It takes no memory yet.
+    /// A fleet of 1 to 64 kits that judge alike, as those of the same plugins do. It takes no
+    /// memory yet.
     pub fn new(alloc: Global, kits: Vec<K>) -> Fleet<K>
         requires some { 0 < vec_len kits }
         requires most { vec_len kits ≤ MAX_KITS }
@@ -81,11 +83,12 @@ where
 {
     /// Where a pod goes, by a look at the nodes: the choice that each of the kits would make alone.
     ///
-    /// The nodes are cut into as many pieces as there are kits, of which each is judged with a kit of its own: the first one here,
-    /// and each other one that has a node in a thread of its own, where one can be started. Then it is decided among all nodes.
+    /// The nodes are cut into as many pieces as there are kits, of which each is judged with a kit
+    /// of its own: the first one here, and each other one that has a node in a thread of its own,
+    /// where one can be started. Then it is decided among all nodes.
     ///
-    /// Errors: `NoMemory` where the look has more nodes than any before and there is no memory for a verdict each. Nothing is
-    /// decided then, and the fleet can be used again.
+    /// Errors: `NoMemory` where the look has more nodes than any before and there is no memory for
+    /// a verdict each. Nothing is decided then, and the fleet can be used again.
     pub fn decide<R: Threads + Sync, G: Gate + Sync>(
         &mut self,
         rt: &R,

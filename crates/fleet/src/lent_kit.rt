@@ -21,7 +21,8 @@ use std::mem;
 use std::sync::{Arc, Wait};
 use std::thread::Threads;
 
-/// A kit, where it isn't under way, with the room for its verdicts and the way to its worker, if there is one.
+/// A kit, where it isn't under way, with the room for its verdicts and the way to its worker, if
+/// there is one.
 #[derive(Drop)]
 pub struct Helper<J: Site, K: Rules + Drop> {
     pub hand: Option<Hand<J, K>>,
@@ -117,7 +118,8 @@ impl<J: Site, K: Rules + Drop> Helper<J, K> {
         }
     }
 
-    // Waits for the piece that is under way, and says whether its verdicts are there. The kit is back where a result came.
+    // Waits for the piece that is under way, and says whether its verdicts are there. The kit is
+    // back where a result came.
     fn take_back<R: Wait>(
         &mut self,
         rt: &R,
@@ -152,7 +154,8 @@ impl<J: Site, K: Rules + Drop> Helper<J, K> {
         is_this
     }
 
-    // The verdicts on a piece: those that come back, or else those that are found here, with its kit or with the first.
+    // The verdicts on a piece: those that come back, or else those that are found here, with its
+    // kit or with the first.
     fn fill<R: Wait, G: Gate>(
         &mut self,
         rt: &R,

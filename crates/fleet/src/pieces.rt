@@ -17,8 +17,8 @@ use quant::Pod;
 use rules::Rules;
 use std::thread::{Threads, join_mut};
 
-/// What all workers of a decision read: the nodes, the pod, who is told that a piece begins, and into how many pieces the nodes
-/// are cut.
+/// What all workers of a decision read: the nodes, the pod, who is told that a piece begins, and
+/// into how many pieces the nodes are cut.
 #[derive(Drop)]
 pub struct Work<'a, G> {
     pub rows: &'a [Row],
@@ -46,7 +46,8 @@ pub fn judge_piece<K: Rules, G: Gate>(
     judge(&work.rows[first..end], work.pod, kit, verdicts);
 }
 
-/// Judges a piece of what a pool is asked, with this kit, in this thread. A piece that has no node doesn't begin.
+/// Judges a piece of what a pool is asked, with this kit, in this thread. A piece that has no node
+/// doesn't begin.
 pub fn judge_asked<K: Rules, G: Gate>(
     asked: &Asked,
     gate: &G,
@@ -71,8 +72,9 @@ pub fn judge_asked<K: Rules, G: Gate>(
     judge_piece(&work, piece, kit, verdicts);
 }
 
-/// Judges some pieces, one with each kit, from the first piece on: the first of them in this thread, each other one that has a
-/// node in a thread of its own, or in the one that can't start it.
+/// Judges some pieces, one with each kit, from the first piece on: the first of them in this
+/// thread, each other one that has a node in a thread of its own, or in the one that can't start
+/// it.
 #[cycle(pieces)]
 pub fn judge_pieces<R: Threads + Sync, K: Rules + Send, G: Gate + Sync>(
     rt: &R,

@@ -19,10 +19,12 @@ use std::marker::Model;
 use std::sync::{Arc, Wait};
 use std::thread::Threads;
 
-// Up to so many nodes without a site's rules are judged by the caller alone; a worker must first be woken.
+// Up to so many nodes without a site's rules are judged by the caller alone; a worker must first be
+// woken.
 const FEW_NODES: usize = 8_192;
 
-// Up to so much work, in units of fuel, is likewise done by the caller alone where there are rules: about a millisecond.
+// Up to so much work, in units of fuel, is likewise done by the caller alone where there are rules:
+// about a millisecond.
 const LITTLE_WORK: u64 = 300_000;
 
 // What the rules are to a node beside their fuel: that it is shown to them, and their calls.
@@ -38,7 +40,8 @@ pub struct Pool<J: Site, K: Rules + Drop, G: Drop> {
     history: History<J>,
     // The room for the verdicts of a decision, which stays between two decisions.
     verdicts: Vec<Verdict>,
-    // What the rules' calls cost for a node in the last decision, in units of fuel, once there was one.
+    // What the rules' calls cost for a node in the last decision, in units of fuel, once there was
+    // one.
     cost: Option<u64>,
 }
 
@@ -55,8 +58,9 @@ impl<J: Site, K: Rules + Drop, G: Drop> Model for Pool<J, K, G> {
 }
 
 impl<J: Site, K: Rules + Drop, G: Gate + Drop> Pool<J, K, G> {
-    /// A pool of 1 to 64 kits that say the same. The first one stays with the caller, and each other has a worker where one can
-    /// be started. Who is told that pieces begin is told from the workers' threads too.
+    /// A pool of 1 to 64 kits that say the same. The first one stays with the caller, and each
+    /// other has a worker where one can be started. Who is told that pieces begin is told from the
+    /// workers' threads too.
     ///
     /// Errors: `NoMemory` where there is none for the list of workers. The kits are given up then.
     pub fn start<R: Threads + Wait + Copy + Send + 'static>(
@@ -101,12 +105,13 @@ impl<J: Site, K: Rules + Drop, G: Gate + Drop> Pool<J, K, G> {
 
     /// Where a pod goes, by a look at the nodes: the choice that each of the kits would make alone.
     ///
-    /// The nodes are cut into as many pieces as there are kits. The first is judged here, and each other one that has a node by
-    /// a worker. A piece that doesn't come back is judged here too. Where there is too little to do, by what the decision before
-    /// this cost, all is done here.
+    /// The nodes are cut into as many pieces as there are kits. The first is judged here, and each
+    /// other one that has a node by a worker. A piece that doesn't come back is judged here too.
+    /// Where there is too little to do, by what the decision before this cost, all is done here.
     ///
-    /// Errors: `NoMemory` where there is none for what the workers share, or where the look has more nodes than any before and
-    /// there is none for a verdict each. Nothing is decided then, nor sent, and the pool can be used again.
+    /// Errors: `NoMemory` where there is none for what the workers share, or where the look has
+    /// more nodes than any before and there is none for a verdict each. Nothing is decided then,
+    /// nor sent, and the pool can be used again.
     pub fn decide<R: Wait>(
         &mut self,
         rt: &R,
@@ -185,7 +190,8 @@ impl<J: Site, K: Rules + Drop, G: Gate + Drop> Pool<J, K, G> {
         ))
     }
 
-    // Whether so many nodes are so much work that it is done sooner with the workers: they must be woken first, and waited for.
+    // Whether so many nodes are so much work that it is done sooner with the workers: they must be
+    // woken first, and waited for.
     fn is_worth_waking(&self, nodes: usize) -> bool {
         if self.home.count() == 0 {
             return nodes > FEW_NODES;
@@ -198,8 +204,9 @@ impl<J: Site, K: Rules + Drop, G: Gate + Drop> Pool<J, K, G> {
         }
     }
 
-    // Notes what a decision cost for each of so many nodes that were judged here, by what had been spent before it, where a rule
-    // was asked. What is noted falls by half at most: a pod that asks little doesn't put the workers to sleep for the next one.
+    // Notes what a decision cost for each of so many nodes that were judged here, by what had been
+    // spent before it, where a rule was asked. What is noted falls by half at most: a pod that asks
+    // little doesn't put the workers to sleep for the next one.
     fn note_cost(&mut self, before: u64, nodes: usize)
         ensures { self.new ≡ self.old }
     {
@@ -214,7 +221,8 @@ impl<J: Site, K: Rules + Drop, G: Gate + Drop> Pool<J, K, G> {
         };
     }
 
-    /// Where a pod goes, as `decide` says it. Where there is no rule it is chosen here, and no verdict is written.
+    /// Where a pod goes, as `decide` says it. Where there is no rule it is chosen here, and no
+    /// verdict is written.
     ///
     /// Errors: as those of `decide`; none where there is no rule.
     pub fn choose<R: Wait>(
@@ -306,7 +314,8 @@ fn choose_there<J: Site, K: Rules + Drop, G: Gate, R: Wait>(
     decide(order.asked().snapshot.rows(), verdicts)
 }
 
-// The verdicts on all nodes, where all pieces but the first are under way, or are to be judged here too.
+// The verdicts on all nodes, where all pieces but the first are under way, or are to be judged here
+// too.
 fn judge_and_collect<J: Site, K: Rules + Drop, G: Gate, R: Wait>(
     rt: &R,
     order: &Order<J>,

@@ -15,7 +15,8 @@ use std::sync::{Arc, Wait};
 use std::thread;
 use std::thread::Threads;
 
-/// A pool's ends of the channels to a worker and back. Each has room for one message, which it keeps.
+/// A pool's ends of the channels to a worker and back. Each has room for one message, which it
+/// keeps.
 #[derive(Drop)]
 pub struct Hand<J: Site, K: Rules + Drop> {
     jobs: RuledSender<Job<J, K>, (), OfPool<J>>,

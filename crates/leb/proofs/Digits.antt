@@ -82,7 +82,8 @@ small_is s bits bytes at k p h =
     ap (reading s bits) (at_place bytes at p) ∙ ends s bits (get_or bytes at 0) (drop (at + 1) bytes) (omega arith)
     ∙ ap (before (drop (at + 1) bytes)) (last_small s bits (get_or bytes at 0) k h)
 
--- The bits below the weight are read, the others are left. What is read from the start is that, joined to what is read from here on.
+-- The bits below the weight are read, the others are left. What is read from the start is that,
+-- joined to what is read from here on.
 pub record HasRead (bytes : List ℕ) (at : ℕ) (sign : Bool) (bits low weight left next : ℕ) : Type 0 where
   pub rest : reading (sign_of sign) bits (drop at bytes) ≡ onto low weight (reading (sign_of sign) left (drop next bytes))
   pub below : low < weight

@@ -21,7 +21,8 @@ Stands BadLastByte s bits bytes = HasBadLastByte s bits bytes
 abbrev GoesOn : ℕ → Type 0
 GoesOn b = 128 ≤ b
 
--- a last byte stands for something, or is refused as such, which is so of no byte before the last that there may be
+-- a last byte stands for something, or is refused as such, which is so of no byte before the last
+-- that there may be
 last_cases : (s : Sign) (bits b : ℕ) → ((v : ℤ) × (last_at s bits b ≡ Ok v)) ⊎ (last_at s bits b ≡ Err BadLastByte)
 unfolding last_at
 last_cases unsigned bits b = elim (cases_lt b (2 ^ min bits 7)) [

@@ -28,7 +28,8 @@ IsTruncated bits bytes = (length bytes < longest bits) × All (λ b. 128 ≤ b) 
 abbrev pub IsTooLong : ℕ → List ℕ → Type 0
 IsTooLong bits bytes = (longest bits ≤ length bytes) × All (λ b. 128 ≤ b) (take (longest bits) bytes)
 
--- The number ends at the last byte that it may have, whose unused bits aren't zeros, or copies of the sign.
+-- The number ends at the last byte that it may have, whose unused bits aren't zeros, or copies of
+-- the sign.
 abbrev pub HasBadLastByte : Sign → ℕ → List ℕ → Type 0
 HasBadLastByte s bits bytes =
     (front : List ℕ) × (b : ℕ) × (rest : List ℕ) × (bytes ≡ front ++ b ∷ rest) × (suc (length front) ≡ longest bits)

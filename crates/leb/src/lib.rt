@@ -1,5 +1,6 @@
-//! LEB128, the numbers of WebAssembly's binary format (WebAssembly Core 1.0, 5.2.2): readers of unsigned numbers of 32
-//! bits and of signed ones of 32 and 64, why bytes spell none, and the law that they spell one at most.
+//! LEB128, the numbers of WebAssembly's binary format (WebAssembly Core 1.0, 5.2.2): readers of
+//! unsigned numbers of 32 bits and of signed ones of 32 and 64, why bytes spell none, and the law
+//! that they spell one at most.
 #![tactic(auto)]
 
 mod laws;
@@ -52,7 +53,8 @@ impl LebFault {
     }
 }
 
-/// Reads an unsigned number of 32 bits from `at` on. Gives the number, and the place after its last byte.
+/// Reads an unsigned number of 32 bits from `at` on. Gives the number, and the place after its last
+/// byte.
 #[inline]
 pub fn read_u32(bytes: &[u8], at: usize) -> Result<(u32, usize), LebFault>
     requires { at ≤ length bytes.now }
@@ -67,7 +69,8 @@ pub fn read_u32(bytes: &[u8], at: usize) -> Result<(u32, usize), LebFault>
     Ok((found.low as u32, found.next))
 }
 
-/// Reads a signed number of 32 bits from `at` on. Gives the number, and the place after its last byte.
+/// Reads a signed number of 32 bits from `at` on. Gives the number, and the place after its last
+/// byte.
 #[inline]
 pub fn read_i32(bytes: &[u8], at: usize) -> Result<(i32, usize), LebFault>
     requires { at ≤ length bytes.now }
@@ -84,7 +87,8 @@ pub fn read_i32(bytes: &[u8], at: usize) -> Result<(i32, usize), LebFault>
     Ok((value, found.next))
 }
 
-/// Reads a signed number of 64 bits from `at` on. Gives the number, and the place after its last byte.
+/// Reads a signed number of 64 bits from `at` on. Gives the number, and the place after its last
+/// byte.
 #[inline]
 pub fn read_i64(bytes: &[u8], at: usize) -> Result<(i64, usize), LebFault>
     requires { at ≤ length bytes.now }
@@ -183,7 +187,8 @@ fn scan(bytes: &[u8], at: usize, bits: u32, signed: bool) -> Result<Spelled, Leb
     Err(LebFault::Truncated)
 }
 
-// What the last byte stands for, of a number that has so many bits left: a number, or -1 - that where it is negative.
+// What the last byte stands for, of a number that has so many bits left: a number, or -1 - that
+// where it is negative.
 #[inline]
 #[tactic(auto, unfolding(crate::specs::Reading::last_at))]
 fn last(byte: u8, left: u32, signed: bool) -> Result<(bool, u64), LebFault>

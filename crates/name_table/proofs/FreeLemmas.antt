@@ -1,4 +1,5 @@
--- What slots with free ones after them have, and what they are after one of them is given something.
+-- What slots with free ones after them have, and what they are after one of them is given
+-- something.
 use Rattle.std.proofs.Common.{◌≡◌, ℕ, suc, ◌-◌, ◌+◌, ◌*◌, ◌<◌, ◌≤◌, [], ◌∷◌, ◌++◌, length, set, replicate, Option, None, sum_by, refl, sym, ap, ◌∙◌, inl, inr, arith, append_assoc}
 use Rattle.std.proofs.lemmas.Bool.{cases_lt}
 use Rattle.std.proofs.lemmas.List.Sums.{sum_by-append}

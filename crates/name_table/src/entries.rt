@@ -10,8 +10,9 @@ use quant::Name;
 use std::alloc::{AllocError, Global};
 use std::marker::Model;
 
-/// Slots, each free or with an entry. All room is reserved by `Entries::new`, but the system gives memory as it is written
-/// first: with few entries little is touched, however many there is room for.
+/// Slots, each free or with an entry. All room is reserved by `Entries::new`, but the system gives
+/// memory as it is written first: with few entries little is touched, however many there is room
+/// for.
 #[derive(Drop)]
 pub(crate) struct Entries<V> {
     // The slots up to the last that was ever filled. Those after it are free.

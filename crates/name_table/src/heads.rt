@@ -11,11 +11,13 @@ const BLOCK: usize = 1024;
 // Where a block that was never written is.
 const UNWRITTEN: u16 = u16::MAX;
 
-/// Numbers that are all the same at first. All room is reserved by `Heads::new`, but the system gives memory as it is written
-/// first, and blocks lie in the order in which they were: with few chains little is touched, however many there are.
+/// Numbers that are all the same at first. All room is reserved by `Heads::new`, but the system
+/// gives memory as it is written first, and blocks lie in the order in which they were: with few
+/// chains little is touched, however many there are.
 #[derive(Drop)]
 pub(crate) struct Heads {
-    // Which of the written blocks each block is: so few numbers that they stay in the nearest cache.
+    // Which of the written blocks each block is: so few numbers that they stay in the nearest
+    // cache.
     blocks: Vec<u16>,
     // The blocks that were ever written, one after another.
     written: Vec<u32>,

@@ -15,8 +15,9 @@ pub(crate) struct Link {
     pub(crate) home: u32,
 }
 
-/// The links of slots, which are in one chain at first, in their order. All room is reserved by `Links::new`, but the system
-/// gives memory as it is written first: where few slots ever moved little is touched, however many there are.
+/// The links of slots, which are in one chain at first, in their order. All room is reserved by
+/// `Links::new`, but the system gives memory as it is written first: where few slots ever moved
+/// little is touched, however many there are.
 #[derive(Drop)]
 pub(crate) struct Links {
     // The links up to that of the last slot that ever moved.

@@ -18,11 +18,12 @@ use std::hash::{BuildHasher, Hasher, RandomState};
 use std::marker::Model;
 use std::mem;
 
-/// Values by name, as many as there was room for when the table was made. Each entry stays in its slot until it is
-/// removed.
+/// Values by name, as many as there was room for when the table was made. Each entry stays in its
+/// slot until it is removed.
 ///
-/// A call goes along the names of one bucket. There are at least as many buckets as slots, and the hash has keys of
-/// its own (SipHash, by `RandomState`), so that nobody who doesn't know them can choose names that share one.
+/// A call goes along the names of one bucket. There are at least as many buckets as slots, and the
+/// hash has keys of its own (SipHash, by `RandomState`), so that nobody who doesn't know them can
+/// choose names that share one.
 #[derive(Drop)]
 pub struct NameTable<V> {
     keys: RandomState,

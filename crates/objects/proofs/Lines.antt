@@ -312,7 +312,8 @@ line_back event line sayable printed utf8 short =
     let back = event_line event sayable in
     rw (le-leb (length line) MAX_LINE short, parsed_read line back.0 (utf8, read_printed (line_json event) line back.0 printed back.3 back.1)) back.2
 
--- a writer that has begun with nothing, and has written the object's tokens, has written such a line
+-- a writer that has begun with nothing, and has written the object's tokens, has written such a
+-- line
 pub line_told : (event : Event) (before : List ℕ) (ts : List Token) (line : List ℕ) → IsSayable event
     → before ≡ [] → ts ≡ json_tokens (line_json event) → line ≡ before ++ print ts → tokens (print ts) ≡ ts → IsUtf8 (print ts)
     → meaning line ≡ Ok (commands.Event event)

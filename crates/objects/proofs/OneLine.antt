@@ -159,7 +159,8 @@ event_quiet (PodPending version pod) h = pod_quiet version pod h.0 h.1
 event_quiet (PodBound version uid node r) h = and_from _ _ (version_one_line version h.0) refl
 event_quiet (PodGone version uid) h = and_from _ _ (version_one_line version h.0) refl
 
--- a writer that has begun with nothing, and has written the object's tokens, has written no such byte
+-- a writer that has begun with nothing, and has written the object's tokens, has written no such
+-- byte
 pub line_one_line : (event : Event) (before : List ℕ) (ts : List Token) (line : List ℕ) → IsSayable event
     → before ≡ [] → ts ≡ json_tokens (line_json event) → line ≡ before ++ print ts → is_one_line line ≡ true
 line_one_line event before ts line sayable empty same is =

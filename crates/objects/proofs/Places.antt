@@ -150,7 +150,8 @@ some_behind rounding ds m up down h =
     ∙ rounded_sum rounding (a * m) (back ds q * m) (10 ^ q) (ten_pos q)
     ∙ ap (λ n. front ds n * m + rounded rounding (record { over = back ds q * m; under = 10 ^ q })) (sym places)
 
--- digits, times a number and over powers of ten, are the digits in front of a point and what is rounded behind it
+-- digits, times a number and over powers of ten, are the digits in front of a point and what is
+-- rounded behind it
 pub in_parts : (rounding : Rounding) (ds : List ℕ) (m up down : ℕ)
     → rounded rounding (record { over = number ds * m * 10 ^ up; under = 10 ^ down })
     ≡ front ds (length ds + up - down) * m + rounded rounding (record { over = back ds (down - up) * m; under = 10 ^ (down - up) })

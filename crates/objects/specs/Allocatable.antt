@@ -1,4 +1,5 @@
--- What a node has for pods (the Kubernetes page "Reserve Compute Resources for System Daemons", "Node Allocatable").
+-- What a node has for pods (the Kubernetes page "Reserve Compute Resources for System Daemons",
+-- "Node Allocatable").
 use Rattle.std.specs.Prelude.{ℕ, Option, Some, None, Result, Ok}
 use Rattle.std.specs.Option.{ok_or}
 use Rattle.serde_json.specs.Data.{Data}

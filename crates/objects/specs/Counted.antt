@@ -1,5 +1,6 @@
--- What a pod counts for that stands on a node: what it asks for or holds there, whichever is more, as far as a line can say it, and
--- the greatest that a line can say where it can't, so that no node is ever filled over its room.
+-- What a pod counts for that stands on a node: what it asks for or holds there, whichever is more,
+-- as far as a line can say it, and the greatest that a line can say where it can't, so that no node
+-- is ever filled over its room.
 use Rattle.std.specs.Prelude.{ℕ, ◌+◌, ◌*◌, ◌^◌, min, max, Bool, true, false, ◌&&◌, ◌||◌, not, nat_le, List, [], ◌∷◌, ◌++◌, codes, bytes_eq, is_some, Option, Some, None, Result, Ok, Err, if◌then◌else◌}
 use Rattle.std.proofs.Math.Nat.{min-le_left}
 use Rattle.serde_json.specs.Data.{Data, Items, no_items, item}
@@ -49,8 +50,9 @@ counted_memory (Err e) = 2 ^ 44
 unfoldable pub counted_part : Part → (holder : Key) → Data → Request
 counted_part part holder json = at_most (counted_cpu (cpu_in part holder json)) (counted_memory (memory_in part holder json))
 
--- what the status of a container or a pod says that it holds: what the node has set aside, or what is in force, whichever is more
--- (the Kubernetes page "Resize CPU and Memory Resources assigned to Containers"; a pod that was shrunk holds it until that is done)
+-- what the status of a container or a pod says that it holds: what the node has set aside, or what
+-- is in force, whichever is more (the Kubernetes page "Resize CPU and Memory Resources assigned to
+-- Containers"; a pod that was shrunk holds it until that is done)
 unfoldable pub status_request : (holder : Key) → Data → Request
 status_request holder status = larger (counted_part parts.Allocated holder status) (counted_part parts.Requested holder status)
 
@@ -104,7 +106,8 @@ abbrev pub are_few : (containers statuses : Items) → Bool
 are_few containers statuses =
     nat_le (count containers) 65536 && nat_le (count statuses) 65536 && nat_le (count containers * count statuses) 1048576
 
--- containers that can't be read, by themselves or by their statuses, count as one that asks for the most
+-- containers that can't be read, by themselves or by their statuses, count as one that asks for the
+-- most
 abbrev pub counted_listed : (containers statuses : Option Items) → List Container
 counted_listed None statuses = unread ∷ []
 counted_listed (Some containers) None = unread ∷ []
@@ -118,8 +121,8 @@ abbrev pub some_or_unread : List Container → List Container
 some_or_unread [] = unread ∷ []
 some_or_unread (x ∷ more) = x ∷ more
 
--- what the pod asks for or holds as a whole (the Kubernetes page "Assign Pod-level CPU and memory resources"), which stands in place
--- of what its containers ask and is never less
+-- what the pod asks for or holds as a whole (the Kubernetes page "Assign Pod-level CPU and memory
+-- resources"), which stands in place of what its containers ask and is never less
 abbrev pub held_as_a_whole : Option Data → Request
 held_as_a_whole None = at_most 0 0
 held_as_a_whole (Some status) = status_request keys.Status status

@@ -1,6 +1,7 @@
--- What a pod asks for that no row tells: what it must have, without which it could be put where it mustn't be, and what it
--- only wishes (the Kubernetes pages "Assigning Pods to Nodes", "Pod Topology Spread Constraints", "Pod Scheduling
--- Readiness", "Dynamic Resource Allocation" and "Volumes").
+-- What a pod asks for that no row tells: what it must have, without which it could be put where it
+-- mustn't be, and what it only wishes (the Kubernetes pages "Assigning Pods to Nodes", "Pod
+-- Topology Spread Constraints", "Pod Scheduling Readiness", "Dynamic Resource Allocation" and
+-- "Volumes").
 use Rattle.std.specs.Prelude.{ℕ, ◌==◌, Bool, true, false, ◌&&◌, ◌||◌, not, List, [], ◌∷◌, ◌++◌, codes, decimal, bytes_eq, Option, Some, None, is_some, option_and_then, Result, Ok, Err, if◌then◌else◌}
 use Rattle.std.specs.List.{list_any}
 use Rattle.serde_json.specs.Data.{Data, Items, no_items, item, Members, no_members, member}
@@ -169,8 +170,9 @@ placement spec =
     ++ left_out_if (not (is_read_affinity (field keys.Affinity spec))) (codes "affinity")
     ++ left_out_if (asks_spread false (field keys.TopologySpread spec)) (codes "required topology spread")
 
--- the fields of a spec that are told or looked at, and those that tie a pod to no node: how its processes run, how they are known on
--- the network, and in whose name and before whom (the Kubernetes API reference, "PodSpec")
+-- the fields of a spec that are told or looked at, and those that tie a pod to no node: how its
+-- processes run, how they are known on the network, and in whose name and before whom (the
+-- Kubernetes API reference, "PodSpec")
 abbrev pub is_looked_at : (key : List ℕ) → Bool
 is_looked_at key = list_any (bytes_eq key)
     (codes "affinity" ∷ codes "containers" ∷ codes "initContainers" ∷ codes "nodeName" ∷ codes "nodeSelector" ∷ codes "overhead"

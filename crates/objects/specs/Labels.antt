@@ -1,5 +1,5 @@
--- The labels that a row has of an object's: first those that the site's rules read, then the others as far as there is room, both in
--- the order of their keys.
+-- The labels that a row has of an object's: first those that the site's rules read, then the others
+-- as far as there is room, both in the order of their keys.
 use Rattle.std.specs.Prelude.{ℕ, suc, ◌==◌, Bool, ◌&&◌, ◌||◌, List, [], ◌∷◌, ◌++◌, length, nat_le, nat_lt, bytes_eq, codes, Option, Some, None, option_and_then, Result, Ok, Err, if◌then◌else◌}
 use Rattle.std.specs.List.{list_any, slice_split}
 use Rattle.serde_json.specs.Data.{Data, Members, no_members, member}
@@ -62,7 +62,8 @@ abbrev pub count_members : Members → ℕ
 count_members no_members = 0
 count_members (member key value rest) = suc (count_members rest)
 
--- the labels of an object. Where it has more than a row and none are named, nobody knows which of them count: there is no row then
+-- the labels of an object. Where it has more than a row and none are named, nobody knows which of
+-- them count: there is no row then
 abbrev pub all_labels : (names left : List ℕ) → Members → Result (Kept Label) ObjectFault
 all_labels names left found = named_labels names [] found >>= λ first. Ok (other_labels names (record { items = first; left_out = left }) found)
 

@@ -1,4 +1,5 @@
--- What a line doesn't tell of an object, by name: items of an array of JSON, each behind a comma and a space.
+-- What a line doesn't tell of an object, by name: items of an array of JSON, each behind a comma
+-- and a space.
 use Rattle.std.specs.Prelude.{ℕ, zero, suc, ◌==◌, nat_le, nat_lt, Bool, ◌&&◌, List, [], ◌∷◌, ◌++◌, length, codes, if◌then◌else◌}
 use Rattle.std.specs.List.{list_all}
 use Rattle.quant.specs.Name.{is_name_byte}
@@ -9,8 +10,9 @@ use Rattle.objects.specs.declared.fault.ObjectFault.{ObjectFault}
 use Rattle.objects.specs.declared.fault.ObjectFault.TheVariants.{LongLine, NotJson, UnknownEvent, IsList, BadField, BadName, Quantity, TooMany, PodResources, TooLarge, NoMemory}
 use Rattle.objects.specs.Key.{key_of}
 
--- a name as it stands there: names of other bytes than a script's may have aren't shown, nor any of more than 317, which is the most that
--- a key of the API has (a prefix of 253, a slash, and 63 more)
+-- a name as it stands there: names of other bytes than a script's may have aren't shown, nor any of
+-- more than 317, which is the most that a key of the API has (a prefix of 253, a slash, and 63
+-- more)
 abbrev pub shown : List ℕ → List ℕ
 shown name = if nat_le (length name) 317 && list_all is_name_byte name then name else codes "?"
 

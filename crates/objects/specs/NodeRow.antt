@@ -43,7 +43,8 @@ taints_of before (item d rest) = do
   taint ← taint_of before d
   taints_of (before ++ taint ∷ []) rest
 
--- a node that has more taints than a row has room for isn't told, since a pod could be put there that mustn't be
+-- a node that has more taints than a row has room for isn't told, since a pod could be put there
+-- that mustn't be
 unfoldable pub taints : Option Data → Result (List Taint) ObjectFault
 taints value = do
   found ← items_of keys.Taints value
@@ -62,8 +63,8 @@ node_of name room taints unschedulable labels = record {
   left_out = labels.left_out;
 }
 
--- the row of a node's object, in which the labels of these names come first. Of its other resources nothing is said: a pod that asks for
--- one isn't told
+-- the row of a node's object, in which the labels of these names come first. Of its other resources
+-- nothing is said: a pod that asks for one isn't told
 unfoldable pub node_row : (names : List ℕ) → Data → Result NodeTold ObjectFault
 node_row names json = do
   meta ← ok_or (field keys.Metadata json) (BadField keys.Metadata)

@@ -1,4 +1,5 @@
--- How people know the object that a line of the API tells of: by its kind, its namespace, where it has one, and its name.
+-- How people know the object that a line of the API tells of: by its kind, its namespace, where it
+-- has one, and its name.
 use Rattle.std.specs.Prelude.{ℕ, List, [], ◌∷◌, ◌++◌, length, nat_le, codes, Option, Some, None, if◌then◌else◌}
 use Rattle.serde_json.specs.Data.{Data}
 use Rattle.objects.specs.declared.key.Key.TheVariants as keys

@@ -1,5 +1,5 @@
--- What a pod asks of a node, by what its containers ask (the Kubernetes pages "Init Containers" and "Sidecar
--- Containers", "Resource sharing within containers", and "Pod Overhead").
+-- What a pod asks of a node, by what its containers ask (the Kubernetes pages "Init Containers" and
+-- "Sidecar Containers", "Resource sharing within containers", and "Pod Overhead").
 use Rattle.std.specs.Prelude.{ℕ, ◌+◌, max, nat_le, Bool, if◌then◌else◌, List, [], ◌∷◌, length, sum_by, Result, Err}
 use Rattle.std.specs.Option.{ok_or}
 use Rattle.serde_json.specs.Data.{Data}
@@ -29,16 +29,17 @@ beside_others resource c = if c.goes_on then amount_of resource c.request else 0
 abbrev pub going_on : Resource → List Container → ℕ
 going_on resource cs = sum_by (beside_others resource) cs
 
--- init containers start in their order, each once the one before has ended, or runs, if it goes on running;
--- the most that one that ends needs, together with those before it that go on running
+-- init containers start in their order, each once the one before has ended, or runs, if it goes on
+-- running; the most that one that ends needs, together with those before it that go on running
 abbrev pub peak : Resource → (beside : ℕ) → List Container → ℕ
 peak resource beside [] = 0
 peak resource beside (c ∷ cs) =
     if c.goes_on then peak resource (beside + amount_of resource c.request) cs
     else max (beside + amount_of resource c.request) (peak resource beside cs)
 
--- how much of a resource a pod needs at the moment when it needs most: while its containers run, beside the init
--- containers that go on running, or while one of the init containers runs; its overhead is needed at all times
+-- how much of a resource a pod needs at the moment when it needs most: while its containers run,
+-- beside the init containers that go on running, or while one of the init containers runs; its
+-- overhead is needed at all times
 unfoldable pub effective : Resource → (containers init : List Container) → (overhead : Request) → ℕ
 effective resource containers init overhead =
     max (together resource containers + going_on resource init) (peak resource 0 init) + amount_of resource overhead

@@ -29,8 +29,8 @@ pub record PodTold : Type 0 where
   pub pod : Pod
   pub left_out : List ℕ
 
--- how a script calls a pod: by its namespace and name with a slash between them, where that is a name of a script and its uid
--- isn't asked for, and by its uid otherwise
+-- how a script calls a pod: by its namespace and name with a slash between them, where that is a
+-- name of a script and its uid isn't asked for, and by its uid otherwise
 abbrev pub called : (full_name : List ℕ) → (meta : Data) → Result (List ℕ) ObjectFault
 called full_name meta = if is_name full_name then Ok full_name else name_at keys.Uid meta
 
@@ -80,7 +80,8 @@ toleration_of before json =
     with_parts before (option_and_then operator_named (text_if (field keys.Operator json)))
     (option_and_then effect_or_none (text_if (field keys.Effect json))) (text_if (field keys.LabelKey json)) (text_if (field keys.LabelValue json))
 
--- one more toleration, or the name of one that is left out: without it the pod is kept from places where it could be
+-- one more toleration, or the name of one that is left out: without it the pod is kept from places
+-- where it could be
 abbrev pub with_toleration : Kept Toleration → (key : List ℕ) → Option Toleration → Kept Toleration
 with_toleration kept key None = record { items = kept.items; left_out = kept.left_out ++ left_out (codes "toleration of ") key }
 with_toleration kept key (Some toleration) = record { items = kept.items ++ toleration ∷ []; left_out = kept.left_out }
@@ -108,7 +109,8 @@ abbrev pub with_tolerations : (uid : List ℕ) → (priority : ℤ) → Request 
 with_tolerations uid priority request labels tolerations =
     pod_of uid priority request labels (tolerations_of (record { items = []; left_out = labels.left_out }) tolerations)
 
--- the row of a pod's object, in which the labels of these names come first, and what it leaves out behind what the pod can do without
+-- the row of a pod's object, in which the labels of these names come first, and what it leaves out
+-- behind what the pod can do without
 unfoldable pub pod_row : (names : List ℕ) → (by_uid : Bool) → Data → Result PodTold ObjectFault
 pod_row names by_uid json = do
   meta ← ok_or (field keys.Metadata json) (BadField keys.Metadata)

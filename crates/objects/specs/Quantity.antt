@@ -1,5 +1,5 @@
--- How much a quantity is (the Kubernetes API reference, "Quantity"): a sign or none, digits with a point among them
--- or beside them or none, and a suffix.
+-- How much a quantity is (the Kubernetes API reference, "Quantity"): a sign or none, digits with a
+-- point among them or beside them or none, and a suffix.
 use Rattle.std.specs.Prelude.{ℕ, ◌*◌, ◌^◌, min, Bool, true, false, ◌&&◌, not, ◌==◌, nat_le, if◌then◌else◌, List, [], ◌++◌, length, take, drop, codes, bytes_eq, Result, Ok, Err}
 use Rattle.std.specs.List.{list_all}
 use Rattle.quant.specs.Amount.{number, leading_digits, after_digits}
@@ -34,7 +34,8 @@ after_fraction text = if has_point text then after_digits (drop 1 text) else tex
 abbrev pub is_zero : List ℕ → Bool
 is_zero digits = list_all (λ digit. digit == 48) digits
 
--- what digits in front of a point and behind it are worth with a suffix, in thousandths where `places` is 3 and in ones where it is 0
+-- what digits in front of a point and behind it are worth with a suffix, in thousandths where
+-- `places` is 3 and in ones where it is 0
 abbrev pub worth : (places : ℕ) → (whole fraction : List ℕ) → Suffix → Ratio
 worth places whole fraction suffix = record {
   over = number (whole ++ fraction) * (10 ^ suffix.tens * 2 ^ suffix.twos) * 10 ^ places;
@@ -72,8 +73,8 @@ parts_amount rounding places most minus whole rest =
     then of_nothing (is_zero (whole ++ fraction_digits rest)) (suffix_named (after_fraction rest)) >>= amount_of rounding places most minus whole (fraction_digits rest)
     else Err NotAQuantity
 
--- what a quantity comes to, rounded to so many decimal places, and no more than it may be: above that it is refused where it is
--- asked for, and is told as the most where it is there
+-- what a quantity comes to, rounded to so many decimal places, and no more than it may be: above
+-- that it is refused where it is asked for, and is told as the most where it is there
 unfoldable pub quantity : Rounding → (places most : ℕ) → List ℕ → Result ℕ QuantityFault
 quantity rounding places most text =
     parts_amount rounding places most (has_minus text) (leading_digits (after_sign text)) (after_digits (after_sign text))

@@ -83,9 +83,9 @@ asked holder resource json = do
   limit ← in_resources holder keys.Limits resource json
   Ok (or_else request limit)
 
--- where an object tells amounts: what it asks for, what running a pod costs beside its containers (the Kubernetes page "Pod
--- Overhead"), and of a status what the node has set aside, and what is in force there (the page "Resize CPU and Memory Resources
--- assigned to Containers")
+-- where an object tells amounts: what it asks for, what running a pod costs beside its containers
+-- (the Kubernetes page "Pod Overhead"), and of a status what the node has set aside, and what is in
+-- force there (the page "Resize CPU and Memory Resources assigned to Containers")
 unfoldable pub found_in : Part → (holder resource : Key) → Data → Result (Option Data) ObjectFault
 found_in Asked holder resource json = asked holder resource json
 found_in Overhead holder resource json = listed_in holder keys.Overhead resource json

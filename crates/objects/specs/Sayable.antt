@@ -1,4 +1,5 @@
--- Which events a line of a script can say: those whose names are names, and whose amounts and lists are within its limits.
+-- Which events a line of a script can say: those whose names are names, and whose amounts and lists
+-- are within its limits.
 use Rattle.std.specs.Prelude.{◌≡◌, ◌^◌, ◌≤◌, pos, negsuc, int_le, Bool, true, ◌&&◌, not, List, [], ◌∷◌, ◌++◌, length, bytes_eq}
 use Rattle.std.specs.List.{list_any}
 use Rattle.quant.specs.Name.{is_name, is_text}

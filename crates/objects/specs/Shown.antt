@@ -1,4 +1,5 @@
--- What is left out is named in texts of JSON: no byte in them needs an escape, and none ends a line.
+-- What is left out is named in texts of JSON: no byte in them needs an escape, and none ends a
+-- line.
 use Rattle.std.specs.Prelude.{◌≡◌, ℕ, ◌==◌, nat_le, Bool, true, ◌&&◌, not, List, [], ◌∷◌, ◌++◌, length, codes, flat_map}
 use Rattle.std.specs.List.{list_all}
 use Rattle.quant.specs.declared.version.Version.{Version}
@@ -6,7 +7,8 @@ use Rattle.objects.specs.LeftOut.{told_names}
 use Rattle.objects.specs.Site.{Site}
 use Rattle.objects.specs.Told.{told}
 
--- a byte that stands for itself in a text (RFC 8259, 7): from the space to the tilde, but for the quotation mark and the backslash
+-- a byte that stands for itself in a text (RFC 8259, 7): from the space to the tilde, but for the
+-- quotation mark and the backslash
 abbrev pub stands_for_itself : ℕ → Bool
 stands_for_itself byte = nat_le 32 byte && nat_le byte 126 && not (byte == 34) && not (byte == 92)
 

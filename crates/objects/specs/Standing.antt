@@ -12,8 +12,8 @@ use Rattle.objects.specs.Field.{spelled}
 use Rattle.objects.specs.Counted.{counted}
 use Rattle.objects.specs.Told.{Told, has_ended, node_name, kind_of, is_blank, parsed}
 
--- an object that can't be a pod on a node of a script: it says that it is of another kind, that it has ended, or that it stands on no
--- node, or on one that no line of a script can name
+-- an object that can't be a pod on a node of a script: it says that it is of another kind, that it
+-- has ended, or that it stands on no node, or on one that no line of a script can name
 pub record IsOfAnotherKind (json : Data) : Type 0 where
   pub kind : Option Kind
   pub said : kind_of json ≡ Ok kind
@@ -57,7 +57,7 @@ pub record IsValueCounted (version : Version) (line : List ℕ) (told : Told) : 
   pub is : parsed line ≡ Some json
   pub counted : IsEventCounted version json (field keys.Object json) told
 
--- whatever a line is: it may be a pod on a node that can't be counted, and that is told; or it has nothing but spaces; or it is JSON that
--- can't be a pod on a node, or is told as one
+-- whatever a line is: it may be a pod on a node that can't be counted, and that is told; or it has
+-- nothing but spaces; or it is JSON that can't be a pod on a node, or is told as one
 abbrev pub IsCounted : Version → (line : List ℕ) → Told → Type 0
 IsCounted version line told = (told.uncounted ≡ true) ⊎ ((is_blank line ≡ true) ⊎ IsValueCounted version line told)

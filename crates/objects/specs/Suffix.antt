@@ -29,7 +29,8 @@ is_0 digit = digit == 48
 abbrev pub behind_zeros : List ℕ → List ℕ
 behind_zeros digits = drop (prefix_len is_0 digits) digits
 
--- the power of ten that the digits of an exponent tell: there is a digit, and there are two at most, of which zeros in front are none
+-- the power of ten that the digits of an exponent tell: there is a digit, and there are two at
+-- most, of which zeros in front are none
 abbrev pub exponent_number : (below_one : Bool) → List ℕ → Result Suffix QuantityFault
 exponent_number below_one digits = if nat_le (length digits) 2 then Ok (power_of_ten below_one (number digits)) else Err FarExponent
 
@@ -41,7 +42,8 @@ exponent_digits below_one digits =
 abbrev pub exponent : List ℕ → Result Suffix QuantityFault
 exponent text = exponent_digits (has_minus text) (after_sign text)
 
--- the suffix that a text is: a power of 10 by its letter, a power of 2 by its two letters, or an exponent
+-- the suffix that a text is: a power of 10 by its letter, a power of 2 by its two letters, or an
+-- exponent
 unfoldable pub suffix_named : List ℕ → Result Suffix QuantityFault
 suffix_named text =
     if bytes_eq text (codes "n") then Ok (power_of_ten true 9)

@@ -1,5 +1,5 @@
--- What an object of the API, or an event of its watch, gives a script (the Kubernetes API reference, "Node", "Pod" and
--- "Watch").
+-- What an object of the API, or an event of its watch, gives a script (the Kubernetes API
+-- reference, "Node", "Pod" and "Watch").
 use Rattle.std.specs.Prelude.{ℕ, ◌==◌, Bool, true, false, ◌&&◌, ◌||◌, List, [], ◌∷◌, ◌++◌, length, nat_le, codes, bytes_eq, Option, Some, None, Result, Ok, Err, is_some, option_and_then, if◌then◌else◌}
 use Rattle.std.specs.List.{list_all}
 use Rattle.std.specs.Option.{ok_or}
@@ -29,8 +29,8 @@ use Rattle.objects.specs.PodRow.{PodTold, pod_name, pod_row}
 use Rattle.objects.specs.Site.{Site}
 use Rattle.objects.specs.Counted.{counted, counted_left_out, held_left_out}
 
--- the event that an object gives, or none, the names of what is left out of it, and whether it may be a pod on a node that no line
--- can count
+-- the event that an object gives, or none, the names of what is left out of it, and whether it may
+-- be a pod on a node that no line can count
 pub record Told : Type 0 where
   pub event : Option Event
   pub left_out : List ℕ
@@ -52,7 +52,8 @@ unless_gone Gone gone there = gone
 unless_gone There gone there = there
 unless_gone Changed gone there = there
 
--- of an object that isn't told any more as it has become: that it is gone, where its name can be said
+-- of an object that isn't told any more as it has become: that it is gone, where its name can be
+-- said
 abbrev pub gone_if : Change → (List ℕ → Event) → Result (List ℕ) ObjectFault → (left_out : List ℕ) → Told
 gone_if Changed gone (Ok name) left_out = saying (Some (gone name)) left_out
 gone_if Changed gone (Err e) left_out = nothing left_out
@@ -85,7 +86,8 @@ abbrev pub waiting_row : (by_uid : Bool) → Change → Version → Data → Res
 waiting_row by_uid became version json (Ok row) = saying (Some (PodPending version row.pod)) row.left_out
 waiting_row by_uid became version json (Err e) = gone_if became (PodGone version) (in_metadata (pod_name by_uid) json) (refused e)
 
--- what keeps it from being told: that another scheduler is to place it, what it must have, and that it is being deleted
+-- what keeps it from being told: that another scheduler is to place it, what it must have, and that
+-- it is being deleted
 abbrev pub scheduler_of : (spec : Data) → List ℕ
 scheduler_of spec = if is_some (field keys.SchedulerName spec) then spelled keys.SchedulerName spec else codes "default-scheduler"
 
@@ -104,7 +106,8 @@ waiting_of site by_uid became version json (x ∷ more) = gone_if became (PodGon
 unfoldable pub waiting_told : Site → (by_uid : Bool) → Change → Version → (spec pod : Data) → Told
 waiting_told site by_uid became version spec pod = waiting_of site by_uid became version pod (kept_back site spec pod)
 
--- a pod that stands on a node is always counted: where no line can call it by a name, there is no going on
+-- a pod that stands on a node is always counted: where no line can call it by a name, there is no
+-- going on
 
 abbrev pub bound_left_out : (spec pod : Data) → List ℕ
 bound_left_out spec pod =
@@ -115,7 +118,8 @@ abbrev pub bound_as : Version → (node : List ℕ) → (spec pod : Data) → (u
 bound_as version node spec pod uid =
     Ok (saying (Some (PodBound version uid node (counted pod spec))) (bound_left_out spec pod))
 
--- (a node whose name no line can say isn't in a script, and nothing is placed there; but the pod waits no longer)
+-- (a node whose name no line can say isn't in a script, and nothing is placed there; but the pod
+-- waits no longer)
 unfoldable pub bound_told : (by_uid : Bool) → Change → Version → (node : List ℕ) → (spec pod : Data) → Result Told ObjectFault
 bound_told by_uid became version node spec pod =
     if is_name node then in_metadata (pod_name by_uid) pod >>= bound_as version node spec pod
@@ -155,7 +159,8 @@ pod_told site by_uid became version json =
     unless_gone became (Ok (gone_told (PodGone version) (in_metadata (pod_name by_uid) json)))
     (there_told site by_uid became version json)
 
--- an object by its kind: Kubernetes' own kinds are of the version v1, and others may have their names
+-- an object by its kind: Kubernetes' own kinds are of the version v1, and others may have their
+-- names
 
 abbrev pub core_kind : (kind : List ℕ) → Option Kind
 core_kind kind = if bytes_eq kind (codes "Node") then Some Node else if bytes_eq kind (codes "Pod") then Some Pod else None
@@ -163,7 +168,8 @@ core_kind kind = if bytes_eq kind (codes "Node") then Some Node else if bytes_eq
 abbrev pub kind_in : (version kind : List ℕ) → Option Kind
 kind_in version kind = if bytes_eq version (codes "v1") then core_kind kind else None
 
--- (the items of a raw list have no kind: a pod is told by its containers and its phase, and a node by what it says of its machine)
+-- (the items of a raw list have no kind: a pod is told by its containers and its phase, and a node
+-- by what it says of its machine)
 unfoldable pub has_pod_shape : Data → Bool
 has_pod_shape json =
     is_some (option_and_then as_array (within keys.Spec keys.Containers json))

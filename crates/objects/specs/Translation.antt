@@ -12,7 +12,8 @@ use Rattle.objects.specs.Told.{Told}
 abbrev pub is_one_line : List ℕ → Bool
 is_one_line text = list_all (λ byte. not (byte == 10)) text
 
--- a line that a script's reader takes for just this event; of no event the empty line, which it skips
+-- a line that a script's reader takes for just this event; of no event the empty line, which it
+-- skips
 abbrev pub Spells : Option Event → List ℕ → Type 0
 Spells None line = line ≡ []
 Spells (Some event) line = (meaning line ≡ Ok (commands.Event event)) × (is_one_line line ≡ true)

@@ -364,8 +364,8 @@ fn counted_memory(found: Result<Bytes, ObjectFault>) -> u64
     }
 }
 
-// How much of a resource a pod counts for: what its containers come to, or what it asks for or holds
-// as a whole.
+// How much of a resource a pod counts for: what its containers come to, or what it asks for or
+// holds as a whole.
 fn counted_amount(
     resource: Resource,
     containers: &[Container],

@@ -471,7 +471,8 @@ fn put_overhead(out: &mut Vec<u8>, spec: &Value) -> Result<(), AllocError>
     put_members(out, field(spec, Key::Overhead), None)
 }
 
-// Puts the fields of a spec that aren't known to tie a pod to no node, where something stands in them.
+// Puts the fields of a spec that aren't known to tie a pod to no node, where something stands in
+// them.
 fn put_fields(out: &mut Vec<u8>, spec: &Value) -> Result<(), AllocError>
     ensures { IfOk result (λ _. out.new.items ≡ out.old.items ++ fields_of (as_object (view spec.now))) }
 {

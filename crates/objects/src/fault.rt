@@ -23,7 +23,8 @@ pub enum QuantityFault {
     TooLarge,
 }
 
-/// Why a line or an object doesn't tell what a script says of a node or a pod. Of several faults the first is told.
+/// Why a line or an object doesn't tell what a script says of a node or a pod. Of several faults
+/// the first is told.
 #[derive(Clone, Copy, Debug, PartialEq, Eq, Error)]
 pub enum ObjectFault {
     /// The line has more than 2 MiB.

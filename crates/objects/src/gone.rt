@@ -1,4 +1,5 @@
-//! What is told of an object that is gone, or of which a script can't tell any more what it has become.
+//! What is told of an object that is gone, or of which a script can't tell any more what it has
+//! become.
 ghost use Rattle.std.specs.Prelude.{◌≡◌, ℕ, List, [], Ok, Err, IfOk};
 ghost use Rattle.serde_json.specs.View.{view};
 ghost use Rattle.objects.specs.declared.fault.ObjectFault.TheVariants as faults;

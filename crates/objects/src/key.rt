@@ -2,7 +2,8 @@
 ghost use Rattle.std.specs.Prelude.{◌≡◌};
 ghost use Rattle.objects.specs.Key.{key_of};
 
-/// A field of a node's, a pod's or a watch event's object. Faults name the field in which they stand.
+/// A field of a node's, a pod's or a watch event's object. Faults name the field in which they
+/// stand.
 #[derive(Clone, Copy, Debug, PartialEq, Eq)]
 pub enum Key {
     /// What the pod is to be.

@@ -7,7 +7,8 @@ ghost use Rattle.objects.specs.LeftOut.{shown, left_out, left_out_if, amount_ref
 use crate::fault::{ObjectFault, QuantityFault};
 use std::alloc::{AllocError, Global};
 
-// The most bytes that a key of the API has: a prefix of 253, a slash, and 63 more. A longer name isn't shown.
+// The most bytes that a key of the API has: a prefix of 253, a slash, and 63 more. A longer name
+// isn't shown.
 const MAX_SHOWN: usize = 317;
 
 // So many names are told of an object, each between two quotation marks.

@@ -9,17 +9,17 @@
 //! the moment at which they need most, and `specs/PodRequest.antt` says which that is. `node` tells
 //! what a node has. Both read a field by `reading`, and know its name by `key`.
 //!
-//! `translation` gives the line of a script for a line of the API, of the `site` whose pods are to be
-//! placed; that no line is passed over which may be a pod on a node is defined in
+//! `translation` gives the line of a script for a line of the API, of the `site` whose pods are to
+//! be placed; that no line is passed over which may be a pod on a node is defined in
 //! `specs/Standing.antt`. Which event an object tells is found by `told` and defined in
-//! `specs/Told.antt`: `node_row` reads a node's row and `pod_row` a waiting pod's, with their `labels`,
-//! `taints` and `tolerations`; `demands` finds what keeps a pod from being told; `counted` says what a
-//! pod takes that stands on a node; and `gone` tells that an object is gone. What a field says is read by
-//! `field`, and what isn't told is named by `left_out`; how people know a line's object is found by
-//! `naming`.
+//! `specs/Told.antt`: `node_row` reads a node's row and `pod_row` a waiting pod's, with their
+//! `labels`, `taints` and `tolerations`; `demands` finds what keeps a pod from being told;
+//! `counted` says what a pod takes that stands on a node; and `gone` tells that an object is gone.
+//! What a field says is read by `field`, and what isn't told is named by `left_out`; how people
+//! know a line's object is found by `naming`.
 //!
-//! `line` writes the line of a script that tells an event, and `line_field` its fields. Which events a
-//! line can say is defined in `specs/Sayable.antt`.
+//! `line` writes the line of a script that tells an event, and `line_field` its fields. Which
+//! events a line can say is defined in `specs/Sayable.antt`.
 #![tactic(auto)]
 
 mod change;

@@ -12,9 +12,9 @@ use crate::translation::MAX_OBJECT;
 use serde_json::Value;
 use std::alloc::{AllocError, Global};
 
-/// The name by which people know the object of a line of the API: its kind, its namespace, where it has
-/// one, and its name, as `Pod shop/web-1`. It is empty where the line is no JSON, is longer than
-/// `MAX_OBJECT`, or has no name.
+/// The name by which people know the object of a line of the API: its kind, its namespace, where it
+/// has one, and its name, as `Pod shop/web-1`. It is empty where the line is no JSON, is longer
+/// than `MAX_OBJECT`, or has no name.
 ///
 /// Errors: `AllocError`, which may come in place of any answer.
 #[tactic(auto, unfolding(crate::specs::ObjectName::name_in))]

@@ -16,7 +16,8 @@ use arrayvec::ArrayVec;
 use quant::Node;
 use serde_json::Value;
 
-// The row of a node's object, in which the labels of these names come first, and beside it the names of what it leaves out, unless a fault comes first.
+// The row of a node's object, in which the labels of these names come first, and beside it the
+// names of what it leaves out, unless a fault comes first.
 #[tactic(auto, unfolding(crate::specs::NodeRow::node_row))]
 pub(crate) fn node_row(json: &Value, names: &str, out: &mut Vec<u8>) -> Result<Node, ObjectFault>
     requires { out.old.items ≡ [] }

@@ -20,8 +20,8 @@ use quant::{MAX_NAME, Name, Pod};
 use serde_json::Value;
 use std::alloc::Global;
 
-// The row of a pod's object, in which the labels of these names come first, and beside it the names of
-// what it leaves out, unless a fault comes first.
+// The row of a pod's object, in which the labels of these names come first, and beside it the names
+// of what it leaves out, unless a fault comes first.
 #[tactic(auto, unfolding(crate::specs::PodRow::pod_row))]
 pub(crate) fn pod_row(
     alloc: Global,

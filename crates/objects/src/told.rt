@@ -82,7 +82,8 @@ fn waiting_told(
     }
 }
 
-// What is told of a pod that waits for a place, which nothing keeps back but what its row can't tell.
+// What is told of a pod that waits for a place, which nothing keeps back but what its row can't
+// tell.
 #[tactic(auto, using(crate::proofs::Faults::pod_fault))]
 fn waiting_row(
     alloc: Global,

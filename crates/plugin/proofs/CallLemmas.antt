@@ -15,7 +15,8 @@ use Rattle.plugin.specs.Verdict.{filter_said, score_said}
 use Rattle.plugin.specs.Kit.{Ready, Says, records_of}
 use Rattle.plugin.specs.Laws.{CallGives, Lacks, RulesAreCalls}
 
--- records of a pod, and of a node with what is used of it, are those by which plugins are told of them
+-- records of a pod, and of a node with what is used of it, are those by which plugins are told of
+-- them
 pub records_told : (records : Records) (told : Told) → records.pod ≡ pod_records told.pod → records.node ≡ node_records told.node told.used → records ≡ records_of told
 records_told records told of_pod of_node = λ j. record { pod = of_pod j; node = of_node j }
 

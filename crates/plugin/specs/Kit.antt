@@ -19,16 +19,16 @@ use Rattle.plugin.specs.Verdict.{filter_said, score_said}
 use Rattle.rules.specs.RuleSet.{RuleSet, Told}
 use Rattle.plugin.specs.Plugins.{Configured}
 
--- A plugin that is ready to be asked: how much its score counts, the fuel of each call, its module, and the image from which
--- each call begins.
+-- A plugin that is ready to be asked: how much its score counts, the fuel of each call, its module,
+-- and the image from which each call begins.
 pub record Ready : Type 0 where
   pub weight : ℕ
   pub fuel : ℕ
   pub content : ModuleParts
   pub image : Store
 
--- A plugin's instance in a kit: the plugin, ready to be asked, and what the instance's store is now. No answer tells of the
--- store, since each call begins from the image.
+-- A plugin's instance in a kit: the plugin, ready to be asked, and what the instance's store is
+-- now. No answer tells of the store, since each call begins from the image.
 pub record InstanceState : Type 0 where
   pub ready : Ready
   pub store : Store
@@ -54,7 +54,8 @@ pub record Ends (plugin : Ready) (export : Export) (told : Records) (outcome : O
   pub after : MachineState
   pub calls : CallsFromImage (at_image plugin) export told plugin.fuel outcome after
 
--- What a plugin says of a pod and a node: what is said by how its call ends, or, where it has nothing to be called, this.
+-- What a plugin says of a pod and a node: what is said by how its call ends, or, where it has
+-- nothing to be called, this.
 abbrev pub Says : {Verdict : Type 0} → Ready → Export → (without : Verdict) → (said : Outcome → Verdict) → (told : Records) → Verdict → Type 0
 Says plugin export without said told verdict =
     ((called plugin export ≡ None) × (verdict ≡ without))

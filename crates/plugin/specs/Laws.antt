@@ -21,8 +21,8 @@ use Rattle.plugin.specs.Kit.{Ready, IsKitOf, at_image, called, rules_of}
 abbrev pub KitsAreAlike : Type 0
 KitsAreAlike = (plugins : List Configured) (one other : List Ready) → IsKitOf plugins one → IsKitOf plugins other → one ≡ other
 
--- A call of the plugin at a place of a kit, which begins from the plugin's image and has its fuel, with the records of a pod, a
--- node and what is used of it, ends with this outcome.
+-- A call of the plugin at a place of a kit, which begins from the plugin's image and has its fuel,
+-- with the records of a pod, a node and what is used of it, ends with this outcome.
 pub record CallGives (kit : List Ready) (place : ℕ) (export : Export) (pod : Pod) (node : Node) (used : Res) (outcome : Outcome) : Type 0 where
   pub plugin : Ready
   pub there : slice_get kit place ≡ Some plugin
@@ -33,8 +33,9 @@ pub record CallGives (kit : List Ready) (place : ℕ) (export : Export) (pod : P
 abbrev pub Lacks : (kit : List Ready) → (place : ℕ) → Export → Type 0
 Lacks kit place export = (plugin : Ready) × (slice_get kit place ≡ Some plugin) × (called plugin export ≡ None)
 
--- A kit's rules count as its plugins do, and what they say is what the plugins' calls give: a filter and a score that aren't there
--- pass the node and give 0, and each other one says what is said by how its call ends.
+-- A kit's rules count as its plugins do, and what they say is what the plugins' calls give: a
+-- filter and a score that aren't there pass the node and give 0, and each other one says what is
+-- said by how its call ends.
 pub record RulesAreCalls : Type 0 where
   pub weights : (kit : List Ready) → (rules_of kit).weights ≡ map (λ p. p.weight) kit
   pub filters : (kit : List Ready) (place : ℕ) (pod : Pod) (node : Node) (used : Res) (verdict : FilterVerdict) →

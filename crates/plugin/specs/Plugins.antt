@@ -3,7 +3,8 @@ use Rattle.std.specs.Prelude.{ℕ, ◌≤◌, ◌^◌, List, map}
 use Rattle.std.specs.List.{Contains}
 use Rattle.wbin.specs.Syntax.{ModuleParts}
 
--- a plugin: its name, how much its score counts, how much fuel its start function and each of its calls have, and its module
+-- a plugin: its name, how much its score counts, how much fuel its start function and each of its
+-- calls have, and its module
 pub record Configured : Type 0 where
   pub name : List ℕ
   pub weight : ℕ

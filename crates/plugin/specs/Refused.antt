@@ -1,4 +1,5 @@
--- Why a plugin isn't configured, or none is ready: the numbers and names of the refusals, and when each comes.
+-- Why a plugin isn't configured, or none is ready: the numbers and names of the refusals, and when
+-- each comes.
 use Rattle.std.specs.Prelude.{◌≡◌, ℕ, ◌<◌, List, length, take, Some, slice_get, codes}
 use Rattle.std.specs.List.{All}
 use Rattle.wbin.specs.Syntax.{module_of}
@@ -37,7 +38,8 @@ pub record WhyNotReady (plugin : Configured) (fault : KitFault) : Type 0 where
   pub named : fault.plugin ≡ plugin.name
   pub why : WhyRefused (module_of plugin.content) plugin.fuel fault.fault
 
--- What stands where there is no kit of the plugins: one of them isn't ready, and each in front of it has an image.
+-- What stands where there is no kit of the plugins: one of them isn't ready, and each in front of
+-- it has an image.
 pub record WhyNoKit (plugins : List Configured) (fault : KitFault) : Type 0 where
   pub place : ℕ
   pub plugin : Configured

@@ -1,5 +1,6 @@
--- What a plugin says of a node, by how its call ended. The codes' names are those of the Kubernetes page "Scheduling Framework";
--- the codes, the range of scores and the causes are this project's own.
+-- What a plugin says of a node, by how its call ended. The codes' names are those of the Kubernetes
+-- page "Scheduling Framework"; the codes, the range of scores and the causes are this project's
+-- own.
 use Rattle.std.specs.Prelude.{ℕ, ◌==◌, nat_le, if◌then◌else◌, Some}
 use Rattle.std.specs.Int.{cast_signed, w32, w64}
 use Rattle.wcode.specs.declared.value.Value.TheVariants.{I32, I64}
@@ -41,7 +42,8 @@ code_said bits =
 abbrev pub number_said : (bits : ℕ) → ScoreVerdict
 number_said bits = if nat_le bits 100 then score.Good bits else score.Errs (cause.Score (cast_signed w64 bits))
 
--- what a filter says by how its call ended. A filter's result is an i32, so that the last case stands for nothing that comes.
+-- what a filter says by how its call ended. A filter's result is an i32, so that the last case
+-- stands for nothing that comes.
 abbrev pub filter_said : Outcome → FilterVerdict
 filter_said (outcome.Value (Some (I32 bits)) cost) = code_said bits
 filter_said (outcome.Trap name cost) = filter.Errs (cause.Trap (trap_told name))

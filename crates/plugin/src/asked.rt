@@ -20,10 +20,12 @@ pub struct Asked<V> {
     pub reach: Reach,
 }
 
-// After so many calls that were shown more a rule is shown little again, so that it is seen when it asks for less.
+// After so many calls that were shown more a rule is shown little again, so that it is seen when it
+// asks for less.
 const CALLS_BETWEEN: u8 = 63;
 
-/// How much a rule asked for lately, and after how many calls it is to be shown as little as can be again.
+/// How much a rule asked for lately, and after how many calls it is to be shown as little as can be
+/// again.
 #[derive(Clone, Copy)]
 pub struct Habit {
     reach: Reach,

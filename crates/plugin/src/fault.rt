@@ -20,7 +20,8 @@ pub enum AddFault {
     NoMemory,
 }
 
-/// Of all plugins, in the order in which they are configured, the first of which no instance can be made, and why.
+/// Of all plugins, in the order in which they are configured, the first of which no instance can be
+/// made, and why.
 #[derive(PartialEq, Eq, Debug, Drop, Error)]
 #[error("{} {}", self.plugin.as_str(), self.fault)]
 pub struct KitFault {

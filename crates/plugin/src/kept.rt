@@ -1,7 +1,8 @@
 //! What rules said of nodes, kept for classes of pods.
 //!
-//! Pods of one class have one record of version 3. What a rule said of one of them by that record, and by a node's row, it says of
-//! each; where it read what is used of the node too, it does as long as that stays.
+//! Pods of one class have one record of version 3. What a rule said of one of them by that record,
+//! and by a node's row, it says of each; where it read what is used of the node too, it does as
+//! long as that stays.
 ghost use Rattle.std.specs.Prelude.{◌≡◌, ℕ, ◌<◌, List, length, IfSome, slice_get};
 ghost use Rattle.std.specs.Bool.{IsTrue};
 ghost use Rattle.std.specs.List.{AllByRecursion};
@@ -21,15 +22,16 @@ const MAX_CLASSES: usize = 64;
 // Of so many nodes for each class.
 const MAX_NODES: usize = 8_192;
 
-// Of so many nodes of all classes together, and those of one class more, no new class comes but in the place of another. A line
-// takes some hundred bytes.
+// Of so many nodes of all classes together, and those of one class more, no new class comes but in
+// the place of another. A line takes some hundred bytes.
 const MAX_LINES: usize = 131_072;
 
-// A class that isn't asked for while so many rows have changed lets go of its rows, each of which is kilobytes large and may be
-// nobody else's by then.
+// A class that isn't asked for while so many rows have changed lets go of its rows, each of which
+// is kilobytes large and may be nobody else's by then.
 const MAX_CHANGES: u64 = 4_096;
 
-// Besides twice the nodes that were shown a class keeps lines of so many, be they gone or too full for its pods.
+// Besides twice the nodes that were shown a class keeps lines of so many, be they gone or too full
+// for its pods.
 const SPARE_LINES: usize = 64;
 
 /// What was said of a node.
@@ -40,7 +42,8 @@ pub struct Line {
     known: Known,
 }
 
-/// What was said, for the pods whose record of version 3 this is, of all nodes, and of each in the order in which they are shown.
+/// What was said, for the pods whose record of version 3 this is, of all nodes, and of each in the
+/// order in which they are shown.
 #[derive(Drop)]
 pub struct Class {
     pod: Vec<u8>,
@@ -108,8 +111,8 @@ impl Line {
         }
     }
 
-    // What is known of this row with so much used. What was said of another row of its name, or where something else was used,
-    // is forgotten.
+    // What is known of this row with so much used. What was said of another row of its name, or
+    // where something else was used, is forgotten.
     fn show(&mut self, node: &SharedNode, used: &Res) -> Known
         ensures keeps { (plugins : List Ready) (pod : List ℕ) → LineHolds plugins pod self.old →
             LineHolds plugins pod self.new }
@@ -122,7 +125,8 @@ impl Line {
         self.known_by(used)
     }
 
-    // What is known of its row with so much used. Where something else was used, what was said by that is forgotten.
+    // What is known of its row with so much used. Where something else was used, what was said by
+    // that is forgotten.
     fn known_by(&mut self, used: &Res) -> Known
         ensures row { self.new.node ≡ self.old.node }
         ensures keeps { (plugins : List Ready) (pod : List ℕ) → LineHolds plugins pod self.old →
@@ -176,7 +180,8 @@ impl Line {
     }
 }
 
-// A line of a node of which nothing was said comes in front of those from a place on, and stands there.
+// A line of a node of which nothing was said comes in front of those from a place on, and stands
+// there.
 fn insert_line(lines: &mut Vec<Line>, from: usize, node: &SharedNode, used: &Res) -> usize
     ensures { (plugins : List Ready) (pod : List ℕ) → AllByRecursion (LineHolds plugins pod) lines.old.items →
         AllByRecursion (LineHolds plugins pod) lines.new.items }
@@ -192,8 +197,8 @@ fn insert_line(lines: &mut Vec<Line>, from: usize, node: &SharedNode, used: &Res
 }
 
 impl Class {
-    // One more pod of it comes, when so many rows have changed. Where it has many lines of nodes that weren't shown for the last pod,
-    // it begins anew.
+    // One more pod of it comes, when so many rows have changed. Where it has many lines of nodes
+    // that weren't shown for the last pod, it begins anew.
     fn come(&mut self, changes: u64)
         ensures pod { self.new.pod ≡ self.old.pod }
         ensures keeps { (plugins : List Ready) → ClassHolds plugins self.old → ClassHolds plugins self.new }
@@ -335,7 +340,8 @@ impl Kept {
         }
     }
 
-    /// Where the class of the pods stands whose record of version 3 this is, if there is memory for it.
+    /// Where the class of the pods stands whose record of version 3 this is, if there is memory for
+    /// it.
     pub fn class_of(&mut self, pod: &Record) -> usize
         ensures { (plugins : List Ready) → KeptHolds plugins self.old → KeptHolds plugins self.new }
     {
@@ -417,7 +423,8 @@ impl Kept {
         at
     }
 
-    /// What is known of a node with so much used, for the class of the pods whose record of version 3 this is.
+    /// What is known of a node with so much used, for the class of the pods whose record of version
+    /// 3 this is.
     pub fn show(&mut self, spot: Spot, pod: &Record, node: &SharedNode, used: &Res) -> Sighted
         ensures keeps { (plugins : List Ready) → KeptHolds plugins self.old → KeptHolds plugins self.new }
         ensures known { (plugins : List Ready) → KeptHolds plugins self.old →
@@ -458,7 +465,8 @@ impl Kept {
         self.classes[spot.class].show(spot.next, node, used)
     }
 
-    /// Notes what a rule said of a node with so much used, for the class of the pods whose record of version 3 this is.
+    /// Notes what a rule said of a node with so much used, for the class of the pods whose record
+    /// of version 3 this is.
     pub fn note(
         &mut self,
         spot: Spot,

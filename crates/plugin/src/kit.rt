@@ -18,8 +18,9 @@ use std::marker::Model;
 use whost::Records;
 use wmach::Export;
 
-/// One instance of each plugin, in the order in which they are configured. It takes all its room when it is made. A thread needs
-/// a kit of its own, which can be moved to another thread; all kits of the same plugins say the same.
+/// One instance of each plugin, in the order in which they are configured. It takes all its room
+/// when it is made. A thread needs a kit of its own, which can be moved to another thread; all kits
+/// of the same plugins say the same.
 #[derive(Drop)]
 pub struct Kit {
     alloc: Global,
@@ -98,7 +99,8 @@ impl Kit {
         spent
     }
 
-    /// What the filter of the plugin at a place says, and how far that reaches. Only its store may change.
+    /// What the filter of the plugin at a place says, and how far that reaches. Only its store may
+    /// change.
     pub(crate) fn ask_filter(&mut self, place: usize, records: &Records) -> Asked<FilterVerdict>
         requires { place < length self.old }
         ensures says { IfSome (slice_get self.old place) (λ i. (told : Told) → Reaches result.reach records.now told →
@@ -109,8 +111,9 @@ impl Kit {
         self.members[place].ask_filter(records)
     }
 
-    /// Asks the filter of the plugin at a place, from its image. A plugin without one lets the node pass. No other instance
-    /// changes, and of this one only the store, also where the call is cut off.
+    /// Asks the filter of the plugin at a place, from its image. A plugin without one lets the node
+    /// pass. No other instance changes, and of this one only the store, also where the call is cut
+    /// off.
     pub fn filter(&mut self, place: usize, records: &Records) -> FilterVerdict
         requires { place < length self.old }
         ensures says { IfSome (slice_get self.old place) (λ i. FilterSays i.ready records.now result) }
@@ -119,7 +122,8 @@ impl Kit {
         self.members[place].filter(records)
     }
 
-    /// What the score of the plugin at a place says, and how far that reaches. Only its store may change.
+    /// What the score of the plugin at a place says, and how far that reaches. Only its store may
+    /// change.
     pub(crate) fn ask_score(&mut self, place: usize, records: &Records) -> Asked<ScoreVerdict>
         requires { place < length self.old }
         ensures says { IfSome (slice_get self.old place) (λ i. (told : Told) → Reaches result.reach records.now told →
@@ -131,8 +135,8 @@ impl Kit {
         self.members[place].ask_score(records)
     }
 
-    /// Asks the score of the plugin at a place, from its image. A plugin without one gives 0. No other instance changes, and of
-    /// this one only the store, also where the call is cut off.
+    /// Asks the score of the plugin at a place, from its image. A plugin without one gives 0. No
+    /// other instance changes, and of this one only the store, also where the call is cut off.
     pub fn score(&mut self, place: usize, records: &Records) -> ScoreVerdict
         requires { place < length self.old }
         ensures says { IfSome (slice_get self.old place) (λ i. ScoreSays i.ready records.now result) }

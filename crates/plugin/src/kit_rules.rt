@@ -11,9 +11,9 @@ use std::marker::Model;
 
 /// A kit, seen as a set of rules.
 ///
-/// What a set of rules owes is that it answers as before, whatever it was asked. So contracts see of the kit its plugins alone,
-/// each with the image from which its calls begin: what an instance's store is between two calls, no call sees. Nor do they see
-/// what is kept of what plugins said.
+/// What a set of rules owes is that it answers as before, whatever it was asked. So contracts see
+/// of the kit its plugins alone, each with the image from which its calls begin: what an instance's
+/// store is between two calls, no call sees. Nor do they see what is kept of what plugins said.
 #[derive(Drop)]
 pub struct KitRules {
     kit: Kit,

@@ -8,8 +8,8 @@ pub fn kits_are_alike()
     whost::one_image();
 }
 
-/// What a kit's rules say of a pod, a node and what is used of it, is what each plugin's call gives that begins from its image,
-/// with the records of these.
+/// What a kit's rules say of a pod, a node and what is used of it, is what each plugin's call gives
+/// that begins from its image, with the records of these.
 pub fn rules_are_calls()
     ensures { RulesAreCalls }
 {}

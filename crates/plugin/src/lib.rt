@@ -1,8 +1,10 @@
-//! What a site's plugins say of a node: kits, which have one instance of each plugin, and a kit as a set of rules.
+//! What a site's plugins say of a node: kits, which have one instance of each plugin, and a kit as
+//! a set of rules.
 //!
-//! A plugin is asked of a pod and a node by their records. What it says carries all that may be told of it: no number of a module
-//! travels above this crate but as what it means. `Plugins` are the modules that a site configures, in order; a `Kit` of them has
-//! one instance of each, belongs to one thread, and can be moved to another; `KitRules` is a kit as a set of rules. It keeps what
+//! A plugin is asked of a pod and a node by their records. What it says carries all that may be
+//! told of it: no number of a module travels above this crate but as what it means. `Plugins` are
+//! the modules that a site configures, in order; a `Kit` of them has one instance of each, belongs
+//! to one thread, and can be moved to another; `KitRules` is a kit as a set of rules. It keeps what
 //! rules said for pods that differ in their uid alone (`kept`), so that they aren't asked again.
 #![tactic(auto)]
 

@@ -22,8 +22,8 @@ use whost::{Instance, InstanceFault, Records, Shows};
 use wmach::Export;
 use wtype::Checked;
 
-/// An instance of a plugin's module, how much the plugin's score counts, the fuel of each of its calls, and how much these have
-/// used so far, which contracts don't see.
+/// An instance of a plugin's module, how much the plugin's score counts, the fuel of each of its
+/// calls, and how much these have used so far, which contracts don't see.
 #[derive(Drop)]
 pub struct Member {
     weight: u8,
@@ -109,8 +109,8 @@ impl Member {
         self.spent
     }
 
-    /// What its filter says, and how far that reaches: it is shown as little of the records as it was content with lately, and then
-    /// more.
+    /// What its filter says, and how far that reaches: it is shown as little of the records as it
+    /// was content with lately, and then more.
     pub fn ask_filter(&mut self, records: &Records) -> Asked<FilterVerdict>
         ensures says { (told : Told) → Reaches result.reach records.now told → FilterSays self.old.ready told result.said }
         ensures stays { self.new ≡ record self.old { store = self.new.store } }
@@ -146,7 +146,8 @@ impl Member {
         }
     }
 
-    // What its filter says where it asks for the pod's record of version 3 alone, if it is to be tried whether it does.
+    // What its filter says where it asks for the pod's record of version 3 alone, if it is to be
+    // tried whether it does.
     fn filter_by_class(&mut self, records: &Records, next: Reach) -> Option<FilterVerdict>
         ensures says { IfSome result (λ said. (told : Told) → LookAlike Shows.Class records.now told →
             FilterSays self.old.ready told said) }
@@ -162,7 +163,8 @@ impl Member {
         said
     }
 
-    // What its filter says where it asks for the records of version 3 alone, if it is to be tried whether it does.
+    // What its filter says where it asks for the records of version 3 alone, if it is to be tried
+    // whether it does.
     fn filter_by_row(&mut self, records: &Records, next: Reach) -> Option<FilterVerdict>
         ensures says { IfSome result (λ said. (told : Told) → LookAlike Shows.ClassAndRow records.now told →
             FilterSays self.old.ready told said) }
@@ -178,7 +180,8 @@ impl Member {
         said
     }
 
-    // What its filter says where it asks for no more of the pod than its record of version 3, if that is to be tried.
+    // What its filter says where it asks for no more of the pod than its record of version 3, if
+    // that is to be tried.
     fn filter_by_node(&mut self, records: &Records, next: Reach) -> Option<FilterVerdict>
         ensures says { IfSome result (λ said. (told : Told) → LookAlike Shows.ClassAndNode records.now told →
             FilterSays self.old.ready told said) }
@@ -215,8 +218,8 @@ impl Member {
         }
     }
 
-    /// What its filter says of this pod and all nodes, where it doesn't ask for the node, and where that is known or is found
-    /// out now: by a call that isn't shown a node.
+    /// What its filter says of this pod and all nodes, where it doesn't ask for the node, and where
+    /// that is known or is found out now: by a call that isn't shown a node.
     fn filter_of_all(&mut self, records: &Records) -> Option<FilterVerdict>
         ensures says { IfSome result (λ said. (node : Versions) →
             FilterSays self.old.ready (record records.now { node = node }) said) }
@@ -242,7 +245,8 @@ impl Member {
         said
     }
 
-    /// Asks its filter, from the image. A module without one lets the node pass. Of the instance only the store may change.
+    /// Asks its filter, from the image. A module without one lets the node pass. Of the instance
+    /// only the store may change.
     pub fn filter(&mut self, records: &Records) -> FilterVerdict
         ensures says { FilterSays self.old.ready records.now result }
         ensures stays { self.new ≡ record self.old { store = self.new.store } }
@@ -255,8 +259,8 @@ impl Member {
         filter_verdict(outcome)
     }
 
-    /// What its score says, and how far that reaches: it is shown as little of the records as it was content with lately, and then
-    /// more.
+    /// What its score says, and how far that reaches: it is shown as little of the records as it
+    /// was content with lately, and then more.
     pub fn ask_score(&mut self, records: &Records) -> Asked<ScoreVerdict>
         ensures says { (told : Told) → Reaches result.reach records.now told → ScoreSays self.old.ready told result.said }
         ensures within { IsWithin result.said }
@@ -293,7 +297,8 @@ impl Member {
         }
     }
 
-    // What its score says where it asks for the pod's record of version 3 alone, if it is to be tried whether it does.
+    // What its score says where it asks for the pod's record of version 3 alone, if it is to be
+    // tried whether it does.
     fn score_by_class(&mut self, records: &Records, next: Reach) -> Option<ScoreVerdict>
         ensures says { IfSome result (λ said. (told : Told) → LookAlike Shows.Class records.now told →
             ScoreSays self.old.ready told said) }
@@ -310,7 +315,8 @@ impl Member {
         said
     }
 
-    // What its score says where it asks for the records of version 3 alone, if it is to be tried whether it does.
+    // What its score says where it asks for the records of version 3 alone, if it is to be tried
+    // whether it does.
     fn score_by_row(&mut self, records: &Records, next: Reach) -> Option<ScoreVerdict>
         ensures says { IfSome result (λ said. (told : Told) → LookAlike Shows.ClassAndRow records.now told →
             ScoreSays self.old.ready told said) }
@@ -327,7 +333,8 @@ impl Member {
         said
     }
 
-    // What its score says where it asks for no more of the pod than its record of version 3, if that is to be tried.
+    // What its score says where it asks for no more of the pod than its record of version 3, if
+    // that is to be tried.
     fn score_by_node(&mut self, records: &Records, next: Reach) -> Option<ScoreVerdict>
         ensures says { IfSome result (λ said. (told : Told) → LookAlike Shows.ClassAndNode records.now told →
             ScoreSays self.old.ready told said) }
@@ -366,8 +373,8 @@ impl Member {
         }
     }
 
-    /// What its score says of this pod and all nodes, where it doesn't ask for the node, and where that is known or is found
-    /// out now: by a call that isn't shown a node.
+    /// What its score says of this pod and all nodes, where it doesn't ask for the node, and where
+    /// that is known or is found out now: by a call that isn't shown a node.
     fn score_of_all(&mut self, records: &Records) -> Option<ScoreVerdict>
         ensures says { IfSome result (λ said. (node : Versions) →
             ScoreSays self.old.ready (record records.now { node = node }) said) }
@@ -394,7 +401,8 @@ impl Member {
         said
     }
 
-    /// Asks its score, from the image. A module without one gives 0. Of the instance only the store may change.
+    /// Asks its score, from the image. A module without one gives 0. Of the instance only the store
+    /// may change.
     pub fn score(&mut self, records: &Records) -> ScoreVerdict
         ensures says { ScoreSays self.old.ready records.now result }
         ensures within { IsWithin result }

@@ -98,8 +98,8 @@ impl Plugins {
     ///
     /// # Errors
     ///
-    /// `Twice` where one of this name is there; `Full` where none is and there are 16; `NoMemory` where there is none for one
-    /// more. The plugins stay as they were then.
+    /// `Twice` where one of this name is there; `Full` where none is and there are 16; `NoMemory`
+    /// where there is none for one more. The plugins stay as they were then.
     pub fn add(&mut self, plugin: Plugin, checked: Arc<Checked>) -> Result<(), AddFault>
         requires weight { IsWeight plugin.weight }
         requires fuel { IsFuel plugin.fuel }

@@ -5,11 +5,12 @@ ghost use Rattle.std.specs.Bool.{IsTrue};
 use std::alloc::{AllocError, Global};
 use whost::{RECORD_SIZE, Records};
 
-// After so many calls that showed a node another one shows none, so that it is seen when a plugin asks for none again.
+// After so many calls that showed a node another one shows none, so that it is seen when a plugin
+// asks for none again.
 const CALLS_BETWEEN: u8 = 63;
 
-/// What a plugin said of all nodes for a pod, whose records are these: it didn't ask for the node. All room is taken when it is
-/// made.
+/// What a plugin said of all nodes for a pod, whose records are these: it didn't ask for the node.
+/// All room is taken when it is made.
 #[derive(Drop)]
 pub struct Said<V> {
     pub first: Vec<u8>,

@@ -24,9 +24,9 @@ const NOTHING: Res = Res {
     pods: 0,
 };
 
-/// The records of a pod, and those of a node, which are written where a plugin is asked: till then the node is kept alone. Each
-/// record is kilobytes large and is written in place. Contracts see the records, written or not, and what was known of the node as
-/// it was shown.
+/// The records of a pod, and those of a node, which are written where a plugin is asked: till then
+/// the node is kept alone. Each record is kilobytes large and is written in place. Contracts see
+/// the records, written or not, and what was known of the node as it was shown.
 #[derive(Drop)]
 pub struct Shown {
     records: Records,

@@ -60,8 +60,8 @@ pub fn filter_verdict(outcome: Outcome) -> FilterVerdict
     }
 }
 
-/// What a score said, by how its call ended: a number from 0 to 100 is good; every other number, a trap and used-up fuel are
-/// errors.
+/// What a score said, by how its call ended: a number from 0 to 100 is good; every other number, a
+/// trap and used-up fuel are errors.
 pub fn score_verdict(outcome: Outcome) -> ScoreVerdict
     requires { ResultFits (Some I64) outcome }
     ensures value { result ≡ score_said outcome }

@@ -15,7 +15,8 @@ fn fault(alloc: Global, line: &[u8]) -> (u8, &'static str) {
     }
 }
 
-// Lines behind their first faults: 1 NotJson, 2 BadField, 3 Quantity, 4 OverLimit, 0 none, and the field.
+// Lines behind their first faults: 1 NotJson, 2 BadField, 3 Quantity, 4 OverLimit, 0 none, and the
+// field.
 const FIRST_FAULTS: &str = r#"1 |{"op":"dump"
 1 |
 1 |{"op":"dump"} x
@@ -174,8 +175,9 @@ const DUMP: &[u8] = br#"{"op":"dump"}"#;
 
 const NESTING: &[u8] = br#"{"op":"dump","x":"#;
 
-// What a line is made of, each part so many times, and its fault: a line end alone, a space alone, and text that isn't UTF-8 are no
-// JSON; a line of 65,536 bytes is read, one of a byte more is not; and nesting of 127 is read, one level more is not.
+// What a line is made of, each part so many times, and its fault: a line end alone, a space alone,
+// and text that isn't UTF-8 are no JSON; a line of 65,536 bytes is read, one of a byte more is not;
+// and nesting of 127 is read, one level more is not.
 const LONG: &[(&[(usize, &[u8])], u8, &str)] = &[
     (&[(1, b"\r")], 1, ""),
     (&[(1, b" ")], 1, ""),
@@ -219,7 +221,8 @@ const NODE: &[u8] =
 const POD: &[u8] =
     br#"{"op":"pod","v":8,"uid":"p1","priority":-5,"containers":[["100m","64Mi"],["200m","64Mi"]],"init":[["500m","32Mi"]],"labels":[["app","web"]],"tolerations":[["k","","v","NoSchedule"],["","Exists","",""]]}"#;
 
-// Every array as long as it may be: 32 labels, 16 tolerations, 16 containers, and 16 that go before them.
+// Every array as long as it may be: 32 labels, 16 tolerations, 16 containers, and 16 that go before
+// them.
 const LONGEST: &[u8] =
     br#"{"op":"pod","v":1,"uid":"p","labels":[["aa",""],["ab",""],["ac",""],["ad",""],["ae",""],["af",""],["ag",""],["ah",""],["ai",""],["aj",""],["ak",""],["al",""],["am",""],["an",""],["ao",""],["ap",""],["aq",""],["ar",""],["as",""],["at",""],["au",""],["av",""],["aw",""],["ax",""],["ay",""],["az",""],["ba",""],["bb",""],["bc",""],["bd",""],["be",""],["bf",""]],"tolerations":[["aa","Equal","",""],["ab","Equal","",""],["ac","Equal","",""],["ad","Equal","",""],["ae","Equal","",""],["af","Equal","",""],["ag","Equal","",""],["ah","Equal","",""],["ai","Equal","",""],["aj","Equal","",""],["ak","Equal","",""],["al","Equal","",""],["am","Equal","",""],["an","Equal","",""],["ao","Equal","",""],["ap","Equal","",""]],"containers":[["1","1Gi"],["1","1Gi"],["1","1Gi"],["1","1Gi"],["1","1Gi"],["1","1Gi"],["1","1Gi"],["1","1Gi"],["1","1Gi"],["1","1Gi"],["1","1Gi"],["1","1Gi"],["1","1Gi"],["1","1Gi"],["1","1Gi"],["1","1Gi"]],"init":[["1","1"],["1","1"],["1","1"],["1","1"],["1","1"],["1","1"],["1","1"],["1","1"],["1","1"],["1","1"],["1","1"],["1","1"],["1","1"],["1","1"],["1","1"],["20","1"]]}"#;
 

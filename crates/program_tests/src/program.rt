@@ -1,5 +1,5 @@
-//! What the program ends with, over devices that take and give a few bytes at a time, are interrupted
-//! and fail, and over files in the folder that a test runs in.
+//! What the program ends with, over devices that take and give a few bytes at a time, are
+//! interrupted and fail, and over files in the folder that a test runs in.
 mod checks;
 mod plugins;
 mod scripts;
@@ -91,8 +91,9 @@ impl Write for Paper {
     }
 }
 
-// What the program is given: its words, those of plugins last, its input, how many bytes a read or a
-// write moves at most, and which read, which write and which write of what is told fails, where they are not 0.
+// What the program is given: its words, those of plugins last, its input, how many bytes a read or
+// a write moves at most, and which read, which write and which write of what is told fails, where
+// they are not 0.
 #[derive(Clone, Copy)]
 struct Given<'a> {
     args: &'a [&'a str],

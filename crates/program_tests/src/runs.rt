@@ -56,7 +56,8 @@ impl Counts {
     }
 }
 
-/// A kit with one rule, whose filter uses up its fuel at every node. It counts how often it is asked.
+/// A kit with one rule, whose filter uses up its fuel at every node. It counts how often it is
+/// asked.
 #[derive(Drop)]
 struct Counting {
     asked: Arc<Counts>,
@@ -159,7 +160,8 @@ fn written_by<T: Wait + Threads + Copy + Send + Sync + 'static>(
     }
 }
 
-// Whether each of the five nodes was judged by a kit of its own, and the run tells the one of the least name.
+// Whether each of the five nodes was judged by a kit of its own, and the run tells the one of the
+// least name.
 fn all_judge<T: Wait + Threads + Copy + Send + Sync + 'static>(
     rt: &T,
     alloc: Global,

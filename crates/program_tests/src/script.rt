@@ -1,5 +1,5 @@
-//! When a run writes: before it reads more, and before much output waits; the lines of cycles by a site's rule; and that workers
-//! that stay decide as those that are started for each decision.
+//! When a run writes: before it reads more, and before much output waits; the lines of cycles by a
+//! site's rule; and that workers that stay decide as those that are started for each decision.
 ghost use Rattle.std.specs.Prelude.{◌≡◌, ◌<◌, ◌≤◌, vec_len, IfOk};
 ghost use Rattle.std.specs.List.{All};
 ghost use Rattle.choose.specs.Kits.{JudgeAlike};
@@ -18,8 +18,8 @@ use std::hash::RandomState;
 use std::sync::Wait;
 use std::thread::Threads;
 
-// A script that comes in pieces, one a read. Read i fails where the output is not `answered[i]` bytes
-// long by then.
+// A script that comes in pieces, one a read. Read i fails where the output is not `answered[i]`
+// bytes long by then.
 #[derive(Drop)]
 struct Peer<'a> {
     pieces: &'a [&'a [u8]],
@@ -95,7 +95,8 @@ impl Sink for Paper<'_> {
     }
 }
 
-// A rule of weight 2 that says the same of every pod and node, or no rule. Its score is 50, or errs.
+// A rule of weight 2 that says the same of every pod and node, or no rule. Its score is 50, or
+// errs.
 #[derive(Clone, Copy, Drop)]
 struct Same {
     there: bool,
@@ -291,10 +292,12 @@ queue active 0 backoff 0 unschedulable 0 inflight 0
 clock 0 version 1
 ";
 
-// How long the output is at each read. The end is read twice: behind the last line, which has no newline, and behind its answer.
+// How long the output is at each read. The end is read twice: behind the last line, which has no
+// newline, and behind its answer.
 const AT_PIECES: &[usize] = &[0, 3, 3, 17, OF_PIECES.len()];
 
-// A pod is bound to a node that isn't there: it has its place, and nothing is used of the node that is there.
+// A pod is bound to a node that isn't there: it has its place, and nothing is used of the node that
+// is there.
 const NO_NODE: &[&[u8]] = &[
     br#"{"op":"node","v":1,"name":"a","cpu":"4","mem":"8Gi","pods":110}
 {"op":"bound","v":2,"uid":"p0","node":"x","cpu":"1","mem":"1k"}

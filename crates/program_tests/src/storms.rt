@@ -1,4 +1,5 @@
-//! Storms whose binds, and whose decisions, wait for one another: each is to be in a thread of its own.
+//! Storms whose binds, and whose decisions, wait for one another: each is to be in a thread of its
+//! own.
 ghost use Rattle.std.specs.Prelude.{◌≡◌, vec_len, IfSome};
 
 use crate::two_pools::storm_of_pools;
@@ -72,7 +73,8 @@ impl Sink for Paper {
     }
 }
 
-/// One of two that begin: each turns until the other has begun too, and gives up after 10,000,000 turns.
+/// One of two that begin: each turns until the other has begun too, and gives up after 10,000,000
+/// turns.
 #[derive(Drop)]
 struct Pair {
     begun: Arc<AtomicU64, Global>,
@@ -107,8 +109,8 @@ impl Gate for Pair {
     }
 }
 
-/// A binder that waits in its first bind for another binder's first. Its bind fails where it waits in vain, and where it isn't told a
-/// pod's name and then its node's.
+/// A binder that waits in its first bind for another binder's first. Its bind fails where it waits
+/// in vain, and where it isn't told a pod's name and then its node's.
 #[derive(Drop)]
 struct Hand {
     pair: Pair,
@@ -188,7 +190,8 @@ clock 0 version 3
 audit ok
 ";
 
-/// The node, a thousand moments, and then both pods: when they come, whoever makes cycles has found none before.
+/// The node, a thousand moments, and then both pods: when they come, whoever makes cycles has found
+/// none before.
 const NODE: &[u8] = br#"{"op":"node","v":1,"name":"a","cpu":"4","mem":"8Gi","pods":110}
 "#;
 
@@ -213,8 +216,9 @@ clock 1000 version 3
 audit ok
 ";
 
-/// What a storm of two pools writes, each of which waits in its first decision for the other's, with two binders that wait for each
-/// other in their first binds: if it is audited well and neither pool waited in vain.
+/// What a storm of two pools writes, each of which waits in its first decision for the other's,
+/// with two binders that wait for each other in their first binds: if it is audited well and
+/// neither pool waited in vain.
 fn stormed<T: Wait + Threads + Copy + Send + Sync + 'static>(
     rt: &T,
     alloc: Global,

@@ -1,4 +1,5 @@
-//! A storm of two pools, whose kits' histories have two names: each name is picked where a function is called at `Brand`.
+//! A storm of two pools, whose kits' histories have two names: each name is picked where a function
+//! is called at `Brand`.
 ghost use Rattle.std.specs.Prelude.{◌≡◌, ◌<◌, ◌^◌, vec_len};
 ghost use Rattle.fleet.specs.Speaking.{SpeaksFor};
 

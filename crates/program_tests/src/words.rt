@@ -4,8 +4,9 @@ use std::alloc::{AllocError, Global};
 use std::env::FillError;
 use std::rt::Env;
 
-// What words ask for, but for the plugins: to check a file, a run with this many workers, a storm with this many cycle threads
-// and binders, which are flaky or not, or a translation for this scheduler, by uids or not and with answers or not.
+// What words ask for, but for the plugins: to check a file, a run with this many workers, a storm
+// with this many cycle threads and binders, which are flaky or not, or a translation for this
+// scheduler, by uids or not and with answers or not.
 #[derive(Clone, Copy)]
 enum Want {
     Check(&'static str),

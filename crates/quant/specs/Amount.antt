@@ -15,7 +15,8 @@ is_digit b = is_between 48 57 b
 abbrev pub is_digits : ℕ → List ℕ → Bool
 is_digits most ds = nat_le 1 (length ds) && nat_le (length ds) most && list_all is_digit ds
 
--- the number that digits spell: each digit counts as many times as there are numbers of the digits behind it
+-- the number that digits spell: each digit counts as many times as there are numbers of the digits
+-- behind it
 abbrev pub number : List ℕ → ℕ
 number [] = 0
 number (d ∷ ds) = (d - 48) * 10 ^ length ds + number ds
@@ -28,7 +29,8 @@ leading_digits text = take_while is_digit text
 abbrev pub after_digits : List ℕ → List ℕ
 after_digits text = drop (prefix_len is_digit text) text
 
--- the thousandths that the digits behind a decimal point spell: `5` is 500, `25` is 250, `125` is 125
+-- the thousandths that the digits behind a decimal point spell: `5` is 500, `25` is 250, `125` is
+-- 125
 abbrev pub thousandths : List ℕ → ℕ
 thousandths ds = number ds * 10 ^ (3 - length ds)
 
@@ -41,7 +43,8 @@ cpu_with n rest =
     else if bytes_eq (take 1 rest) (codes ".") && is_digits 3 (drop 1 rest) then Some (n * 1000 + thousandths (drop 1 rest))
     else None
 
--- the thousandths of a core that a text spells: 1 to 15 digits, and what `cpu_with` reads behind them
+-- the thousandths of a core that a text spells: 1 to 15 digits, and what `cpu_with` reads behind
+-- them
 abbrev pub cpu_spelled : List ℕ → Option ℕ
 cpu_spelled text =
     if is_digits 15 (leading_digits text) then cpu_with (number (leading_digits text)) (after_digits text) else None
@@ -67,7 +70,8 @@ bytes_spelled text =
     then option_map (λ unit. number (leading_digits text) * unit) (unit_of (after_digits text))
     else None
 
--- what was spelled, as an amount, where it is at most `most`: that nothing is spelled is the first fault
+-- what was spelled, as an amount, where it is at most `most`: that nothing is spelled is the first
+-- fault
 abbrev pub at_most : {A : Type 0} → (ℕ → A) → ℕ → Option ℕ → Result A QuantFault
 at_most amount most None = Err BadQuantity
 at_most amount most (Some n) = if nat_le n most then Ok (amount n) else Err TooLarge

@@ -1,4 +1,5 @@
--- How amounts are written, as a grammar: what `cpu_spelled` and `bytes_spelled` find is what it derives.
+-- How amounts are written, as a grammar: what `cpu_spelled` and `bytes_spelled` find is what it
+-- derives.
 use Rattle.std.specs.Prelude.{◌≡◌, ℕ, ◌+◌, ◌*◌, List, ◌++◌, codes, Some, IsTrue}
 use Rattle.quant.specs.Amount.{is_digits, number, thousandths, unit_of}
 

@@ -22,6 +22,7 @@ is_text bytes = nat_le (length bytes) 63 && list_all is_name_byte bytes
 unfoldable pub is_name : List ℕ → Bool
 is_name bytes = nat_le 1 (length bytes) && is_text bytes
 
--- a name comes before another by its bytes: the first that differs is lesser, or it is a front of the other
+-- a name comes before another by its bytes: the first that differs is lesser, or it is a front of
+-- the other
 abbrev pub is_before : List ℕ → List ℕ → Bool
 is_before a b = is_lt (slice_cmp nat_cmp a b)

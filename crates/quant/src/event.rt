@@ -1,7 +1,7 @@
 //! The events of a cluster's watch, and the rows that they carry.
 //!
-//! A row is kilobytes large and never changes, so it has many owners and is never copied by content:
-//! the reader of a line makes it, and book, queue, snapshots and messages share it.
+//! A row is kilobytes large and never changes, so it has many owners and is never copied by
+//! content: the reader of a line makes it, and book, queue, snapshots and messages share it.
 ghost use Rattle.std.specs.Prelude.{◌≡◌, IfOk};
 ghost use Rattle.std.specs.Bool.{IsTrue};
 
@@ -62,7 +62,8 @@ impl SharedNode {
         Ok(SharedNode { row })
     }
 
-    /// Whether both rows tell the same: `true` is always right. A few hundred bytes of each are read, that lie together.
+    /// Whether both rows tell the same: `true` is always right. A few hundred bytes of each are
+    /// read, that lie together.
     pub fn is_same(&self, other: &SharedNode) -> bool
         ensures { IsTrue result → self.now ≡ other.now }
     {

@@ -1,14 +1,17 @@
 //! The quantities, names, numbers and objects of the scheduler: what a node offers, what a pod
-//! asks, and how both are spelled. Only the first owner of a row (`SharedNode::new`, `SharedPod::new`) takes memory.
+//! asks, and how both are spelled. Only the first owner of a row (`SharedNode::new`,
+//! `SharedPod::new`) takes memory.
 //!
-//! - `amount`: CPU, memory and moments, and what nodes have and pods ask of them. `spelling` reads CPU and memory as Kubernetes
-//!   writes them.
+//! - `amount`: CPU, memory and moments, and what nodes have and pods ask of them. `spelling` reads
+//!   CPU and memory as Kubernetes writes them.
 //! - `pod_request`: what a pod asks, by its containers.
-//! - `name`: names, and the texts beside keys. `taint`: taints and tolerations. `objects`: nodes and pods, made of all these.
-//! - `event`: what the watch tells, and the rows that it carries, each with many owners. `shared_row`: a node's row, packed, so that
-//!   rows are compared fast. `version`: the numbers of events and
-//!   tickets.
-//! - `limits`: how much there may be of everything; `laws` says these numbers by contract. `fault`: why something is refused.
+//! - `name`: names, and the texts beside keys. `taint`: taints and tolerations. `objects`: nodes
+//!   and pods, made of all these.
+//! - `event`: what the watch tells, and the rows that it carries, each with many owners.
+//!   `shared_row`: a node's row, packed, so that rows are compared fast. `version`: the numbers of
+//!   events and tickets.
+//! - `limits`: how much there may be of everything; `laws` says these numbers by contract. `fault`:
+//!   why something is refused.
 #![tactic(auto)]
 
 mod amount;

@@ -1,4 +1,5 @@
-//! A node's row with its labels and its taints packed, so that two rows are compared by a few hundred bytes that lie together.
+//! A node's row with its labels and its taints packed, so that two rows are compared by a few
+//! hundred bytes that lie together.
 ghost use Rattle.std.specs.Prelude.{◌≡◌, ◌∷◌, ◌++◌, ◌≤◌, IfOk, OnOk, length};
 ghost use Rattle.std.specs.Bool.{IsTrue};
 ghost use Rattle.std.specs.List.{flat_map};
@@ -53,8 +54,9 @@ impl SharedRow {
     }
 }
 
-// Whether two texts are the same. It looks at all bytes, also behind one that differs: without an end in the midst a compiler
-// makes it look at sixteen at once, and most rows that are compared are the same.
+// Whether two texts are the same. It looks at all bytes, also behind one that differs: without an
+// end in the midst a compiler makes it look at sixteen at once, and most rows that are compared are
+// the same.
 fn are_same_bytes(a: &[u8], b: &[u8]) -> bool
     ensures { IsTrue result → a.now ≡ b.now }
 {

@@ -1,7 +1,8 @@
 //! The numbers that order what happens to a cluster.
 
-/// A version of the watch, a count with no unit: the events of a cluster carry rising versions, 1 to
-/// 10^18, and 0 stands before the first. The type holds any number; what reads one tests its range.
+/// A version of the watch, a count with no unit: the events of a cluster carry rising versions, 1
+/// to 10^18, and 0 stands before the first. The type holds any number; what reads one tests its
+/// range.
 #[derive(Clone, Copy, Debug, PartialEq, Eq, PartialOrd, Ord, Hash)]
 pub struct Version(pub u64);
 

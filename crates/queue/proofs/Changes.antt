@@ -1,4 +1,5 @@
--- What becomes of the slots, and of the entries that they stand for, where the pod in one of them changes.
+-- What becomes of the slots, and of the entries that they stand for, where the pod in one of them
+-- changes.
 use Rattle.std.proofs.Common.{◌≡◌, ℕ, ◌+◌, ◌<◌, ◌≤◌, Bool, true, false, cond, leb, ◌⊎◌, ⊎_elim, length, set, arith, refl, sym, ap, ◌∙◌}
 use Rattle.std.specs.Prelude.{◌≢◌, Option, None, Some, IsSome, IfNone, option_map, sum_by}
 use Rattle.std.specs.Option.{option_map_or, option_cmp}

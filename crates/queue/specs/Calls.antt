@@ -86,7 +86,8 @@ pub record IsNext (q : QueueState) (item : Item) : Type 0 where
   pub active : is_active item.1.state ≡ true
   pub first : (other : Item) → entry_of q other.0 ≡ Some other.1 → is_active other.1.state ≡ true → comes_before other item ≡ false
 
--- what is popped next is the one active entry before which no other active entry comes, and nothing is popped only where none is active
+-- what is popped next is the one active entry before which no other active entry comes, and nothing
+-- is popped only where none is active
 abbrev pub PopsTheFirst : Type 0
 PopsTheFirst = (q : QueueState) → MatchOption (next_of q) (NoneActive q) (IsNext q)
 

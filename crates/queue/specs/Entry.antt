@@ -19,7 +19,8 @@ pub record Entry : Type 0 where
 abbrev pub new_entry : Pod → Moment → Entry
 new_entry pod now = record { pod = pod; arrival = now; attempts = 0; state = Active }
 
--- how long a pod backs off after so many attempts, in milliseconds: 1,000 after the first, twice as long after each further one, and at most 10,000
+-- how long a pod backs off after so many attempts, in milliseconds: 1,000 after the first, twice as
+-- long after each further one, and at most 10,000
 abbrev pub backoff : ℕ → ℕ
 backoff attempts = min 10000 (1000 * 2 ^ (attempts - 1))
 
@@ -77,7 +78,8 @@ popped pass entry = record entry { attempts = min 1000000 (entry.attempts + 1); 
 abbrev pub sent_back : Moment → Entry → Entry
 sent_back now entry = record entry { state = Backoff (backed_off now entry.attempts) }
 
--- where a failure at this moment leaves a pod. One that no node would take stays unschedulable, unless there was a move since it was popped
+-- where a failure at this moment leaves a pod. One that no node would take stays unschedulable,
+-- unless there was a move since it was popped
 abbrev pub state_after_failure : Failure → Bool → Moment → ℕ → State
 state_after_failure failure.Unschedulable false now attempts = Unschedulable now
 state_after_failure failure.Unschedulable true now attempts = Backoff (backed_off now attempts)
@@ -87,7 +89,8 @@ state_after_failure failure.Again moved now attempts = Backoff (backed_off now a
 abbrev pub failed : Failure → Moment → Entry → Entry
 failed how now entry = record entry { state = state_after_failure how (was_moved entry.state) now entry.attempts }
 
--- what a tick to this moment makes of a state: backoff ends at its moment, and an unschedulable pod is released 300,000 ms after its failure
+-- what a tick to this moment makes of a state: backoff ends at its moment, and an unschedulable pod
+-- is released 300,000 ms after its failure
 abbrev pub state_after_tick : Moment → State → State
 state_after_tick now Active = Active
 state_after_tick now (Backoff until) = if nat_le until.0 now.0 then Active else Backoff until
@@ -98,11 +101,13 @@ state_after_tick now (InFlight pass moved) = InFlight pass moved
 abbrev pub ticked : Moment → Entry → Entry
 ticked now entry = record entry { state = state_after_tick now entry.state }
 
--- where a move at this moment leaves an unschedulable pod: active if it has backed off since its failure, else in backoff until it has
+-- where a move at this moment leaves an unschedulable pod: active if it has backed off since its
+-- failure, else in backoff until it has
 abbrev pub state_when_woken : Moment → Moment → State
 state_when_woken now over = if nat_le over.0 now.0 then Active else Backoff over
 
--- what a move at this moment makes of a state, after so many attempts. A pod in flight keeps in mind that there was a move
+-- what a move at this moment makes of a state, after so many attempts. A pod in flight keeps in
+-- mind that there was a move
 abbrev pub state_after_move : Moment → ℕ → State → State
 state_after_move now attempts Active = Active
 state_after_move now attempts (Backoff until) = Backoff until

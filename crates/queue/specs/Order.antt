@@ -11,7 +11,8 @@ use Rattle.queue.specs.Entry.{Entry, is_active}
 abbrev pub Item : Type 0
 Item = Name × Entry
 
--- the order of the queue: the higher priority, then the earlier arrival, then the lesser uid by bytes
+-- the order of the queue: the higher priority, then the earlier arrival, then the lesser uid by
+-- bytes
 abbrev pub item_cmp : Item → Item → Ordering
 item_cmp a b =
     ordering_then (int_cmp b.1.pod.priority a.1.pod.priority)

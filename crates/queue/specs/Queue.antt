@@ -36,7 +36,8 @@ entry_of q uid = table.get q.entries uid
 abbrev pub has_entry : QueueState → Name → Bool
 has_entry q uid = is_some (entry_of q uid)
 
--- what is so of every queue: each entry stands under its own pod's uid, there are no more entries than there may be, and no more than 10,000 may be
+-- what is so of every queue: each entry stands under its own pod's uid, there are no more entries
+-- than there may be, and no more than 10,000 may be
 pub record IsQueue (q : QueueState) : Type 0 where
   pub own_uid : (uid : Name) (entry : Entry) → entry_of q uid ≡ Some entry → entry.pod.uid ≡ uid
   pub within : table.len q.entries ≤ q.limit

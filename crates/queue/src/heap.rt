@@ -91,7 +91,8 @@ pub(crate) fn rise(row: &mut Row, pods: &NameTable<Slot>, from: usize, count: &m
     }
 }
 
-/// The place of a slot goes down to where it has no children. At each step the child that goes first takes its place.
+/// The place of a slot goes down to where it has no children. At each step the child that goes
+/// first takes its place.
 fn fall(row: &mut Row, pods: &NameTable<Slot>, from: usize, count: &mut u32) -> usize
     requires inside { from < length row.old.slots }
     requires short { length row.old.slots ≤ MAX_QUEUED }

@@ -152,7 +152,8 @@ impl Queue {
     }
 
     /// A pass gives a pod back that it popped, since its attempt failed now. It is `NotInFlight`
-    /// where there is no such entry, where the pod is not in flight, and where another pass popped it.
+    /// where there is no such entry, where the pod is not in flight, and where another pass popped
+    /// it.
     pub fn fail(
         &mut self,
         uid: &Name,
@@ -201,8 +202,9 @@ impl Queue {
         tick_each(&mut self.pods, &mut self.index, now);
     }
 
-    /// Something moved that may let unschedulable pods in: each is active if it has backed off since
-    /// its failure, and else backs off until then. Pods in flight keep in mind that there was a move.
+    /// Something moved that may let unschedulable pods in: each is active if it has backed off
+    /// since its failure, and else backs off until then. Pods in flight keep in mind that there was
+    /// a move.
     pub fn move_all(&mut self, now: Moment)
         ensures { self.new ≡ after_move self.old now }
     {

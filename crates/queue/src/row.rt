@@ -6,7 +6,8 @@ ghost use Rattle.queue.specs.inside.Row.{at, IsIn, IsSwapped, IsPushed, IsInvers
 use std::alloc::{AllocError, Global};
 use std::marker::Model;
 
-/// Some of the slots 0 to the room, in an order of their own. To ask for a slot's place searches none.
+/// Some of the slots 0 to the room, in an order of their own. To ask for a slot's place searches
+/// none.
 #[derive(Drop)]
 pub(crate) struct Row {
     // All slots: first those in the row, in its order, then all others.

@@ -13,7 +13,8 @@ use crate::slot::{Change, Slot};
 use name_table::{Entry, NameTable};
 use quant::Moment;
 
-/// The pod in a slot changes, and with it where the slot stands. It answers how many entries were compared.
+/// The pod in a slot changes, and with it where the slot stands. It answers how many entries were
+/// compared.
 pub(crate) fn change(
     pods: &mut NameTable<Slot>,
     index: &mut Index,

@@ -11,9 +11,9 @@ use quant::{Pod, Res, SharedNode};
 
 /// A site's rules, in the order in which they are configured.
 ///
-/// What a rule says depends on the rule, the pod, the node and what is used of the node alone, whatever was asked before: each
-/// call leaves the set as it was. In what form a set notes what it is shown, and what it keeps ready from one call to the next,
-/// is its own.
+/// What a rule says depends on the rule, the pod, the node and what is used of the node alone,
+/// whatever was asked before: each call leaves the set as it was. In what form a set notes what it
+/// is shown, and what it keeps ready from one call to the next, is its own.
 pub trait Rules {
     /// What a set notes of a pod and a node that it is shown.
     type Notes: Drop;
@@ -43,7 +43,8 @@ pub trait Rules {
         ensures pod { OfPod result pod.now }
         ensures stays { self.new ≡ self.old };
 
-    /// Shows a node on which pods use so much, once a node. The notes are of the same pod as before.
+    /// Shows a node on which pods use so much, once a node. The notes are of the same pod as
+    /// before.
     fn show_node(&mut self, notes: &mut Self::Notes, node: &SharedNode, used: &Res)
         ensures node { OfNode self.new notes.new node.now used.now }
         ensures pod { (pod : Pod) → OfPod notes.old pod → OfPod notes.new pod }
@@ -66,8 +67,9 @@ pub trait Rules {
         ensures notes { notes.new ≡ notes.old }
         ensures stays { self.new ≡ self.old };
 
-    /// About how much work the rules' calls have been so far, in units of fuel, from 2^64 on from 0 again. Nothing is promised of it:
-    /// by it alone whoever has several sets goes when the work is shared among them or not.
+    /// About how much work the rules' calls have been so far, in units of fuel, from 2^64 on from 0
+    /// again. Nothing is promised of it: by it alone whoever has several sets goes when the work is
+    /// shared among them or not.
     fn spent(&self) -> u64;
 
     // A filter says one thing, and so does a score.

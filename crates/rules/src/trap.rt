@@ -3,7 +3,8 @@ ghost use Rattle.std.specs.Prelude.{◌≡◌};
 
 use thiserror::Error;
 
-/// Why a rule is cut off, where it is a module's function (WebAssembly Core 1.0, 4.4, where an instruction "traps").
+/// Why a rule is cut off, where it is a module's function (WebAssembly Core 1.0, 4.4, where an
+/// instruction "traps").
 #[derive(Clone, Copy, PartialEq, Eq, Debug, Error)]
 pub enum Trap {
     #[error("{}", self.name())]

@@ -1,5 +1,6 @@
-//! Stores at the edge of what an image can be: data that ends with the memory, a start function that asks for a record, and calls
-//! that would tell whether the one before left something; and more segments than a small table would hold.
+//! Stores at the edge of what an image can be: data that ends with the memory, a start function
+//! that asks for a record, and calls that would tell whether the one before left something; and
+//! more segments than a small table would hold.
 ghost use Rattle.std.specs.Prelude.{IfSome};
 ghost use Rattle.plugin.specs.Plugins.{IsWeight, IsFuel};
 
@@ -29,8 +30,9 @@ const WITH_PAGE: &[&[u8]] = &[TO_I32, ONE, PAGE, FILTER];
 // A filter behind an import of `sched.pods`.
 const WITH_PODS: &[&[u8]] = &[TO_I32_AND_HOST, PODS, ONE, PAGE, FILTER_BEHIND_IMPORT];
 
-// Three types: from nothing to an i32, that of the host's functions, and from nothing to nothing; two functions, of the first and
-// of the third type; and the second one is called at the start, behind an import.
+// Three types: from nothing to an i32, that of the host's functions, and from nothing to nothing;
+// two functions, of the first and of the third type; and the second one is called at the start,
+// behind an import.
 const THREE_TYPES: &[u8] = b"\x01\x0E\x03\x60\x00\x01\x7F\x60\x02\x7F\x7F\x01\x7F\x60\x00\x00";
 
 const FIRST_AND_THIRD: &[u8] = b"\x03\x03\x02\x00\x02";

@@ -1,5 +1,5 @@
-//! Bodies of one function without parameters that gives an i32, with the most operands of each that has a typing, and with
-//! the notes of some.
+//! Bodies of one function without parameters that gives an i32, with the most operands of each that
+//! has a typing, and with the notes of some.
 
 use crate::small_modules::filter_of;
 use std::alloc::{AllocError, Global};

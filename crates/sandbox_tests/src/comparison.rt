@@ -1,4 +1,5 @@
-//! What a call gives, whatever fuel it has: by the machine, by the definition, and as it was worked out elsewhere.
+//! What a call gives, whatever fuel it has: by the machine, by the definition, and as it was worked
+//! out elsewhere.
 
 mod definition;
 mod generated;
@@ -160,7 +161,8 @@ fn worked_calls(rt: HostRuntime) {
     }
 }
 
-// The least fuel with which a small module's call doesn't end as it is to, by the machine and by the definition.
+// The least fuel with which a small module's call doesn't end as it is to, by the machine and by
+// the definition.
 fn wrong_end<R: Abort>(rt: &R, alloc: Global, lone: Lone) -> Option<(u64, Ended, Ended)> {
     let (sections, bodies, data, export, (trap, value, cost)) = lone;
     let bytes = module_of(rt, alloc, sections, bodies, data);
@@ -199,8 +201,8 @@ fn number(table: &[u8], at: usize, count: usize) -> u64 {
     number
 }
 
-// The first difference in the generated module that stands there in a table. What a call costs is asked of the machine, with
-// ample fuel.
+// The first difference in the generated module that stands there in a table. What a call costs is
+// asked of the machine, with ample fuel.
 fn difference_in<R: Abort>(rt: &R, alloc: Global, table: &[u8], at: usize) -> Option<Given> {
     let begin = at.saturating_add(HEAD);
     let end = begin.saturating_add(number(table, at, 2) as usize);
@@ -285,8 +287,8 @@ enum Step {
     Reset,
 }
 
-// Adds 1 to the global and 3 to the i32 at 0, grows the memory by a page, and gives the sum of the global, of that i32, of the
-// byte at 16 and of 100 times what growing gave.
+// Adds 1 to the global and 3 to the i32 at 0, grows the memory by a page, and gives the sum of the
+// global, of that i32, of the byte at 16 and of 100 times what growing gave.
 const WRITES: &[u8] =
     b"\x23\x00\x41\x01\x6A\x24\x00\x41\x00\x41\x00\x28\x02\x00\x41\x03\x6A\x36\x02\x00\x41\x01\x40\x00\x41\xE4\x00\x6C\x23\x00\x6A\x41\x00\x28\x02\x00\x6A\x41\x10\x2D\x00\x00\x6A\x0B";
 

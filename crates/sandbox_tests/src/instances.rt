@@ -1,5 +1,5 @@
-//! Modules that are made instances, or can't be, and two calls of each. Values are those that `node` gives; costs were counted by
-//! hand from the table of fuel in docs/WEBASSEMBLY.md.
+//! Modules that are made instances, or can't be, and two calls of each. Values are those that
+//! `node` gives; costs were counted by hand from the table of fuel in docs/WEBASSEMBLY.md.
 use crate::records::small_pod;
 use crate::small_modules::{
     FILTER, FILTER_BEHIND_IMPORT, ONE, ONE_OF_EACH, PAGE, POD, POD_2, SCORE_ALONE, TO_I32,
@@ -95,7 +95,8 @@ enum Version {
     Second,
 }
 
-// Filters that ask for a record: the version, the body, the fuel of each call, and how both calls end.
+// Filters that ask for a record: the version, the body, the fuel of each call, and how both calls
+// end.
 const ASKING: &[(&str, Version, &[u8], u64, Outcome)] = &[
     (
         "a limit below the record's length",
@@ -272,7 +273,8 @@ fn two_calls(instance: &mut Instance, records: &Records, fuel: u64) -> Found {
     }
 }
 
-// What there is of a module that is accepted, if it is, where its start function and each call have so much fuel.
+// What there is of a module that is accepted, if it is, where its start function and each call have
+// so much fuel.
 fn made(alloc: Global, checked: Option<Arc<Checked>>, records: &Records, fuel: u64) -> Found {
     let Some(checked) = checked else {
         return Found::NotAccepted;

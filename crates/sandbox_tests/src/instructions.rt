@@ -1,4 +1,5 @@
-//! Instructions and lists of them, read from their bytes. The faults' kinds and places are those of docs/WEBASSEMBLY.md.
+//! Instructions and lists of them, read from their bytes. The faults' kinds and places are those of
+//! docs/WEBASSEMBLY.md.
 mod spelled;
 
 use crate::small_modules::repeated;
@@ -47,7 +48,8 @@ fn instructions_and_their_fronts(rt: HostRuntime) {
     assert_eq!(rt; first_misread(spelled::blocks()), None);
 }
 
-// What an opcode alone is: that of an integer instruction, which is read or cut off behind it, that of a float, or no opcode.
+// What an opcode alone is: that of an integer instruction, which is read or cut off behind it, that
+// of a float, or no opcode.
 #[derive(Clone, Copy, PartialEq, Eq, Debug)]
 enum Opcode {
     Integer,
@@ -192,7 +194,8 @@ enum Shape {
     Block(usize),
     // An `if` that gives an i64, with so many instructions in each arm.
     If(usize, usize),
-    // An `if` that gives nothing, with so many in each arm, and a loop that is a branch to its begin.
+    // An `if` that gives nothing, with so many in each arm, and a loop that is a branch to its
+    // begin.
     IfAndLoop(usize, usize),
     // A branch by three labels and the default one.
     Table([u32; 3], u32),

@@ -1,5 +1,5 @@
-//! Kits of modules of a few bytes each, asked one after the other, and in two threads; and one of a module made of C, which answers
-//! every field of both records.
+//! Kits of modules of a few bytes each, asked one after the other, and in two threads; and one of a
+//! module made of C, which answers every field of both records.
 mod every_field;
 
 ghost use Rattle.std.specs.Prelude.{◌≡◌, ◌<◌, length, slice_get, IfSome};
@@ -232,7 +232,8 @@ fn ask_the_first(kit: &mut Kit, records: &Records) -> FilterVerdict
     kit.filter(0, records)
 }
 
-// What the second plugin's filter says before the first one's is asked and after it, if there are two.
+// What the second plugin's filter says before the first one's is asked and after it, if there are
+// two.
 fn around_a_call(kit: &mut Kit) -> Option<(FilterVerdict, FilterVerdict)> {
     let records = Records::new();
     if kit.count() != 2 {
@@ -272,7 +273,8 @@ fn a_call_changes_no_other_instance(rt: HostRuntime) {
     assert_eq!(rt; said_around_a_call(rt.alloc()), Some((passes, passes)));
 }
 
-// The module of the first plugin, and of each other one: a score, and a filter whose start is cut off.
+// The module of the first plugin, and of each other one: a score, and a filter whose start is cut
+// off.
 fn module_at(alloc: Global, place: usize) -> Option<Arc<Checked>> {
     if place == 0 {
         accepted_with(alloc, SCORE_ALONE, &[FIFTY], b"")

@@ -1,4 +1,5 @@
-//! Outside vectors: WebAssembly Core 1.0, 5.2.2 (its examples), and DWARF 4, 7.6 (figures 22 and 23).
+//! Outside vectors: WebAssembly Core 1.0, 5.2.2 (its examples), and DWARF 4, 7.6 (figures 22 and
+//! 23).
 
 use leb::LebFault::{BadLastByte, TooLong, Truncated};
 use leb::{LebFault, read_i32, read_i64, read_u32};

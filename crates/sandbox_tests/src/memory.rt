@@ -1,4 +1,5 @@
-//! What another engine loads after each store, which stretches a write notes, and where accesses end.
+//! What another engine loads after each store, which stretches a write notes, and where accesses
+//! end.
 use accesses::{LOADS, ROWS};
 use std::test::Fail;
 use wmem::{Load, MAX_PAGES, Memory, Trap, Width};
@@ -48,7 +49,8 @@ enum Access {
     Copy(u32),
 }
 
-// How many stretches of 256 bytes are noted after it, and after a reset, and how large the memory is then.
+// How many stretches of 256 bytes are noted after it, and after a reset, and how large the memory
+// is then.
 fn stretches_noted(memory: &mut Memory, access: Access) -> (usize, usize, u32) {
     match access {
         Access::Store(at, width, value) => {

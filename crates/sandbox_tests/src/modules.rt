@@ -50,7 +50,8 @@ fn has_start_with(alloc: Global, id: u8) -> Option<bool> {
     }
 }
 
-// The first section of which this isn't found where it is empty: that the start section alone has a function to be called.
+// The first section of which this isn't found where it is empty: that the start section alone has a
+// function to be called.
 fn first_other_start(alloc: Global) -> Option<u8> {
     for id in 1..12u8 {
         if has_start_with(alloc, id) != Some(id == 8) {

@@ -1,4 +1,5 @@
-//! The edge values, with what another engine answers at each, and the examples that the standard's rules are known by.
+//! The edge values, with what another engine answers at each, and the examples that the standard's
+//! rules are known by.
 mod edge_values;
 
 use edge_values::{

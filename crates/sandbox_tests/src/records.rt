@@ -128,8 +128,8 @@ fn node_of(row: &NodeRow) -> Option<Node> {
     })
 }
 
-// The first pod, or node, whose record of either version is other bytes. One record is made after the other, so that each is written
-// over the last one.
+// The first pod, or node, whose record of either version is other bytes. One record is made after
+// the other, so that each is written over the last one.
 
 fn has_bytes(record: &Record, bytes: &[u8]) -> bool {
     record.as_bytes() == bytes

@@ -103,7 +103,8 @@ fn bodies_in_bytes(alloc: Global, bodies: &[&[u8]]) -> Result<Vec<u8>, AllocErro
     Ok(bytes)
 }
 
-/// The module with these sections in front of its code, these bodies, each with its locals, and the section behind it, if any.
+/// The module with these sections in front of its code, these bodies, each with its locals, and the
+/// section behind it, if any.
 pub fn module_with(
     alloc: Global,
     sections: &[&[u8]],

@@ -1,12 +1,13 @@
-//! A small module's store: what it is at first, and through segments, writes, an image, more writes and back.
+//! A small module's store: what it is at first, and through segments, writes, an image, more writes
+//! and back.
 
 use crate::small_modules::{FILTER, ONE, TO_I32, ZERO, accepted_with};
 use std::alloc::Global;
 use wstore::{Load, Store, Width};
 
-// A function `filter`; a table of three; a memory of one page that may have two; an i32 of 7 and an i64 of 5; element
-// segments: the function at 1, none at 3, one at 3, none at 4; data segments: `hi` at 8, nothing at 65,536 and at 65,537,
-// `a` and `ab` at 65,535.
+// A function `filter`; a table of three; a memory of one page that may have two; an i32 of 7 and an
+// i64 of 5; element segments: the function at 1, none at 3, one at 3, none at 4; data segments:
+// `hi` at 8, nothing at 65,536 and at 65,537, `a` and `ab` at 65,535.
 const SECTIONS: &[&[u8]] = &[
     TO_I32,
     ONE,

@@ -17,8 +17,8 @@ use std::thread::{Threads, join};
 /// How many pods a pass pops while others do.
 const EACH: usize = 250;
 
-/// How many pods each node has in the end. Each pass wants to place 63 pods on each of the first two, and 62 on each of
-/// the others, of which the last has room for 100.
+/// How many pods each node has in the end. Each pass wants to place 63 pods on each of the first
+/// two, and 62 on each of the others, of which the last has room for 100.
 const PLACED: [(u8, u32); 4] = [(b'a', 252), (b'b', 252), (b'c', 248), (b'd', 100)];
 
 /// A uid of this number, in five digits.
@@ -140,7 +140,8 @@ fn counts<J: Naming, R: Wait>(rt: &R, desk: &Desk<J>, pass: &mut Pass<J>) -> boo
     }
 }
 
-/// A pass pops a pod, wants to place it on this node, says that it is bound or gives it back, and counts: four steps.
+/// A pass pops a pod, wants to place it on this node, says that it is bound or gives it back, and
+/// counts: four steps.
 fn place_next<J: Naming, R: Wait>(rt: &R, desk: &Desk<J>, pass: &mut Pass<J>, letter: u8) -> bool
     requires { IsPassOf pass.old desk.now }
     ensures { pass.new.caller.number ≡ pass.old.caller.number }
@@ -154,7 +155,8 @@ fn place_next<J: Naming, R: Wait>(rt: &R, desk: &Desk<J>, pass: &mut Pass<J>, le
     place(rt, desk, pass, uid, node) && counts(rt, desk, pass)
 }
 
-/// A pass takes 1,000 steps to place pods, on one node after another, and tells how many pods it popped and gave their answers.
+/// A pass takes 1,000 steps to place pods, on one node after another, and tells how many pods it
+/// popped and gave their answers.
 fn place_many<J: Naming, R: Wait>(rt: &R, desk: &Desk<J>, mut pass: Pass<J>) -> (Pass<J>, usize)
     requires { IsPassOf pass desk.now }
     ensures { result.0.caller.number ≡ pass.caller.number }
@@ -257,17 +259,18 @@ fn are_kept(book: &Book) -> bool {
 /// What came of passes that used a desk at once.
 #[derive(Clone, Copy, Debug, PartialEq, Eq)]
 enum Outcome {
-    /// Four placed pods: how many pods they popped together, whether two looks showed them once the passes had met, and whether
-    /// the book has them.
+    /// Four placed pods: how many pods they popped together, whether two looks showed them once the
+    /// passes had met, and whether the book has them.
     Placed(usize, bool, bool, bool),
-    /// One looked while another told of pods: how many were told, how often a node had fewer pods than before or nothing was
-    /// shown, and how many it has in the end.
+    /// One looked while another told of pods: how many were told, how often a node had fewer pods
+    /// than before or nothing was shown, and how many it has in the end.
     Looked(u32, u32, u32),
     /// There was no memory or no pass.
     NotBegun,
 }
 
-/// Four passes place the pods that wait at once, and meet. Then all look alike, and the closed book has no other places.
+/// Four passes place the pods that wait at once, and meet. Then all look alike, and the closed book
+/// has no other places.
 fn place_all<J: Naming + Send + Sync, R: Threads + Wait + Sync>(
     rt: &R,
     desk: Desk<J>,
@@ -342,7 +345,8 @@ fn looks_at_first<J: Naming>(desk: &Desk<J>, pass: &mut Pass<J>) -> Option<u32>
     }
 }
 
-/// A pass looks 100,000 times, and tells how often a node had fewer pods than before or nothing was shown.
+/// A pass looks 100,000 times, and tells how often a node had fewer pods than before or nothing was
+/// shown.
 fn look_often<J: Naming>(desk: &Desk<J>, mut pass: Pass<J>) -> (Pass<J>, u32)
     requires { IsPassOf pass desk.now }
     ensures { result.0.caller.number ≡ pass.caller.number }
@@ -372,8 +376,8 @@ fn bind_many<J: Naming, R: Wait>(rt: &R, desk: &Desk<J>, mut pass: Pass<J>) -> (
     (pass, many)
 }
 
-/// A pass looks while another tells of pods that are bound to a node. No look shows less than the one before, and one after
-/// both met shows all.
+/// A pass looks while another tells of pods that are bound to a node. No look shows less than the
+/// one before, and one after both met shows all.
 fn look_beside<J: Naming + Send + Sync, R: Threads + Wait + Sync>(
     rt: &R,
     alloc: Global,

@@ -1,4 +1,5 @@
-//! Binders that answer late: what the desk says to the report of a bind after the watch told of the pod or its node.
+//! Binders that answer late: what the desk says to the report of a bind after the watch told of the
+//! pod or its node.
 ghost use Rattle.std.specs.Prelude.{◌≡◌};
 ghost use Rattle.desk.specs.Shared.{IsPassOf};
 
@@ -12,7 +13,8 @@ use std::marker::Brand;
 use std::sync::atomic::{AtomicU64, Ordering};
 use std::sync::{Arc, Wait};
 
-/// A binder that always answers so, and keeps what it was told last, as the first letters of the uid and of the node's name.
+/// A binder that always answers so, and keeps what it was told last, as the first letters of the
+/// uid and of the node's name.
 #[derive(Drop)]
 struct Always {
     answer: BindAnswer,
@@ -69,8 +71,9 @@ const GONE: Answer = Answer::Refused(Refusal::Gone);
 
 const STALE: Answer = Answer::Refused(Refusal::StaleTicket);
 
-/// A bind that comes late: what was told before, what the binder answers, what the desk is to say to the report, and to that of the
-/// same job again, and how many places are bound and assumed then.
+/// A bind that comes late: what was told before, what the binder answers, what the desk is to say
+/// to the report, and to that of the same job again, and how many places are bound and assumed
+/// then.
 type Late = (&'static [Row], BindAnswer, Answer, Answer, usize, usize);
 
 /// The rows are worked by hand from the table of steps in docs/SCHEDULING.md.

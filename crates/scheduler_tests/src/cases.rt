@@ -67,8 +67,8 @@ pub const SMALL: Asking = Asking {
     tolerated: Tolerated::Nothing,
 };
 
-/// What is decided, in short: the node's first byte, how long its name is, and its total; the counts; or the erring node's first
-/// byte and the cause.
+/// What is decided, in short: the node's first byte, how long its name is, and its total; the
+/// counts; or the erring node's first byte and the cause.
 #[derive(Clone, Copy, PartialEq, Eq)]
 pub enum Told {
     Node(u8, usize, u32),

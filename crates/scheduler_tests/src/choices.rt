@@ -1,5 +1,5 @@
-//! The choice for one pod by a look at a desk, with a kit of modules of a few bytes each. The decisions were worked out by hand
-//! from the rules.
+//! The choice for one pod by a look at a desk, with a kit of modules of a few bytes each. The
+//! decisions were worked out by hand from the rules.
 ghost use Rattle.std.specs.Prelude.{IfSome};
 ghost use Rattle.plugin.specs.Plugins.{IsWeight, IsFuel};
 
@@ -20,8 +20,8 @@ use std::sync::{Arc, Wait};
 use wbin::decode;
 use wtype::validate;
 
-/// The nodes that a desk is told of; how many marked ones before them; what a pod is like; a plugin of weight 2, or no bytes where
-/// there is none; and what is decided.
+/// The nodes that a desk is told of; how many marked ones before them; what a pod is like; a plugin
+/// of weight 2, or no bytes where there is none; and what is decided.
 #[derive(Clone, Copy)]
 struct Case {
     what: &'static str,
@@ -53,7 +53,8 @@ const TOO_MUCH: &[u8] =
 const TRAPS: &[u8] =
     b"\0asm\x01\0\0\0\x01\x05\x01\x60\x00\x01\x7F\x03\x02\x01\x00\x07\x0A\x01\x06filter\x00\x00\x0A\x05\x01\x03\x00\x00\x0B";
 
-// A filter that is cut off where the node's name begins with b, by the fourth byte of its record, and else gives 2.
+// A filter that is cut off where the node's name begins with b, by the fourth byte of its record,
+// and else gives 2.
 const TRAPS_ON_B: &[u8] =
     b"\0asm\x01\0\0\0\x01\x0B\x02\x60\x00\x01\x7F\x60\x02\x7F\x7F\x01\x7F\x02\x0E\x01\x05sched\x04node\x00\x01\x03\x02\x01\x00\x05\x03\x01\x00\x01\x07\x0A\x01\x06filter\x00\x01\x0A\x1C\x01\x1A\x00\x41\x00\x41\x80\xC0\x00\x10\x00\x1A\x41\x03\x2D\x00\x00\x41\xE2\x00\x46\x04\x40\x00\x0B\x41\x02\x0B";
 

@@ -1,4 +1,5 @@
-//! Decisions by the verdicts on one or two nodes. The expected ones were worked out by hand from the rules.
+//! Decisions by the verdicts on one or two nodes. The expected ones were worked out by hand from
+//! the rules.
 ghost use Rattle.std.specs.Prelude.{◌≡◌};
 
 use crate::cases::{
@@ -11,7 +12,8 @@ use quant::{Bytes, Cpu, Name, Pod, Res, SharedNode};
 use rules::{Cause, FilterVerdict, Rejection, Rules, ScoreVerdict, Trap};
 use std::alloc::Global;
 
-/// A rule of weight 2, or none. Its filter says one thing of node `b`, and one of all others; its score is 50, or errs.
+/// A rule of weight 2, or none. Its filter says one thing of node `b`, and one of all others; its
+/// score is 50, or errs.
 #[derive(Clone, Copy, Drop)]
 struct Site {
     there: bool,

@@ -1,19 +1,22 @@
-//! The tests of the scheduler's crates, from amounts to decisions by several workers, each through what its crate offers. They stand
-//! together since a crate with tests is proved twice; those of lines, runs, storms and the program stand in `program_tests`. Nothing
-//! stands on this crate.
+//! The tests of the scheduler's crates, from amounts to decisions by several workers, each through
+//! what its crate offers. They stand together since a crate with tests is proved twice; those of
+//! lines, runs, storms and the program stand in `program_tests`. Nothing stands on this crate.
 //!
-//! A table is a constant of a few dozen rows that a function of its own gives out: what loops over it is then not proved in the midst
-//! of the table's parts. What owns a book, a desk, a kit or what a run wrote gives a number, a name or a small enum of it, and tests
-//! assert on these. Where keys, memory or a pass are wanting, the answer is one that no test takes.
+//! A table is a constant of a few dozen rows that a function of its own gives out: what loops over
+//! it is then not proved in the midst of the table's parts. What owns a book, a desk, a kit or what
+//! a run wrote gives a number, a name or a small enum of it, and tests assert on these. Where keys,
+//! memory or a pass are wanting, the answer is one that no test takes.
 //!
-//! Which module tests which crate (a module can't have the name of a library that its crate stands on):
+//! Which module tests which crate (a module can't have the name of a library that its crate stands
+//! on):
 //!
 //! - `quant`: `amounts`, `objects`
 //! - `name_table`: `names`
 //! - `queue`: `waiting`
 //! - `book`: `expiry`
 //! - `desk`: `steps` by one pass, `sharing` by several, `at_once` in threads, `looks`
-//! - `choose`: `decisions` on one or two nodes, `choices` by a look; `cases` has their nodes and pods in short
+//! - `choose`: `decisions` on one or two nodes, `choices` by a look; `cases` has their nodes and
+//!   pods in short
 //! - `fleet`: `workers`
 //! - `binder`: `binding`; `audit`: `audits`
 #![tactic(auto)]

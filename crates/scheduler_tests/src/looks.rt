@@ -65,7 +65,8 @@ fn opened<J: Naming, R: Wait>(
     shown
 }
 
-/// A look at a desk that was told of these. There is none where one of them is refused, and without memory.
+/// A look at a desk that was told of these. There is none where one of them is refused, and without
+/// memory.
 pub fn look<R: Wait>(
     rt: &R,
     alloc: Global,

@@ -1,4 +1,5 @@
-//! A table with three slots at work: names in and out, and a table that is full. Names are single letters.
+//! A table with three slots at work: names in and out, and a table that is full. Names are single
+//! letters.
 use name_table::NameTable;
 use quant::Name;
 use std::alloc::Global;

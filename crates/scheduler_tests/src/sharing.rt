@@ -19,7 +19,8 @@ enum By {
     Second,
 }
 
-/// Two passes for one place: both look first and see that nothing is used, and the second finds no room.
+/// Two passes for one place: both look first and see that nothing is used, and the second finds no
+/// room.
 const ONE_PLACE: &[Shared] = &[
     (By::First, (Call::Tell(1, News::Node(b'a')), Answer::Done)),
     (By::First, (Call::Tell(2, News::Pod(b'p')), Answer::Done)),
@@ -44,7 +45,8 @@ const ONE_TAKEN: &[Shared] = &[
     (By::Second, (Call::Look, Answer::Shown(600, 1))),
 ];
 
-/// A pod goes after the first pass popped it, and comes again. It is no more the first pass's, once another popped it.
+/// A pod goes after the first pass popped it, and comes again. It is no more the first pass's, once
+/// another popped it.
 const POD_AGAIN: &[Shared] = &[
     (By::First, (Call::Tell(1, News::Node(b'a')), Answer::Done)),
     (By::First, (Call::Tell(2, News::Pod(b'p')), Answer::Done)),
@@ -200,7 +202,8 @@ fn tried_on<J: Naming, R: Wait>(
     }
 }
 
-/// The first row of a trial on a new desk at which a call answers otherwise, and the first where there is no memory or no pass.
+/// The first row of a trial on a new desk at which a call answers otherwise, and the first where
+/// there is no memory or no pass.
 fn opened<J: Naming, R: Wait>(
     rt: &R,
     alloc: Global,

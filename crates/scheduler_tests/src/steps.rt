@@ -40,7 +40,8 @@ pub enum Call {
     Look,
 }
 
-/// What a call answers: of a popped pod the letter, and of a look what is used of its one node, in thousandths of a core and pods.
+/// What a call answers: of a popped pod the letter, and of a look what is used of its one node, in
+/// thousandths of a core and pods.
 #[derive(Clone, Copy, PartialEq, Eq)]
 pub enum Answer {
     Done,
@@ -192,7 +193,8 @@ fn apply<J: Naming, R: Wait>(
     }
 }
 
-/// What a call answers, if there is memory. It promises no more than that it is still the same pass.
+/// What a call answers, if there is memory. It promises no more than that it is still the same
+/// pass.
 pub fn ask<J: Naming, R: Wait>(
     rt: &R,
     alloc: Global,
@@ -243,7 +245,8 @@ pub fn first_other<J: Naming, R: Wait>(
     None
 }
 
-/// Two pods for one place: the second waits until the first one's bind failed, and what is used is counted once.
+/// Two pods for one place: the second waits until the first one's bind failed, and what is used is
+/// counted once.
 const ONE_PLACE: &[Row] = &[
     // Pods p and q wait for node a, that has room for one of them.
     (Call::Pop, Answer::Idle),

@@ -1,4 +1,5 @@
--- A site's script has one output: what its plugins say depends on the modules that their bytes spell, their images and their fuels.
+-- A site's script has one output: what its plugins say depends on the modules that their bytes
+-- spell, their images and their fuels.
 use Rattle.std.proofs.Common.{◌≡◌, ◌∙◌, ℕ, zero, suc, Bool, List, [], ◌∷◌, map, Option, Some, None, IfSome, slice_get, inl, inr, refl, sym, subst, ap, arith}
 use Rattle.wbin.specs.Syntax.{ModuleSyntax, module_of}
 use Rattle.wbin.specs.Grammar.{Spells}
@@ -38,7 +39,8 @@ OneModule = (bytes : List ℕ) (m n : ModuleSyntax) → Spells bytes m → Spell
 
 -- ---- kits of a site
 
--- plugins that are ready alike: their modules are one, and so are the images, whatever the code keeps of them
+-- plugins that are ready alike: their modules are one, and so are the images, whatever the code
+-- keeps of them
 record Alike (one other : Ready) : Type 0 where
   weight : one.weight ≡ other.weight
   fuel : one.fuel ≡ other.fuel

@@ -14,7 +14,8 @@ use Rattle.serving.specs.Site.{AreFromFiles, UnreadPlugin}
 use Rattle.serving.specs.Storm.{IsSiteStorm}
 use Rattle.serving.specs.Version.{TellsVersion}
 
--- What a call makes of the files: what each has before it, where that is known, and how many couldn't be opened or read, before and after.
+-- What a call makes of the files: what each has before it, where that is known, and how many
+-- couldn't be opened or read, before and after.
 pub record FilesUse : Type 1 where
   pub contents : List ℕ → Option (List ℕ)
   pub failures_old : ℕ
@@ -26,11 +27,13 @@ pub record FilesUse : Type 1 where
 abbrev pub files_of : {F : Type 0} → (contents : F → List ℕ → Option (List ℕ)) → (failures : F → ℕ) → (old new : F) → FilesUse
 files_of contents failures old new = record { contents = contents old; failures_old = failures old; failures_new = failures new; IsUntouched = new ≡ old }
 
--- A run by the plugins that the words configure, whose modules stand in their files, which explains its cycles or not, ended with this
--- status. `Unkeyed` says that there are no keys: then nothing is begun.
+-- A run by the plugins that the words configure, whose modules stand in their files, which explains
+-- its cycles or not, ended with this status. `Unkeyed` says that there are no keys: then nothing is
+-- begun.
 pub record IsPlannedRun (explains : Bool) (specs : List SpecSyntax) (Unkeyed : Type 0) (files : FilesUse) (source out err : DeviceUse) (ended : ℕ) : Type 0 where
   pub run : IsSiteRun explains (AreFromFiles files.contents specs) specs source out err ended
-  -- without a place nothing is read; a file that failed is told by its name, with the plugin whose file it is
+  -- without a place nothing is read; a file that failed is told by its name, with the plugin whose
+  -- file it is
   pub failures : TellsFailures source.IsUntouched Unkeyed (UnreadPlugin specs files.failures_old files.failures_new) source out err ended
   -- and at any other status no file has failed
   pub files_told : ended ≢ 4 → files.failures_new ≡ files.failures_old
@@ -52,13 +55,15 @@ pub record IsTranslation (manner : Manner) (files : FilesUse) (source out err : 
   pub translated : IsTranslated manner source out err ended
   pub unopened : files.IsUntouched
 
--- which program this is was told, or not, with this status, and the files and the source are as they were
+-- which program this is was told, or not, with this status, and the files and the source are as
+-- they were
 pub record IsVersionTold (files : FilesUse) (source out err : DeviceUse) (ended : ℕ) : Type 0 where
   pub tells : TellsVersion out err ended
   pub unopened : files.IsUntouched
   pub unread : source.IsUntouched
 
--- nothing was asked for: this fault is told, or that memory was wanting, and nothing is read or written
+-- nothing was asked for: this fault is told, or that memory was wanting, and nothing is read or
+-- written
 pub record IsIdle (fault : Fault) (files : FilesUse) (source out err : DeviceUse) (ended : ℕ) : Type 0 where
   pub status : (ended ≡ 2) ⊎ (ended ≡ 3)
   pub words : ended ≡ 2 → TellsFault err fault

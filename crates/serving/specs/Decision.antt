@@ -15,8 +15,9 @@ use Rattle.choose.specs.declared.decision.Verdict.{Verdict}
 use Rattle.choose.specs.Verdict.{HasVerdict}
 use Rattle.choose.specs.Choice.{Choice}
 
--- What the calls of a kit's plugins give, each from the plugin's image and with its fuel, with the records of the pod, the node
--- and what is used of it: a filter that isn't there passes the node, and a score gives 0.
+-- What the calls of a kit's plugins give, each from the plugin's image and with its fuel, with the
+-- records of the pod, the node and what is used of it: a filter that isn't there passes the node,
+-- and a score gives 0.
 abbrev pub calls_of : List Ready → RuleSet
 calls_of kit = record {
   weights = map (λ p. p.weight) kit;
@@ -26,8 +27,8 @@ calls_of kit = record {
       ⊎ ((outcome : Outcome) × CallGives kit place export.Score told.pod told.node told.used outcome × (verdict ≡ score_said outcome));
 }
 
--- The verdict on a node by a kit's rules, by which a site's decisions, outputs and storms are defined, is the one that these calls
--- give; and so is the choice among nodes.
+-- The verdict on a node by a kit's rules, by which a site's decisions, outputs and storms are
+-- defined, is the one that these calls give; and so is the choice among nodes.
 pub record DecidedByCalls : Type 0 where
   pub verdict : (kit : List Ready) (pod : Pod) (shown : Shown) (verdict : Verdict) →
       HasVerdict (rules_of kit) pod shown verdict ↔ HasVerdict (calls_of kit) pod shown verdict

@@ -6,7 +6,8 @@ use Rattle.engine.specs.Laws.{Begins, IsWithLines}
 use Rattle.command.specs.Words.{SpecSyntax}
 use Rattle.serving.specs.Site.{AreFromFiles, BeginsSiteOutput, IsSiteOutput}
 
--- By plugins of these names, weights and fuels, with these bytes of their modules, a script has one output.
+-- By plugins of these names, weights and fuels, with these bytes of their modules, a script has one
+-- output.
 abbrev pub OneSiteOutput : Type 0
 OneSiteOutput =
     (explains : Bool) (specs : List SpecSyntax) (modules : List (List ℕ)) (script one other : List ℕ) → IsSiteOutput explains specs modules script one → IsSiteOutput explains specs modules script other → one ≡ other

@@ -20,29 +20,33 @@ abbrev pub told_of : {V : Type 0} → (V → List (List ℕ)) → Result V WordF
 told_of texts (Ok words) = Misused (misuse_of (texts words))
 told_of texts (Err fault) = Words fault
 
--- A run of a script by the plugins that are configured, which explains its cycles or not, ended with this status. `AreGiven` says which modules they have.
+-- A run of a script by the plugins that are configured, which explains its cycles or not, ended
+-- with this status. `AreGiven` says which modules they have.
 pub record IsSiteRun (explains : Bool) (AreGiven : List (List ℕ) → Type 0) (specs : List SpecSyntax) (source out err : DeviceUse) (ended : ℕ) : Type 0 where
   -- these are the statuses of a run
   pub status : (ended ≡ 0) ⊎ ((ended ≡ 1) ⊎ ((ended ≡ 3) ⊎ (ended ≡ 4)))
   -- no line is faulty, the output is written whole, and everything is read
   pub done : ended ≡ 0 → SiteDone explains AreGiven specs source.old source.new out.old out.new
-  -- A plugin's module is refused, that is told, and nothing is read or written. Or a line is faulty: it is the first one and its fault is
-  -- told, and the output of the lines before it is written whole.
+  -- A plugin's module is refused, that is told, and nothing is read or written. Or a line is
+  -- faulty: it is the first one and its fault is told, and the output of the lines before it is
+  -- written whole.
   pub input : ended ≡ 1 → (fault : Fault) × TellsFault err fault
       × ((SiteRefused AreGiven specs fault × source.IsUntouched × out.IsUntouched) ⊎ SiteFaulty explains AreGiven specs fault source.old out.old out.new)
   -- nothing but the output, or a beginning of it, is written
   pub front : out.IsUntouched ⊎ SiteFront explains AreGiven specs source.old out.old out.new
 
--- What is told of failures and of want of memory by this status. `Left` is what holds of the source where the desk has no place. `NotBegun`
--- says why nothing was begun that a failed read is told of, and `NoFile` so of what is told of a plugin's file.
+-- What is told of failures and of want of memory by this status. `Left` is what holds of the source
+-- where the desk has no place. `NotBegun` says why nothing was begun that a failed read is told of,
+-- and `NoFile` so of what is told of a plugin's file.
 pub record TellsFailures (Left NotBegun : Type 0) (NoFile : PluginUnread → Type 0) (source out err : DeviceUse) (ended : ℕ) : Type 0 where
   -- all was done, and no fault is told
   pub quiet : ended ≡ 0 → err.IsUntouched
   -- Memory, or the desk's place, was wanting, and that is told. Without a place nothing is written.
   pub room : ended ≡ 3 → TellsFault err (Run run_fault.NoMemory)
       ⊎ (TellsFault err (Run run_fault.NoPlace) × Left × out.IsUntouched)
-  -- Nothing was begun: that is told, and nothing is read or written. Or a read or a write failed meanwhile, and that is told. Or a plugin's
-  -- file couldn't be read: it is told which file of which plugin, and nothing is read or written.
+  -- Nothing was begun: that is told, and nothing is read or written. Or a read or a write failed
+  -- meanwhile, and that is told. Or a plugin's file couldn't be read: it is told which file of
+  -- which plugin, and nothing is read or written.
   pub failed : ended ≡ 4 → TellsFault err (Run run_fault.Read) × ((NotBegun × source.IsUntouched × out.IsUntouched) ⊎ (source.failures_old < source.failures_new))
       ⊎ (TellsFault err (Run run_fault.Write) × (out.failures_old < out.failures_new)
       ⊎ ((unread : PluginUnread) × TellsFault err (Unread unread) × NoFile unread × source.IsUntouched × out.IsUntouched))

@@ -31,7 +31,8 @@ named_of specs = map (λ s. record { name = s.name; weight = s.weight }) specs
 abbrev pub told_by : (explains : Bool) → List SpecSyntax → Telling
 told_by explains specs = telling (named_of specs) explains
 
--- A plugin is the one that the words configure, and its module the one that these bytes spell, which is accepted.
+-- A plugin is the one that the words configure, and its module the one that these bytes spell,
+-- which is accepted.
 pub record IsPlugin (spec : SpecSyntax) (bytes : List ℕ) (plugin : Configured) : Type 0 where
   pub name : plugin.name ≡ spec.name
   pub weight : plugin.weight ≡ spec.weight
@@ -67,12 +68,13 @@ WritesSiteOutput explains specs modules script old new = (kit : List Ready) × I
 abbrev pub WritesSiteFront : (explains : Bool) → List SpecSyntax → (modules : List (List ℕ)) → (script : List ℕ) → (old new : Option (List ℕ)) → Type 0
 WritesSiteFront explains specs modules script old new = (kit : List Ready) × IsSiteKit specs modules kit × WritesFront (rules_of kit) (told_by explains specs) script old new
 
--- The modules are what the plugins' files have, where that is known. Of a file no more is read than tells that it is longer than
--- a module may be.
+-- The modules are what the plugins' files have, where that is known. Of a file no more is read than
+-- tells that it is longer than a module may be.
 abbrev pub AreFromFiles : (contents : List ℕ → Option (List ℕ)) → List SpecSyntax → (modules : List (List ℕ)) → Type 0
 AreFromFiles contents specs modules = AllZip (λ spec bytes. IfSome (contents spec.file) (λ whole. bytes ≡ front_of whole)) specs modules
 
--- A plugin's file couldn't be read, where files have failed this often before and by now: the words configure the plugin by this file.
+-- A plugin's file couldn't be read, where files have failed this often before and by now: the words
+-- configure the plugin by this file.
 pub record UnreadPlugin (specs : List SpecSyntax) (failures_old failures_new : ℕ) (unread : PluginUnread) : Type 0 where
   pub place : ℕ
   pub spec : SpecSyntax
@@ -81,8 +83,8 @@ pub record UnreadPlugin (specs : List SpecSyntax) (failures_old failures_new : �
   pub file : unread.fault.file.items ≡ excerpt_of spec.file
   pub failed : failures_old < failures_new
 
--- Why there are no modules of the plugins that the words configure: memory was wanting, and no file has failed; or a plugin's file couldn't be
--- read.
+-- Why there are no modules of the plugins that the words configure: memory was wanting, and no file
+-- has failed; or a plugin's file couldn't be read.
 abbrev pub WhyNoModules : List SpecSyntax → (failures_old failures_new : ℕ) → Fault → Type 0
 WhyNoModules specs failures_old failures_new (Run run_fault.NoMemory) = failures_new ≡ failures_old
 WhyNoModules specs failures_old failures_new (Unread unread) = UnreadPlugin specs failures_old failures_new unread
@@ -95,14 +97,15 @@ pub record AreSiteKits (specs : List SpecSyntax) (modules : List (List ℕ)) (wo
   pub all : All (IsKitOf plugins) kits
   pub count : length kits ≡ workers
 
--- Why a plugin of this name can't be had from these bytes: they spell no module, or one that isn't accepted. Want of memory says
--- nothing of them.
+-- Why a plugin of this name can't be had from these bytes: they spell no module, or one that isn't
+-- accepted. Want of memory says nothing of them.
 abbrev pub WhyNoPlugin : (name bytes : List ℕ) → Fault → Type 0
 WhyNoPlugin name bytes (Run run_fault.NoMemory) = Unit {0}
 WhyNoPlugin name bytes (Plugin named why) = (named ≡ name) × IsRefusedFor bytes why
 WhyNoPlugin name bytes _ = ⊥
 
--- The module of a plugin is refused, or memory was wanting for it; each plugin in front of it can be had.
+-- The module of a plugin is refused, or memory was wanting for it; each plugin in front of it can
+-- be had.
 pub record ModuleRefused (specs : List SpecSyntax) (modules : List (List ℕ)) (fault : Fault) : Type 0 where
   pub place : ℕ
   pub spec : SpecSyntax
@@ -113,7 +116,8 @@ pub record ModuleRefused (specs : List SpecSyntax) (modules : List (List ℕ)) (
   pub are : ArePlugins (take place specs) (take place modules) before
   pub why : WhyNoPlugin spec.name bytes fault
 
--- What is told where a kit can't be made: the plugin and why, but that memory was wanting is told as such.
+-- What is told where a kit can't be made: the plugin and why, but that memory was wanting is told
+-- as such.
 abbrev pub IsToldAs : KitFault → Fault → Type 0
 IsToldAs kit fault = ((kit.fault ≡ instance_fault.NoMemory) × (fault ≡ Run run_fault.NoMemory))
     ⊎ ((kit.fault ≢ instance_fault.NoMemory) × (fault ≡ Plugin kit.plugin (NotReady kit.fault)))

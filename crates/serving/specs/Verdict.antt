@@ -20,8 +20,8 @@ use Rattle.serving.specs.declared.verdict.Verdict.TheVariants.{Accepted, Refused
 abbrev pub front_of : List ℕ → List ℕ
 front_of bytes = take 1048577 bytes
 
--- Why bytes give no accepted module: they spell none, or the one that they spell isn't accepted. Want of memory says nothing of a
--- module, nor does that no instance of it can be made.
+-- Why bytes give no accepted module: they spell none, or the one that they spell isn't accepted.
+-- Want of memory says nothing of a module, nor does that no instance of it can be made.
 abbrev pub IsRefusedFor : List ℕ → Refusal → Type 0
 IsRefusedFor bytes (refusal.Undecoded fault) = (fault ≢ bin_fault.NoMemory) × ((m : ModuleSyntax) → Spells bytes m → ⊥)
 IsRefusedFor bytes (refusal.Untyped fault) = (m : ModuleSyntax) × Spells bytes m × (fault ≢ type_fault.NoMemory) × WhyRefused m fault × (accepted.Accepted m → ⊥)

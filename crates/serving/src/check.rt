@@ -53,8 +53,8 @@ fn tell<W: Sink, E: Sink>(verdict: Verdict, out: &mut W, err: &mut E) -> u8
 }
 
 /// Says on `out` whether the file of this name has a module that is accepted, as `check_module`
-/// does. That the file can't be opened or read goes to `err` as one line, with its name and the cause, and
-/// nothing is written.
+/// does. That the file can't be opened or read goes to `err` as one line, with its name and the
+/// cause, and nothing is written.
 pub fn check_file<F: Files, W: Sink, E: Sink>(
     alloc: Global,
     name: &str,

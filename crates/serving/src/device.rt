@@ -10,8 +10,8 @@ use std::io::{ErrorKind, Read, Write};
 /// needs an end.
 pub(crate) const MAX_INPUT: u64 = 1 << 63;
 
-/// A script that a reader gives. A read that is interrupted is tried again. Past the most bytes that
-/// are read a read fails, since it would else look like the end.
+/// A script that a reader gives. A read that is interrupted is tried again. Past the most bytes
+/// that are read a read fails, since it would else look like the end.
 #[derive(Drop)]
 pub struct Input<R> {
     reader: R,

@@ -1,13 +1,16 @@
-//! What the program `wsched` does, from its words to its exit status, over streams and files that are handed in.
+//! What the program `wsched` does, from its words to its exit status, over streams and files that
+//! are handed in.
 //!
-//! - `program`: what is done from the words to the status: a run by `site_run`, a storm by `storm_run`, a check by `check`, a
-//!   translation by `translator`.
+//! - `program`: what is done from the words to the status: a run by `site_run`, a storm by
+//!   `storm_run`, a check by `check`, a translation by `translator`.
 //! - `site`: a site's plugins, from what the words configure and the files have to kits.
 //! - `with_kits`: a run by a pool of kits, which lives as long as the run.
 //! - `stand_in`: binders that stand in for a cluster.
-//! - `verdict`: what is found of a module, and the line that tells it; `version`: which program this is.
+//! - `verdict`: what is found of a module, and the line that tells it; `version`: which program
+//!   this is.
 //! - `device`, `folder`: standard input and output, and files, as the engine reads and writes.
-//! - `laws`: that a site's script has one output, and that what is decided is decided by the plugins' calls.
+//! - `laws`: that a site's script has one output, and that what is decided is decided by the
+//!   plugins' calls.
 #![tactic(auto)]
 
 mod check;

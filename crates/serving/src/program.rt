@@ -18,11 +18,11 @@ use std::sync::Wait;
 use std::thread::Threads;
 use translator::serve_translation;
 
-/// Does what the words that follow the program's name ask for, and gives the exit status. Words that
-/// could not be read, or that ask for nothing, are told on `err`, and nothing is read or written.
-/// For `run` and `explain` it is what `serve_plan` does under the keys, for `storm` what `storm_plan` does, for
-/// `check` what `check_file` does, for `translate` what `serve_translation` does, and for `version` what `tell_version`
-/// does.
+/// Does what the words that follow the program's name ask for, and gives the exit status. Words
+/// that could not be read, or that ask for nothing, are told on `err`, and nothing is read or
+/// written. For `run` and `explain` it is what `serve_plan` does under the keys, for `storm` what
+/// `storm_plan` does, for `check` what `check_file` does, for `translate` what `serve_translation`
+/// does, and for `version` what `tell_version` does.
 pub fn answer<
     T: Wait + Threads + Copy + Send + Sync + 'static,
     S: AsStr + Drop,

@@ -34,8 +34,8 @@ const NO_MEMORY: Fault = Fault::Run(RunFault::NoMemory);
 
 /// So many kits of the plugins that are configured, each with the module in its file's bytes.
 ///
-/// Errors: `Plugin` with the first plugin whose module is refused. All modules are read before an instance of any is made.
-/// `NoMemory` says nothing of them.
+/// Errors: `Plugin` with the first plugin whose module is refused. All modules are read before an
+/// instance of any is made. `NoMemory` says nothing of them.
 pub fn site_kits(
     alloc: Global,
     specs: &[Spec<'_>],
@@ -144,8 +144,8 @@ fn not_ready(fault: KitFault) -> Fault
     }
 }
 
-/// The modules of plugins, each as its file has it, in the plugins' order. Of a file no more is read than tells that it is longer
-/// than a module may be.
+/// The modules of plugins, each as its file has it, in the plugins' order. Of a file no more is
+/// read than tells that it is longer than a module may be.
 ///
 /// Errors: `Unread` with the first plugin whose file can't be opened or read, and `NoMemory`.
 pub fn modules_in<F: Files>(

@@ -18,9 +18,10 @@ use std::hash::RandomState;
 use std::sync::Wait;
 use std::thread::Threads;
 
-/// Reads a script from `source`, decides by the plugins that are planned, whose modules' bytes stand in their order, writes the
-/// answers to `out`, and gives the exit status. A fault goes to `err` as one line, and a failed write of that line changes
-/// nothing. Names are looked up under the keys, which whoever writes the script can't know. Where it explains, what was decided of
+/// Reads a script from `source`, decides by the plugins that are planned, whose modules' bytes
+/// stand in their order, writes the answers to `out`, and gives the exit status. A fault goes to
+/// `err` as one line, and a failed write of that line changes nothing. Names are looked up under
+/// the keys, which whoever writes the script can't know. Where it explains, what was decided of
 /// each node stands before a cycle's line.
 pub fn serve<T: Wait + Threads + Copy + Send + Sync + 'static, R: Source, W: Sink, E: Sink>(
     rt: &T,
@@ -86,8 +87,9 @@ fn named_in(alloc: Global, specs: &[Spec<'_>]) -> Result<Vec<NamedRule>, AllocEr
     Ok(named)
 }
 
-/// Reads the plugins' files and serves a script by them, as `serve` does. That a file can't be read is told with the name of its
-/// plugin. That there are no keys, since the system gave no random bytes, is told as a failed read. The script isn't read then.
+/// Reads the plugins' files and serves a script by them, as `serve` does. That a file can't be read
+/// is told with the name of its plugin. That there are no keys, since the system gave no random
+/// bytes, is told as a failed read. The script isn't read then.
 pub(crate) fn serve_plan<
     T: Wait + Threads + Copy + Send + Sync + 'static,
     F: Files,

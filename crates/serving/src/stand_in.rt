@@ -15,7 +15,8 @@ use std::sync::Wait;
 use std::thread::Threads;
 use storm::{OneKit, storm};
 
-/// A binder that tells no cluster. Each bind that it is asked for is done, but where it is flaky every third one fails.
+/// A binder that tells no cluster. Each bind that it is asked for is done, but where it is flaky
+/// every third one fails.
 #[derive(Debug, Drop)]
 pub struct StandIn {
     is_flaky: bool,

@@ -21,10 +21,11 @@ use std::sync::Wait;
 use std::thread::Threads;
 use storm::OneKit;
 
-/// Reads a script whole from `source` and makes a storm of it: cycle threads that decide by the plugins that are planned, whose
-/// modules' bytes stand in their order, and binders that stand in for a cluster, at work on one desk at once. It writes the
-/// dump's lines and the audit's to `out`, and gives the exit status: 1 where the audit says no. A fault goes to `err` as one
-/// line, and a failed write of that line changes nothing.
+/// Reads a script whole from `source` and makes a storm of it: cycle threads that decide by the
+/// plugins that are planned, whose modules' bytes stand in their order, and binders that stand in
+/// for a cluster, at work on one desk at once. It writes the dump's lines and the audit's to `out`,
+/// and gives the exit status: 1 where the audit says no. A fault goes to `err` as one line, and a
+/// failed write of that line changes nothing.
 pub fn serve_storm<T: Wait + Threads + Sync, R: Source, W: Sink, E: Sink>(
     rt: &T,
     alloc: Global,
@@ -89,9 +90,9 @@ fn deciders_of(alloc: Global, kits: Vec<KitRules>) -> Result<Vec<OneKit<KitRules
     Ok(deciders)
 }
 
-/// Reads the plugins' files and makes a storm of a script by them, as `serve_storm` does. That a file can't be read is told with
-/// the name of its plugin. That there are no keys, since the system gave no random bytes, is told as a failed read. The script
-/// isn't read then.
+/// Reads the plugins' files and makes a storm of a script by them, as `serve_storm` does. That a
+/// file can't be read is told with the name of its plugin. That there are no keys, since the system
+/// gave no random bytes, is told as a failed read. The script isn't read then.
 pub(crate) fn storm_plan<T: Wait + Threads + Sync, F: Files, R: Source, W: Sink, E: Sink>(
     rt: &T,
     alloc: Global,

@@ -13,8 +13,8 @@ use fault_line::{Fault, report};
 // The program's name, its version (Semantic Versioning 2.0.0), and the kit that it is proved with.
 const VERSION: &[u8] = b"wsched 0.5.0 rattle-kit-13f\n";
 
-/// Says on `out` which program this is, as one line, and gives the exit status: 0, or 4 where a write
-/// failed, which goes to `err`.
+/// Says on `out` which program this is, as one line, and gives the exit status: 0, or 4 where a
+/// write failed, which goes to `err`.
 #[tactic(auto, using(crate::proofs::Verdicts::whole_front))]
 pub fn tell_version<W: Sink, E: Sink>(out: &mut W, err: &mut E) -> u8
     requires writes { W.failure_count out.old < 10 ^ 18 }

@@ -57,8 +57,9 @@ where
     done
 }
 
-/// Runs a script as the engine's `run` does, by a pool of 1 to 64 kits that judge alike, as those of the same plugins do: the first decides
-/// in this thread, and each other one has a worker, which stays until the script has ended.
+/// Runs a script as the engine's `run` does, by a pool of 1 to 64 kits that judge alike, as those
+/// of the same plugins do: the first decides in this thread, and each other one has a worker, which
+/// stays until the script has ended.
 ///
 /// Errors: those of `run`. `NoMemory` comes where there is none for the pool too.
 pub fn run_with_kits<

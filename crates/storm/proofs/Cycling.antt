@@ -75,7 +75,8 @@ module _ (rules : RuleSet) (desk : Desk) where
   cycled_both p q r [] (c ∷ other) a b = (informed_trans p q c.before a b.0, b.1, b.2)
   cycled_both p q r (d ∷ one) other a b = (a.0, a.1, cycled_both d.after q r one other a.2 b)
 
-  -- the cycles that a pass made are its calls in each history that goes on from there without a call of it
+  -- the cycles that a pass made are its calls in each history that goes on from there without a
+  -- call of it
   pub cycles_in : (p q : Pass) (made : List OneCycle) (l : List Call) → HasCycled rules desk p made q → GoesOn p.caller.number q.seen l → MakesCycles rules desk l p made
   cycles_in p q [] l h go = goes_trans p.caller.number p.seen q.seen l h.1 go
   cycles_in p q (c ∷ made) l h go =

@@ -86,7 +86,8 @@ worked {J} answers kits desk fed clerk clerk' counts rows f f0 f1 c c0 c1 r r0 r
 
 -- ---- the audit
 
--- the answer to an audit of the book of a desk that was closed by a pass which knew what was looked at
+-- the answer to an audit of the book of a desk that was closed by a pass which knew what was looked
+-- at
 audited : (desk : Desk) (clerk last : Pass) (book : Cluster) (looked : List Call) (rows : List Shown) (answer : Bool) → BeginsWith clerk.seen looked → Closed desk clerk last book
     → (IsTrue answer ↔ ShowsSums rows book.places) → IsAudit desk looked rows answer
 audited desk clerk last book looked rows answer knows closed says = record {

@@ -37,7 +37,8 @@ goes_refl n l = ([], sym (append-nil l), tt)
 pub goes_trans : (n : ℕ) (a b c : List Call) → GoesOn n a b → GoesOn n b c → GoesOn n a c
 goes_trans n a b c ab bc = (ab.0 ++ bc.0, bc.1 ∙ ap (λ r. r ++ bc.0) ab.1 ∙ append_assoc a ab.0 bc.0, others_join n ab.0 bc.0 ab.2 bc.2)
 
--- Where a history goes on to a longer one without a call of the pass, it goes on so to each one between.
+-- Where a history goes on to a longer one without a call of the pass, it goes on so to each one
+-- between.
 pub sandwich : (n : ℕ) (s m l : List Call) → BeginsWith m s → BeginsWith l m → GoesOn n s l → GoesOn n s m
 sandwich n s m l ms lm go =
     let whole : ms.0 ++ lm.0 ≡ go.0 = append_cancel_left s _ _ (sym (append_assoc s ms.0 lm.0) ∙ ap (λ r. r ++ lm.0) (sym ms.1) ∙ sym lm.1 ∙ go.1) in

@@ -16,7 +16,8 @@ use Rattle.storm.specs.inside.Made.{Makes}
 use Rattle.storm.specs.inside.Crew.{HasMet, HaveMet, HaveMetFirst, IsDumped}
 use Rattle.storm.proofs.Going.{begins_refl, begins_trans, goes_begins, goes_refl, goes_trans, sandwich, informed_later, informed_trans, applied_later, makes_none, makes_more, makes_told}
 
--- Those that a pass met once before and once after a history made their calls of it before they were met first.
+-- Those that a pass met once before and once after a history made their calls of it before they
+-- were met first.
 module _ {J T : Type 0} (desk : Desk) (p q p2 q2 : Pass) (l : List Call) (ws ws' ws'' : List (Worker J T)) where
   pub settled : HaveMet desk p ws q ws' → HaveMet desk p2 ws' q2 ws'' → BeginsWith l q.seen → BeginsWith p2.seen l → All (λ w. GoesOn w.pass.caller.number w.pass.seen l) ws
   settled one two front back i d lt =

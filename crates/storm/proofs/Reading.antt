@@ -18,7 +18,8 @@ use Rattle.storm.specs.declared.batch.Faulty.{Faulty}
 use Rattle.storm.specs.inside.Lines.{AreSteps, IsFaulty, AreRead, TakesLines, kept}
 use Rattle.storm.proofs.Batches.{further, fault_both, fault_front, asked_both, asked_kept, fault_kept, from_number}
 
--- Of a known script this rest is left; the lines before it asked for these steps, and the rest begins with the line of this number.
+-- Of a known script this rest is left; the lines before it asked for these steps, and the rest
+-- begins with the line of this number.
 pub record IsRead (script rest : List ℕ) (steps : List Step) (number : ℕ) : Type 0 where
   pub cut : asked_in watched (lines_of script) ≡ steps ++ asked_in watched (lines_of rest)
   pub faults : fault_from watched number (lines_of rest) ≡ fault_from watched 1 (lines_of script)

@@ -90,7 +90,8 @@ module _ {J D Kit : Type 0} (answers : Kit → RuleSet) (kits : D → List Kit) 
       after = first_seen rules desk then.told w''.pass (alone fine).0 (alone fine).1 (alone fine).2.cycled;
     }
 
-  -- The first of the cycle passes went on, and all others are as they were. `cs1` is what they left, told of under another name.
+  -- The first of the cycle passes went on, and all others are as they were. `cs1` is what they
+  -- left, told of under another name.
   module _ (cs cs1 cs' : List (Worker J D)) (r w'' : Worker J D) (fs fs' : List (Worker J (Unit {0}))) (then : HasFinished answers kits desk fs (slice_index_or cs' 0 r) fs' w'')
       (some : 0 < length cs) (same : cs1 ≡ cs') (each1 : Each (HasScheduled answers kits desk) cs cs1)
     where

@@ -14,8 +14,8 @@ pub record OneCycle : Type 0 where
   pub came : Cycled
   pub after : Pass
 
--- A pass that was so made these cycles one after the other, and no other call, in this history: each is a cycle over
--- beginnings of it.
+-- A pass that was so made these cycles one after the other, and no other call, in this history:
+-- each is a cycle over beginnings of it.
 abbrev pub MakesCycles : RuleSet → Desk → (l : List Call) → Pass → List OneCycle → Type 0
 MakesCycles rules desk l p [] = GoesOn p.caller.number p.seen l
 MakesCycles rules desk l p (c ∷ later) =

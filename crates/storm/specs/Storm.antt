@@ -25,12 +25,14 @@ use Rattle.storm.specs.Cycles.{OneCycle, Cycles, IsIdleAfter}
 
 -- ---- the histories
 
--- which passes make cycles: 0 and 1 feed, then each decider has one, and all others report binds or count
+-- which passes make cycles: 0 and 1 feed, then each decider has one, and all others report binds or
+-- count
 abbrev pub cycler : ℕ → ℕ
 cycler place = 2 + place
 
--- Three histories of one desk, each of which begins with the one before: up to where all was fed, up to the count that is
--- dumped, and up to the look that is dumped. A decider's rules are what `rules` says of it.
+-- Three histories of one desk, each of which begins with the one before: up to where all was fed,
+-- up to the count that is dumped, and up to the look that is dumped. A decider's rules are what
+-- `rules` says of it.
 pub record IsStorm {D : Type 0} (rules : D → RuleSet) (deciders : List D) (desk : Desk) (fed : List Step) (rows : List Shown) (counts : Counts) : Type 0 where
   pub all_fed : List Call
   pub counted : List Call
@@ -49,15 +51,16 @@ pub record IsStorm {D : Type 0} (rules : D → RuleSet) (deciders : List D) (des
   pub idle : (c : OneCycle) × (earlier : List OneCycle) × (cycles 0 ≡ earlier ++ c ∷ []) × IsIdleAfter all_fed c
   -- all others reported binds, or counted
   pub others : (pass : ℕ) → 2 + length deciders ≤ pass → AllByRecursion IsReportOrCount (steps_of pass counted)
-  -- the count that is dumped is the last call, and the rows that are dumped are those of the history after it
+  -- the count that is dumped is the last call, and the rows that are dumped are those of the
+  -- history after it
   pub before_count : List Call
   pub count : Call
   pub count_is : (count.step ≡ steps.Count) × (count.reply ≡ replies.Counts counts)
   pub ends : counted ≡ before_count ++ count ∷ []
   pub shown : rows ≡ snap looked
 
--- The audit's answer is whether each of these rows shows as used the sum over the places that a history leaves, which goes on
--- from the one that is dumped and is the desk's last.
+-- The audit's answer is whether each of these rows shows as used the sum over the places that a
+-- history leaves, which goes on from the one that is dumped and is the desk's last.
 pub record IsAudit (desk : Desk) (looked : List Call) (rows : List Shown) (answer : Bool) : Type 0 where
   pub closed : List Call
   pub legal : Legal desk.limits desk.handed closed
@@ -75,7 +78,8 @@ audit_line false = line_of (codes "audit failed")
 abbrev pub storm_text : List Shown → Counts → (answer : Bool) → List ℕ
 storm_text rows counts answer = (snapshot_lines rows ++ reply_lines (replies.Counts counts)) ++ audit_line answer
 
--- the desk of a storm: it has the program's limits, and handed out a pass for each feeder, decider and binder, and one more
+-- the desk of a storm: it has the program's limits, and handed out a pass for each feeder, decider
+-- and binder, and one more
 abbrev pub desk_for : (deciders binders : ℕ) → Desk
 desk_for deciders binders = record { limits = limits; handed = 2 + deciders + binders + 1 }
 
@@ -87,7 +91,8 @@ pub record Storms {D : Type 0} (rules : D → RuleSet) (deciders : List D) (bind
   pub audit : IsAudit (desk_for (length deciders) binders) storm.looked rows answer
   pub wrote : Wrote (storm_text rows counts answer)
 
--- these are the steps of the script, where the source tells its bytes: no line is faulty, and everything is read
+-- these are the steps of the script, where the source tells its bytes: no line is faulty, and
+-- everything is read
 abbrev pub AreOfScript : List Step → (source : DeviceUse) → Type 0
 AreOfScript fed source = IfSome source.old (λ script. (first_storm_fault script ≡ None) × (fed ≡ script_steps script) × (source.new ≡ Some []))
 

@@ -173,8 +173,8 @@ fn put(lines: &mut Vec<Vec<u8>>, line: Vec<u8>) -> Result<(), RunFault>
     Ok(())
 }
 
-/// Takes the next lines of a source, as many as are read at once or all that are left, and says whether more may be. They have 1 MiB
-/// and a line in all, at most.
+/// Takes the next lines of a source, as many as are read at once or all that are left, and says
+/// whether more may be. They have 1 MiB and a line in all, at most.
 ///
 /// Errors: `Read`, and `NoMemory` where there is none for a line.
 pub(crate) fn take_lines<R: Source>(

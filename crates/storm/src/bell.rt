@@ -28,9 +28,9 @@ impl Heard {
     }
 }
 
-/// A cycle thread that finds no pod waits for the next ring, and doesn't ask the desk again and again: each Pop is published.
-/// It remembers what it heard before it asks, so that no ring falls between. Whoever is woken makes cycles until it finds no pod
-/// again, so one is enough for a pod.
+/// A cycle thread that finds no pod waits for the next ring, and doesn't ask the desk again and
+/// again: each Pop is published. It remembers what it heard before it asks, so that no ring falls
+/// between. Whoever is woken makes cycles until it finds no pod again, so one is enough for a pod.
 #[derive(Drop)]
 pub(crate) struct Bell {
     heard: Mutex<Heard>,
@@ -54,7 +54,8 @@ impl Bell {
         *self.heard.lock(rt)
     }
 
-    /// A step was done that brought this. A move brings nothing where no pod has come: where one comes meanwhile, it is rung for.
+    /// A step was done that brought this. A move brings nothing where no pod has come: where one
+    /// comes meanwhile, it is rung for.
     pub(crate) fn ring<R: Wait>(&self, rt: &R, news: News) {
         let mut heard = self.heard.lock(rt);
         match news {

@@ -47,8 +47,8 @@ fn count<J: Naming, R: Wait>(
     }
 }
 
-/// Meets all who worked, counts and looks, and meets them again: so what each of them did before the count is known to be all
-/// that it did.
+/// Meets all who worked, counts and looks, and meets them again: so what each of them did before
+/// the count is known to be all that it did.
 pub(crate) fn take_dump<J: Naming, R: Wait, D: Drop>(
     rt: &R,
     desk: &Desk<J>,

@@ -19,7 +19,8 @@ use engine::{Cycled, cycle_untold};
 use std::sync::Wait;
 use std::thread::Threads;
 
-// One cycle. Where it came to a place, a job to bind the pod is sent. It tells whether there was no pod.
+// One cycle. Where it came to a place, a job to bind the pod is sent. It tells whether there was no
+// pod.
 fn turn<J: Naming, R: Wait + Threads + Sync, D: Decider>(
     rt: &R,
     desk: &Desk<J>,

@@ -12,7 +12,8 @@ use desk::{Desk, Naming, NoMemory, Pass, Reply, Step};
 use quant::Event;
 use std::sync::Wait;
 
-// What a step brought that was answered so. Where that is nothing, no pod can be popped after it that couldn't before.
+// What a step brought that was answered so. Where that is nothing, no pod can be popped after it
+// that couldn't before.
 fn news_of(step: &Step, reply: &Reply) -> Option<News>
     ensures { result ≡ None → WakesNone step.now reply.now }
 {

@@ -13,8 +13,8 @@ use std::alloc::Global;
 use std::sync::Wait;
 use std::thread::Threads;
 
-/// One kit, which decides in the thread that asks it. Where it has no rule, a choice of which no verdict is told takes one pass
-/// over the nodes and no memory.
+/// One kit, which decides in the thread that asks it. Where it has no rule, a choice of which no
+/// verdict is told takes one pass over the nodes and no memory.
 #[derive(Drop)]
 pub struct OneKit<K: Rules + Drop> {
     pub kit: K,

@@ -30,7 +30,8 @@ use std::marker::Brand;
 use std::sync::Wait;
 use std::thread::Threads;
 
-// All passes of a desk: the feeders', one for each decider, one for each binder, and the last that counts.
+// All passes of a desk: the feeders', one for each decider, one for each binder, and the last that
+// counts.
 #[derive(Drop)]
 struct Hands<J: Naming, D: Drop> {
     feeders: Vec<Worker<J, ()>>,
@@ -116,7 +117,8 @@ fn work_and_dump<
     Ok(dump)
 }
 
-// A storm of these steps on a desk of which no pass was handed out. It gives the pass that took the dump.
+// A storm of these steps on a desk of which no pass was handed out. It gives the pass that took the
+// dump.
 fn storm_to_dump<
     J: Naming + Send + Sync,
     R: Threads + Wait + Sync,
@@ -228,16 +230,19 @@ fn storm_on<
     }
 }
 
-/// A storm: its script is read whole, by up to four threads, and then told twice by two feeders, while a cycle pass for each
-/// decider places pods and each binder tells the cluster of places, each in a thread of its own. Cycles go on until both
-/// feeders have ended and no pod waits; then the first cycle pass, which has met the feeders', goes on alone until no pod waits
-/// once more, and the binders do what jobs are left. At the end it writes the dump's lines and the audit's: whether what the
-/// dump shows as used is the sum of the places of the closed desk's book. It answers what the audit said.
+/// A storm: its script is read whole, by up to four threads, and then told twice by two feeders,
+/// while a cycle pass for each decider places pods and each binder tells the cluster of places,
+/// each in a thread of its own. Cycles go on until both feeders have ended and no pod waits; then
+/// the first cycle pass, which has met the feeders', goes on alone until no pod waits once more,
+/// and the binders do what jobs are left. At the end it writes the dump's lines and the audit's:
+/// whether what the dump shows as used is the sum of the places of the closed desk's book. It
+/// answers what the audit said.
 ///
 /// There are at least one decider and one binder.
 ///
-/// Errors, by all of which but `Write` nothing is written: `Line` with the number of the first faulty line of the script and its
-/// fault; `NoMemory`; `Read`; `NoPlace` where there are more deciders and binders than 61. At `Write` a beginning is written.
+/// Errors, by all of which but `Write` nothing is written: `Line` with the number of the first
+/// faulty line of the script and its fault; `NoMemory`; `Read`; `NoPlace` where there are more
+/// deciders and binders than 61. At `Write` a beginning is written.
 pub fn storm<
     R: Threads + Wait + Sync,
     D: Decider<Kit: Rules<Notes: Send> + Send> + Send + Drop,

@@ -68,8 +68,9 @@ fn add_all(steps: &mut Vec<Step>, more: Vec<Step>) -> Result<(), AllocError>
     Ok(())
 }
 
-/// Reads a script whole: the steps that its lines ask for, in order. A line ends at a newline, which the last one may
-/// lack; an empty line is passed over and counted. Several threads read it, many lines at once.
+/// Reads a script whole: the steps that its lines ask for, in order. A line ends at a newline,
+/// which the last one may lack; an empty line is passed over and counted. Several threads read it,
+/// many lines at once.
 ///
 /// Errors: `Line` with the number of the first faulty line and its fault; `NoMemory`; `Read`.
 pub(crate) fn read_script<T: Threads + Sync, R: Source>(

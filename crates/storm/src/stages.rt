@@ -121,7 +121,8 @@ fn finish<J: Naming, R: Threads + Wait + Sync, D: Decider + Drop>(
     schedule_last(rt, desk, jobs, first);
 }
 
-// Feeders and cycle passes work beside each other; then the first cycle pass goes on alone, and no more jobs come.
+// Feeders and cycle passes work beside each other; then the first cycle pass goes on alone, and no
+// more jobs come.
 fn schedule<
     J: Naming + Send + Sync,
     R: Threads + Wait + Sync,
@@ -162,7 +163,8 @@ fn schedule<
     finish(rt, stage.desk, &jobs, feeders, &mut cyclers[0]);
 }
 
-/// All work, until the feeders have told the whole script, no pod waits, and no job is left. The binders end with the jobs.
+/// All work, until the feeders have told the whole script, no pod waits, and no job is left. The
+/// binders end with the jobs.
 pub(crate) fn work<
     J: Naming + Send + Sync,
     R: Threads + Wait + Sync,

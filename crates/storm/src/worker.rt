@@ -17,7 +17,8 @@ pub struct Worker<J: Naming, T: Drop> {
     pub failed: bool,
 }
 
-/// A worker for each tool, with a pass that has made no call and seen nothing. The passes are numbered in this order.
+/// A worker for each tool, with a pass that has made no call and seen nothing. The passes are
+/// numbered in this order.
 ///
 /// Errors: `NoMemory`, and `NoPlace` where the desk has too few passes left.
 pub(crate) fn enlist<J: Naming, T: Drop>(

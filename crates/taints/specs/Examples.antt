@@ -1,4 +1,5 @@
--- The rules at worked examples, the first of them those of the Kubernetes page "Taints and Tolerations".
+-- The rules at worked examples, the first of them those of the Kubernetes page "Taints and
+-- Tolerations".
 use Rattle.std.specs.Prelude.{◌≡◌, ℕ, Bool, true, false, List, [], ◌∷◌, Option, Some, None, codes, pos}
 use Rattle.std.proofs.Common.{lit≤}
 use Rattle.quant.specs.declared.objects.Node.{Node}

@@ -1,4 +1,5 @@
--- Which taints a pod tolerates, and which keep it off a node (Kubernetes, "Taints and Tolerations", "Concepts").
+-- Which taints a pod tolerates, and which keep it off a node (Kubernetes, "Taints and Tolerations",
+-- "Concepts").
 use Rattle.std.specs.Prelude.{ℕ, Bool, true, false, ◌&&◌, ◌||◌, not, if◌then◌else◌, List, [], Option, Some, None, codes, bytes_eq, count_by}
 use Rattle.std.specs.List.{list_any, find}
 use Rattle.quant.specs.declared.objects.Node.{Node}
@@ -23,9 +24,9 @@ abbrev pub takes_effect : Option Effect → Effect → Bool
 takes_effect None effect = true
 takes_effect (Some own) effect = same_effect own effect
 
--- a toleration matches a taint with this key, value and effect: the keys are equal, or the toleration's is empty
--- and its operator `Exists`; the operator is `Exists`, or the values are equal; and the toleration has the taint's
--- effect or none
+-- a toleration matches a taint with this key, value and effect: the keys are equal, or the
+-- toleration's is empty and its operator `Exists`; the operator is `Exists`, or the values are
+-- equal; and the toleration has the taint's effect or none
 abbrev pub matches : Toleration → (key value : List ℕ) → Effect → Bool
 matches toleration key value effect =
     (bytes_eq toleration.key key || (bytes_eq toleration.key [] && takes_every_value toleration.operator))
@@ -63,7 +64,8 @@ rejection node pod =
 unfoldable pub first_untolerated : Node → Pod → Option Taint
 first_untolerated node pod = find (λ taint. keeps_off taint.effect && not (tolerated pod.tolerations.items taint)) node.taints.items
 
--- how many of a node's taints a pod doesn't tolerate, among those that only make the node less preferred
+-- how many of a node's taints a pod doesn't tolerate, among those that only make the node less
+-- preferred
 unfoldable pub prefer_not : Node → Pod → ℕ
 prefer_not node pod =
     count_by (λ taint. same_effect taint.effect PreferNoSchedule && not (tolerated pod.tolerations.items taint)) node.taints.items

@@ -31,7 +31,8 @@ unfolding told_under
 no_version manner version line past =
     ap (λ b. cond b (unless_uncounted manner.answers (told manner.site manner.by_uid (record { 0 = version }) line)) None) (lt-leb version MAX_VERSION past)
 
--- what may be a pod on a node that can't be counted gives nothing, unless the answer says it; anything else is what is told
+-- what may be a pod on a node that can't be counted gives nothing, unless the answer says it;
+-- anything else is what is told
 pub given : (manner : Manner) (version : ℕ) (line : List ℕ) (translation : Translation) → version ≤ MAX_VERSION
     → IsTranslation (told manner.site manner.by_uid (record { 0 = version }) line) translation
     → (translation.uncounted && not manner.answers) ≡ false → TranslatesTo (told_under manner version line) translation

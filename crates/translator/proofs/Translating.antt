@@ -110,8 +110,8 @@ left_out_more answers first number (l ∷ lines) line (t ∷ ts) translation man
 
 -- ---- the translation so far
 
--- Of a known input this rest is left, so many lines were answered, and of their answers, and of what is told beside them, this much is
--- written and the rest waits.
+-- Of a known input this rest is left, so many lines were answered, and of their answers, and of
+-- what is told beside them, this much is written and the rest waits.
 pub record IsAt (manner : Manner) (input rest written waits told tells : List ℕ) (version number : ℕ) : Type 0 where
   pub lines : List (List ℕ)
   pub cut : lines_of input ≡ lines ++ lines_of rest

@@ -14,7 +14,8 @@ abbrev pub event_then : Option Event → List Event → List Event
 event_then None later = later
 event_then (Some event) later = event ∷ later
 
--- the event that a line gives, and those that the lines behind it give under the next version; none, where there is no going on
+-- the event that a line gives, and those that the lines behind it give under the next version;
+-- none, where there is no going on
 abbrev pub events_then : (version : ℕ) → Option Told → (later : ℕ → List Event) → List Event
 events_then version None later = []
 events_then version (Some told) later = event_then told.event (later (next_version version told.event))
@@ -24,7 +25,8 @@ abbrev pub events_from : Manner → (version : ℕ) → (lines : List (List ℕ)
 events_from manner version [] = []
 events_from manner version (line ∷ lines) = events_then version (told_under manner version line) (λ next. events_from manner next lines)
 
--- what is written of lines is a script without a faulty line, with as many lines, and what it asks for is just the events that they give
+-- what is written of lines is a script without a faulty line, with as many lines, and what it asks
+-- for is just the events that they give
 pub record IsScriptOf (manner : Manner) (lines : List (List ℕ)) (text : List ℕ) : Type 0 where
   pub count : length (lines_of text) ≡ length lines
   pub faultless : first_fault text ≡ None

@@ -18,8 +18,8 @@ use Rattle.fault_line.specs.declared.unread.LineUncounted.{LineUncounted}
 use Rattle.fault_line.specs.Excerpt.{excerpt_of}
 use Rattle.fault_line.specs.Message.{Tells, message_of}
 
--- how objects are told: of which site, whether pods are called by their uid, and whether each answer is an object that also says
--- what is left out
+-- how objects are told: of which site, whether pods are called by their uid, and whether each
+-- answer is an object that also says what is left out
 pub record Manner : Type 0 where
   pub site : Site
   pub by_uid : Bool
@@ -35,8 +35,8 @@ manner_of plan = record {
 
 -- ---- what lines give
 
--- what a line gives under the next version. There is no going on where it may be a pod on a node that can't be counted, unless the
--- answer says so, and none behind the last version.
+-- what a line gives under the next version. There is no going on where it may be a pod on a node
+-- that can't be counted, unless the answer says so, and none behind the last version.
 abbrev pub unless_uncounted : (answers : Bool) → Told → Option Told
 unless_uncounted answers told = if told.uncounted && not answers then None else Some told
 
@@ -51,7 +51,8 @@ abbrev pub next_version : (version : ℕ) → Option Event → ℕ
 next_version version None = version
 next_version version (Some event) = version + 1
 
--- each line has its translation, the first under this version, and behind them the next version is that
+-- each line has its translation, the first under this version, and behind them the next version is
+-- that
 abbrev pub AreTranslated : Manner → (version : ℕ) → (lines : List (List ℕ)) → List Translation → (next : ℕ) → Type 0
 AreTranslated manner version [] [] next = next ≡ version
 AreTranslated manner version (line ∷ lines) (translation ∷ translations) next =
@@ -66,8 +67,8 @@ abbrev pub line_or_null : (line : List ℕ) → List ℕ
 line_or_null [] = codes "null"
 line_or_null (x ∷ more) = x ∷ more
 
--- the answer to a line: the script's line, or an object with it and with what is left out. Of a line that may be a pod on a node that
--- can't be counted the object has no line, and says why
+-- the answer to a line: the script's line, or an object with it and with what is left out. Of a
+-- line that may be a pod on a node that can't be counted the object has no line, and says why
 abbrev pub answer_object : (uncounted : Bool) → (line left_out : List ℕ) → List ℕ
 answer_object false line left_out = codes "{\"line\": " ++ line_or_null line ++ codes ", \"left_out\": [" ++ left_out ++ codes "]}\n"
 answer_object true line left_out = codes "{\"uncounted\": [" ++ left_out ++ codes "]}\n"
@@ -91,7 +92,8 @@ left_out_line number object gives [] = []
 left_out_line number object gives (x ∷ more) =
     codes "line " ++ decimal number ++ in_parentheses object ++ left_out_words gives ++ x ∷ more ++ codes "\n"
 
--- what is told beside the answer to the line of this number: what is left out of its object, where no answer says it
+-- what is told beside the answer to the line of this number: what is left out of its object, where
+-- no answer says it
 unfoldable pub left_out_text : (answers : Bool) → (number : ℕ) → (line : List ℕ) → Translation → List ℕ
 left_out_text true number line translation = []
 left_out_text false number line translation = left_out_line number (name_in line) translation.line.items translation.left_out.items
@@ -115,8 +117,8 @@ pub record IsWholeTranslation (manner : Manner) (input answers left_out : List �
   pub answers_are : answers ≡ answers_text manner.answers translations
   pub left_out_are : left_out ≡ left_out_texts manner.answers 1 (lines_of input) translations
 
--- This line is the first behind which there is no going on: these are the answers to the lines in front of it, and what is told beside
--- them.
+-- This line is the first behind which there is no going on: these are the answers to the lines in
+-- front of it, and what is told beside them.
 pub record EndsAtLine (manner : Manner) (input : List ℕ) (lost : LineUncounted) (answers left_out : List ℕ) : Type 0 where
   pub lines : List (List ℕ)
   pub line : List ℕ
@@ -131,7 +133,8 @@ pub record EndsAtLine (manner : Manner) (input : List ℕ) (lost : LineUncounted
   pub answers_are : answers ≡ answers_text manner.answers translations
   pub left_out_are : left_out ≡ left_out_texts manner.answers 1 lines translations
 
--- these are beginnings of the answers to the first lines, which may be all, and of what is told beside them
+-- these are beginnings of the answers to the first lines, which may be all, and of what is told
+-- beside them
 pub record BeginsTranslation (manner : Manner) (input answers left_out : List ℕ) : Type 0 where
   pub lines : List (List ℕ)
   pub later : List (List ℕ)

@@ -42,7 +42,8 @@ pub(crate) fn answer_text(
     Ok(text)
 }
 
-// The object that answers a line. Where the line may be a pod on a node that can't be counted, nobody can take it for nothing.
+// The object that answers a line. Where the line may be a pod on a node that can't be counted,
+// nobody can take it for nothing.
 fn answer_object(alloc: Global, translation: &Translation) -> Result<Vec<u8>, AllocError>
     ensures { IfOk result (λ text. text.items ≡ answer_object translation.now.uncounted translation.now.line.items
         translation.now.left_out.items) }
@@ -72,7 +73,8 @@ fn put_object(text: &mut Vec<u8>, object: &[u8]) -> Result<(), AllocError>
     text.extend_from_slice(b")")
 }
 
-// What is told beside the answer to the line of this number: what is left out of its object, where no answer says it.
+// What is told beside the answer to the line of this number: what is left out of its object, where
+// no answer says it.
 #[tactic(auto, unfolding(crate::specs::Translate::left_out_text))]
 pub(crate) fn left_out_text(
     alloc: Global,

@@ -15,12 +15,14 @@ use objects::{MAX_OBJECT, Site, Translation, object_name, translate};
 use quant::{MAX_VERSION, Version};
 use std::alloc::{AllocError, Global};
 
-// The most bytes of a line that are kept: one more than an object may have, by which it is known to be too long.
+// The most bytes of a line that are kept: one more than an object may have, by which it is known to
+// be too long.
 const MAX_KEPT: usize = MAX_OBJECT + 1;
 
-/// Reads objects from `source`, one a line, writes what each gives a script to `out`, also one a line, and gives the exit status.
-/// What is left out of an object goes to `err`, unless the answers say it. So does a fault, as one line, and a failed write of that
-/// line changes nothing. A line that may be a pod on a node which no line of a script can count ends the translation, unless the
+/// Reads objects from `source`, one a line, writes what each gives a script to `out`, also one a
+/// line, and gives the exit status. What is left out of an object goes to `err`, unless the answers
+/// say it. So does a fault, as one line, and a failed write of that line changes nothing. A line
+/// that may be a pod on a node which no line of a script can count ends the translation, unless the
 /// answers say that. What is told of an object names it, where it has a name.
 pub fn serve_translation<R: Source, W: Sink, E: Sink>(
     alloc: Global,
@@ -76,7 +78,8 @@ fn translate_lines<R: Source, W: Sink, E: Sink>(
     }
 }
 
-// Answers a line: its answer, and what is told beside it, wait then, and the next version is one more where the line gives an event.
+// Answers a line: its answer, and what is told beside it, wait then, and the next version is one
+// more where the line gives an event.
 fn answer_line(
     alloc: Global,
     plan: &TranslatePlan<'_>,

@@ -77,8 +77,8 @@ impl Waiting {
         }
     }
 
-    // Writes all that waits. What is left out of an answer is told before the answer is written, so that whoever has the answer
-    // can read it.
+    // Writes all that waits. What is left out of an answer is told before the answer is written, so
+    // that whoever has the answer can read it.
     pub(crate) fn flush<W: Sink, E: Sink>(
         &mut self,
         out: &mut W,
@@ -103,7 +103,8 @@ impl Waiting {
         Ok(())
     }
 
-    // Writes what waits, where it is due or has grown to the most that may wait: less than that waits then.
+    // Writes what waits, where it is due or has grown to the most that may wait: less than that
+    // waits then.
     pub(crate) fn flush_if<W: Sink, E: Sink>(
         &mut self,
         due: bool,

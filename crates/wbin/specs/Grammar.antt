@@ -166,7 +166,8 @@ SpellsSection bytes s rest = (more : List ℕ) × Byte s.id bytes more × Spells
 abbrev pub IsCustom : Section → Type 0
 IsCustom s = (s.id ≡ 0) × ((name rest : List ℕ) × SpellsName s.contents name rest)
 
--- Sections in their order: each number above those before it and at most 11. Custom sections stand anywhere (5.5.15).
+-- Sections in their order: each number above those before it and at most 11. Custom sections stand
+-- anywhere (5.5.15).
 unfoldable pub InOrder : (above : ℕ) → List Section → Type 0
 InOrder above [] = Unit {0}
 InOrder above (s ∷ more) =
@@ -176,7 +177,8 @@ InOrder above (s ∷ more) =
 abbrev pub contents_of : ℕ → List Section → Option (List ℕ)
 contents_of id sections = option_map (λ s. s.contents) (find (λ s. s.id == id) sections)
 
--- The section with this number has a vector of such things, which fills it. Where it is absent there are none.
+-- The section with this number has a vector of such things, which fills it. Where it is absent
+-- there are none.
 abbrev pub Lists : {A : Type 0} → Spelling A → Option (List ℕ) → List A → Type 0
 Lists S None xs = xs ≡ []
 Lists S (Some contents) xs = SpellsVector S contents xs []
@@ -186,7 +188,8 @@ abbrev pub Starts : Option (List ℕ) → Option ℕ → Type 0
 Starts None start = start ≡ None
 Starts (Some contents) start = (index : ℕ) × (start ≡ Some index) × SpellsIndex contents index []
 
--- The functions, whose types stand in one section and whose code in another, as many in one as in the other (5.5.15).
+-- The functions, whose types stand in one section and whose code in another, as many in one as in
+-- the other (5.5.15).
 pub record Functions (signatures codes : Option (List ℕ)) (functions : List FunctionSyntax) : Type 0 where
   pub indices : List ℕ
   pub bodies : List Code

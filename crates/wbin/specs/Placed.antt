@@ -11,7 +11,8 @@ use Rattle.wbin.specs.declared.module.Tables.{Tables}
 use Rattle.wbin.specs.Syntax.{expression_in, syntax_in}
 use Rattle.wbin.specs.Grammar.{Spells}
 
--- An expression stands there in the bytes, from its first opcode to behind its `end`, and has these blocks.
+-- An expression stands there in the bytes, from its first opcode to behind its `end`, and has these
+-- blocks.
 pub record StandsAt (bytes : List ℕ) (place : Place) (blocks : List Block) : Type 0 where
   pub some : place.begin < place.end
   pub within : place.end ≤ length bytes

@@ -30,7 +30,8 @@ pub record ImportSyntax : Type 0 where
   pub name : List ℕ
   pub kind : ImportKind
 
--- a function of the module: the index of its type, the types of its locals behind the parameters, its body
+-- a function of the module: the index of its type, the types of its locals behind the parameters,
+-- its body
 pub record FunctionSyntax : Type 0 where
   pub signature : ℕ
   pub locals : List ValueType

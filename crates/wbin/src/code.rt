@@ -58,7 +58,8 @@ fn read_code(alloc: Global, bytes: &[u8], at: usize) -> Result<FunctionCode, Bin
     })
 }
 
-// A fault in a body whose size stands at `at`: bytes that are wanted beyond the size, or left in it, are the size's fault.
+// A fault in a body whose size stands at `at`: bytes that are wanted beyond the size, or left in
+// it, are the size's fault.
 #[cold]
 fn fenced_body(fault: BinFault, at: usize) -> BinFault
     ensures { fault ≡ NoMemory → result ≡ NoMemory }

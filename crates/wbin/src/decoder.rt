@@ -24,12 +24,13 @@ use wcode::{BinFault, Kind};
 /// How many bytes a module has at most.
 pub const LONGEST: usize = 1_048_576;
 
-/// Reads a module: one of the first edition, with the integer types and instructions alone, of at most `LONGEST` bytes, which it
-/// copies once. It takes time and memory in proportion to the bytes, whatever counts they tell.
+/// Reads a module: one of the first edition, with the integer types and instructions alone, of at
+/// most `LONGEST` bytes, which it copies once. It takes time and memory in proportion to the bytes,
+/// whatever counts they tell.
 ///
-/// Bytes that spell no module are refused by their first fault, with its place in them. A section's size that passes their
-/// end is told before what is wrong inside the section; that the functions and the bodies aren't as many is told last, at
-/// the end. Floats are refused as `Float`.
+/// Bytes that spell no module are refused by their first fault, with its place in them. A section's
+/// size that passes their end is told before what is wrong inside the section; that the functions
+/// and the bodies aren't as many is told last, at the end. Floats are refused as `Float`.
 pub fn decode(alloc: Global, bytes: &[u8]) -> Result<Module, BinFault>
     ensures module { IfOk result (λ m. Spells bytes.now (module_of m)) }
     ensures bytes { IfOk result (λ m. m.bytes ≡ bytes.now) }

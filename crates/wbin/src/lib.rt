@@ -1,11 +1,12 @@
-//! WebAssembly modules (WebAssembly Core 1.0, 2.5 and 5.5): a module is its bytes, and tables of what it has and where that is in
-//! them. Here are the decoder, which finds a module in bytes or tells why they spell none, and the law that they spell one at
-//! most. No tree of instructions is made: what the places spell is said by contract.
+//! WebAssembly modules (WebAssembly Core 1.0, 2.5 and 5.5): a module is its bytes, and tables of
+//! what it has and where that is in them. Here are the decoder, which finds a module in bytes or
+//! tells why they spell none, and the law that they spell one at most. No tree of instructions is
+//! made: what the places spell is said by contract.
 //!
 //! - `module` has the types: what a module is, and where in the bytes its parts are.
 //! - `section` finds where each section stands, before any is read.
-//! - `placeless` reads things that the bytes alone tell, as a name; `placed` things that tell where they stand, as an expression;
-//!   both have vectors of them.
+//! - `placeless` reads things that the bytes alone tell, as a name; `placed` things that tell where
+//!   they stand, as an expression; both have vectors of them.
 //! - `types`, `section_entries` and `code` are made of these: the entries of each section.
 //! - `decoder` reads section by section, and gives the module or the first fault.
 #![tactic(auto)]

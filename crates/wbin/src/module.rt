@@ -52,15 +52,16 @@ pub struct LocalRun {
     pub value: ValueType,
 }
 
-/// An expression in the module's bytes: the place of its first opcode, and the place behind the `end` that closes it.
+/// An expression in the module's bytes: the place of its first opcode, and the place behind the
+/// `end` that closes it.
 #[derive(Clone, Copy, PartialEq, Eq, Debug)]
 pub struct Place {
     pub begin: usize,
     pub end: usize,
 }
 
-/// A function without its type: its locals behind the parameters, where its body is, and the blocks of the body in the order of
-/// the opcodes that open them.
+/// A function without its type: its locals behind the parameters, where its body is, and the blocks
+/// of the body in the order of the opcodes that open them.
 #[derive(Debug, Drop)]
 pub struct FunctionCode {
     pub locals: Vec<LocalRun>,
@@ -84,7 +85,8 @@ pub enum ExportKind {
     Global,
 }
 
-/// An export: its name, in UTF-8, and the index of the thing. Functions count the imported ones first.
+/// An export: its name, in UTF-8, and the index of the thing. Functions count the imported ones
+/// first.
 #[derive(Debug, Drop)]
 pub struct Export {
     pub name: Vec<u8>,
@@ -100,8 +102,8 @@ pub struct ElementSegment {
     pub functions: Vec<u32>,
 }
 
-/// Bytes that are written into a memory, from the offset that an expression gives: those of the module from `contents.begin` to
-/// `contents.end`.
+/// Bytes that are written into a memory, from the offset that an expression gives: those of the
+/// module from `contents.begin` to `contents.end`.
 #[derive(Clone, Copy, PartialEq, Eq, Debug)]
 pub struct DataSegment {
     pub memory: u32,
@@ -109,8 +111,9 @@ pub struct DataSegment {
     pub contents: Place,
 }
 
-/// What a module has, section by section. There are as many signatures, the indices of the functions' types, as codes.
-/// `start` is the index of the function that runs first, if there is one.
+/// What a module has, section by section. There are as many signatures, the indices of the
+/// functions' types, as codes. `start` is the index of the function that runs first, if there is
+/// one.
 #[derive(Debug, Drop)]
 pub struct Tables {
     pub types: Vec<FunctionType>,

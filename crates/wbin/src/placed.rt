@@ -18,8 +18,9 @@ use std::alloc::Global;
 use std::marker::PhantomData;
 use wcode::{BinFault, skip_expr};
 
-/// A kind of things, each of which is spelled in one way only. What is read of one may have places in the bytes, so that what
-/// it is seen as depends on them; it stays the same where more bytes follow.
+/// A kind of things, each of which is spelled in one way only. What is read of one may have places
+/// in the bytes, so that what it is seen as depends on them; it stays the same where more bytes
+/// follow.
 pub trait Part {
     /// What is read.
     type Out: Drop;
@@ -43,8 +44,8 @@ pub trait Part {
     ghost kept: { Keeps placed seen };
 }
 
-/// Reads a vector from `at` on, and gives it and the place after it. It takes memory as its entries are found, and
-/// none for a count alone.
+/// Reads a vector from `at` on, and gives it and the place after it. It takes memory as its entries
+/// are found, and none for a count alone.
 pub fn read_vector<P: Part>(
     alloc: Global,
     bytes: &[u8],

@@ -1,4 +1,5 @@
-//! Things that are spelled in one way only and have no places in the bytes: what larger things are made of.
+//! Things that are spelled in one way only and have no places in the bytes: what larger things are
+//! made of.
 #![tactic(auto, unfolding(crate::specs::inside::Reading::Reads))]
 
 ghost use Rattle.std.specs.Prelude.{◌≡◌, ◌≢◌, ℕ, ◌+◌, ◌-◌, ◌<◌, ◌≤◌, List, [], ◌∷◌, length, take, drop, map, IfOk, IfErr, OnErr};
@@ -14,7 +15,8 @@ use std::alloc::Global;
 use std::marker::PhantomData;
 use wcode::{BinFault, Kind};
 
-/// A kind of things without places, each of which is spelled in one way only, so that its end is known.
+/// A kind of things without places, each of which is spelled in one way only, so that its end is
+/// known.
 pub trait Entry {
     /// What is read.
     type Out: Drop;
@@ -128,8 +130,8 @@ pub fn expect_byte(bytes: &[u8], at: usize, wanted: u8) -> Result<(), BinFault>
     Ok(())
 }
 
-/// Reads bytes with their number before them, from `at` on. Gives them, and the place after them. Where they are
-/// fewer than their number, the fault's place is where they would end.
+/// Reads bytes with their number before them, from `at` on. Gives them, and the place after them.
+/// Where they are fewer than their number, the fault's place is where they would end.
 pub fn read_sized(bytes: &[u8], at: usize) -> Result<(&[u8], usize), BinFault>
     requires { at ≤ length bytes.now }
     ensures read { Reads SpellsBytes (λ s. s.now) bytes.now at result }

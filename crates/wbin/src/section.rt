@@ -49,7 +49,8 @@ impl SectionId {
     }
 }
 
-/// A section: its number, the place of its number's byte, and the places where its contents begin and end.
+/// A section: its number, the place of its number's byte, and the places where its contents begin
+/// and end.
 #[derive(Clone, Copy, Debug)]
 pub struct Stretch {
     pub id: u8,
@@ -58,7 +59,8 @@ pub struct Stretch {
     pub end: usize,
 }
 
-/// The sections of a module in their order, up to the first that can't stand where it does, if there is one.
+/// The sections of a module in their order, up to the first that can't stand where it does, if
+/// there is one.
 #[derive(Drop)]
 pub struct Outline {
     pub sections: Vec<Stretch>,
@@ -127,8 +129,8 @@ fn check_name(bytes: &[u8], at: usize, id: u8) -> Result<(), BinFault>
     Ok(())
 }
 
-/// A fault in a section at `at`. Bytes that are wanted beyond its size are its fault, but for those of a size that
-/// passes the module's end.
+/// A fault in a section at `at`. Bytes that are wanted beyond its size are its fault, but for those
+/// of a size that passes the module's end.
 #[cold]
 pub fn fenced(fault: BinFault, bytes: &[u8], at: usize) -> BinFault
     ensures memory { fault ≡ NoMemory → result ≡ NoMemory }

@@ -1,4 +1,5 @@
-//! The entries of sections that have names, bytes or expressions in them (WebAssembly Core 1.0, 5.5).
+//! The entries of sections that have names, bytes or expressions in them (WebAssembly Core 1.0,
+//! 5.5).
 #![tactic(auto, unfolding(crate::specs::inside::Reading::Reads))]
 
 ghost use Rattle.std.specs.Prelude.{◌≡◌, ◌≢◌, ℕ, ◌+◌, ◌<◌, ◌≤◌, List, [], ◌∷◌, length, take, drop, map, IfOk};

@@ -30,7 +30,8 @@ pub record PlainForm (f : Form) (type : PlainType) : Type 0 where
   pub no_branch : (labels : List Label) (place : ℕ) → plain_branches labels place plain ≡ []
   pub type_is : (c : Context) → plain_type c plain ≡ type
 
--- which kinds come of instructions without anything behind their opcodes, and of those with an index
+-- which kinds come of instructions without anything behind their opcodes, and of those with an
+-- index
 abbrev IsPlainKind : Kind → Type 0
 IsPlainKind (kinds.One t g) = Unit {0}
 IsPlainKind (kinds.Two t g) = Unit {0}

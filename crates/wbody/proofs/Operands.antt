@@ -223,7 +223,8 @@ joined (x ∷ y ∷ xs) r s' after e f =
         let c = both_may_be x y z t e b.0 in
         (t, more, refl, and_true (may_be t x) (may_be t y && fit_operands xs r more) c.0 (and_true (may_be t y) (fit_operands xs r more) c.1 b.1))
 
--- For each operands that can be behind an instruction there are some before it between which it has a typing.
+-- For each operands that can be behind an instruction there are some before it between which it has
+-- a typing.
 pub before_type : (type : PlainType) (s s' : Stack) (after : Operands) → pass_type type s ≡ Some s' → fits s' after ≡ true → Before (TypeAllows type) s after
 before_type (takes_gives takes gives) s s' after e f =
     let m = mapped (given gives) (taken takes s) s' e in
@@ -282,7 +283,8 @@ can_join (x ∷ y ∷ xs) r t more f =
     let z = can_be_both x y t b.0 c.0 in
     (record { operands = z.0 ∷ xs; reached = r }, ap (option_map (λ (o : Option ValueType). record { operands = o ∷ xs; reached = r })) z.1, and_true (may_be t z.0) (fit_operands xs r more) z.2 c.1)
 
--- An instruction that has a typing from operands that can be there is passed, and what it leaves can be behind it.
+-- An instruction that has a typing from operands that can be there is passed, and what it leaves
+-- can be behind it.
 pub behind_type : (type : PlainType) (s : Stack) (before after : Operands) → Weakened (TypeAllows type) before after → fits s before ≡ true → Behind type s after
 behind_type (takes_gives takes gives) s before after w f =
     let before_is : before ≡ takes ++ w.below = w.before_is ∙ ap (λ l. l ++ w.below) w.rule.0 in

@@ -25,7 +25,8 @@ pub record PassedTo (c : Context) (e : Body) (s : Stack) (after : Operands) : Ty
 then_typed : (first : Rule) (c : Context) (rest : Body) (s : Stack) (between after : Operands) → Before first s between → Typed c rest between after → (before : Operands) × (fits s before ≡ true) × Then first (Typed c rest) before after
 then_typed first c rest s between after b t = (b.before, b.fit, record { between = between; first = b.typed; others = t })
 
--- a block was closed: inside it came to its results, and behind it there are those above what was there before it
+-- a block was closed: inside it came to its results, and behind it there are those above what was
+-- there before it
 record Closed (t : BlockType) (below inside s : Stack) (after : Operands) : Type 0 where
   results : fits inside (results_of t) ≡ true
   more : Operands

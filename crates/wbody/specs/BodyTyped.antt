@@ -9,8 +9,9 @@ use Rattle.wbody.specs.Typing.{Typed}
 use Rattle.wbody.specs.Heights.{greatest_height}
 use Rattle.wbody.specs.Branches.{body_branches, notes_of}
 
--- The function at this place among those of the module has a type, and its body takes no operands and leaves the result
--- (3.4.1); the notes tell its greatest height, and where its branches lead in the bytes.
+-- The function at this place among those of the module has a type, and its body takes no operands
+-- and leaves the result (3.4.1); the notes tell its greatest height, and where its branches lead in
+-- the bytes.
 pub record BodyTyped (p : ModuleParts) (place : ℕ) (notes : Notes) : Type 0 where
   pub function : FunctionSyntax
   pub function_is : slice_get (module_of p).functions place ≡ Some function
@@ -24,7 +25,8 @@ pub record BodyTyped (p : ModuleParts) (place : ℕ) (notes : Notes) : Type 0 wh
   pub branches : (spelled : SpellsExpr (drop code.body.begin p.bytes) function.body (drop code.body.end p.bytes))
       → notes.branches ≡ notes_of (body_branches (length p.bytes) (body_context (module_of p) type function.locals) function.body (length (at_most_one type.result)) (drop code.body.begin p.bytes) (drop code.body.end p.bytes) spelled)
 
--- The function at this place has no typing: its type isn't there, or its body can't go from no operands to the result.
+-- The function at this place has no typing: its type isn't there, or its body can't go from no
+-- operands to the result.
 abbrev pub NoTyping : ModuleSyntax → (place : ℕ) → Type 0
 NoTyping m place =
     (f : FunctionSyntax) (type : Signature) → slice_get m.functions place ≡ Some f → slice_get m.types (f.signature) ≡ Some type

@@ -75,7 +75,8 @@ module_context m = record {
   result = None;
 }
 
--- The body of a function of this type. The body is itself a label, so that a branch to it ends the call.
+-- The body of a function of this type. The body is itself a label, so that a branch to it ends the
+-- call.
 abbrev pub body_context : ModuleSyntax → Signature → List ValueType → Context
 body_context m type locals = record (module_context m) {
   locals = type.parameters ++ locals;

@@ -1,5 +1,5 @@
--- The typing of a body as it is done, from the first instruction to the last: with what is known of the operands so far
--- (WebAssembly Core 1.0, the appendix on validation).
+-- The typing of a body as it is done, from the first instruction to the last: with what is known of
+-- the operands so far (WebAssembly Core 1.0, the appendix on validation).
 use Rattle.std.specs.Prelude.{[], ◌∷◌, Bool, true, false, ◌&&◌}
 use Rattle.wcode.specs.declared.value.ValueType.{ValueType}
 use Rattle.wcode.specs.declared.value.ValueType.TheVariants.{I32, I64}

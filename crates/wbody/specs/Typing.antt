@@ -1,4 +1,5 @@
--- Which operands instructions take and leave (WebAssembly Core 1.0, 3.3). Operands stand with the topmost first.
+-- Which operands instructions take and leave (WebAssembly Core 1.0, 3.3). Operands stand with the
+-- topmost first.
 use Rattle.std.specs.Prelude.{◌≡◌, ℕ, ◌^◌, List, [], ◌∷◌, ◌++◌, Bool, ◌&&◌, nat_le, nat_lt, Option, Some, None, option_and_then, reverse, slice_get, if◌then◌else◌}
 use Rattle.std.specs.List.{AllByRecursion}
 use Rattle.wcode.specs.declared.value.ValueType.{ValueType}
@@ -104,7 +105,8 @@ plain_type c (plains.CallIndirect t) = only_where c.has_table (of_found (call_ty
 abbrev pub Rule : Type 1
 Rule = Operands → Operands → Type 0
 
--- It takes these and as many others as one likes, and leaves whatever one likes: nothing behind it is reached.
+-- It takes these and as many others as one likes, and leaves whatever one likes: nothing behind it
+-- is reached.
 abbrev pub Ending : (takes : Operands) → Rule
 Ending first takes gives = (others : Operands) × (takes ≡ first ++ others)
 
@@ -120,11 +122,13 @@ TypeAllows untyped takes gives = ⊥
 abbrev pub PlainTyped : Context → Plain → Rule
 PlainTyped c p = TypeAllows (plain_type c p)
 
--- A block or a loop: [] -> its results, where the instructions inside do so under its label (3.3.5.3, 3.3.5.4).
+-- A block or a loop: [] -> its results, where the instructions inside do so under its label
+-- (3.3.5.3, 3.3.5.4).
 abbrev pub BlockTyped : (Inside : Rule) → BlockType → Rule
 BlockTyped Inside t takes gives = (takes ≡ []) × (gives ≡ results_of t) × Inside [] (results_of t)
 
--- An if: [i32] -> its results, where both arms give these (3.3.5.5). An absent second arm is an empty one, and gives none.
+-- An if: [i32] -> its results, where both arms give these (3.3.5.5). An absent second arm is an
+-- empty one, and gives none.
 abbrev pub IfTyped : (Yes No : Rule) → BlockType → Rule
 IfTyped Yes No t takes gives = (takes ≡ I32 ∷ []) × (gives ≡ results_of t) × Yes [] (results_of t) × No [] (results_of t)
 
@@ -149,7 +153,8 @@ pub record Then (First Others : Rule) (before after : Operands) : Type 0 where
   pub first : Weakened First before between
   pub others : Others between after
 
--- The instructions go from operands to operands (3.3.6). A branch to a loop carries nothing, one to a block or an if its results.
+-- The instructions go from operands to operands (3.3.6). A branch to a loop carries nothing, one to
+-- a block or an if its results.
 abbrev pub Typed : Context → Body → Rule
 Typed c done before after = before ≡ after
 Typed c (plain p rest) before after = Then (PlainTyped c p) (Typed c rest) before after

@@ -8,9 +8,10 @@ use thiserror::Error;
 /// What is wrong with a module that the bytes spell.
 #[derive(Clone, Copy, PartialEq, Eq, Debug, Error)]
 pub enum TypeFault {
-    /// A body without a typing, with the index of its function, or else a rule of the module that is broken. An index
-    /// counts the imported functions first; `type_body` tells that among the bodies. The place is that of the first
-    /// instruction at which the body's bytes up to there have no typing: of a missing `else` the `end`; 0 for a rule.
+    /// A body without a typing, with the index of its function, or else a rule of the module that
+    /// is broken. An index counts the imported functions first; `type_body` tells that among the
+    /// bodies. The place is that of the first instruction at which the body's bytes up to there
+    /// have no typing: of a missing `else` the `end`; 0 for a rule.
     #[error("{} {}", self.number(), self.name())]
     Untyped {
         function: Option<usize>,

@@ -8,8 +8,9 @@ use crate::stop::Stop;
 use std::alloc::{AllocError, Global};
 use wcode::{BlockType, ValueType};
 
-// The operands' types, the last one on top, none where one may be of any type. Those from the floor on are the innermost
-// block's; where it isn't reached, there are as many others under these as one likes.
+// The operands' types, the last one on top, none where one may be of any type. Those from the floor
+// on are the innermost block's; where it isn't reached, there are as many others under these as one
+// likes.
 #[derive(Drop)]
 pub struct OperandStack {
     items: Vec<Option<ValueType>>,
@@ -129,7 +130,8 @@ impl OperandStack {
     {
         let mut left = types.len();
         'types: while left > 0 {
-            // Each step takes an operand off, so that all of them in a body are no more than its operands.
+            // Each step takes an operand off, so that all of them in a body are no more than its
+            // operands.
             if self.has_any() {
                 return Ok(());
             }
@@ -202,7 +204,8 @@ impl OperandStack {
         }
     }
 
-    // At the start of the second arm of an `if` of this type, whose first arm left just the results.
+    // At the start of the second arm of an `if` of this type, whose first arm left just the
+    // results.
     pub fn restart(&mut self, block_type: BlockType) -> Result<(), Stop>
         ensures ok { OnOk result (fits (stack_of self.old) (results_of block_type) ≡ true) }
         ensures err { OnErr result (fits (stack_of self.old) (results_of block_type) ≡ false) }
@@ -220,7 +223,8 @@ impl OperandStack {
         Ok(())
     }
 
-    // Behind a block of this type, to the block that began at this height: there are just the results.
+    // Behind a block of this type, to the block that began at this height: there are just the
+    // results.
     pub fn close(&mut self, block_type: BlockType, floor: usize, reached: bool) -> Result<(), Stop>
         requires { floor ≤ self.old.floor }
         ensures ok { OnOk result (closed block_type (record {

@@ -1,4 +1,5 @@
-//! Over one instruction whose kind its opcode tells, without others inside it, where one stands: it is typed as it is read.
+//! Over one instruction whose kind its opcode tells, without others inside it, where one stands: it
+//! is typed as it is read.
 
 ghost use Rattle.std.specs.Prelude.{◌≡◌, ◌<◌, ℕ, List, IfOk, drop, length, slice_index};
 ghost use Rattle.wcode.specs.Opcodes.{form};

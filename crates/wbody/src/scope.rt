@@ -16,8 +16,8 @@ use std::alloc::{AllocError, Global};
 use wbin::{FunctionType, GlobalType, GlobalVariable, Import, ImportKind, LocalRun};
 use wcode::{BlockType, CvtOp, MemArg, Plain, Value, ValueType};
 
-// A block whose end is to come: what opened it and what it leaves, and of the block around it where its operands begin and
-// whether the place before this one is reached.
+// A block whose end is to come: what opened it and what it leaves, and of the block around it where
+// its operands begin and whether the place before this one is reached.
 #[derive(Clone, Copy)]
 pub struct Level {
     pub kind: Opened,
@@ -107,7 +107,8 @@ pub fn constant(value: Value) -> Effect<'static>
     }
 }
 
-// What an instruction does that takes an operand, if this is one, and below it others, and gives one, if this is one.
+// What an instruction does that takes an operand, if this is one, and below it others, and gives
+// one, if this is one.
 pub fn moves<'a>(
     above: Option<ValueType>,
     types: &'a [ValueType],

@@ -62,8 +62,8 @@ fn with_index(carries: Option<ValueType>) -> &'static [ValueType]
     }
 }
 
-// What a branch by an index does, whose labels stand there. The default comes last of them, and all carry what the first
-// one does.
+// What a branch by an index does, whose labels stand there. The default comes last of them, and all
+// carry what the first one does.
 pub fn table_effect(
     scope: &Scope<'_>,
     levels: &[Level],

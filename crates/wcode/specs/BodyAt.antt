@@ -1,5 +1,6 @@
--- Reading a body as a function on lists. It says nothing that the grammar doesn't: where bytes begin with an expression, what
--- it gives is that expression's body (the law `one_body_at`); elsewhere it gives some body or other, which means nothing.
+-- Reading a body as a function on lists. It says nothing that the grammar doesn't: where bytes
+-- begin with an expression, what it gives is that expression's body (the law `one_body_at`);
+-- elsewhere it gives some body or other, which means nothing.
 use Rattle.std.specs.Prelude.{ℕ, zero, suc, List, [], ◌∷◌, length, drop, ℤ, pos, negsuc, Bool, true, false, if◌then◌else◌, ◌==◌, slice_index, Result, Ok, Err}
 use Rattle.std.specs.Int.{cast_unsigned, w32, w64}
 use Rattle.leb.specs.Number.{Sign, unsigned, signed}

@@ -5,7 +5,8 @@ use Rattle.wcode.specs.declared.instruction.Op.TheVariants as ops
 use Rattle.wcode.specs.declared.opcode.Opening.TheVariants as openings
 use Rattle.wcode.specs.Grammar.{Word, one, opens, otherwise, end, table, SpellsIndex, SpellsIndices}
 
--- The instruction stands for the word. Of a list of labels it tells the count, and where in the bytes they stand.
+-- The instruction stands for the word. Of a list of labels it tells the count, and where in the
+-- bytes they stand.
 abbrev pub Shows : List ℕ → Op → Word → Type 0
 Shows bytes (ops.Plain p) w = w ≡ one p
 Shows bytes (ops.Block t) w = w ≡ opens openings.Block t

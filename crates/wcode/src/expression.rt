@@ -15,11 +15,12 @@ use std::alloc::{AllocError, Global};
 /// How deep blocks nest at most in an expression, which isn't counted itself.
 pub const NESTING: u32 = 256;
 
-/// Reads instructions from `at` on, with the bodies in them, up to the `end` that closes them (WebAssembly Core 1.0,
-/// 5.4.6). Gives them, and the place after that `end`.
+/// Reads instructions from `at` on, with the bodies in them, up to the `end` that closes them
+/// (WebAssembly Core 1.0, 5.4.6). Gives them, and the place after that `end`.
 ///
-/// The faults are those of `read_op`, and TooDeep at the opcode of a block with more than 255 around it, BadOpcode at
-/// an `else` that no open `if` takes, and NoMemory. Memory is taken in proportion to the bytes that have been read.
+/// The faults are those of `read_op`, and TooDeep at the opcode of a block with more than 255
+/// around it, BadOpcode at an `else` that no open `if` takes, and NoMemory. Memory is taken in
+/// proportion to the bytes that have been read.
 #[tactic(auto, unfolding(crate::specs::inside::Ended::GivesBody))]
 pub fn read_expr(alloc: Global, bytes: &[u8], at: usize) -> Result<(Vec<Instr>, usize), BinFault>
     requires { at ≤ length bytes.now }

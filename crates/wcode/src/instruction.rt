@@ -3,15 +3,16 @@
 use crate::operator::{BinOp, CvtOp, LoadOp, RelOp, StoreOp, TestOp, UnOp};
 use crate::value::{BlockType, Value, ValueType};
 
-/// What a load or store adds to its operand: 2 to the power `align` is the alignment that it hints at,
-/// and `offset` is added to the address.
+/// What a load or store adds to its operand: 2 to the power `align` is the alignment that it hints
+/// at, and `offset` is added to the address.
 #[derive(Clone, Copy, PartialEq, Eq, Debug)]
 pub struct MemArg {
     pub align: u32,
     pub offset: u32,
 }
 
-/// An instruction with no instructions and no list of labels in it. A label counts the blocks outwards, from 0.
+/// An instruction with no instructions and no list of labels in it. A label counts the blocks
+/// outwards, from 0.
 #[derive(Clone, Copy, PartialEq, Eq, Debug)]
 pub enum Plain {
     Unreachable,

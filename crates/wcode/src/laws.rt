@@ -1,4 +1,5 @@
-//! What holds of the grammar of instructions. A law's function does nothing: its contract is the law.
+//! What holds of the grammar of instructions. A law's function does nothing: its contract is the
+//! law.
 
 ghost use Rattle.std.specs.Prelude.{◌≡◌, List, ℕ, ◌+◌, ◌<◌, ◌≤◌, ◌++◌, length, drop, slice_index};
 ghost use Rattle.wcode.specs.Syntax.{Body};

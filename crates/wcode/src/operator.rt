@@ -1,4 +1,5 @@
-//! The operators that instructions name (WebAssembly Core 1.0, 2.4.1 and 2.4.4), and sign extension (Core 2.0, 2.4.1).
+//! The operators that instructions name (WebAssembly Core 1.0, 2.4.1 and 2.4.4), and sign extension
+//! (Core 2.0, 2.4.1).
 
 ghost use Rattle.std.specs.Prelude.{◌≡◌};
 ghost use Rattle.wcode.specs.Operators.{load_type, load_bytes, store_type, store_bytes};
@@ -13,7 +14,8 @@ pub enum UnOp {
     Popcnt,
 }
 
-/// An operator from two numbers to one of their type. `S` and `U` at an end mean that it takes them with a sign or without.
+/// An operator from two numbers to one of their type. `S` and `U` at an end mean that it takes them
+/// with a sign or without.
 #[derive(Clone, Copy, PartialEq, Eq, Debug)]
 pub enum BinOp {
     Add,
@@ -54,7 +56,8 @@ pub enum RelOp {
     GeU,
 }
 
-/// A conversion between the two types, or within a type: its lowest 8, 16 or 32 bits, widened by copies of their top bit.
+/// A conversion between the two types, or within a type: its lowest 8, 16 or 32 bits, widened by
+/// copies of their top bit.
 #[derive(Clone, Copy, PartialEq, Eq, Debug)]
 pub enum CvtOp {
     WrapI64,
@@ -73,7 +76,8 @@ pub enum Sign {
     Unsigned,
 }
 
-/// What a load gives: a value of the type from all of its bytes, or from its lowest 8, 16 or 32 bits, widened.
+/// What a load gives: a value of the type from all of its bytes, or from its lowest 8, 16 or 32
+/// bits, widened.
 #[derive(Clone, Copy, PartialEq, Eq, Debug)]
 pub enum LoadOp {
     Whole(ValueType),

@@ -13,12 +13,13 @@ use crate::opcode::{Form, Opening, form_of};
 use crate::value::{BlockType, Value, ValueType};
 use leb::{LebFault, read_i32, read_i64, read_u32};
 
-/// Reads one instruction from `at` on, without the bodies in it, or an `else` or `end` (WebAssembly Core 1.0, 5.4).
-/// Gives it, and the place after it: at a block, that is where its body begins. Takes no memory.
+/// Reads one instruction from `at` on, without the bodies in it, or an `else` or `end` (WebAssembly
+/// Core 1.0, 5.4). Gives it, and the place after it: at a block, that is where its body begins.
+/// Takes no memory.
 ///
-/// A fault tells what is wrong and where: Truncated at the end of the bytes, BadOpcode at the opcode (also where the
-/// byte 0 is wanted behind its operands), BadType at a block's type, BadNumber where the number begins. Float comes
-/// at an instruction or a block type on floats.
+/// A fault tells what is wrong and where: Truncated at the end of the bytes, BadOpcode at the
+/// opcode (also where the byte 0 is wanted behind its operands), BadType at a block's type,
+/// BadNumber where the number begins. Float comes at an instruction or a block type on floats.
 #[inline]
 pub fn read_op(bytes: &[u8], at: usize) -> Result<(Op, usize), OpFault>
     requires { at ≤ length bytes.now }

@@ -1,4 +1,5 @@
-//! Instructions without others inside them whose numbers have four bytes at most: where they end, and no more. And an `end`.
+//! Instructions without others inside them whose numbers have four bytes at most: where they end,
+//! and no more. And an `end`.
 
 ghost use Rattle.std.specs.Prelude.{true, ◌≡◌, ◌≢◌, ℕ, ◌+◌, ◌<◌, ◌≤◌, List, length, drop, IfSome, slice_index};
 ghost use Rattle.wcode.specs.declared.instruction.Plain.{Plain};
@@ -68,7 +69,8 @@ fn short_number(bytes: &[u8], at: usize) -> Option<usize>
     }
 }
 
-/// The place after an instruction at `at` without others inside it, where it is one of those that this tells.
+/// The place after an instruction at `at` without others inside it, where it is one of those that
+/// this tells.
 #[inline(always)]
 pub(crate) fn pass_short(bytes: &[u8], at: usize) -> Option<usize>
     requires { at ≤ length bytes.now }

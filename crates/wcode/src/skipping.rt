@@ -16,8 +16,9 @@ use crate::short::{pass_short, stands_end};
 use crate::value::Value;
 use std::alloc::{AllocError, Global};
 
-/// Passes the instructions from `at` on, with the bodies in them, up to the `end` that closes them (WebAssembly Core 1.0,
-/// 5.4.6). Gives their blocks, in the order of the opcodes that open them, and the place after that `end`.
+/// Passes the instructions from `at` on, with the bodies in them, up to the `end` that closes them
+/// (WebAssembly Core 1.0, 5.4.6). Gives their blocks, in the order of the opcodes that open them,
+/// and the place after that `end`.
 ///
 /// The faults are those of `read_expr`. Memory is taken for the blocks alone.
 #[tactic(auto, unfolding(crate::specs::inside::Skipped::SkipsBody))]
@@ -70,7 +71,8 @@ fn ends(op: Op) -> bool
     matches!(op, Op::End)
 }
 
-// The end of a body: whether an `else` ends it, the place of that or of its `end`, and the place after.
+// The end of a body: whether an `else` ends it, the place of that or of its `end`, and the place
+// after.
 #[derive(Clone, Copy)]
 struct BodyEnd {
     by_else: bool,

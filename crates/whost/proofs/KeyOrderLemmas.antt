@@ -37,8 +37,8 @@ one_more labels place h = rw (drop-cons labels place (record { key = []; value =
 put_front : (label first : Label) (rest : List Label) → is_before first.key label.key ≡ false → put_in_order label (first ∷ rest) ≡ label ∷ first ∷ rest
 put_front label first rest behind = rw behind refl
 
--- where the labels behind a place are in order as they stand, and the first of them doesn't come before that at the place, those
--- from the place on are
+-- where the labels behind a place are in order as they stand, and the first of them doesn't come
+-- before that at the place, those from the place on are
 pub one_in_front : (labels : List Label) (place : ℕ) → place + 1 < length labels
     → is_before (label_at labels (place + 1)).key (label_at labels place).key ≡ false
     → in_key_order (drop (place + 1) labels) ≡ drop (place + 1) labels → in_key_order (drop place labels) ≡ drop place labels
@@ -130,7 +130,8 @@ Rises : List Label → Type 0
 Rises [] = Unit {0}
 Rises (first ∷ rest) = Follows first.key rest × Rises rest
 
--- whatever follows a key still follows it with a label put in order that doesn't come before that key
+-- whatever follows a key still follows it with a label put in order that doesn't come before that
+-- key
 put_follows : (key : List ℕ) (label : Label) (labels : List Label) → is_before label.key key ≡ false → Follows key labels → Follows key (put_in_order label labels)
 unfolding Follows
 put_follows key label [] h f = h

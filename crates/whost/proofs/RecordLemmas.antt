@@ -1,4 +1,5 @@
--- How many bytes the labels, taints and tolerations of a record take, and what the loop over the places of labels wrote.
+-- How many bytes the labels, taints and tolerations of a record take, and what the loop over the
+-- places of labels wrote.
 use Rattle.std.proofs.Common.{◌≡◌, ℕ, ◌+◌, ◌≤◌, List, [], ◌∷◌, ◌++◌, Some, length, map, take, sum_by, refl, sym, ap, ◌∙◌, arith, length-append}
 use Rattle.std.specs.List.{flat_map}
 use Rattle.std.proofs.lemmas.List.Concat.{length-flat_map}

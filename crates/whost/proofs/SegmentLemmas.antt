@@ -56,7 +56,8 @@ elements_still_fit segments s store here all =
     let same : length (with_elements s store).table ≡ length store.table = length-overwritten store.table (offset_of s.offset) (map (λ (n : ℕ). Some n) s.functions) (subst (λ n. offset_of s.offset + n ≤ length store.table) (sym (length-map s.functions (λ (n : ℕ). Some n))) here) in
     λ k d less. subst (λ n. offset_of (get_or segments k d).offset + length (get_or segments k d).functions ≤ n) (sym same) (all k d less)
 
--- So many elements segments are written, the others fit, and writing them leads to where writing all of them does.
+-- So many elements segments are written, the others fit, and writing them leads to where writing
+-- all of them does.
 pub record ElementsWritten (before now : MachineState) (i : ℕ) : Type 0 where
   pub content : now.content ≡ before.content
   pub image : now.image ≡ before.image
@@ -96,7 +97,8 @@ data_still_fit segments s store here all =
     let same : length (with_data s store).memory ≡ length store.memory = length-overwritten store.memory (offset_of s.offset) (s.bytes) (here) in
     λ k d less. subst (λ n. offset_of (get_or segments k d).offset + length (get_or segments k d).bytes ≤ n) (sym same) (all k d less)
 
--- So many data segments are written, the others fit, and writing them leads to where writing all of them does.
+-- So many data segments are written, the others fit, and writing them leads to where writing all of
+-- them does.
 pub record DataWritten (before now : MachineState) (i : ℕ) : Type 0 where
   pub content : now.content ≡ before.content
   pub image : now.image ≡ before.image

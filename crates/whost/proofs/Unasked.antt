@@ -1,5 +1,5 @@
--- A call that is given fewer records, and isn't cut off for want of one, ends as it does with all: what isn't asked for doesn't
--- matter.
+-- A call that is given fewer records, and isn't cut off for want of one, ends as it does with all:
+-- what isn't asked for doesn't matter.
 use Rattle.std.proofs.Common.{◌≡◌, ℕ, zero, suc, ◌+◌, Bool, true, false, List, [], ◌∷◌, Option, Some, None, refl, sym, ap, ◌∙◌, subst, arith, inl, inr}
 use Rattle.std.specs.Prelude.{◌⊎◌, option_and_then, option_map, slice_get, nat_lt}
 use Rattle.std.specs.Option.{option_map_or}

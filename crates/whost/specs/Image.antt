@@ -1,4 +1,5 @@
--- What a module's calls begin from: its segments written, and its start function run (WebAssembly Core 1.0, 4.5.4).
+-- What a module's calls begin from: its segments written, and its start function run (WebAssembly
+-- Core 1.0, 4.5.4).
 use Rattle.std.specs.Prelude.{◌≡◌, ℕ, List, Option, Some, None, All, fold}
 use Rattle.wbin.specs.Syntax.{ElementSyntax, DataSyntax, ModuleSyntax}
 use Rattle.wstore.specs.Store.{Store, first_store}
@@ -7,7 +8,8 @@ use Rattle.wmach.specs.declared.outcome.Outcome.{Outcome}
 use Rattle.wmach.specs.declared.outcome.Outcome.TheVariants as outcome
 use Rattle.wmach.specs.Outcome.{HasOutcome}
 
--- each element segment of the module lies within a store's table, and each data segment within its memory
+-- each element segment of the module lies within a store's table, and each data segment within its
+-- memory
 pub record InBounds (m : ModuleSyntax) (store : Store) : Type 0 where
   pub elements : All (λ s. ElementsFit s store) m.element_segments
   pub data_segments : All (λ s. DataFits s store) m.data_segments
@@ -38,8 +40,8 @@ abbrev pub StartEnds : ModuleSyntax → (before : Store) → (fuel : ℕ) → (�
 StartEnds m before fuel outcome =
     (function : ℕ) × (cost : ℕ) × (after : Store) × (m.start ≡ Some function) × EndsAlone m before function fuel (outcome cost) after
 
--- The image of a module, with so much fuel for its start function: all segments are in bounds of the first store
--- and written into it, and then start has returned, or there is none.
+-- The image of a module, with so much fuel for its start function: all segments are in bounds of
+-- the first store and written into it, and then start has returned, or there is none.
 pub record IsImage (m : ModuleSyntax) (fuel : ℕ) (image : Store) : Type 0 where
   pub in_bounds : InBounds m (first_store m)
   pub started : Started m m.start (with_segments m (first_store m)) fuel image

@@ -1,6 +1,7 @@
--- The records that host functions hand over: what a module may know of a pod and of a node. In version 2 a list stands behind
--- what version 1 tells: a pod's tolerations, a node's taints. Version 3 tells what version 2 does of a pod without its uid and of a
--- node of which nothing is used: what many pods share, and what stays of a node while pods come and go.
+-- The records that host functions hand over: what a module may know of a pod and of a node. In
+-- version 2 a list stands behind what version 1 tells: a pod's tolerations, a node's taints.
+-- Version 3 tells what version 2 does of a pod without its uid and of a node of which nothing is
+-- used: what many pods share, and what stays of a node while pods come and go.
 use Rattle.std.specs.Prelude.{ℕ, ◌+◌, Bool, true, false, List, [], ◌∷◌, ◌++◌, Option, Some, None, length, sum_by}
 use Rattle.std.specs.Int.{cast_unsigned, w32}
 use Rattle.std.specs.List.{flat_map}
@@ -90,7 +91,8 @@ taints_field taints = length taints ∷ flat_map taint_field taints
 abbrev pub tolerations_field : List Toleration → List ℕ
 tolerations_field tolerations = length tolerations ∷ flat_map toleration_field tolerations
 
--- What both versions tell of a pod. Behind each field stands its offset in the record where the uid has n bytes.
+-- What both versions tell of a pod. Behind each field stands its offset in the record where the uid
+-- has n bytes.
 abbrev pub pod_fields : Pod → List ℕ
 pod_fields pod =
     kind_pod  -- 1
@@ -100,8 +102,8 @@ pod_fields pod =
     ++ number_field 8 pod.request.mem.0  -- n + 15
     ++ labels_field pod.labels.items  -- n + 23
 
--- What both versions tell of a node, with what the pods on it use. Behind each field stands its offset in the record where the
--- name has n bytes.
+-- What both versions tell of a node, with what the pods on it use. Behind each field stands its
+-- offset in the record where the name has n bytes.
 abbrev pub node_fields : Node → (used : Res) → List ℕ
 node_fields node used =
     kind_node  -- 1

@@ -24,7 +24,8 @@ name_of (StartTrap trap) = codes "StartTrap"
 name_of StartExhausted = codes "StartExhausted"
 name_of NoMemory = codes "NoMemory"
 
--- Some element segment passes the end of a store's table; or none does, and some data segment passes the end of its memory.
+-- Some element segment passes the end of a store's table; or none does, and some data segment
+-- passes the end of its memory.
 abbrev pub BoundsRefused : ModuleSyntax → Store → InstanceFault → Type 0
 BoundsRefused m store ElementOutOfBounds = Any (λ s. ¬ (ElementsFit s store)) m.element_segments
 BoundsRefused m store DataOutOfBounds =
@@ -44,8 +45,8 @@ WhyRefused m fuel ElementOutOfBounds = BoundsRefused m (first_store m) ElementOu
 WhyRefused m fuel DataOutOfBounds = BoundsRefused m (first_store m) DataOutOfBounds
 WhyRefused m fuel fault = InBounds m (first_store m) × StartRefused m (with_segments m (first_store m)) fuel fault
 
--- A module has one image at most with so much fuel; and where it has one, only want of memory keeps it from being made an
--- instance.
+-- A module has one image at most with so much fuel; and where it has one, only want of memory keeps
+-- it from being made an instance.
 pub record OneImage : Type 0 where
   pub same : (m : ModuleSyntax) (fuel : ℕ) (image other : Store) → IsImage m fuel image → IsImage m fuel other → image ≡ other
   pub whole : (m : ModuleSyntax) (fuel : ℕ) (image : Store) (fault : InstanceFault) → IsImage m fuel image → WhyRefused m fuel fault → fault ≡ NoMemory

@@ -23,8 +23,9 @@ use std::sync::Arc;
 use wmach::{Export, Machine, Outcome, Trap};
 use wtype::Checked;
 
-/// An accepted module with its segments written and its start function run. What its store was then is the image, from which
-/// each call begins. It takes all its room when it is made; after that no call allocates.
+/// An accepted module with its segments written and its start function run. What its store was then
+/// is the image, from which each call begins. It takes all its room when it is made; after that no
+/// call allocates.
 #[derive(Drop)]
 pub struct Instance {
     machine: Machine,
@@ -49,12 +50,13 @@ fn wants_record(outcome: Outcome) -> bool
 }
 
 impl Instance {
-    /// An instance of the module, whose start function has so much fuel. The bounds of all element segments are tested, then
-    /// those of all data segments, and only then anything is written.
+    /// An instance of the module, whose start function has so much fuel. The bounds of all element
+    /// segments are tested, then those of all data segments, and only then anything is written.
     ///
     /// # Errors
     ///
-    /// The first of the module's parts that fails, or `NoMemory` where there is no memory for its room.
+    /// The first of the module's parts that fails, or `NoMemory` where there is no memory for its
+    /// room.
     pub fn new(alloc: Global, checked: Arc<Checked>, fuel: u64) -> Result<Instance, InstanceFault>
         ensures content { IfOk result (λ i. i.content ≡ (arc_value checked).content) }
         ensures image { IfOk result (λ i. IsImage (module_of (arc_value checked).content) fuel i.image) }
@@ -78,7 +80,8 @@ impl Instance {
         self.machine.has(export)
     }
 
-    /// Calls it, from the image, with these records and so much fuel. What earlier calls wrote is gone.
+    /// Calls it, from the image, with these records and so much fuel. What earlier calls wrote is
+    /// gone.
     pub fn call(&mut self, records: &Records, export: Export, fuel: u64) -> Outcome
         requires there { IsSome (called_function (module_of self.old.content) export) }
         requires by_name { export ≢ Export.Start }
@@ -96,8 +99,9 @@ impl Instance {
         self.machine.invoke(export, &sight, fuel)
     }
 
-    /// Calls it likewise, but hands over of the records only what is shown: where it asks for another one, there is no outcome.
-    /// Else the outcome is that of its calls with all records that look alike.
+    /// Calls it likewise, but hands over of the records only what is shown: where it asks for
+    /// another one, there is no outcome. Else the outcome is that of its calls with all records
+    /// that look alike.
     pub fn call_shown(
         &mut self,
         records: &Records,
@@ -121,8 +125,8 @@ impl Instance {
         Some(outcome)
     }
 
-    /// Calls it likewise, but shows it no node: where it asks for one, there is no outcome. Else the outcome is that of its calls
-    /// with this pod and each node.
+    /// Calls it likewise, but shows it no node: where it asks for one, there is no outcome. Else
+    /// the outcome is that of its calls with this pod and each node.
     pub fn call_without_node(
         &mut self,
         records: &Records,

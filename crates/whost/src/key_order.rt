@@ -12,8 +12,8 @@ ghost use Rattle.quant.specs.Name.{is_before};
 use arrayvec::ArrayVec;
 use quant::{Label, MAX_LABELS, Name};
 
-/// The places of the labels in rising order of their keys' bytes; of equal keys the earlier place comes first. Labels that
-/// stand in this order already are each compared once.
+/// The places of the labels in rising order of their keys' bytes; of equal keys the earlier place
+/// comes first. Labels that stand in this order already are each compared once.
 pub fn key_order(labels: &[Label]) -> ArrayVec<u8, MAX_LABELS>
     requires { length labels.now ≤ 32 }
     ensures order { map (label_at labels.now) result.items ≡ in_key_order labels.now }
@@ -27,7 +27,8 @@ pub fn key_order(labels: &[Label]) -> ArrayVec<u8, MAX_LABELS>
     order
 }
 
-/// Whether labels stand in rising order of their keys' bytes as they are. Most do: who makes a node's row sorts them.
+/// Whether labels stand in rising order of their keys' bytes as they are. Most do: who makes a
+/// node's row sorts them.
 pub fn are_in_order(labels: &[Label]) -> bool
     ensures { IsTrue result → in_key_order labels.now ≡ labels.now }
 {
@@ -39,8 +40,8 @@ pub fn are_in_order(labels: &[Label]) -> bool
     true
 }
 
-// How many labels stand in front of the first whose key doesn't come before `key`. Where that is the first of all, it is
-// seen at once; else each comparison halves what is left.
+// How many labels stand in front of the first whose key doesn't come before `key`. Where that is
+// the first of all, it is seen at once; else each comparison halves what is left.
 fn count_before(labels: &[Label], order: &[u8], key: &Name) -> usize
     requires there { All (λ place. place < length labels.now) order.now }
     requires in_order { IsSortedByKey (λ label. label.key) (slice_cmp nat_cmp) (map (label_at labels.now) order.now) }

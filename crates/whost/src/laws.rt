@@ -6,7 +6,8 @@ ghost use Rattle.whost.specs.Calls.{CallsAgree};
 ghost use Rattle.whost.specs.Refused.{OneImage};
 ghost use Rattle.whost.specs.Laws.{LabelsAreInOrder, NumbersAreReadBack, PodFieldsStand, NodeFieldsStand};
 
-/// A record's labels are those of the row, each once, in rising order of their keys, however they came.
+/// A record's labels are those of the row, each once, in rising order of their keys, however they
+/// came.
 pub fn labels_are_in_order()
     ensures { LabelsAreInOrder }
 {}
@@ -22,7 +23,8 @@ pub fn fields_stand()
     ensures node { (node : Node) (used : Res) → NodeFieldsStand node used }
 {}
 
-/// Calls of one export from one image, with the same records and fuel, have one outcome and leave one store.
+/// Calls of one export from one image, with the same records and fuel, have one outcome and leave
+/// one store.
 pub fn calls_agree()
     ensures { CallsAgree }
 {

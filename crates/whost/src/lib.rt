@@ -1,9 +1,10 @@
-//! Records, which are what the host functions of a module hand over about a pod and a node; and instances, which are modules
-//! that are ready to be called with them.
+//! Records, which are what the host functions of a module hand over about a pod and a node; and
+//! instances, which are modules that are ready to be called with them.
 //!
-//! A record is a list of at most 8,192 bytes, in one buffer that is written in place, so that no call takes memory. The
-//! layout stands in `specs/Record.antt`, byte by byte. An instance takes all its room when it is made; each of its calls
-//! begins from one image, which `specs/Image.antt` says.
+//! A record is a list of at most 8,192 bytes, in one buffer that is written in place, so that no
+//! call takes memory. The layout stands in `specs/Record.antt`, byte by byte. An instance takes all
+//! its room when it is made; each of its calls begins from one image, which `specs/Image.antt`
+//! says.
 #![tactic(auto)]
 
 mod fault;

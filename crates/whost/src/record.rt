@@ -42,8 +42,8 @@ fn operator_code(operator: Operator) -> u8
     }
 }
 
-/// A record: at most 8,192 bytes, all of whose room it has from the start. It is kilobytes large, so it is written in
-/// place and not moved about.
+/// A record: at most 8,192 bytes, all of whose room it has from the start. It is kilobytes large,
+/// so it is written in place and not moved about.
 #[derive(Debug, Drop)]
 pub struct Record {
     bytes: ArrayVec<u8, RECORD_SIZE>,
@@ -86,7 +86,8 @@ impl Record {
         self.bytes.clear();
     }
 
-    /// Makes it a record of version 2 that tells what one of version 1 does, whose bytes are copied: none is written anew.
+    /// Makes it a record of version 2 that tells what one of version 1 does, whose bytes are
+    /// copied: none is written anew.
     pub(crate) fn copy_as_second(&mut self, first: &Record)
         requires { 1 ≤ length first.now }
         ensures bytes { self.new ≡ 2 ∷ drop 1 first.now }

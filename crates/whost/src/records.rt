@@ -1,4 +1,5 @@
-//! What a module is told of a pod and of the node that is looked at: their records, in all versions.
+//! What a module is told of a pod and of the node that is looked at: their records, in all
+//! versions.
 ghost use Rattle.std.specs.Prelude.{◌≡◌, []};
 ghost use Rattle.whost.specs.Handed.{pod_records, node_records};
 
@@ -52,8 +53,8 @@ impl Versions {
     }
 }
 
-/// The records of a pod and those of a node. Each is kilobytes large and is written in place, the pod's once a decision and the
-/// node's once a node.
+/// The records of a pod and those of a node. Each is kilobytes large and is written in place, the
+/// pod's once a decision and the node's once a node.
 #[derive(Debug, Drop)]
 pub struct Records {
     pod: Versions,

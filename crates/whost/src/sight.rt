@@ -12,11 +12,14 @@ pub enum Shows {
     All,
     /// Those of the pod: what is said then is said of all nodes.
     ThisPod,
-    /// The pod's of version 3 alone: what is said then is said of all pods that have this one, and of all nodes.
+    /// The pod's of version 3 alone: what is said then is said of all pods that have this one, and
+    /// of all nodes.
     Class,
-    /// Those of version 3: what is said then is said of all pods that have this one, whatever is used of the node.
+    /// Those of version 3: what is said then is said of all pods that have this one, whatever is
+    /// used of the node.
     ClassAndRow,
-    /// The pod's of version 3, and those of the node: what is said then is said of all pods that have this one.
+    /// The pod's of version 3, and those of the node: what is said then is said of all pods that
+    /// have this one.
     ClassAndNode,
 }
 
@@ -41,8 +44,8 @@ impl Shows {
 
 /// The records of a pod and a node, of which a call is handed over what is shown.
 ///
-/// It is the host of all calls, of start functions too, which are given no record: that there is one type lets the compiler make
-/// one machine. With two, each verdict took nine times as long.
+/// It is the host of all calls, of start functions too, which are given no record: that there is
+/// one type lets the compiler make one machine. With two, each verdict took nine times as long.
 #[derive(Clone, Copy)]
 pub struct Sight<'a> {
     pub records: &'a Records,

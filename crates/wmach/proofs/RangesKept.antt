@@ -1,4 +1,5 @@
--- Numbers that are in range stay so: a reduction leads to values, locals, bytes and constants that are in range.
+-- Numbers that are in range stay so: a reduction leads to values, locals, bytes and constants that
+-- are in range.
 use Rattle.std.proofs.Common.{◌≡◌, ℕ, ◌+◌, ◌*◌, ◌/◌, ◌%◌, ◌^◌, ◌<◌, List, [], ◌∷◌, ◌++◌, Bool, true, false, Option, Some, None, length, refl, ap, ◌∙◌, subst, arith, lit<, mod-lt}
 use Rattle.std.specs.Prelude.{Result, Ok, Err, IfSome, slice_get, slice_set, option_and_then, nat_lt, nat_le, ◌==◌, if◌then◌else◌}
 use Rattle.std.specs.List.{AllByRecursion}

@@ -1,5 +1,5 @@
--- What may become of what is typed and under way: it reduces to what is typed alike, or has ended, or stands before a branch
--- or a return that the labels and the frame around it take.
+-- What may become of what is typed and under way: it reduces to what is typed alike, or has ended,
+-- or stands before a branch or a return that the labels and the frame around it take.
 use Rattle.std.proofs.Common.{◌≡◌, ℕ, List, ◌++◌, Bool, true, false, Option, Some, None, map, refl, sym, ap, ◌∙◌, subst}
 use Rattle.std.specs.Prelude.{slice_get, if◌then◌else◌, ◌&&◌}
 use Rattle.wcode.specs.declared.value.ValueType.{ValueType}

@@ -21,7 +21,8 @@ inner_context m locals labels result = record {
   result = result;
 }
 
--- what is under way leaves these operands, where its frame has these locals, it stands under these labels, and a return carries this
+-- what is under way leaves these operands, where its frame has these locals, it stands under these
+-- labels, and a return carries this
 abbrev pub ExecutionTyped : ModuleSyntax → List ValueType → List Operands → Option Operands → Execution → Operands → Type 0
 ExecutionTyped m locals labels result (instructions values rest) after =
     Typed (inner_context m locals labels result) rest (types_of values) after

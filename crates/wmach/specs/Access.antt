@@ -83,7 +83,8 @@ abbrev pub reduce_size : ModuleSyntax → Store → (locals values : List Value)
 reduce_size m store locals values rest =
     with_memory m (leads_to 1 store locals (instructions (value.I32 (pages_in store.memory) ∷ values) rest))
 
--- memory.grow: the old size, where the new one is no more than the memory's most; else nothing changes
+-- memory.grow: the old size, where the new one is no more than the memory's most; else nothing
+-- changes
 abbrev pub reduce_grow : ModuleSyntax → Store → (locals values : List Value) → (rest : Body) → Option Reduction
 reduce_grow m store locals values rest =
     with_memory m (with_one types.I32 values (λ delta below.

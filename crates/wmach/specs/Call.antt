@@ -23,8 +23,9 @@ called_function m Filter = option_map (λ e. e.index) (export_named filter_name 
 called_function m Score = option_map (λ e. e.index) (export_named score_name m.exports)
 called_function m Start = m.start
 
--- No chain of reductions of a call leads to where neither a rule applies nor the call has ended: whatever
--- accepted module, store that keeps its types and limits, records, and function that can be called.
+-- No chain of reductions of a call leads to where neither a rule applies nor the call has ended:
+-- whatever accepted module, store that keeps its types and limits, records, and function that can
+-- be called.
 abbrev pub NeverStuck : Type 0
 NeverStuck =
     (setting : Setting) (store : Store) (export : Export) (function : ℕ) →
@@ -32,7 +33,8 @@ NeverStuck =
     called_function (setting.module_syntax) export ≡ Some function →
     (n cost : ℕ) (c : Configuration) → Chain setting n (call_of store function) cost c → ¬ (Stuck setting c)
 
--- A call ends in one way: with the same fuel two outcomes of it are one, and so are the stores that they leave.
+-- A call ends in one way: with the same fuel two outcomes of it are one, and so are the stores that
+-- they leave.
 abbrev pub OneOutcome : Type 0
 OneOutcome =
     (setting : Setting) (before : Store) (function fuel : ℕ) (first second : Outcome) (after_first after_second : Store) →
@@ -55,8 +57,8 @@ ResultFits t (outcome.Value result cost) = (option_map type_of result ≡ t) × 
 ResultFits t (outcome.Trap name cost) = Unit {0}
 ResultFits t (outcome.Exhausted cost) = Unit {0}
 
--- What a call leaves, however it ends: a store that fits the module, so that it can be called again, and of a function
--- that returned just its result.
+-- What a call leaves, however it ends: a store that fits the module, so that it can be called
+-- again, and of a function that returned just its result.
 pub record CallLeaves (m : ModuleSyntax) (export : Export) (outcome : Outcome) (after : Store) : Type 0 where
   pub store : StoreFits m after
   pub result : ResultFits (result_type export) outcome
@@ -74,8 +76,8 @@ pub record SomeOutcome (setting : Setting) (before : Store) (function fuel : ℕ
   pub after : Store
   pub is : HasOutcome setting before function fuel outcome after
 
--- Every call ends: whatever accepted module, store that fits it, records and function that can be called, and however
--- much fuel.
+-- Every call ends: whatever accepted module, store that fits it, records and function that can be
+-- called, and however much fuel.
 abbrev pub CallsEnd : Type 0
 CallsEnd =
     (setting : Setting) (before : Store) (export : Export) (function : ℕ) →
@@ -107,7 +109,8 @@ records_for Filter records = records
 records_for Score records = records
 records_for Start records = λ import. None
 
--- what a machine is seen as: its module, its store, and the image that the store can be brought back to
+-- what a machine is seen as: its module, its store, and the image that the store can be brought
+-- back to
 pub record MachineState : Type 0 where
   pub content : ModuleParts
   pub store : Store
@@ -117,7 +120,8 @@ pub record MachineState : Type 0 where
 abbrev pub first_machine : ModuleParts → MachineState
 first_machine p = record { content = p; store = first_store (module_of p); image = first_store (module_of p) }
 
--- a call of a machine, and the machine after it: module and image stay, and the outcome and the store are the call's
+-- a call of a machine, and the machine after it: module and image stay, and the outcome and the
+-- store are the call's
 pub record Calls (before : MachineState) (export : Export) (records : ℕ → Option (List ℕ)) (fuel : ℕ) (outcome : Outcome) (after : MachineState) : Type 0 where
   pub content : after.content ≡ before.content
   pub image : after.image ≡ before.image

@@ -34,8 +34,9 @@ cost_of_bytes n = (n + 255) / 256
 abbrev pub has_room : ModuleSyntax → Store → (address count : ℕ) → Bool
 has_room m store address count = is_there m.memories && nat_le (address + count) (length store.memory)
 
--- A record for which there is so much room at an address. Its length is answered, as an i32. It is written whole where
--- it is no longer than the limit, and else not at all; a write that would pass the memory's end is cut off.
+-- A record for which there is so much room at an address. Its length is answered, as an i32. It is
+-- written whole where it is no longer than the limit, and else not at all; a write that would pass
+-- the memory's end is cut off.
 abbrev pub hand_over : ModuleSyntax → Store → (locals below : List Value) → (address limit : ℕ) → (bytes : List ℕ) → (rest : Body) → Option Reduction
 hand_over m store locals below address limit bytes rest =
     let answered = instructions (value.I32 (length bytes % 2 ^ 32) ∷ below) rest in
@@ -54,7 +55,8 @@ abbrev pub reduce_host : Setting → Store → (locals values : List Value) → 
 reduce_host setting store locals values import rest =
     with_two I32 values (λ address limit below. hand_over_given setting.module_syntax store locals below address limit (setting.records import) rest)
 
--- The imported function with this index. The number of a host function is that of the record that it hands over.
+-- The imported function with this index. The number of a host function is that of the record that
+-- it hands over.
 abbrev pub reduce_import : Setting → Store → (locals values : List Value) → (function : ℕ) → (rest : Body) → Option Reduction
 reduce_import setting store locals values function rest =
     option_and_then (λ name. option_and_then (λ import. reduce_host setting store locals values import rest) (host_number name))

@@ -17,7 +17,8 @@ same_result None (Some u) = false
 same_result (Some t) None = false
 same_result (Some t) (Some u) = same_type t u
 
--- Types are compared by what they are: two that the module lists under different indices can be one (2.3.3).
+-- Types are compared by what they are: two that the module lists under different indices can be one
+-- (2.3.3).
 abbrev pub same_signature : Signature → Signature → Bool
 same_signature t u = same_types t.parameters u.parameters && same_result t.result u.result
 

@@ -1,4 +1,5 @@
--- The numeric instructions (WebAssembly Core 1.0, 4.4.1, and sign extension: Core 2.0, 4.4.1), by the operations of 4.3 at the width of their type.
+-- The numeric instructions (WebAssembly Core 1.0, 4.4.1, and sign extension: Core 2.0, 4.4.1), by
+-- the operations of 4.3 at the width of their type.
 use Rattle.std.specs.Prelude.{ℕ, List, ◌∷◌, Option, Result, Ok, Err}
 use Rattle.wnum.specs.Integer.{iadd, isub, imul, idiv_s, idiv_u, irem_s, irem_u, iand, ior, ixor, ishl, ishr_s, ishr_u, irotl, irotr, iclz, ictz, ipopcnt, ieqz, ieq, ine, ilt_s, ilt_u, igt_s, igt_u, ile_s, ile_u, ige_s, ige_u}
 use Rattle.wnum.specs.Conversion.{wrap, extend_s, extend_u, iextend_s}

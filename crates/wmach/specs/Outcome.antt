@@ -11,7 +11,8 @@ use Rattle.wmach.specs.Reduction.{reduce}
 abbrev pub next : Setting → Configuration → Option Reduction
 next setting c = reduce setting 0 c.store c.locals c.execution
 
--- So many reductions, one after the other, lead from one configuration to another. The cost is their sum.
+-- So many reductions, one after the other, lead from one configuration to another. The cost is
+-- their sum.
 abbrev pub Chain : Setting → ℕ → Configuration → (cost : ℕ) → Configuration → Type 0
 Chain setting zero from cost to = (from ≡ to) × (cost ≡ 0)
 Chain setting (suc n) from cost to =

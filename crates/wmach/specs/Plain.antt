@@ -1,4 +1,5 @@
--- One reduction of an instruction without others inside it (WebAssembly Core 1.0, 4.4.1 to 4.4.5), with its cost.
+-- One reduction of an instruction without others inside it (WebAssembly Core 1.0, 4.4.1 to 4.4.5),
+-- with its cost.
 use Rattle.std.specs.Prelude.{List, ◌∷◌, Option, None, ◌==◌, if◌then◌else◌}
 use Rattle.wcode.specs.declared.value.ValueType.TheVariants.{I32}
 use Rattle.wcode.specs.declared.value.Value.{Value}

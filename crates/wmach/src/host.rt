@@ -4,8 +4,9 @@ ghost use Rattle.std.specs.Prelude.{◌≡◌, ℕ, List, Option, option_map};
 
 use crate::export::Export;
 
-/// What host functions hand over: the bytes of a record, by the function that is called (0 is `sched.pod`, 1 is
-/// `sched.node`, 2 is `sched2.pod`, 3 is `sched2.node`, 4 is `sched3.pod`, 5 is `sched3.node`), or nothing.
+/// What host functions hand over: the bytes of a record, by the function that is called (0 is
+/// `sched.pod`, 1 is `sched.node`, 2 is `sched2.pod`, 3 is `sched2.node`, 4 is `sched3.pod`, 5 is
+/// `sched3.node`), or nothing.
 pub trait Host {
     ghost records: { Self → ℕ → Option (List ℕ) };
 

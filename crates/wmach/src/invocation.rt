@@ -25,7 +25,8 @@ use crate::state::{State, Stop, slot};
 use wcode::Value;
 use wstore::Store;
 
-// At the beginning of a function that takes nothing, by its place among those of the module: its locals are zeros.
+// At the beginning of a function that takes nothing, by its place among those of the module: its
+// locals are zeros.
 fn begin(code: &Code<'_>, slots: &mut [u64], function: usize, fuel: u64) -> State
     requires there { function < length code.now.shapes.now }
     requires room { (shape : TheShape) → slice_get code.now.shapes.now function ≡ Some shape →

@@ -1,5 +1,5 @@
-//! What holds of every call, whatever machine makes it. These functions do nothing: each promises a law of the definitions by
-//! which the contract of a machine's call says how it ends.
+//! What holds of every call, whatever machine makes it. These functions do nothing: each promises a
+//! law of the definitions by which the contract of a machine's call says how it ends.
 
 ghost use Rattle.wmach.specs.Call.{NeverStuck, WhatACallLeaves, CallsEnd, OneOutcome, CostWithinFuel, MoreFuelChangesNothing, FirstStoreFits};
 
@@ -8,7 +8,8 @@ pub fn never_stuck()
     ensures { NeverStuck }
 {}
 
-/// However a call of an accepted module ends, the store fits the module; a function that returned leaves just its result.
+/// However a call of an accepted module ends, the store fits the module; a function that returned
+/// leaves just its result.
 pub fn what_a_call_leaves()
     ensures { WhatACallLeaves }
 {}

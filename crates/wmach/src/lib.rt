@@ -1,9 +1,10 @@
-//! What a call of a checked module gives (WebAssembly Core 1.0, chapter 4): its outcome and its cost, by reduction rules,
-//! and what holds of every call.
+//! What a call of a checked module gives (WebAssembly Core 1.0, chapter 4): its outcome and its
+//! cost, by reduction rules, and what holds of every call.
 //!
-//! The rules stand in the definitions: `Reduction` has one case for each instruction, and `HasOutcome` says how chains of
-//! reductions end. The laws are functions that do nothing and promise what the rules keep (`laws`). The `Machine` runs the module's
-//! own bytes: one step of it is a chain of reductions of the same cost.
+//! The rules stand in the definitions: `Reduction` has one case for each instruction, and
+//! `HasOutcome` says how chains of reductions end. The laws are functions that do nothing and
+//! promise what the rules keep (`laws`). The `Machine` runs the module's own bytes: one step of it
+//! is a chain of reductions of the same cost.
 //!
 //! | Question | Module |
 //! |---|---|

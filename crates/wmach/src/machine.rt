@@ -24,9 +24,10 @@ use std::sync::Arc;
 use wstore::Store;
 use wtype::Checked;
 
-/// A machine for one checked module. It runs the module's own bytes, and nothing is translated: beside them it has the notes of
-/// the module's branches, one row for each function, and slots of 64 bits without tags for 256 frames of the widest function.
-/// It takes all its room when it is made; after that no call allocates.
+/// A machine for one checked module. It runs the module's own bytes, and nothing is translated:
+/// beside them it has the notes of the module's branches, one row for each function, and slots of
+/// 64 bits without tags for 256 frames of the widest function. It takes all its room when it is
+/// made; after that no call allocates.
 #[derive(Drop)]
 pub struct Machine {
     checked: Arc<Checked>,
@@ -101,8 +102,8 @@ impl Machine {
         self.store.always_fits();
     }
 
-    /// Calls it, with so much fuel. The store changes as the call says, also where it is cut off. A start function is given no
-    /// record.
+    /// Calls it, with so much fuel. The store changes as the call says, also where it is cut off. A
+    /// start function is given no record.
     pub fn invoke<H: Host>(&mut self, export: Export, host: &H, fuel: u64) -> Outcome
         requires { IsSome (called_function (module_of self.old.content) export) }
         ensures calls { Calls self.old export (H.records host.now) fuel result self.new }
@@ -136,8 +137,8 @@ impl Machine {
         self.store.keep();
     }
 
-    /// Brings the image back. It copies stretches of 256 bytes of the memory that were written since the image was kept, and
-    /// globals or table where one of them was.
+    /// Brings the image back. It copies stretches of 256 bytes of the memory that were written
+    /// since the image was kept, and globals or table where one of them was.
     pub fn reset(&mut self)
         ensures { self.new ≡ record self.old { store = self.old.image } }
     {

@@ -1,5 +1,5 @@
-//! The numeric instructions (WebAssembly Core 1.0 and 2.0, 4.4.1) by the operations of `wnum`: on numbers of 32 and 64 bits, and on slots of
-//! 64 bits, which hold either.
+//! The numeric instructions (WebAssembly Core 1.0 and 2.0, 4.4.1) by the operations of `wnum`: on
+//! numbers of 32 and 64 bits, and on slots of 64 bits, which hold either.
 
 ghost use Rattle.std.specs.Prelude.{◌≡◌, ◌<◌, ◌^◌, IfOk};
 ghost use Rattle.wmach.specs.Operands.{width_of};

@@ -1,4 +1,5 @@
-//! Instructions without others inside them that are no branches and no calls (WebAssembly Core 1.0, 4.4.1 to 4.4.4).
+//! Instructions without others inside them that are no branches and no calls (WebAssembly Core 1.0,
+//! 4.4.1 to 4.4.4).
 
 ghost use Rattle.std.specs.Prelude.{◌≡◌, List, Ok};
 ghost use Rattle.wcode.specs.declared.instruction.Plain.TheVariants as plains;

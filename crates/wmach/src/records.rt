@@ -17,7 +17,8 @@ fn import_at(decoded: &Module, place: usize) -> &Import
     &decoded.tables().imports[place]
 }
 
-/// The record that each imported function hands over, in a module that imports host functions alone: the number of the function.
+/// The record that each imported function hands over, in a module that imports host functions
+/// alone: the number of the function.
 pub fn records_of(alloc: Global, decoded: &Module) -> Result<Vec<usize>, AllocError>
     requires { ImportsRight (module_of decoded.now) }
     ensures { IfOk result (λ records. RecordsAgree (imported_names (module_of decoded.now).imports) records.items) }

@@ -1,4 +1,5 @@
-//! Whether types of functions are one (WebAssembly Core 1.0, 2.3.3): they are compared by what they are, not by their indices.
+//! Whether types of functions are one (WebAssembly Core 1.0, 2.3.3): they are compared by what they
+//! are, not by their indices.
 
 ghost use Rattle.std.specs.Prelude.{◌≡◌};
 ghost use Rattle.wbin.specs.Syntax.{signature_of};

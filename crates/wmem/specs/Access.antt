@@ -9,7 +9,8 @@ use Rattle.wmem.specs.declared.access.Load.TheVariants.{I32, I64, I32Signed8, I3
 use Rattle.wmem.specs.declared.access.Width.{Width}
 use Rattle.wmem.specs.declared.access.Width.TheVariants.{One, Two, Four, Eight}
 
--- what a load reads: how many bytes, whether they are a signed number, and how many bits its result has
+-- what a load reads: how many bytes, whether they are a signed number, and how many bits its result
+-- has
 pub record Reading : Type 0 where
   pub bytes : ℕ
   pub signed : Bool

@@ -11,7 +11,8 @@ page_size = 65536
 abbrev pub most_pages : ℕ
 most_pages = 32
 
--- what a memory is: its bytes, the greatest size in pages that it may grow to, and the bytes to go back to
+-- what a memory is: its bytes, the greatest size in pages that it may grow to, and the bytes to go
+-- back to
 pub record MemoryInstance : Type 0 where
   pub bytes : List ℕ
   pub cap : ℕ
@@ -37,14 +38,16 @@ pub record IsMemory (memory : MemoryInstance) : Type 0 where
 abbrev pub new_memory : ℕ → ℕ → MemoryInstance
 new_memory pages cap = record { bytes = zeros (page_size * pages); cap = cap; image = zeros (page_size * pages) }
 
--- a write's outcome: all the bytes stand at the address, or, where they would pass the memory's end, nothing is written
+-- a write's outcome: all the bytes stand at the address, or, where they would pass the memory's
+-- end, nothing is written
 abbrev pub WriteGives : Trap → MemoryInstance → ℕ → List ℕ → Result (Unit {0}) Trap → MemoryInstance → Type 0
 WriteGives out_of_bounds old address new_bytes (Ok done) new =
     (address + length new_bytes ≤ length old.bytes) × (new ≡ record old { bytes = with_bytes old.bytes address new_bytes })
 WriteGives out_of_bounds old address new_bytes (Err trap) new =
     (length old.bytes < address + length new_bytes) × (trap ≡ out_of_bounds) × (new ≡ old)
 
--- a growth's outcome: the old size and that many more pages of zeros, or, where the cap is less, no change
+-- a growth's outcome: the old size and that many more pages of zeros, or, where the cap is less, no
+-- change
 abbrev pub GrowGives : MemoryInstance → ℕ → Option ℕ → MemoryInstance → Type 0
 GrowGives old delta (Some pages) new =
     (pages_in old.bytes + delta ≤ old.cap) × (pages ≡ pages_in old.bytes)

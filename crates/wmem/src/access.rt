@@ -1,4 +1,5 @@
-//! What the load and store instructions say of an access: how many bytes, and how a number read fills its operand.
+//! What the load and store instructions say of an access: how many bytes, and how a number read
+//! fills its operand.
 ghost use Rattle.std.specs.Prelude.{◌≡◌};
 
 /// A load instruction, in the order of the opcodes.

@@ -1,4 +1,5 @@
-//! Numbers of 8 and 16 bits as i32 and i64, with their signs kept. That of 32 bits is among the conversions of `wnum`.
+//! Numbers of 8 and 16 bits as i32 and i64, with their signs kept. That of 32 bits is among the
+//! conversions of `wnum`.
 #![tactic(auto, using(crate::proofs::Loads::extensions))]
 
 ghost use Rattle.std.specs.Prelude.{◌≡◌};

@@ -1,5 +1,5 @@
-//! What holds of all loads and stores. These functions do nothing: each promises a law of the definitions by which the
-//! contracts of a memory's calls say what they do.
+//! What holds of all loads and stores. These functions do nothing: each promises a law of the
+//! definitions by which the contracts of a memory's calls say what they do.
 ghost use Rattle.wmem.specs.Laws.{StoresAreLoaded, WritesStayInPlace};
 
 /// A load gives what a store of as many bytes wrote at its address.

@@ -17,9 +17,10 @@ pub const MAX_PAGES: u32 = 32;
 
 /// A linear memory, with an image that it can be brought back to.
 ///
-/// The bytes and the image have room for the whole cap from the start. They are written as pages come into use, so that the
-/// system gives memory for those alone, and are zero past what is in use. Stretches of 256 bytes that were written since the
-/// image was kept are noted: to bring the image back copies those alone.
+/// The bytes and the image have room for the whole cap from the start. They are written as pages
+/// come into use, so that the system gives memory for those alone, and are zero past what is in
+/// use. Stretches of 256 bytes that were written since the image was kept are noted: to bring the
+/// image back copies those alone.
 #[derive(Drop)]
 pub struct Memory {
     tracked: Tracked,
@@ -55,8 +56,8 @@ impl Memory {
     ghost use Rattle.wmem.specs.Bytes.{bytes_of};
     ghost use Rattle.wmem.specs.Memory.{new_memory, pages_in, IsMemory, WriteGives, GrowGives, TouchesAtMost};
 
-    /// A memory of `min` pages of zeros, which is also its image. It takes the room for `cap` pages of each, and nothing
-    /// later takes more.
+    /// A memory of `min` pages of zeros, which is also its image. It takes the room for `cap` pages
+    /// of each, and nothing later takes more.
     pub fn new(alloc: Global, min: u32, cap: u32) -> Result<Memory, AllocError>
         requires within { min ≤ cap }
         requires limited { cap ≤ 32 }
@@ -102,7 +103,8 @@ impl Memory {
     ///
     /// # Errors
     ///
-    /// [`Trap::MemoryOutOfBounds`] where one of the bytes lies past the end: nothing is written then.
+    /// [`Trap::MemoryOutOfBounds`] where one of the bytes lies past the end: nothing is written
+    /// then.
     #[inline(always)]
     pub fn store(&mut self, base: u32, offset: u32, width: Width, value: u64) -> Result<(), Trap>
         ensures { WriteGives MemoryOutOfBounds self.old (base + offset) (bytes_of (byte_count width) value) result
@@ -120,7 +122,8 @@ impl Memory {
     ///
     /// # Errors
     ///
-    /// [`Trap::HostOutOfBounds`] where one of the bytes would lie past the end: nothing is written then.
+    /// [`Trap::HostOutOfBounds`] where one of the bytes would lie past the end: nothing is written
+    /// then.
     pub fn copy_in(&mut self, at: u32, bytes: &[u8]) -> Result<(), Trap>
         ensures { WriteGives HostOutOfBounds self.old at bytes.now result self.new }
     {
@@ -132,8 +135,8 @@ impl Memory {
         Ok(())
     }
 
-    /// Grows by `delta` pages and answers the old size in pages (`memory.grow`). Where that would pass the cap it answers
-    /// `None`, which the instruction gives as -1.
+    /// Grows by `delta` pages and answers the old size in pages (`memory.grow`). Where that would
+    /// pass the cap it answers `None`, which the instruction gives as -1.
     pub fn grow(&mut self, delta: u32) -> Option<u32>
         ensures { GrowGives self.old delta result self.new }
     {
@@ -155,8 +158,8 @@ impl Memory {
         self.image_len = self.len;
     }
 
-    /// Brings the image back, its size too. It copies only stretches of 256 bytes that were written since the image was
-    /// kept.
+    /// Brings the image back, its size too. It copies only stretches of 256 bytes that were written
+    /// since the image was kept.
     pub fn reset(&mut self)
         ensures { self.new ≡ record self.old { bytes = self.old.image } }
     {
@@ -164,8 +167,8 @@ impl Memory {
         self.len = self.image_len;
     }
 
-    /// How many stretches of 256 bytes were written since the image was kept or brought back. One that isn't among them
-    /// is the image's, and zero past the image's end.
+    /// How many stretches of 256 bytes were written since the image was kept or brought back. One
+    /// that isn't among them is the image's, and zero past the image's end.
     pub fn touched(&self) -> usize
         ensures { TouchesAtMost self.now result }
     {

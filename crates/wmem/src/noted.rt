@@ -7,8 +7,8 @@ use std::marker::Model;
 
 /// The pages that are noted. These are small pages, for noting alone: 256 bytes each.
 ///
-/// A flag a page answers whether it is noted, and a list of them lets a reset go to those alone. Room for more pages is taken
-/// when it is made.
+/// A flag a page answers whether it is noted, and a list of them lets a reset go to those alone.
+/// Room for more pages is taken when it is made.
 #[derive(Drop)]
 pub(crate) struct NotedPages {
     is_noted: Vec<bool>,

@@ -14,12 +14,12 @@ use std::marker::Model;
 /// How many bytes are noted together.
 pub(crate) const STRETCH: usize = 256;
 
-/// Two buffers of one length: the bytes, which are written, and the image, which they can be brought
-/// back to. Each stretch of 256 bytes that a write touches is noted, and one that isn't noted is alike
-/// in both; so both ways of making them alike copy the noted pages alone.
+/// Two buffers of one length: the bytes, which are written, and the image, which they can be
+/// brought back to. Each stretch of 256 bytes that a write touches is noted, and one that isn't
+/// noted is alike in both; so both ways of making them alike copy the noted pages alone.
 ///
-/// Room for all pages is taken when it is made, but the system gives memory as it is written for the first time: so zeros are
-/// written where a page comes into use, and none before.
+/// Room for all pages is taken when it is made, but the system gives memory as it is written for
+/// the first time: so zeros are written where a page comes into use, and none before.
 #[derive(Drop)]
 pub(crate) struct Tracked {
     bytes: Vec<u8>,
@@ -65,7 +65,8 @@ impl Tracked {
         })
     }
 
-    /// There are so many pages from now on, or as many as there were. New ones are zeros, in the image too.
+    /// There are so many pages from now on, or as many as there were. New ones are zeros, in the
+    /// image too.
     #[tactic(auto, unfolding(crate::specs::Memory::zeros))]
     pub(crate) fn extend(&mut self, pages: usize)
         requires { pages ≤ self.old.noted.room }

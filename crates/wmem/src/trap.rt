@@ -3,7 +3,8 @@ ghost use Rattle.std.specs.Prelude.{◌≡◌};
 
 use thiserror::Error;
 
-/// Why an access to a memory isn't made. Each trap keeps the number that it has in the list of all traps.
+/// Why an access to a memory isn't made. Each trap keeps the number that it has in the list of all
+/// traps.
 #[derive(Clone, Copy, Debug, PartialEq, Eq, Hash, Error)]
 pub enum Trap {
     /// A load or a store that would pass the memory's end.

@@ -18,7 +18,8 @@ pub from_ibits-snoc : (ds : List ℕ) (d : ℕ) → from_ibits (ds ++ (d ∷ [])
 unfolding from_ibits
 from_ibits-snoc ds d = from_ibits-append ds (d ∷ []) ∙ omega arith
 
--- o is the operation that f makes of digits, if it is made of the halves and the last digits in that way
+-- o is the operation that f makes of digits, if it is made of the halves and the last digits in
+-- that way
 pub bitwise_is : (f o : ℕ → ℕ → ℕ) → o 0 0 ≡ 0 → ((a b : ℕ) → o a b ≡ o (a / 2) (b / 2) * 2 + f (a % 2) (b % 2)) → (N a b : ℕ) → a < 2 ^ N → b < 2 ^ N → from_ibits (bitwise f (ibits N a) (ibits N b)) ≡ o a b
 unfolding ibits from_ibits bitwise
 bitwise_is f o none step zero a b p q =

@@ -1,4 +1,5 @@
--- Each operation answers a number of its type's bits, and each test and relation a number of 32 bits: what a crate above needs, since its values carry no tag.
+-- Each operation answers a number of its type's bits, and each test and relation a number of 32
+-- bits: what a crate above needs, since its values carry no tag.
 use Rattle.std.proofs.Common.{◌≡◌, ◌≢◌, ◌⊎◌, inl, inr, ℕ, ◌+◌, ◌-◌, ◌*◌, ◌/◌, ◌%◌, ◌^◌, ◌<◌, ◌≤◌, Bool, true, false, not, ◌==◌, nat_lt, nat_le, int_div, int_rem, int_lt, int_le, Ok, sym, ◌∙◌, subst, arith, lit<, lt_of_le_of_lt, mod-lt, pow_pos, div-le_self, SFits, of_z, to_z}
 use Rattle.std.proofs.lemmas.Nat.{and_le_l, or_lt, xor_lt, leading_le, trailing_le, ones-le, shr_le}
 use Rattle.std.proofs.lemmas.Bool.{cases_eq}

@@ -1,4 +1,5 @@
--- What the functions of `int32`, `int64` and `convert` rest on, at their widths: each operation as std's contracts give it.
+-- What the functions of `int32`, `int64` and `convert` rest on, at their widths: each operation as
+-- std's contracts give it.
 use Rattle.std.proofs.Common.{◌≡◌, ◌≢◌, ℕ, ◌%◌, ◌^◌, ◌<◌, ℤ, Ok, Err, int_div, int_rem, lit<, to_z, of_z, w8, w16, w32, w64}
 use Rattle.std.proofs.lemmas.Int.{to_z-of_z}
 use Rattle.std.specs.Int.{from_bool, rotate_left, rotate_right}

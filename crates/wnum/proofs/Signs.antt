@@ -1,4 +1,5 @@
--- The signed interpretation is std's reading of a signed type, and so are the relations, the shift and the extension that rest on it.
+-- The signed interpretation is std's reading of a signed type, and so are the relations, the shift
+-- and the extension that rest on it.
 use Rattle.std.proofs.Common.{lt-ltb, le-ltb, ◌≡◌, ℕ, suc, ◌+◌, ◌-◌, ◌*◌, ◌/◌, ◌%◌, ◌^◌, ◌<◌, ◌≤◌, ◌⊎◌, inl, inr, ℤ, pos, negsuc, ◌-ℤ◌, cond, nat_lt, refl, ap, ap₂, ◌∙◌, subst, arith, add-one, add-mul, suc-mul, pow_pos, pow-add, mod-lt}
 use Rattle.std.proofs.lemmas.Int.{ints, to_z_pos, of_z-to_z}
 use native.Mathlib.Nat.{div-eq_of_lt}

@@ -1,4 +1,5 @@
--- The conversions between widths (WebAssembly Core 1.0, 4.3.4), from M bits to N, and sign extension in N bits (Core 2.0, 4.3.2).
+-- The conversions between widths (WebAssembly Core 1.0, 4.3.4), from M bits to N, and sign
+-- extension in N bits (Core 2.0, 4.3.2).
 use Rattle.std.specs.Prelude.{ℕ, ◌%◌, ◌^◌}
 use Rattle.wnum.specs.Representation.{signed, from_signed}
 

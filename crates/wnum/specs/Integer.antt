@@ -1,5 +1,6 @@
--- The integer operations (WebAssembly Core 1.0, 4.3.2), under the standard's names, each over the width N.
--- The operands are natural numbers below 2 ^ N, and so are the results, but for the tests and relations, which answer 1 or 0.
+-- The integer operations (WebAssembly Core 1.0, 4.3.2), under the standard's names, each over the
+-- width N. The operands are natural numbers below 2 ^ N, and so are the results, but for the tests
+-- and relations, which answer 1 or 0.
 use Rattle.std.specs.Prelude.{ℕ, ◌+◌, ◌-◌, ◌*◌, ◌/◌, ◌%◌, ◌^◌, min, max, not, List, [], ◌∷◌, ◌++◌, take, drop, replicate, ℤ, pos, int_div, int_rem, int_lt, int_le, nat_lt, nat_le, ◌==◌, if◌then◌else◌, count_by, Result, Ok, Err}
 use Rattle.std.specs.List.{prefix_len, suffix_len}
 use Rattle.std.specs.Int.{from_bool}
@@ -67,7 +68,8 @@ ixor N a b = from_ibits (bitwise (λ d e. (d + e) % 2) (ibits N a) (ibits N b))
 unfoldable pub top_bit : ℕ → ℕ → ℕ
 top_bit N a = a / 2 ^ (N - 1) % 2
 
--- a shift to the left by k, which is b modulo N: the first k digits go, and k zeros follow the others
+-- a shift to the left by k, which is b modulo N: the first k digits go, and k zeros follow the
+-- others
 unfoldable pub ishl : ℕ → ℕ → ℕ → ℕ
 ishl N a b = let k = b % N in from_ibits (drop k (ibits N a) ++ replicate k 0)
 

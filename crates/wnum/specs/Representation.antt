@@ -1,5 +1,6 @@
--- What a number of N bits stands for (WebAssembly Core 1.0, 4.3.1 and 4.3.2).
--- A value of type i32 is a natural number below 2 ^ 32, and one of type i64 a natural number below 2 ^ 64. N is the type's width in bits.
+-- What a number of N bits stands for (WebAssembly Core 1.0, 4.3.1 and 4.3.2). A value of type i32
+-- is a natural number below 2 ^ 32, and one of type i64 a natural number below 2 ^ 64. N is the
+-- type's width in bits.
 use Rattle.std.specs.Prelude.{ℕ, zero, suc, ◌+◌, ◌-◌, ◌*◌, ◌/◌, ◌%◌, ◌^◌, List, [], ◌∷◌, length, ℤ, pos, negsuc, ◌-ℤ◌, if◌then◌else◌, nat_lt}
 
 -- "signed_N": the number itself in the lower half of the range, and 2 ^ N less in the upper half

@@ -54,7 +54,8 @@ pub fn mul(left: u32, right: u32) -> u32
     left.wrapping_mul(right)
 }
 
-/// `i32.div_s`, rounded toward zero. `DivideByZero` at a divisor of 0, `IntegerOverflow` at the least number by -1.
+/// `i32.div_s`, rounded toward zero. `DivideByZero` at a divisor of 0, `IntegerOverflow` at the
+/// least number by -1.
 pub fn div_s(dividend: u32, divisor: u32) -> Result<u32, Trap>
     ensures { result ≡ idiv_s 32 dividend divisor }
 {
@@ -72,7 +73,8 @@ pub fn div_u(dividend: u32, divisor: u32) -> Result<u32, Trap>
     dividend.checked_div(divisor).ok_or(Trap::DivideByZero)
 }
 
-/// `i32.rem_s`, with the sign of the dividend. `DivideByZero` at a divisor of 0; 0 at the least number by -1.
+/// `i32.rem_s`, with the sign of the dividend. `DivideByZero` at a divisor of 0; 0 at the least
+/// number by -1.
 pub fn rem_s(dividend: u32, divisor: u32) -> Result<u32, Trap>
     ensures { result ≡ irem_s 32 dividend divisor }
 {
@@ -166,7 +168,8 @@ pub fn extend16_s(value: u32) -> u32
     i32::from(low_16.cast_signed()).cast_unsigned()
 }
 
-/// `i32.eqz`: 1 at 0, else 0. As it does, the relations below answer 1 where they hold, and 0 where they don't.
+/// `i32.eqz`: 1 at 0, else 0. As it does, the relations below answer 1 where they hold, and 0 where
+/// they don't.
 pub fn eqz(value: u32) -> u32
     ensures { result ≡ ieqz 32 value }
 {

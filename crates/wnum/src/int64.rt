@@ -54,7 +54,8 @@ pub fn mul(left: u64, right: u64) -> u64
     left.wrapping_mul(right)
 }
 
-/// `i64.div_s`, rounded toward zero. `DivideByZero` at a divisor of 0, `IntegerOverflow` at the least number by -1.
+/// `i64.div_s`, rounded toward zero. `DivideByZero` at a divisor of 0, `IntegerOverflow` at the
+/// least number by -1.
 pub fn div_s(dividend: u64, divisor: u64) -> Result<u64, Trap>
     ensures { result ≡ idiv_s 64 dividend divisor }
 {
@@ -72,7 +73,8 @@ pub fn div_u(dividend: u64, divisor: u64) -> Result<u64, Trap>
     dividend.checked_div(divisor).ok_or(Trap::DivideByZero)
 }
 
-/// `i64.rem_s`, with the sign of the dividend. `DivideByZero` at a divisor of 0; 0 at the least number by -1.
+/// `i64.rem_s`, with the sign of the dividend. `DivideByZero` at a divisor of 0; 0 at the least
+/// number by -1.
 pub fn rem_s(dividend: u64, divisor: u64) -> Result<u64, Trap>
     ensures { result ≡ irem_s 64 dividend divisor }
 {
@@ -174,7 +176,8 @@ pub fn extend32_s(value: u64) -> u64
     i64::from(low_32.cast_signed()).cast_unsigned()
 }
 
-/// `i64.eqz`: 1 at 0, else 0. As it does, the relations below answer 1 where they hold, and 0 where they don't.
+/// `i64.eqz`: 1 at 0, else 0. As it does, the relations below answer 1 where they hold, and 0 where
+/// they don't.
 pub fn eqz(value: u64) -> u64
     ensures { result ≡ ieqz 64 value }
 {

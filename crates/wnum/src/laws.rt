@@ -1,4 +1,5 @@
-//! Laws of the definitions that the contracts here cite. The functions do nothing: each one's contract is the law.
+//! Laws of the definitions that the contracts here cite. The functions do nothing: each one's
+//! contract is the law.
 ghost use Rattle.std.specs.Prelude.{◌≡◌, ◌^◌, ◌<◌, ℕ};
 ghost use Rattle.wnum.specs.Representation.{signed, from_signed, ibits, from_ibits};
 

@@ -3,7 +3,8 @@ ghost use Rattle.std.specs.Prelude.{◌≡◌};
 
 use thiserror::Error;
 
-/// Why an integer operation has no result. Each trap keeps the number that it has in the list of all traps.
+/// Why an integer operation has no result. Each trap keeps the number that it has in the list of
+/// all traps.
 #[derive(Clone, Copy, Debug, PartialEq, Eq, Hash, Error)]
 pub enum Trap {
     /// A division or a remainder by zero.

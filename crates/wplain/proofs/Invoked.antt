@@ -1,4 +1,5 @@
--- A call of an imported function, and one of a module's own function, where there is room for a frame.
+-- A call of an imported function, and one of a module's own function, where there is room for a
+-- frame.
 use Rattle.std.proofs.Common.{◌≡◌, ℕ, ◌-◌, ◌<◌, ◌≤◌, List, true, false, Option, ap, ◌∙◌, arith}
 use Rattle.std.specs.Prelude.{slice_get, option_and_then, nat_lt, if◌then◌else◌}
 use Rattle.std.proofs.lemmas.Bool.{lt-ltb, le-ltb}

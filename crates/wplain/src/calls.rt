@@ -1,4 +1,5 @@
-//! Calls (WebAssembly Core 1.0, 4.4.5, 4.4.7 and 4.4.8): through the table, of the module's own functions, and of the host's.
+//! Calls (WebAssembly Core 1.0, 4.4.5, 4.4.7 and 4.4.8): through the table, of the module's own
+//! functions, and of the host's.
 
 ghost use Rattle.std.specs.Prelude.{◌≡◌, ◌+◌, nat_le, ◌≤◌, ◌++◌, Some, List, IfOk, length, map, take, drop, reverse, slice_get, option_map, option_and_then};
 ghost use Rattle.wcode.specs.declared.value.Value.{Value as one_value};

@@ -1,4 +1,5 @@
-//! What stands inside labels and frames, and how they are left (WebAssembly Core 1.0, 4.4.5 and 4.4.6).
+//! What stands inside labels and frames, and how they are left (WebAssembly Core 1.0, 4.4.5 and
+//! 4.4.6).
 
 ghost use Rattle.std.specs.Prelude.{◌≡◌, ℕ, List, IfOk, option_map};
 ghost use Rattle.wcode.specs.declared.value.Value.{Value as one_value};

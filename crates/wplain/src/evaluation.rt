@@ -98,7 +98,8 @@ fn called(alloc: Global, function: u32, rest: &Code) -> Running<'_>
     }
 }
 
-// The outcome of a call that stands at its beginning. It stops where the call gets stuck, and after so many reductions.
+// The outcome of a call that stands at its beginning. It stops where the call gets stuck, and after
+// so many reductions.
 #[tactic(auto, using(crate::proofs::Reached::reached_first))]
 fn outcome_of<'a>(
     alloc: Global,
@@ -133,8 +134,9 @@ fn told(outcome: Result<Outcome, Stop>) -> Result<Option<Outcome>, AllocError>
     }
 }
 
-/// The outcome of a call of the function with this index, by the definition, with so much fuel; the store is left as the call
-/// leaves it. It gives up where the call gets stuck, and after so many reductions.
+/// The outcome of a call of the function with this index, by the definition, with so much fuel; the
+/// store is left as the call leaves it. It gives up where the call gets stuck, and after so many
+/// reductions.
 pub fn evaluate(
     alloc: Global,
     setting: &Setting,

@@ -12,7 +12,8 @@ use wcode::{BlockType, Plain, Value};
 use wmach::Trap;
 use wmem::Width;
 
-/// What a branch to a label goes on with before what comes after the label: nothing, or the loop again.
+/// What a branch to a label goes on with before what comes after the label: nothing, or the loop
+/// again.
 #[derive(Clone, Copy)]
 pub enum Continuation<'a> {
     Nothing,
@@ -39,7 +40,8 @@ pub struct Place<'a> {
     pub next: Next<'a>,
 }
 
-/// A block that was entered: values below, how many a branch takes along, what goes on inside, and what comes after.
+/// A block that was entered: values below, how many a branch takes along, what goes on inside, and
+/// what comes after.
 #[cycle(under_way)]
 #[derive(Drop)]
 pub struct Label<'a> {
@@ -50,7 +52,8 @@ pub struct Label<'a> {
     pub rest: &'a Code,
 }
 
-/// A function that was entered: values below, how many it gives, its locals, what goes on inside, and what comes after.
+/// A function that was entered: values below, how many it gives, its locals, what goes on inside,
+/// and what comes after.
 #[cycle(under_way)]
 #[derive(Drop)]
 pub struct Frame<'a> {

@@ -1,5 +1,6 @@
-//! The definition of calls, run as it stands: what is under way is a tree, each rule of reduction is a function, and a loop takes
-//! one reduction after the other. It is slow. What it answers is the definition's outcome, so that tests can compare with it.
+//! The definition of calls, run as it stands: what is under way is a tree, each rule of reduction
+//! is a function, and a loop takes one reduction after the other. It is slow. What it answers is
+//! the definition's outcome, so that tests can compare with it.
 #![tactic(auto)]
 
 mod calls;

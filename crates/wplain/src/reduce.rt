@@ -146,7 +146,8 @@ fn reduce_here<'a>(
     }
 }
 
-/// One reduction inside so many frames, of which the innermost has these locals. It stops where no rule applies.
+/// One reduction inside so many frames, of which the innermost has these locals. It stops where no
+/// rule applies.
 pub fn reduce<'a>(
     alloc: Global,
     setting: &'a Setting,

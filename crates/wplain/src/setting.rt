@@ -22,7 +22,8 @@ pub struct Program {
     pub memories: Vec<Limits>,
 }
 
-/// The bytes that the host functions hand over, or none: the records of version 1, and those of version 2.
+/// The bytes that the host functions hand over, or none: the records of version 1, and those of
+/// version 2.
 #[derive(Drop)]
 pub struct Records {
     pub pod: Option<Vec<u8>>,

@@ -1,4 +1,5 @@
-//! The parametric and the variable instructions (WebAssembly Core 1.0, 4.4.2 and 4.4.3), and branches that ask.
+//! The parametric and the variable instructions (WebAssembly Core 1.0, 4.4.2 and 4.4.3), and
+//! branches that ask.
 
 ghost use Rattle.std.specs.Prelude.{◌≡◌, ◌==◌, List, IfOk, if◌then◌else◌};
 ghost use Rattle.wcode.specs.Syntax.{plain};

@@ -1,16 +1,16 @@
 //! The program `wsched`. `wsched run [--workers N] [NAME:WEIGHT:FUEL:FILE]...` reads a script from
-//! standard input, decides by its own rules and by the plugins in those files, and writes the answers
-//! to standard output; `wsched explain`, by the same words, tells before the answer to each cycle what
-//! was decided of each node; `wsched storm [--cycles C] [--binders B] [--flaky]
-//! [NAME:WEIGHT:FUEL:FILE]...` has many threads work a script of watch lines off at once, and writes
-//! what they come to and an audit of it; `wsched check MODULE` says on standard output whether the
-//! module in that file is accepted; `wsched translate [--scheduler NAME] [--labels KEY,..] [--by-uid] [--answers]` reads
-//! objects of the Kubernetes API from standard input and writes the lines of a script that they give;
-//! `wsched version` says which program this is.
-//! A fault goes to standard error as one line. It ends with status 0 when all was done or the module is
-//! accepted, 1 at a faulty line, a refused module, a failed audit or an object that can't be counted,
-//! 2 at bad words, 3 for want of memory or of a place at the desk, and 4 when a file, a read or a write
-//! failed.
+//! standard input, decides by its own rules and by the plugins in those files, and writes the
+//! answers to standard output; `wsched explain`, by the same words, tells before the answer to each
+//! cycle what was decided of each node; `wsched storm [--cycles C] [--binders B] [--flaky]
+//! [NAME:WEIGHT:FUEL:FILE]...` has many threads work a script of watch lines off at once, and
+//! writes what they come to and an audit of it; `wsched check MODULE` says on standard output
+//! whether the module in that file is accepted; `wsched translate [--scheduler NAME] [--labels
+//! KEY,..] [--by-uid] [--answers]` reads objects of the Kubernetes API from standard input and
+//! writes the lines of a script that they give; `wsched version` says which program this is. A
+//! fault goes to standard error as one line. It ends with status 0 when all was done or the module
+//! is accepted, 1 at a faulty line, a refused module, a failed audit or an object that can't be
+//! counted, 2 at bad words, 3 for want of memory or of a place at the desk, and 4 when a file, a
+//! read or a write failed.
 //!
 //! What it does is `serving::answer`; here are the process's words, streams and files.
 #![tactic(auto)]

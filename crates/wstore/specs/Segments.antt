@@ -22,7 +22,8 @@ offset_of _ = 0
 abbrev pub overwritten : {A : Type 0} → List A → ℕ → List A → List A
 overwritten items at new = take at items ++ new ++ drop (at + length new) items
 
--- All of the segment lies within the table. An empty one does so where its offset is at most the size.
+-- All of the segment lies within the table. An empty one does so where its offset is at most the
+-- size.
 abbrev pub ElementsFit : ElementSyntax → Store → Type 0
 ElementsFit s store = offset_of s.offset + length s.functions ≤ length store.table
 

@@ -45,15 +45,16 @@ with_memory state bytes = with_current state (record state.current { memory = by
 abbrev pub with_globals : StoreState → List Value → StoreState
 with_globals state globals = with_current state (record state.current { globals = globals })
 
--- a write's outcome: all the bytes stand at the address, or, where they would pass the memory's end, nothing is written
+-- a write's outcome: all the bytes stand at the address, or, where they would pass the memory's
+-- end, nothing is written
 abbrev pub StoreGives : Trap → StoreState → (address : ℕ) → List ℕ → Result (Unit {0}) Trap → StoreState → Type 0
 StoreGives out_of_bounds old address bytes (Ok done) new =
     (address + length bytes ≤ length old.current.memory) × (new ≡ with_memory old (with_bytes old.current.memory address bytes))
 StoreGives out_of_bounds old address bytes (Err trap) new =
     (length old.current.memory < address + length bytes) × (trap ≡ out_of_bounds) × (new ≡ old)
 
--- a growth's outcome: the old size in pages and that many more pages of zeros, or, where the module's memory may not have as
--- many, no change
+-- a growth's outcome: the old size in pages and that many more pages of zeros, or, where the
+-- module's memory may not have as many, no change
 abbrev pub GrowthGives : StoreState → (delta : ℕ) → Option ℕ → StoreState → Type 0
 GrowthGives old delta (Some pages) new =
     (pages_in old.current.memory + delta ≤ cap_of (syntax_of old).memories) × (pages ≡ pages_in old.current.memory)

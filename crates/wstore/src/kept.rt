@@ -6,8 +6,8 @@ ghost use Rattle.wstore.specs.Segments.{overwritten};
 use std::alloc::{AllocError, Global};
 use std::marker::Model;
 
-/// Places that are written one by one. Where none was written since the image was kept, both ways of making them alike copy
-/// nothing.
+/// Places that are written one by one. Where none was written since the image was kept, both ways
+/// of making them alike copy nothing.
 #[derive(Drop)]
 pub struct Kept<T> {
     places: Vec<T>,

@@ -35,7 +35,8 @@ fn is_memory(memory: &Memory)
     let _ = memory.size();
 }
 
-/// The memory, the globals and the table of a checked module, with an image that they can be brought back to.
+/// The memory, the globals and the table of a checked module, with an image that they can be
+/// brought back to.
 ///
 /// Globals are kept as numbers of 64 bits without their types, which the module has.
 #[derive(Drop)]
@@ -62,8 +63,8 @@ impl Model for Store {
 }
 
 impl Store {
-    /// The store that the module has at first, which is also the image. It takes the room for all that either may come to
-    /// hold, and nothing later takes more.
+    /// The store that the module has at first, which is also the image. It takes the room for all
+    /// that either may come to hold, and nothing later takes more.
     pub fn new(alloc: Global, checked: Arc<Checked>) -> Result<Store, AllocError>
         ensures { IfOk result (λ store. store ≡ new_state (arc_value checked)) }
     {
@@ -133,7 +134,8 @@ impl Store {
     ///
     /// # Errors
     ///
-    /// [`Trap::MemoryOutOfBounds`] where one of the bytes lies past the end: nothing is written then.
+    /// [`Trap::MemoryOutOfBounds`] where one of the bytes lies past the end: nothing is written
+    /// then.
     #[inline(always)]
     pub fn store(&mut self, base: u32, offset: u32, width: Width, value: u64) -> Result<(), Trap>
         ensures { StoreGives MemoryOutOfBounds self.old (base + offset) (bytes_of (byte_count width) value) result
@@ -146,15 +148,16 @@ impl Store {
     ///
     /// # Errors
     ///
-    /// [`Trap::HostOutOfBounds`] where one of the bytes would lie past the end: nothing is written then.
+    /// [`Trap::HostOutOfBounds`] where one of the bytes would lie past the end: nothing is written
+    /// then.
     pub fn copy_in(&mut self, at: u32, bytes: &[u8]) -> Result<(), Trap>
         ensures { StoreGives HostOutOfBounds self.old at bytes.now result self.new }
     {
         self.memory.copy_in(at, bytes)
     }
 
-    /// Grows the memory by `delta` pages and answers the old size in pages (`memory.grow`), or `None`, which the instruction
-    /// gives as -1, where the module's memory may not have as many.
+    /// Grows the memory by `delta` pages and answers the old size in pages (`memory.grow`), or
+    /// `None`, which the instruction gives as -1, where the module's memory may not have as many.
     pub fn grow(&mut self, delta: u32) -> Option<u32>
         ensures { GrowthGives self.old delta result self.new }
     {
@@ -264,8 +267,8 @@ impl Store {
         self.table.keep();
     }
 
-    /// Brings the image back. It copies stretches of 256 bytes of the memory that were written since the image was kept, and
-    /// globals or table where one of them was.
+    /// Brings the image back. It copies stretches of 256 bytes of the memory that were written
+    /// since the image was kept, and globals or table where one of them was.
     pub fn reset(&mut self)
         ensures { self.new ≡ record self.old { current = self.old.image } }
     {

@@ -1,5 +1,5 @@
--- Which modules are accepted (WebAssembly Core 1.0, 3.4): each body is typed, each index names something, and
--- what this project asks of imports, exports and sizes.
+-- Which modules are accepted (WebAssembly Core 1.0, 3.4): each body is typed, each index names
+-- something, and what this project asks of imports, exports and sizes.
 use Rattle.std.specs.Prelude.{◌≡◌, ◌≢◌, ℕ, ◌+◌, ◌<◌, ◌≤◌, List, [], ◌∷◌, ◌⊎◌, Option, Some, None, IfSome, IsSome, IsTrue, length, slice_get, if◌then◌else◌, ◌&&◌, codes}
 use Rattle.std.specs.List.{AllByRecursion}
 use Rattle.std.specs.Str.{bytes_eq}
@@ -25,8 +25,8 @@ use Rattle.wbody.specs.Heights.{greatest_height}
 abbrev pub ImportName : Type 0
 ImportName = List ℕ × List ℕ
 
--- The functions of the host. A function's number is its place: those that hand over the records of version 1, of the pod and
--- of the node, then those of version 2, and those of version 3.
+-- The functions of the host. A function's number is its place: those that hand over the records of
+-- version 1, of the pod and of the node, then those of version 2, and those of version 3.
 abbrev pub host_functions : List ImportName
 host_functions =
     (codes "sched", codes "pod") ∷ (codes "sched", codes "node")
@@ -175,7 +175,8 @@ abbrev pub export_named : List ℕ → List ExportSyntax → Option ExportSyntax
 export_named name [] = None
 export_named name (e ∷ es) = if bytes_eq e.name name then Some e else export_named name es
 
--- The exports that are called: one of that name is a function of its type, and one of the two is there.
+-- The exports that are called: one of that name is a function of its type, and one of the two is
+-- there.
 pub record ExportsRight (m : ModuleSyntax) : Type 0 where
   pub filter : IfSome (export_named filter_name m.exports) (IsFunctionOf m filter_type)
   pub score : IfSome (export_named score_name m.exports) (IsFunctionOf m score_type)

@@ -5,7 +5,8 @@ use Rattle.wbody.specs.declared.fault.TypeFault.{TypeFault}
 use Rattle.wbody.specs.declared.fault.TypeFault.TheVariants.{Untyped, BadImport, BadExport, OverLimit, NoMemory}
 use Rattle.wtype.specs.Accepted.{ImportsRight, RulesKept, FunctionTyped, ModuleTyped, ExportsRight, ModuleSmall}
 
--- The function with this index, where imported functions count first, is the first whose body has no typing.
+-- The function with this index, where imported functions count first, is the first whose body has
+-- no typing.
 pub record FirstUntyped (m : ModuleSyntax) (index : ℕ) : Type 0 where
   pub place : ℕ
   pub counted : index ≡ length m.imports + place

@@ -16,7 +16,8 @@ use std::marker::Model;
 use wbin::Module;
 use wbody::{Notes, TypeFault};
 
-/// A module that is accepted, with the notes of its bodies and the functions that are called. Only `validate` makes one.
+/// A module that is accepted, with the notes of its bodies and the functions that are called. Only
+/// `validate` makes one.
 #[derive(Drop)]
 pub struct Checked {
     module: Module,
@@ -75,8 +76,8 @@ impl Checked {
     }
 }
 
-/// Finds a module acceptable, or why it isn't: an import, then whatever breaks a rule or has no typing, then the exports
-/// that are called, then the sizes. At a fault the module is given up.
+/// Finds a module acceptable, or why it isn't: an import, then whatever breaks a rule or has no
+/// typing, then the exports that are called, then the sizes. At a fault the module is given up.
 pub fn validate(alloc: Global, decoded: Module) -> Result<Checked, TypeFault>
     ensures ok { IfOk result (λ checked. checked.content ≡ decoded) }
     ensures accepted { IfOk result (λ checked. Accepted (module_of decoded)) }

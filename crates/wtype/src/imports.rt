@@ -8,8 +8,9 @@ ghost use Rattle.wtype.specs.Accepted.{ImportAllowed, ImportsRight, IsImportOf, 
 use wbin::{FunctionType, Import, ImportKind, Module};
 use wcode::ValueType;
 
-/// The number of the host's function that is imported by this module's name and this name, if there is one: 0 is `sched.pod`,
-/// 1 is `sched.node`, 2 is `sched2.pod`, 3 is `sched2.node`, 4 is `sched3.pod`, 5 is `sched3.node`.
+/// The number of the host's function that is imported by this module's name and this name, if there
+/// is one: 0 is `sched.pod`, 1 is `sched.node`, 2 is `sched2.pod`, 3 is `sched2.node`, 4 is
+/// `sched3.pod`, 5 is `sched3.node`.
 pub fn host_number(from: &[u8], name: &[u8]) -> Option<usize>
     ensures { defined_number (from.now, name.now) ≡ result }
 {

@@ -54,7 +54,8 @@ pub record IsGathered (places : Places) (limit : ℕ) (names : List (List ℕ)) 
   pub sorted : IsSorted name_cmp names
   pub all : (uid : List ℕ) → is_finished_by limit (get places uid) ≡ true → IsFrom names given uid
 
--- what is kept beside the places is right: their totals, when their binds were reported done, and those gathered by it
+-- what is kept beside the places is right: their totals, when their binds were reported done, and
+-- those gathered by it
 pub record IsKept (by_uid : Slots Place) (totals : Slots Res) (assumed : ℕ) (finishes : List ℕ) (overdue : Overdue) : Type 0 where
   pub counted : IsCounted (map_of by_uid) (length by_uid) (map_of totals) (length totals) assumed
   pub timed : finishes ≡ map finish_in by_uid

@@ -11,7 +11,8 @@ use Rattle.book.specs.Rows.{Rows, named}
 abbrev pub IsInOrder : Rows → Type 0
 IsInOrder rows = IsTrue (is_sorted name_cmp (named rows))
 
--- the rows are in order, with as many amounts beside them, and there is room for as many as there may be
+-- the rows are in order, with as many amounts beside them, and there is room for as many as there
+-- may be
 pub record IsListed (rows : Vec Node) (used : Vec Res) (room : ℕ) : Type 0 where
   pub in_order : IsInOrder rows.items
   pub in_room : vec_len rows ≤ room

@@ -10,7 +10,8 @@ pub record Held (X : Type 0) : Type 0 where
   pub map : FinMap name_cmp X
   pub room : ℕ
 
--- the nodes by name, how many there may be, and what is used of each, in the order of their names' bytes
+-- the nodes by name, how many there may be, and what is used of each, in the order of their names'
+-- bytes
 pub record NodeTable : Type 0 where
   pub map : Nodes
   pub room : ℕ

@@ -16,7 +16,8 @@ use Rattle.choose.specs.Choice.{Judged, errs, count_of, total_of, is_for, IsFirs
 use Rattle.quant.specs.Name.{is_before}
 use Rattle.desk.specs.Order.{name_at}
 
--- the verdict on a node where there is no rule: the first built-in filter that rejects it, else it passes with nothing added
+-- the verdict on a node where there is no rule: the first built-in filter that rejects it, else it
+-- passes with nothing added
 abbrev pub IsBuiltIn : Pod → Shown → Verdict → Type 0
 IsBuiltIn pod shown verdict = MatchOption (built_in shown pod) (verdict ≡ passing shown pod nothing_added) (λ reason. verdict ≡ Rejected reason)
 
@@ -37,7 +38,8 @@ nobody = record { name = []; verdict = Rejected Marked }
 abbrev pub node_at : List Judged → ℕ → Judged
 node_at nodes at = slice_index_or nodes at nobody
 
--- what was found goes before what was found earlier: it is worth more, or as much and its name comes first
+-- what was found goes before what was found earlier: it is worth more, or as much and its name
+-- comes first
 abbrev pub goes_before : List Shown → Found → Found → Bool
 goes_before nodes a b = nat_lt b.worth a.worth || ((a.worth == b.worth) && is_before (name_at nodes a.at) (name_at nodes b.at))
 

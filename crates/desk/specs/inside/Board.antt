@@ -1,4 +1,5 @@
--- What is published of a desk for looks: its nodes with what is used of each; and how a call changes that.
+-- What is published of a desk for looks: its nodes with what is used of each; and how a call
+-- changes that.
 use Rattle.std.specs.Prelude.{◌≡◌, ℕ, ◌≤◌, ◌&&◌, Bool, List, [], ◌∷◌, Option, None, Some, if◌then◌else◌, fold, length, map, nat_le, nat_lt, slice_index_or, slice_set, ◌==◌, vec_capacity}
 use Rattle.std.specs.List.{insert, remove}
 use Rattle.std.specs.FinMap.{entries}
@@ -26,8 +27,8 @@ use Rattle.desk.specs.Shown.{Shown}
 
 -- ---- what is published
 
--- the nodes in the order of their names' bytes, what is used of each, how many nodes there may be, how many calls of each pass
--- were answered, and the history that left it so
+-- the nodes in the order of their names' bytes, what is used of each, how many nodes there may be,
+-- how many calls of each pass were answered, and the history that left it so
 pub record Board : Type 0 where
   pub nodes : List Node
   pub used : List Res

@@ -1,4 +1,5 @@
--- What lies under the lock of a desk that many passes share, what is published, and how a word names a history.
+-- What lies under the lock of a desk that many passes share, what is published, and how a word
+-- names a history.
 use Rattle.std.specs.Prelude.{◌≡◌, ℕ, ◌+◌, ◌==◌, true, List, [], ◌∷◌, ◌++◌, length, MatchBool}
 use Rattle.logbook.specs.Pages.{Cell, Step as WordStep, View, Book, Named}
 use Rattle.book.specs.declared.limits.Limits.{Limits}
@@ -48,8 +49,8 @@ pub record Held : Type 0 where
 abbrev pub held_after : Held → ℕ → Step → Prefix → Held
 held_after x pass e prefix = record { desk = with_state x.desk (after x.desk.state pass e); prefix = prefix }
 
--- the history is legal, but for which passes were handed out, and leaves the desk so, the counts of calls among the rest; and the
--- desk has these limits, and its history is in this book
+-- the history is legal, but for which passes were handed out, and leaves the desk so, the counts of
+-- calls among the rest; and the desk has these limits, and its history is in this book
 pub record Stands (book : Book) (limits : Limits) (x : Held) : Type 0 where
   pub leaves : Leaves x.prefix.list x.desk
   pub book_is : x.prefix.book ≡ book

@@ -21,8 +21,8 @@ use quant::{Event, Moment, Name, Res, SharedNode, SharedPod};
 impl Core {
     /// Whose rows a step may change.
     ///
-    /// Errors: `NoMemory` where the node that it tells of can have no further owner, and where places expire and there is no
-    /// memory for what is used of each node.
+    /// Errors: `NoMemory` where the node that it tells of can have no further owner, and where
+    /// places expire and there is no memory for what is used of each node.
     pub(crate) fn subject_of(&self, step: &Step) -> Result<Subject, NoMemory>
         ensures { IfOk result (IsSubject self.now.state.cluster step.now) }
     {
@@ -47,8 +47,9 @@ impl Core {
         Ok(Subject::All(used))
     }
 
-    /// Does a step for a pass, or refuses it, says so, and counts the call; with what it changed of the rows of nodes. It takes no
-    /// memory, and hands out the pod that goes first, if the step hands one out.
+    /// Does a step for a pass, or refuses it, says so, and counts the call; with what it changed of
+    /// the rows of nodes. It takes no memory, and hands out the pod that goes first, if the step
+    /// hands one out.
     pub(crate) fn take_noted(
         &mut self,
         pass: usize,

@@ -26,7 +26,8 @@ Hear plugins told place (heard.Score said) = (p : Ready) → slice_get plugins p
 abbrev pub HearOfAll : List Ready → (pod : List ℕ) → (place : ℕ) → Heard → Type 0
 HearOfAll plugins pod place heard = (told : Records) → told.pod.third ≡ pod → Hear plugins told place heard
 
--- it says this of each pod that has this record of version 3, and of this node's row, whatever is used of it
+-- it says this of each pod that has this record of version 3, and of this node's row, whatever is
+-- used of it
 abbrev pub HearAlways : List Ready → (pod : List ℕ) → Node → (place : ℕ) → Heard → Type 0
 HearAlways plugins pod node place heard =
     (told : Records) → told.pod.third ≡ pod → told.node.third ≡ node_bytes3 node → Hear plugins told place heard

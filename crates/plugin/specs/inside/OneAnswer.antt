@@ -1,5 +1,5 @@
--- That a kit's plugins say one thing, each of the same pod and node: this is proved, and nothing to be believed. It stands here
--- since the kit's code names it.
+-- That a kit's plugins say one thing, each of the same pod and node: this is proved, and nothing to
+-- be believed. It stands here since the kit's code names it.
 use Rattle.std.proofs.Common.{◌≡◌, List, Option, Some, None, slice_get, refl, sym, ap, ◌∙◌, subst, inl, inr}
 use Rattle.wmach.specs.declared.export.Export.{Export}
 use Rattle.wmach.specs.declared.export.Export.TheVariants as export

@@ -13,7 +13,8 @@ use Rattle.plugin.specs.inside.Answers.{AnswersHold}
 use Rattle.plugin.specs.inside.Asked.{Reaches}
 use Rattle.plugin.specs.inside.Kept.{Hear}
 
--- what contracts see of it: the records, and what was known of all nodes and of this one as it was shown
+-- what contracts see of it: the records, and what was known of all nodes and of this one as it was
+-- shown
 pub record Noted : Type 0 where
   pub records : Records
   pub of_all : Answers

@@ -1,4 +1,5 @@
-//! Checks of a module in a file, whose line can't be written. What checks come to is told by tests/rows.
+//! Checks of a module in a file, whose line can't be written. What checks come to is told by
+//! tests/rows.
 use super::{Given, PASSES, RUN, Stored, Want, ends, removes_files, writes_files};
 use std::hash::RandomState;
 

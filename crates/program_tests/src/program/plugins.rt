@@ -1,4 +1,5 @@
-//! A run with a plugin, over failing devices. What plugins come to, and which are refused, is told by tests/rows.
+//! A run with a plugin, over failing devices. What plugins come to, and which are refused, is told
+//! by tests/rows.
 use super::{Given, PASSES, RUN, Stored, Want, ends, removes_files, writes_files};
 use std::alloc::Global;
 use std::fs::Files;

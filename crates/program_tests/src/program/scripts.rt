@@ -1,4 +1,5 @@
-//! A script without plugins, over failing devices and in pieces. What scripts come to is told by tests/rows.
+//! A script without plugins, over failing devices and in pieces. What scripts come to is told by
+//! tests/rows.
 use super::{Given, RUN, Want, ends, ends_in_pieces};
 use std::alloc::Global;
 use std::fs::Files;

@@ -1,13 +1,14 @@
-//! A translation of objects of the Kubernetes API, in pieces and over failing devices. What words and lines come to is told by
-//! tests/rows, and what each object gives is tested in `api_objects`.
+//! A translation of objects of the Kubernetes API, in pieces and over failing devices. What words
+//! and lines come to is told by tests/rows, and what each object gives is tested in `api_objects`.
 use super::{Given, RUN, Want, ends, ends_in_pieces};
 use std::alloc::Global;
 use std::fs::Files;
 use std::sync::Wait;
 use std::thread::Threads;
 
-// A node; what tells nothing; a pod that waits; a line of spaces; a pod that stands on a node; a line of no bytes; a pod that is to be
-// placed by another scheduler now; and, on a last line without a newline, a pod that is gone.
+// A node; what tells nothing; a pod that waits; a line of spaces; a pod that stands on a node; a
+// line of no bytes; a pod that is to be placed by another scheduler now; and, on a last line
+// without a newline, a pod that is gone.
 const OBJECTS: &[u8] =
     br#"{"type":"ADDED","object":{"kind":"Node","metadata":{"name":"a","labels":{"zone":"x","note":"two words"}},"status":{"allocatable":{"cpu":"3920m","memory":"15Gi","pods":"110"}}}}
 {"type":"BOOKMARK","object":{"kind":"Node","metadata":{"resourceVersion":"7"}}}

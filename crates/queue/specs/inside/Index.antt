@@ -87,7 +87,8 @@ kept_with change (Some e) = Some (record { name = e.name; value = change e.value
 abbrev pub changed_in : Pods → ℕ → (Entry → Entry) → Pods
 changed_in pods s change = slice_set pods s (kept_with change (entry_in pods s))
 
--- a tick to this moment releases it: its backoff has ended, or it failed 300,000 ms before or earlier
+-- a tick to this moment releases it: its backoff has ended, or it failed 300,000 ms before or
+-- earlier
 abbrev pub is_due : Moment → State → Bool
 is_due now Active = false
 is_due now (Backoff until) = nat_le until.0 now.0

@@ -21,7 +21,8 @@ state_of pods = record { limit = length pods; entries = map_of pods }
 abbrev pub OwnUids : Pods → Type 0
 OwnUids pods = (s : ℕ) (e : Named Entry) → entry_in pods s ≡ Some e → e.value.pod.uid ≡ e.name
 
--- what holds of a queue's parts: the index is of its slots, each uid is there once, and the last call compared few
+-- what holds of a queue's parts: the index is of its slots, each uid is there once, and the last
+-- call compared few
 pub record IsKept (pods : Pods) (ways : Index) (compared : ℕ) : Type 0 where
   pub index : IsIndex pods ways
   pub once : NamesOnce pods

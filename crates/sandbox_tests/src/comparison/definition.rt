@@ -1,4 +1,5 @@
-//! A module as the plain evaluator of the definition takes it: its bodies are trees, and its first store is made here.
+//! A module as the plain evaluator of the definition takes it: its bodies are trees, and its first
+//! store is made here.
 
 use std::alloc::Global;
 use std::panic::Expect;
@@ -121,7 +122,8 @@ fn imports<R: Abort>(rt: &R, alloc: Global, module: &Module) -> Vec<Import> {
     imports
 }
 
-/// The module's parts that a call can reach, with the record of a pod that is handed over, if it is.
+/// The module's parts that a call can reach, with the record of a pod that is handed over, if it
+/// is.
 pub fn setting_of<R: Abort>(
     rt: &R,
     alloc: Global,

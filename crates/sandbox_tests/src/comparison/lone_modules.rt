@@ -1,13 +1,13 @@
-//! Small modules as they stand, and what a call of each gives. Values are those that `node` gives; traps and costs were counted by
-//! hand from the tables of docs/WEBASSEMBLY.md.
+//! Small modules as they stand, and what a call of each gives. Values are those that `node` gives;
+//! traps and costs were counted by hand from the tables of docs/WEBASSEMBLY.md.
 
 use crate::comparison::rows::NEVER;
 use crate::comparison::sides::Ended;
 use wmach::Export;
 use wmach::Export::{Filter, Score, Start};
 
-/// A module: the sections in front of its code; its bodies, each with its locals; the data section, or nothing; the function that
-/// is called; and how the call ends with enough fuel.
+/// A module: the sections in front of its code; its bodies, each with its locals; the data section,
+/// or nothing; the function that is called; and how the call ends with enough fuel.
 pub type Lone = (
     &'static [&'static [u8]],
     &'static [&'static [u8]],
@@ -19,7 +19,8 @@ pub type Lone = (
 /// The record that is handed over: that of a pod `p1` which asks for a tenth of a core and 64 MiB.
 pub const RECORD: &[u8] = b"\x01\x01\x02p1\0\0\0\0\x64\0\0\0\0\0\0\0\0\0\0\x04\0\0\0\0\0";
 
-// Types: from nothing to an i32, and to an i64; with them the type of the host's functions, and from nothing to nothing.
+// Types: from nothing to an i32, and to an i64; with them the type of the host's functions, and
+// from nothing to nothing.
 const TO_I32: &[u8] = b"\x01\x05\x01\x60\x00\x01\x7F";
 
 const TO_I64: &[u8] = b"\x01\x05\x01\x60\x00\x01\x7E";
@@ -42,7 +43,8 @@ const MAY_HAVE_TWO: &[u8] = b"\x05\x04\x01\x01\x01\x02";
 
 const GLOBAL: &[u8] = b"\x06\x06\x01\x7F\x01\x41\x00\x0B";
 
-// The function 0 is `filter`, or `score`; the function 1 is `filter`; the function 2 is called at the start.
+// The function 0 is `filter`, or `score`; the function 1 is `filter`; the function 2 is called at
+// the start.
 const FILTER: &[u8] = b"\x07\x0A\x01\x06filter\x00\x00";
 
 const SCORE: &[u8] = b"\x07\x09\x01\x05score\x00\x00";

@@ -1,5 +1,5 @@
-//! Worked calls. Values are those that `node` gives (tests/values.mjs asks it); traps and costs were counted by hand from the
-//! tables of docs/WEBASSEMBLY.md.
+//! Worked calls. Values are those that `node` gives (tests/values.mjs asks it); traps and costs
+//! were counted by hand from the tables of docs/WEBASSEMBLY.md.
 
 /// The body of `filter`; the number of the trap, or 0; the value; and the cost.
 pub type Row = (&'static [u8], u8, u64, u64);
@@ -72,12 +72,14 @@ pub const CALLS: &[Row] = &[
     (b"\x41\x01\x40\x00\x0B", 0, 1, 1),
     (b"\x41\x02\x40\x00\x0B", 0, 4_294_967_295, 1),
     (b"\x41\x02\x40\x00\x1A\x3F\x00\x0B", 0, 1, 3),
-    // calls: itself too often, an empty element of the table, a record longer than there is room, and one out of bounds
+    // calls: itself too often, an empty element of the table, a record longer than there is room,
+    // and one out of bounds
     (b"\x10\x01\x0B", 8, 0, 256),
     (b"\x41\x00\x11\x00\x00\x0B", 6, 0, 1),
     (b"\x41\x00\x41\x80\x02\x10\x00\x0B", 0, 257, 1),
     (b"\x41\x80\xFE\x03\x41\x81\x02\x10\x00\x0B", 9, 0, 1),
-    // br_table over operands: to the three blocks, to the body's label, and to the default one past the end
+    // br_table over operands: to the three blocks, to the body's label, and to the default one past
+    // the end
     (
         b"\x02\x7F\x41\xE4\x00\x02\x7F\x41\x32\x02\x7F\x41\x09\x41\x05\x41\x00\x0E\x04\x00\x01\x02\x03\x01\x0B\x6A\x41\x01\x6A\x0B\x6A\x0B\x0B",
         0,
@@ -121,7 +123,8 @@ pub const CALLS: &[Row] = &[
         7,
         21,
     ),
-    // a value that is carried out of two blocks over operands: by br, by a br_if that is taken and one that isn't, by return
+    // a value that is carried out of two blocks over operands: by br, by a br_if that is taken and
+    // one that isn't, by return
     (
         b"\x02\x7F\x41\x01\x41\x02\x02\x7F\x41\x03\x41\x04\x41\x2A\x0C\x01\x0B\x6A\x6A\x0B\x0B",
         0,
@@ -146,7 +149,8 @@ pub const CALLS: &[Row] = &[
         9,
         3,
     ),
-    // if: over an operand, with a branch in the first arm; with an i64; without else; past arms with blocks of their own
+    // if: over an operand, with a branch in the first arm; with an i64; without else; past arms
+    // with blocks of their own
     (
         b"\x41\x0A\x41\x01\x04\x7F\x41\x14\x41\x1E\x0C\x00\x05\x41\x28\x0B\x6A\x0B",
         0,
@@ -188,7 +192,8 @@ pub const CALLS: &[Row] = &[
         4_294_967_295,
         6,
     ),
-    // calls of `after`: over an operand, twice with locals of zero, and with the caller's locals as they were
+    // calls of `after`: over an operand, twice with locals of zero, and with the caller's locals as
+    // they were
     (
         b"\x41\x05\x41\x11\x42\x80\x80\x80\x80\x30\x10\x03\x6A\x0B",
         0,
@@ -260,8 +265,8 @@ pub const ELEMENT_CALLS: &[Row] = &[
     (b"\x41\x7F\x11\x00\x00\x0B", 5, 0, 1),
 ];
 
-/// Calls that begin with that of `sched.pod`, where a record of 257 bytes is written at a cost of 2 behind the call's 1: at the
-/// beginning of the memory, and at its end.
+/// Calls that begin with that of `sched.pod`, where a record of 257 bytes is written at a cost of 2
+/// behind the call's 1: at the beginning of the memory, and at its end.
 pub const RECORD_CALLS: &[Row] = &[
     (b"\x41\x00\x41\x81\x02\x10\x00\x0B", 0, 257, 3),
     (

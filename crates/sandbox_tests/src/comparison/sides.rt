@@ -14,7 +14,8 @@ use wtype::{Checked, validate};
 
 const MEMORY: &str = "there is memory";
 
-/// How a call ended: the number of its trap, or 0 for a value, `EXHAUSTED` and `NOTHING`; the value; the cost.
+/// How a call ended: the number of its trap, or 0 for a value, `EXHAUSTED` and `NOTHING`; the
+/// value; the cost.
 pub type Ended = (u8, u64, u64);
 
 pub const EXHAUSTED: u8 = 100;
@@ -22,7 +23,8 @@ pub const EXHAUSTED: u8 = 100;
 /// There is no such function, or nothing is answered.
 pub const NOTHING: u8 = 101;
 
-/// More than any call here costs that ends, and more reductions than the plain evaluator takes then.
+/// More than any call here costs that ends, and more reductions than the plain evaluator takes
+/// then.
 pub const AMPLE: u64 = 20_000;
 
 // Enough for `score`, which goes over the whole memory.
@@ -124,7 +126,8 @@ fn join(digest: u64, next: u64) -> u64 {
     digest.rotate_left(7) ^ next
 }
 
-// What `score` is to tell of a store: each i64 of the memory, each global and the number of pages, joined to a digest.
+// What `score` is to tell of a store: each i64 of the memory, each global and the number of pages,
+// joined to a digest.
 fn digest_of(store: &Store) -> u64 {
     let pages = store.memory.size();
     let mut digest = 0;
@@ -141,8 +144,8 @@ fn digest_of(store: &Store) -> u64 {
 }
 
 impl Sides {
-    /// Both for calls of this export of the module that bytes spell, whose store has the module's segments or none of them, with
-    /// this record of a pod.
+    /// Both for calls of this export of the module that bytes spell, whose store has the module's
+    /// segments or none of them, with this record of a pod.
     pub fn new<R: Abort>(
         rt: &R,
         alloc: Global,

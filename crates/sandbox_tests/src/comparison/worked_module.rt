@@ -1,5 +1,5 @@
-//! The module that worked calls are made in, in its bytes (WebAssembly Core 1.0, 5.5). Only the body of `filter` differs.
-//! And modules of other sections.
+//! The module that worked calls are made in, in its bytes (WebAssembly Core 1.0, 5.5). Only the
+//! body of `filter` differs. And modules of other sections.
 
 use std::alloc::Global;
 use std::panic::Expect;
@@ -7,8 +7,8 @@ use std::process::Abort;
 
 const HEADER: &[u8] = b"\0asm\x01\0\0\0";
 
-// Types: 0 from nothing to an i32; 1 from two i32 to an i32; 2 from an i32 and an i64 to an i32; 3 from an i32 to an i32;
-// 4 from nothing to nothing; 5 the same as 2; 6 from nothing to an i64.
+// Types: 0 from nothing to an i32; 1 from two i32 to an i32; 2 from an i32 and an i64 to an i32; 3
+// from an i32 to an i32; 4 from nothing to nothing; 5 the same as 2; 6 from nothing to an i64.
 const TYPES: &[u8] =
     b"\x01\x23\x07\x60\x00\x01\x7F\x60\x02\x7F\x7F\x01\x7F\x60\x02\x7F\x7E\x01\x7F\x60\x01\x7F\x01\x7F\x60\x00\x00\x60\x02\x7F\x7E\x01\x7F\x60\x00\x01\x7E";
 
@@ -35,13 +35,15 @@ const ELEMENTS: &[u8] = b"\x09\x07\x01\x00\x41\x00\x0B\x01\x03";
 // The locals of `filter`: an i32 and an i64.
 const LOCALS: &[u8] = b"\x02\x01\x7F\x01\x7E";
 
-// `score` tells what a call has left: a digest of the memory, of the global and of how many pages there are. The digest so far
-// is turned left by 7, and the next joins it by xor. Of the memory each i64 joins it, from the first on, four in a round.
+// `score` tells what a call has left: a digest of the memory, of the global and of how many pages
+// there are. The digest so far is turned left by 7, and the next joins it by xor. Of the memory
+// each i64 joins it, from the first on, four in a round.
 const SCORE: &[u8] =
     b"\x55\x02\x01\x7F\x01\x7E\x3F\x00\x04\x40\x03\x40\x20\x01\x42\x07\x89\x20\x00\x29\x03\x00\x85\x42\x07\x89\x20\x00\x29\x03\x08\x85\x42\x07\x89\x20\x00\x29\x03\x10\x85\x42\x07\x89\x20\x00\x29\x03\x18\x85\x21\x01\x20\x00\x41\x20\x6A\x22\x00\x3F\x00\x41\x10\x74\x49\x0D\x00\x0B\x0B\x20\x01\x42\x07\x89\x23\x00\xAD\x85\x42\x07\x89\x3F\x00\xAD\x85\x0B";
 
-// `after` takes an i32 and an i64 and has locals of the same types. It adds each operand to its local, and gives the first sum
-// less the upper half of the second. An operand is below when it returns.
+// `after` takes an i32 and an i64 and has locals of the same types. It adds each operand to its
+// local, and gives the first sum less the upper half of the second. An operand is below when it
+// returns.
 const AFTER: &[u8] =
     b"\x1C\x02\x01\x7F\x01\x7E\x41\x09\x20\x00\x20\x02\x6A\x22\x02\x20\x03\x20\x01\x7C\x22\x03\x42\x20\x88\xA7\x6B\x0F\x0B";
 
@@ -74,7 +76,8 @@ fn joined<R: Abort>(rt: &R, alloc: Global, parts: &[&[u8]]) -> Vec<u8> {
     bytes
 }
 
-/// The module with these sections, these bodies behind them, each with its locals, and what is behind the code.
+/// The module with these sections, these bodies behind them, each with its locals, and what is
+/// behind the code.
 pub fn module_of<R: Abort>(
     rt: &R,
     alloc: Global,

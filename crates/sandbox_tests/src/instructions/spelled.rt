@@ -1,5 +1,5 @@
-//! Instructions of every opcode, in their bytes: what `wasm-objdump -d` of wabt prints for a module with every integer instruction
-//! of the first edition.
+//! Instructions of every opcode, in their bytes: what `wasm-objdump -d` of wabt prints for a module
+//! with every integer instruction of the first edition.
 
 use wcode::ValueType::{I32, I64};
 use wcode::{

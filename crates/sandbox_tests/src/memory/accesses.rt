@@ -18,7 +18,8 @@ pub const LOADS: [Load; 12] = [
     Load::I64Unsigned32,
 ];
 
-/// The width of a store at address 8, its value, the byte before it afterwards, and what each load from address 8 gives.
+/// The width of a store at address 8, its value, the byte before it afterwards, and what each load
+/// from address 8 gives.
 pub const ROWS: [(Width, u64, u8, [u64; 12]); 20] = [
     (
         Width::One,

@@ -52,7 +52,8 @@ fn decides<R: Threads + Sync, G: Gate + Sync>(
     }
 }
 
-// Whether each kit was asked once for each of five nodes that is in its piece and for no other, and each piece with a node began once.
+// Whether each kit was asked once for each of five nodes that is in its piece and for no other, and
+// each piece with a node began once.
 fn each_was_asked(asked: &Counts, begun: &Counts, kits: usize) -> bool
     requires some { 0 < kits }
     requires most { kits ≤ 64 }
@@ -119,7 +120,8 @@ fn each_piece_has_its_kit(rt: HostRuntime) {
     assert_eq!(rt; first_other_of_five(&rt, rt.alloc(), keys), None);
 }
 
-// Whether two pieces, each of which waits for the other, and then two that don't, come to a decision.
+// Whether two pieces, each of which waits for the other, and then two that don't, come to a
+// decision.
 fn two_meet<R: Threads + Sync>(
     rt: &R,
     alloc: Global,

@@ -1,4 +1,5 @@
-//! Kits that count how often they are asked, what is told that pieces begin, and a look at some nodes.
+//! Kits that count how often they are asked, what is told that pieces begin, and a look at some
+//! nodes.
 use crate::looks;
 use crate::objects::{named, node, node_set, pod};
 use choose::Decision;
@@ -47,7 +48,8 @@ impl Gate for Counts {
     }
 }
 
-/// A kit with one rule, whose filter uses up its fuel at every node. It counts how often it is asked.
+/// A kit with one rule, whose filter uses up its fuel at every node. It counts how often it is
+/// asked.
 #[derive(Drop)]
 pub struct Tally {
     pub asked: Arc<Counts>,

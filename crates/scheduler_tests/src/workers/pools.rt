@@ -1,5 +1,5 @@
-//! Pools at work: that each piece begins once a decision, from one decision to the next, that pieces are judged at once, each time,
-//! and that no worker outlives its pool.
+//! Pools at work: that each piece begins once a decision, from one decision to the next, that
+//! pieces are judged at once, each time, and that no worker outlives its pool.
 ghost use Rattle.std.specs.Prelude.{◌≡◌, ◌<◌, ◌≤◌};
 ghost use Rattle.fleet.specs.Speaking.{SpeaksFor};
 
@@ -48,7 +48,8 @@ fn decides<J: Site, G: Gate + Drop, R: Wait>(
     }
 }
 
-// Whether, of five nodes in so many pieces, each piece that has one has begun so often, and no other has begun.
+// Whether, of five nodes in so many pieces, each piece that has one has begun so often, and no
+// other has begun.
 fn each_began(begun: &Counts, kits: usize, often: u64) -> bool
     requires some { 0 < kits }
     requires most { kits ≤ 64 }
@@ -169,8 +170,8 @@ fn decides_of_two<J: Site, R: Wait>(
     }
 }
 
-// How many of three decisions come to what they are to, until one doesn't. In each of them the pieces wait for each other anew, so
-// that the worker and its kit are there each time.
+// How many of three decisions come to what they are to, until one doesn't. In each of them the
+// pieces wait for each other anew, so that the worker and its kit are there each time.
 fn decisions_of_two<J: Site, R: Wait>(
     rt: &R,
     alloc: Global,

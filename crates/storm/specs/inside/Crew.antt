@@ -30,8 +30,8 @@ pub record HasFed {J : Type 0} (fed : List Step) (w w' : Worker J (Unit {0})) : 
   pub number : w'.pass.caller.number ≡ w.pass.caller.number
   pub told : w'.failed ≡ false → Makes w.pass fed w'.pass
 
--- A worker met a pass that had seen this history; now it has seen a history that begins with it, in which it made no more
--- calls, and with which begins what that pass has seen later.
+-- A worker met a pass that had seen this history; now it has seen a history that begins with it, in
+-- which it made no more calls, and with which begins what that pass has seen later.
 pub record HasMet {J T : Type 0} (desk : Desk) (front back : List Call) (w w' : Worker J T) : Type 0 where
   pub same : w' ≡ record w { pass = record w.pass { seen = w'.pass.seen } }
   pub ahead : IsAhead desk w.pass w'.pass.seen
@@ -45,8 +45,9 @@ pub record HaveMet {J T : Type 0} (desk : Desk) (p : Pass) (workers : List (Work
   pub legal : 0 < length workers → Legal desk.limits desk.handed p'.seen
   pub each : Each (HasMet desk p.seen p'.seen) workers workers'
 
--- A pass met all others, counted, looked, and met all others again: the counts are the answer to the last call of a history,
--- the rows are the snapshot of one that goes on from it, and what each of the others had made is all that it made in it.
+-- A pass met all others, counted, looked, and met all others again: the counts are the answer to
+-- the last call of a history, the rows are the snapshot of one that goes on from it, and what each
+-- of the others had made is all that it made in it.
 pub record IsDumped {J D B : Type 0} (desk : Desk) (clerk : Pass) (feeders : List (Worker J (Unit {0}))) (cyclers : List (Worker J D)) (reporters : List (Worker J B)) (counts : Counts) (rows : List Shown) (clerk' : Pass) : Type 0 where
   pub counted : List Call
   pub looked : List Call

@@ -16,7 +16,8 @@ use Rattle.storm.specs.inside.Crew.{Each, HasFed, IsDumped}
 use Rattle.storm.specs.inside.Stages.{HasReported, HasScheduled, IsIdle}
 use Rattle.storm.specs.Storm.{IsStorm, Storms, desk_for}
 
--- Workers that were so did what they are to do, memory was wanting to none of them, and a pass met them all and took the dump.
+-- Workers that were so did what they are to do, memory was wanting to none of them, and a pass met
+-- them all and took the dump.
 pub record IsWorked {J D B Kit : Type 0} (answers : Kit → RuleSet) (kits : D → List Kit) (desk : Desk) (fed : List Step) (clerk : Pass) (feeders : List (Worker J (Unit {0})))
     (cyclers : List (Worker J D)) (reporters : List (Worker J B)) (counts : Counts) (rows : List Shown) (clerk' : Pass) : Type 0 where
   pub feeders' : List (Worker J (Unit {0}))
@@ -31,7 +32,8 @@ pub record IsWorked {J D B Kit : Type 0} (answers : Kit → RuleSet) (kits : D �
   pub all_reported : All (λ w. w.failed ≡ false) reporters'
   pub dumped : IsDumped desk clerk feeders' cyclers' reporters' counts rows clerk'
 
--- A storm of these steps was dumped; the pass that is left knows the history of which the rows are the snapshot.
+-- A storm of these steps was dumped; the pass that is left knows the history of which the rows are
+-- the snapshot.
 pub record HasEnded {D : Type 0} (rules : D → RuleSet) (deciders : List D) (binders : ℕ) (desk : Desk) (fed : List Step) (counts : Counts) (rows : List Shown) (clerk : Pass) : Type 0 where
   pub desk_is : desk ≡ desk_for (length deciders) binders
   pub storm : IsStorm rules deciders desk fed rows counts

@@ -35,7 +35,8 @@ TakesLines None new lines = ⊤
 TakesLines (Some old) None lines = ⊥
 TakesLines (Some old) (Some new) lines = (texts : List (List ℕ)) × (lines ≡ map kept texts) × (lines_of old ≡ texts ++ lines_of new)
 
--- the same, and nothing is left behind them: a reader of the source has no more, and the source is at its end
+-- the same, and nothing is left behind them: a reader of the source has no more, and the source is
+-- at its end
 abbrev pub TakesLast : Option (List ℕ) → (reader : List ℕ) → (source : Option (List ℕ)) → List (List ℕ) → Type 0
 TakesLast old reader source lines =
     (left : Option (List ℕ)) × TakesLines old left lines × (reader ≡ []) × IsAtEnd source × Consumes left (prepend_known reader source) []

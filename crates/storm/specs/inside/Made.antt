@@ -5,7 +5,8 @@ use Rattle.desk.specs.declared.step.Step.TheVariants as steps
 use Rattle.desk.specs.Shared.{Pass}
 use Rattle.storm.specs.Made.{BeginsWith, steps_of}
 
--- a pass made these steps, in this order, and no others; it may have been told of calls of other passes
+-- a pass made these steps, in this order, and no others; it may have been told of calls of other
+-- passes
 pub record Makes (p : Pass) (made : List Step) (p' : Pass) : Type 0 where
   pub number : p'.caller.number ≡ p.caller.number
   pub begins : BeginsWith p'.seen p.seen

@@ -27,7 +27,8 @@ module _ {J D Kit : Type 0} (answers : Kit → RuleSet) (kits : D → List Kit) 
     pub same : kits w'.tool ≡ kits w.tool
     pub made : w'.failed ≡ false → (made : List OneCycle) × HasCycled (rules_of answers (kits w.tool)) desk w.pass made w'.pass
 
-  -- and the last of its cycles found no pod, and began when it had seen all that these feeders had, in one history
+  -- and the last of its cycles found no pod, and began when it had seen all that these feeders had,
+  -- in one history
   pub record IsIdle (feeders : List (Worker J (Unit {0}))) (w w' : Worker J D) : Type 0 where
     pub all_fed : List Call
     pub legal : Legal desk.limits desk.handed all_fed

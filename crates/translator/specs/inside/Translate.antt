@@ -19,7 +19,8 @@ use Rattle.translator.specs.Translate.{Manner, told_under, next_version, answer_
 abbrev pub TranslatesTo : (given : Option Told) → Translation → Type 0
 TranslatesTo given translation = (told : Told) × (given ≡ Some told) × IsTranslation told translation
 
--- a line's answer, and what is told beside it, wait behind what waited, and the next version is one more where the line gives an event
+-- a line's answer, and what is told beside it, wait behind what waited, and the next version is one
+-- more where the line gives an event
 pub record IsLineAnswered (manner : Manner) (number version : ℕ) (line : List ℕ) (next : ℕ) (old new : Waiting) : Type 0 where
   pub told : Told
   pub gives : told_under manner version line ≡ Some told

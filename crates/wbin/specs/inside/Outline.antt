@@ -24,7 +24,8 @@ ReadsStretch bytes at above (Ok s) =
     (at < s.end) × Within bytes s × SpellsSection (drop at bytes) (section_of bytes s) (drop s.end bytes) × MayFollow above (section_of bytes s)
 ReadsStretch bytes at above (Err e) = (e ≢ NoMemory) × ((s : Section) (rest : List ℕ) → SpellsSection (drop at bytes) s rest → MayFollow above s → ⊥)
 
--- The bytes are sections in their order, from the place on: exactly these, or where there is a fault none are.
+-- The bytes are sections in their order, from the place on: exactly these, or where there is a
+-- fault none are.
 unfoldable pub OutlinesUpTo : List ℕ → ℕ → List Section → Option BinFault → Type 0
 OutlinesUpTo bytes at sections None = SpellsEach SpellsSection (drop at bytes) sections [] × InOrder 0 sections
 OutlinesUpTo bytes at sections (Some e) =

@@ -12,7 +12,8 @@ Nothing {A} S bytes = (x : A) (rest : List ℕ) → S bytes x rest → ⊥
 abbrev pub Once : {A : Type 0} → Spelling A → Type 0
 Once {A} S = (bytes : List ℕ) (x y : A) (rest more : List ℕ) → S bytes x rest → S bytes y more → (x ≡ y) × (rest ≡ more)
 
--- What is read from the place on: what the bytes spell there and where it ends, or, but for want of memory, that they spell nothing.
+-- What is read from the place on: what the bytes spell there and where it ends, or, but for want of
+-- memory, that they spell nothing.
 unfoldable pub Reads : {A B : Type 0} → Spelling B → (A → B) → List ℕ → ℕ → Result (A × ℕ) BinFault → Type 0
 Reads S seen bytes at (Ok x) = (x.1 ≤ length bytes) × S (drop at bytes) (seen x.0) (drop x.1 bytes)
 Reads S seen bytes at (Err e) = e ≢ NoMemory → Nothing S (drop at bytes)

@@ -2,7 +2,8 @@
 use Rattle.std.specs.Prelude.{ℕ, ◌+◌, ◌^◌, List, [], ◌∷◌, min}
 use Rattle.wbin.specs.declared.module.LocalRun.{LocalRun}
 
--- the end of a run that begins at a place. What is past every index is all one, so that the ends stay small
+-- the end of a run that begins at a place. What is past every index is all one, so that the ends
+-- stay small
 abbrev pub end_of : (start : ℕ) → LocalRun → ℕ
 end_of start r = min (start + r.count) (2 ^ 32)
 

@@ -9,9 +9,9 @@ use Rattle.wbody.specs.Context.{Operands, Context, results_of, with_label}
 use Rattle.wbody.specs.Typing.{PlainType, takes_gives, drops, selects, ends, untyped, of_found, only_where, plain_type}
 use Rattle.wbody.specs.Pass.{same_type, same_types}
 
--- What is known where instructions stand: the types of the operands that instructions of the same list left, the topmost
--- first, none where one may be of any type; and whether the place is reached. Where it isn't, below these are as many
--- operands of any types as one likes.
+-- What is known where instructions stand: the types of the operands that instructions of the same
+-- list left, the topmost first, none where one may be of any type; and whether the place is
+-- reached. Where it isn't, below these are as many operands of any types as one likes.
 pub record Stack : Type 0 where
   pub operands : List (Option ValueType)
   pub reached : Bool

@@ -15,8 +15,8 @@ use Rattle.wbody.specs.inside.Pass.{Stack, fresh, closed, pass}
 use Rattle.wbody.specs.inside.Scope.{carried}
 use Rattle.wbody.specs.inside.OperandStack.{stack_of, below_of}
 
--- An open block: what was known before it, a condition taken off; the second arm, if it is the first of an `if`; what
--- comes behind it; and the height at which the block around it began.
+-- An open block: what was known before it, a condition taken off; the second arm, if it is the
+-- first of an `if`; what comes behind it; and the height at which the block around it began.
 pub record Open : Type 0 where
   pub kind : Opened
   pub type : BlockType
@@ -65,7 +65,8 @@ outer_peak c [] = 0
 outer_peak c (o ∷ os) =
     max (max (second_peak o.kind (inner_context c os) o.type o.second (low_of o)) (greatest_height (inner_context c os) o.next o.floor (low_of o + length (results_of o.type)))) (outer_peak c os)
 
--- The code's open blocks, the innermost first, are these; below are the operands of the blocks around them.
+-- The code's open blocks, the innermost first, are these; below are the operands of the blocks
+-- around them.
 abbrev pub Layers : List Level → List Open → List (Option ValueType) → Type 0
 Layers [] [] below = below ≡ []
 Layers [] (o ∷ os) below = ⊥
@@ -74,7 +75,8 @@ Layers (v ∷ vs) (o ∷ os) below =
     (o.kind ≡ v.kind) × (o.type ≡ v.block_type) × (o.floor ≡ v.floor) × (o.below ≡ record { operands = reverse (drop v.floor below); reached = v.reached })
     × (v.floor ≤ length below) × Layers vs os (take v.floor below)
 
--- how the bytes go on behind the instructions of the innermost block, which an `else` ends or an `end`
+-- how the bytes go on behind the instructions of the innermost block, which an `else` ends or an
+-- `end`
 abbrev pub ArmEnds : Opened → (second : Body) → (room : ℕ) → (by_else : Bool) → (after outer : List ℕ) → Type 0
 ArmEnds opened.First second room true after outer = SpellsBody room end after second outer
 ArmEnds opened.First second room false after outer = (second ≡ done) × (after ≡ outer)
@@ -88,7 +90,8 @@ GoesOn (o ∷ os) by_else after final =
     (outer : List ℕ) × ArmEnds o.kind o.second (256 - length (o ∷ os)) by_else after outer
     × (outer_else : Bool) × (outer_after : List ℕ) × SpellsBody (256 - length os) (closing outer_else) outer o.next outer_after × GoesOn os outer_else outer_after final
 
--- The bytes from here on spell the instructions still to come, and then what comes behind each open block.
+-- The bytes from here on spell the instructions still to come, and then what comes behind each open
+-- block.
 pub record Spelled (os : List Open) (rest : Body) (bytes final : List ℕ) : Type 0 where
   pub by_else : Bool
   pub after : List ℕ

@@ -51,7 +51,8 @@ pub record Enters (kind : Opened) (type : BlockType) (old : List Level) (s : Ope
   pub type_is : level.block_type ≡ type
   pub opens : Opens s n level
 
--- what a word's instruction does to where the typing stands: at the body's own `end` nothing, and no block is open
+-- what a word's instruction does to where the typing stands: at the body's own `end` nothing, and
+-- no block is open
 abbrev pub OverOp : Scope → (bytes : List ℕ) → Op → (ended : Bool) → (old : List Level) → OperandStack → (new : List Level) → OperandStack → Type 0
 OverOp scope bytes op true old s new n = (op ≡ ops.End) × (old ≡ []) × (n ≡ s)
 OverOp scope bytes op false old s new n = (w : Word) → Shows bytes op w → GoesOver scope w old s new n

@@ -46,8 +46,8 @@ pub record PlainStops (scope : Scope) (bytes : List ℕ) (at : ℕ) (s : Operand
   pub here : PlainHere scope bytes at next type
   pub stops : pass_type type (stack_of s) ≡ None
 
--- From open blocks, operands and branches to others over the word there, behind which the next place is. Whether it is the
--- body's own `end`.
+-- From open blocks, operands and branches to others over the word there, behind which the next
+-- place is. Whether it is the body's own `end`.
 pub record Passes (scope : Scope) (bytes : List ℕ) (at next : ℕ) (ended : Bool) (old : List Level) (s : OperandStack) (a : Trace) (new : List Level) (n : OperandStack) (b : Trace) : Type 0 where
   pub op : Op
   pub word : Word

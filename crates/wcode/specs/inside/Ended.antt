@@ -13,7 +13,8 @@ abbrev pub closing : Bool → Word
 closing true = otherwise
 closing false = end
 
--- The bodies of an `if`: one that ends it, or one up to its `else` and one that ends it. An absent one is empty.
+-- The bodies of an `if`: one that ends it, or one up to its `else` and one that ends it. An absent
+-- one is empty.
 abbrev pub SpellsArms : ℕ → List ℕ → Body → Body → List ℕ → Type 0
 SpellsArms room bytes yes_arm no_arm rest =
     ((no_arm ≡ done) × SpellsBody room end bytes yes_arm rest)
@@ -23,7 +24,8 @@ SpellsArms room bytes yes_arm no_arm rest =
 abbrev pub NoBody : ℕ → List ℕ → Type 0
 NoBody room bytes = (e : Bool) (body : Body) (rest : List ℕ) → SpellsBody room (closing e) bytes body rest → ⊥
 
--- These instructions stand at the front of each body that stands there, and whatever comes after them can follow.
+-- These instructions stand at the front of each body that stands there, and whatever comes after
+-- them can follow.
 pub record StandsFirst (room : ℕ) (bytes : List ℕ) (f : Body → Body) (rest : List ℕ) : Type 0 where
   pub sound : (last : Word) (body : Body) (after : List ℕ) → SpellsBody room last rest body after → SpellsBody room last bytes (f body) after
   pub only : (e : Bool) (body : Body) (after : List ℕ) → SpellsBody room (closing e) bytes body after

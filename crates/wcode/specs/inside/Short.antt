@@ -15,6 +15,7 @@ form_tail (forms.Load op) = tails.Two
 form_tail (forms.Store op) = tails.Two
 form_tail _ = tails.Other
 
--- The bytes are a spelling of a number of 28 bits or more, with a sign or without, and then the rest.
+-- The bytes are a spelling of a number of 28 bits or more, with a sign or without, and then the
+-- rest.
 abbrev pub HasNumber : List ℕ → List ℕ → Type 0
 HasNumber bytes rest = (s : Sign) (bits : ℕ) → 28 ≤ bits → (v : ℤ) × Spells s bits bytes v rest

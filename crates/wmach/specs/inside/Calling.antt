@@ -80,8 +80,8 @@ pub record HandsOver (given : Option (List ℕ)) (next_at : ℕ) (s : State) (sl
   pub are_bytes : IfSome given (λ bytes. AllByRecursion (λ byte. byte < 256) bytes)
   pub done : HandsBy given address limit next_at s below slots store result slots_after store_after
 
--- There is room for what a call of a function needs: of the host's, its two operands; of the module's own, its arguments and
--- its locals.
+-- There is room for what a call of a function needs: of the host's, its two operands; of the
+-- module's own, its arguments and its locals.
 abbrev pub HasOperands : State → (slots : List ℕ) → Type 0
 HasOperands s slots =
     (below : List ℕ) × (address limit : ℕ) × (take s.top slots ≡ (below ++ address ∷ []) ++ limit ∷ []) × (address < 2 ^ 32) × (limit < 2 ^ 32)

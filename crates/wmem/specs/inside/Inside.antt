@@ -16,8 +16,8 @@ instance_of memory = record {
 pub record IsClear (buffer : List ℕ) (from : ℕ) : Type 0 where
   pub rest_is : drop from buffer ≡ zeros (length buffer - from)
 
--- There is room for the whole cap. Both buffers have as much of it as was ever in use, and are zero past what is, which is
--- whole pages.
+-- There is room for the whole cap. Both buffers have as much of it as was ever in use, and are zero
+-- past what is, which is whole pages.
 pub record IsSound (memory : Inside) : Type 0 where
   pub limited : memory.cap ≤ most_pages
   pub room : stretch * memory.tracked.noted.room ≡ page_size * memory.cap

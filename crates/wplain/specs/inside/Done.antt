@@ -26,8 +26,8 @@ abbrev pub typed_result : ValueType → Result ℕ Undefined → Result Value Un
 typed_result t (Ok n) = Ok (value_of t n)
 typed_result t (Err u) = Err u
 
--- An instruction that works on operands alone left these, or is cut off, and the definition's rule gives the same, whatever
--- lies around.
+-- An instruction that works on operands alone left these, or is cut off, and the definition's rule
+-- gives the same, whatever lies around.
 abbrev pub DoneBy : (Store → (locals values : List Value) → Body → Option Reduction) → (before after : List Value) → Worked → Type 0
 DoneBy rule before after worked.Values = (store : Store) (locals : List Value) (rest : Body) → rule store locals before rest ≡ leads_to 1 store locals (instructions after rest)
 DoneBy rule before after (worked.Cut t) = (store : Store) (locals : List Value) (rest : Body) → rule store locals before rest ≡ leads_to 1 store locals (trap t)

@@ -7,7 +7,8 @@ use Rattle.choose.specs.inside.Alone.{judged_alone, least_after}
 use Rattle.choose.specs.inside.Finding.{StandsFirst}
 use Rattle.choose.proofs.alone.pass_over.Given as goal
 
--- of the nodes so far this one goes first; it stands among them, and a node that is worth more goes before it
+-- of the nodes so far this one goes first; it stands among them, and a node that is worth more goes
+-- before it
 abbrev pub invariant-loop-at : goal.invariant-loop-at
 invariant-loop-at l = record {
   last : l.at-end ≡ length l.rows;

@@ -5,7 +5,8 @@ use Rattle.engine.specs.Telling.{telling}
 use Rattle.engine.proofs.Progress.{IsRunning}
 use Rattle.engine.proofs.script.run_lines.Given as goal
 
--- the run has come so far, the kits are the same, no device has failed, and no more lines were counted than bytes were taken
+-- the run has come so far, the kits are the same, no device has failed, and no more lines were
+-- counted than bytes were taken
 abbrev pub invariant-lines : goal.invariant-lines
 invariant-lines g l =
     IsRunning (rules_of g.D.Kit.Rules.answers (g.D.Decider.kits l.initial.decider)) (telling l.named l.explains) (g.R.Source.remaining l.initial.source) (prepend_known l.reader (g.R.Source.remaining l.source)) (g.W.Sink.written l.initial.sink) (g.W.Sink.written l.sink) l.pending.items l.session.desk (l.number + 1)

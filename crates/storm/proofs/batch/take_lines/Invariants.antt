@@ -4,7 +4,8 @@ use Rattle.std.specs.Io.KnownBytes.{prepend_known}
 use Rattle.storm.specs.inside.Lines.{TakesLines}
 use Rattle.storm.proofs.batch.take_lines.Given as goal
 
--- as many lines were taken as turns were made, they have the bytes for which there is no more room, and no read has failed
+-- as many lines were taken as turns were made, they have the bytes for which there is no more room,
+-- and no read has failed
 abbrev pub invariant-loop : goal.invariant-loop
 invariant-loop g l =
     TakesLines (prepend_known l.initial.reader (g.R.Source.remaining l.initial.source)) (prepend_known l.reader (g.R.Source.remaining l.source)) (map (λ x. x.items) l.lines.items)

@@ -5,7 +5,8 @@ use Rattle.desk.specs.Caller.{IsTimely}
 use Rattle.storm.proofs.Reading.{IsReading}
 use Rattle.storm.proofs.script.read_script.Given as goal
 
--- the script is read so far, no read has failed, and no more lines were counted than bytes were taken
+-- the script is read so far, no read has failed, and no more lines were counted than bytes were
+-- taken
 abbrev pub invariant-lines : goal.invariant-lines
 invariant-lines g l =
     IsReading (g.R.Source.remaining l.initial.source) (prepend_known l.reader (g.R.Source.remaining l.source)) l.steps.items (l.number + 1)

@@ -4,7 +4,8 @@ use Rattle.translator.specs.Translate.{manner_of}
 use Rattle.translator.proofs.Translating.{IsGoing}
 use Rattle.translator.proofs.translate_run.translate_lines.Given as goal
 
--- the translation has come so far, no device has failed, no more lines were counted than bytes were taken, and versions are from 1 on
+-- the translation has come so far, no device has failed, no more lines were counted than bytes were
+-- taken, and versions are from 1 on
 abbrev pub invariant-lines : goal.invariant-lines
 invariant-lines g l = record {
   going : IsGoing (manner_of l.plan) (g.R.Source.remaining l.initial.source) (prepend_known l.reader (g.R.Source.remaining l.source))

@@ -1,6 +1,7 @@
 use Rattle.std.proofs.Common.{rules}
 use Rattle.wmach.proofs.calls.hand_over.Goals as goal
 
--- `search rules` is found without this file too: with it, a wrong body that is tried here is refused without a second run
+-- `search rules` is found without this file too: with it, a wrong body that is tried here is
+-- refused without a second run
 pub returns : goal.returns
 returns g c = search rules

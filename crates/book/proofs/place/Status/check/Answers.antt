@@ -1,7 +1,8 @@
 use Rattle.std.proofs.Common.{rules}
 use Rattle.book.proofs.place.Status.check.Goals as goal
 
--- `search rules` is found without this file too: with it, a wrong body that is tried here is refused without a second run
+-- `search rules` is found without this file too: with it, a wrong body that is tried here is
+-- refused without a second run
 pub returns-in-Assumed-default-Some : goal.returns-in-Assumed-default-Some
 returns-in-Assumed-default-Some c = search rules
 

@@ -4,7 +4,8 @@ use Rattle.engine.specs.Lines.{IsLine}
 use Rattle.engine.proofs.Taking.{IsTaken}
 use Rattle.engine.proofs.lines.LineReader.next_front.Given as goal
 
--- a line was taken so far, no read has failed, nothing waits where no newline is left, and fewer bytes are left where a line was begun
+-- a line was taken so far, no read has failed, nothing waits where no newline is left, and fewer
+-- bytes are left where a line was begun
 abbrev pub invariant-pieces : goal.invariant-pieces
 invariant-pieces g l =
     let first = prepend_known l.initial.self (g.R.Source.remaining l.initial.source) in
