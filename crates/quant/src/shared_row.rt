@@ -11,12 +11,17 @@ use crate::objects::{Label, Node};
 use crate::taint::{Effect, Taint};
 use std::alloc::{AllocError, Global};
 
-/// A row, and its name and labels, and its taints, once more as texts with their lengths.
+/// A row, and all that it tells once more in front of it: its name and labels, and its taints, as
+/// texts with their lengths. What is compared lies together; the row itself is kilobytes large.
 #[derive(Debug, Drop)]
 pub(crate) struct SharedRow {
-    pub(crate) node: Node,
+    allocatable: Res,
+    unschedulable: bool,
     labels: Vec<u8>,
     taints: Vec<u8>,
+    pub(crate) node: Node,
+    ghost allocatable_is: { allocatable ≡ node.allocatable },
+    ghost unschedulable_is: { unschedulable ≡ node.unschedulable },
     ghost labels_are: { labels.items ≡ packed_text node.name ++ flat_map packed_label node.labels.items },
     ghost taints_are: { taints.items ≡ flat_map packed_taint node.taints.items },
 }
@@ -31,9 +36,11 @@ impl SharedRow {
         let labels = pack_labels(alloc, &node.name, node.labels.as_slice())?;
         let taints = pack_taints(alloc, node.taints.as_slice())?;
         Ok(SharedRow {
-            node,
+            allocatable: node.allocatable,
+            unschedulable: node.unschedulable,
             labels,
             taints,
+            node,
         })
     }
 
@@ -41,10 +48,10 @@ impl SharedRow {
     pub(crate) fn is_same(&self, other: &SharedRow) -> bool
         ensures { IsTrue result → self.now.node ≡ other.now.node }
     {
-        if !are_same_amounts(&self.node.allocatable, &other.node.allocatable) {
+        if !are_same_amounts(&self.allocatable, &other.allocatable) {
             return false;
         }
-        if !are_same_marks(self.node.unschedulable, other.node.unschedulable) {
+        if !are_same_marks(self.unschedulable, other.unschedulable) {
             return false;
         }
         if !are_same_bytes(self.taints.as_slice(), other.taints.as_slice()) {
