@@ -1,17 +1,19 @@
 # SPDX-License-Identifier: Apache-2.0
-# Tells what pods ask of nodes' labels as the rule node_affinity reads it, in what kubectl tells of a cluster, for `wsched translate`:
+# Tells what pods ask of nodes' labels as the rule node_affinity reads it, in what kubectl tells of
+# a cluster, for `wsched translate`:
 #
 #   kubectl get nodes,pods,pv,pvc --all-namespaces -o json | jq -c -f examples/node-affinity.jq |
 #       wsched translate --labels none > cluster.jsonl
 #
-# --labels names the labels that other rules read; `none` stands there where none does. Without it a pod
-# with more labels than a row has room for, these entries among them, is left out; with it the entries
-# are told first, since `/` sorts before all that a label of the API may begin with.
+# --labels names the labels that other rules read; `none` stands there where none does. Without it a
+# pod with more labels than a row has room for, these entries among them, is left out; with it the
+# entries are told first, since `/` sorts before all that a label of the API may begin with.
 # Each node and each pod is one line.
-# Of each pod without a node, its node selector, its node affinity and its claims are taken away, and stand among its labels as the
-# entries of docs/NODE-AFFINITY.md. Of a node with more than 32 labels those stay that
-# some pod asks for. A pod whose demands pass the limits there is left as it is, so that `translate` leaves it out, and why is said
-# on standard error. A script that was made so is run by `node_affinity:WEIGHT:500000:examples/plugins/node_affinity.wasm`.
+# Of each pod without a node, its node selector, its node affinity and its claims are taken away,
+# and stand among its labels as the entries of docs/NODE-AFFINITY.md. Of a node with more than 32
+# labels those stay that some pod asks for. A pod whose demands pass the limits there is left as it
+# is, so that `translate` leaves it out, and why is said on standard error. A script that was made
+# so is run by `node_affinity:WEIGHT:500000:examples/plugins/node_affinity.wasm`.
 #
 # Tried with jq 1.6: tests/affinity/spelled compares it with affinity.py of the second scheduler.
 

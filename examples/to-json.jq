@@ -1,11 +1,13 @@
 # SPDX-License-Identifier: Apache-2.0
-# Turns what `wsched run`, `explain` or `storm` writes into JSON, one object a line, for whoever wants to go on with it:
+# Turns what `wsched run`, `explain` or `storm` writes into JSON, one object a line, for whoever
+# wants to go on with it:
 #
 #   wsched run < cluster.jsonl | jq -R -c -f examples/to-json.jq
 #
-# "line" says what the line is: ok, refused, idle, placed, unschedulable, error, lost, node, places, queue, clock or audit; and
-# verdict for what `explain` says of one node, before the cycle's line. Amounts are numbers: thousandths of a core, bytes, pods.
-# docs/FORMATS.md has the lines. A uid may be any word, `refused` too, so a line is known by its shape.
+# "line" says what the line is: ok, refused, idle, placed, unschedulable, error, lost, node, places,
+# queue, clock or audit; and verdict for what `explain` says of one node, before the cycle's line.
+# Amounts are numbers: thousandths of a core, bytes, pods. docs/FORMATS.md has the lines. A uid may
+# be any word, `refused` too, so a line is known by its shape.
 
 def numbers: map_values(tonumber);
 def amount: split("/") | {used: (.[0] | tonumber), of: (.[1] | tonumber)};
@@ -17,8 +19,9 @@ def cause:
     elif .[0] == "exhausted" then {cause: "exhausted"}
     else {cause: .[0], value: (.[1] | tonumber)} end;
 
-# What was decided of a node: its total with what that is the sum of, the plugin that rejects it or says nothing, or the filter that
-# rejects it, with the taint, or with what is asked for and what is free.
+# What was decided of a node: its total with what that is the sum of, the plugin that rejects it or
+# says nothing, or the filter that rejects it, with the taint, or with what is asked for and what is
+# free.
 def verdict:
   if test("^total ") then
     split(" ")

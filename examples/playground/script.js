@@ -1,5 +1,6 @@
 // SPDX-License-Identifier: Apache-2.0
-// A script's lines (docs/FORMATS.md), what wsched itself says of a pod and a node (docs/SCHEDULING.md), and the records that a rule is told.
+// A script's lines (docs/FORMATS.md), what wsched itself says of a pod and a node
+// (docs/SCHEDULING.md), and the records that a rule is told.
 "use strict";
 
 const script = (() => {
@@ -102,7 +103,8 @@ const script = (() => {
         done: (row) => [name(row, "uid"), whole(row, "ticket", 1, 1e18)], forget: (row) => [name(row, "uid"), whole(row, "ticket", 1, 1e18)],
     };
 
-    // The nodes, the pods that wait and those that have a place, as all lines together tell them; versions and cycles don't count here.
+    // The nodes, the pods that wait and those that have a place, as all lines together tell them;
+    // versions and cycles don't count here.
     function read(text) {
         const state = { nodes: new Map(), pods: new Map(), places: new Map() };
         const take = {
@@ -165,8 +167,9 @@ const script = (() => {
         return Object.fromEntries(Object.entries(made).map(([key, bytes]) => [key, Uint8Array.from(bytes)]));
     }
 
-    // Of each pod that waits, asked about alone, what is said of each node in the order of their names, and where it would go: a cell has `line` as
-    // `wsched explain` writes it behind the node's name, and what came of the calls.
+    // Of each pod that waits, asked about alone, what is said of each node in the order of their
+    // names, and where it would go: a cell has `line` as `wsched explain` writes it behind the
+    // node's name, and what came of the calls.
     function decisions(state, instance, rule, weight, fuel) {
         const nodes = [...state.nodes.values()].sort((one, other) => (one.name < other.name ? -1 : 1));
         return [...state.pods.values()].map((by) => {

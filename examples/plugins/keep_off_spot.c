@@ -1,6 +1,6 @@
 // SPDX-License-Identifier: Apache-2.0
-// A filter: nodes with a taint `spot` are for pods that tolerate it, also where the taint's effect is PreferNoSchedule, by which
-// wsched alone only likes other nodes better.
+// A filter: nodes with a taint `spot` are for pods that tolerate it, also where the taint's effect
+// is PreferNoSchedule, by which wsched alone only likes other nodes better.
 //
 //   examples/plugins/build keep_off_spot.c
 #include "sched.h"

@@ -1,7 +1,11 @@
 // SPDX-License-Identifier: Apache-2.0
-//! keep_region.c in Rust: pods labelled data-class=personal run in the region eu-central-1 and nowhere else.
+//! keep_region.c in Rust: pods labelled data-class=personal run in the region eu-central-1 and
+//! nowhere else.
 //!
-//!   rustc --edition 2021 --cfg before_rustc_1_82 --crate-type cdylib --target wasm32-unknown-unknown -C target-cpu=mvp -C opt-level=2 -C panic=abort -C strip=symbols -C link-args="--stack-first --max-memory=65536 -zstack-size=4096" -o keep_region_rs.wasm keep_region.rs
+//!   rustc --edition 2021 --cfg before_rustc_1_82 --crate-type cdylib --target
+//!   wasm32-unknown-unknown -C target-cpu=mvp -C opt-level=2 -C panic=abort -C strip=symbols -C
+//!   link-args="--stack-first --max-memory=65536 -zstack-size=4096" -o keep_region_rs.wasm
+//!   keep_region.rs
 #![no_std]
 
 #[path = "rust-template/src/sched.rs"]

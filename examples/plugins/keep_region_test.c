@@ -1,7 +1,8 @@
 // SPDX-License-Identifier: Apache-2.0
 // keep_region as a program of this machine, so that a debugger and a sanitizer can look at it:
 //
-//   cc -g -fsanitize=address,undefined -o keep_region_test examples/plugins/keep_region_test.c && ./keep_region_test
+//   cc -g -fsanitize=address,undefined -o keep_region_test examples/plugins/keep_region_test.c &&
+//   ./keep_region_test
 #include "sched_test.h"
 
 #include "keep_region.c"

@@ -1,6 +1,7 @@
 // SPDX-License-Identifier: Apache-2.0
-// A score: pods that ask for no CPU and no memory go where the fewest pods are for the node's room. What they use is counted
-// nowhere, so that to the built-in scores a node looks the same however many of them it has.
+// A score: pods that ask for no CPU and no memory go where the fewest pods are for the node's room.
+// What they use is counted nowhere, so that to the built-in scores a node looks the same however
+// many of them it has.
 //
 //   examples/plugins/build least_pods.c
 #include "sched.h"

@@ -1,6 +1,7 @@
 // SPDX-License-Identifier: Apache-2.0
-// A filter and a score: what a pod asks of its node's labels and name. Node selectors, node affinity and the zones of volumes are
-// told as labels of the pod's row, entries whose keys begin with `/`; docs/NODE-AFFINITY.md has their spelling.
+// A filter and a score: what a pod asks of its node's labels and name. Node selectors, node
+// affinity and the zones of volumes are told as labels of the pod's row, entries whose keys begin
+// with `/`; docs/NODE-AFFINITY.md has their spelling.
 //
 //   examples/plugins/build node_affinity.c
 #include "sched.h"
@@ -17,8 +18,8 @@ static INLINED int is_same(struct part a, struct part b) { return a.size == b.si
 #define LITERAL(word) ((struct part) { (const u8 *)word, sizeof word - 1 })
 #define IS(text, word) is_same(text, LITERAL(word))
 
-// How many bytes stand in front of the first slash: eight are looked at at once. (Eight can be read behind each byte of a record, since
-// its buffer is longer than any record.)
+// How many bytes stand in front of the first slash: eight are looked at at once. (Eight can be read
+// behind each byte of a record, since its buffer is longer than any record.)
 static INLINED u32 before_slash(struct part text)
 {
     const u64 ones = 0x0101010101010101;
@@ -55,7 +56,8 @@ static long long number(struct part digits)
     return digits.size ? (long long)n : -1;
 }
 
-// The entry at hand, and the labels behind it. (What has a place of its own costs least to read and to write.)
+// The entry at hand, and the labels behind it. (What has a place of its own costs least to read and
+// to write.)
 enum kind { LABEL, NAME, MORE, EITHER, OR, PREFER, END };
 static struct { struct walk rest; enum kind kind; struct label label; } entry;
 
@@ -73,7 +75,8 @@ static INLINED enum kind kind(struct part word)
     __builtin_trap();
 }
 
-// Whether these are `/NN/` or `/NN.`, lowest byte first: a slash, two digits, and a byte that is one of the two but for its last bit.
+// Whether these are `/NN/` or `/NN.`, lowest byte first: a slash, two digits, and a byte that is
+// one of the two but for its last bit.
 static INLINED int is_front(u32 bytes)
 {
     return (bytes & 0xFEF0F0FF) == 0x2E30302F && ((bytes + 0x00060600) & 0x00F0F000) == 0x00303000;
@@ -97,13 +100,15 @@ static void go_on(void)
 }
 static INLINED int is_requirement(void) { return entry.kind == LABEL || entry.kind == NAME; }
 
-// What the requirement at hand is about: the node's name, or its label, which it may not have. Then it is null.
+// What the requirement at hand is about: the node's name, or its label, which it may not have. Then
+// it is null.
 static INLINED const u8 *look_up(const struct node *node)
 {
     return entry.kind == NAME ? node_name(node) : find_label(node_labels(node).at - 1, key().at, key().size);
 }
 
-// Whether the values from `values` on, and of the entries that go on with them, have this one. There must be some.
+// Whether the values from `values` on, and of the entries that go on with them, have this one.
+// There must be some.
 static INLINED int lists(struct part values, const u8 *wanted)
 {
     int listed = 0, any = values.at != 0;

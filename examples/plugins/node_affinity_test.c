@@ -1,7 +1,8 @@
 // SPDX-License-Identifier: Apache-2.0
 // node_affinity as a program of this machine, so that a debugger and a sanitizer can look at it:
 //
-//   cc -g -fsanitize=address,undefined -o node_affinity_test examples/plugins/node_affinity_test.c && ./node_affinity_test
+//   cc -g -fsanitize=address,undefined -o node_affinity_test examples/plugins/node_affinity_test.c
+//   && ./node_affinity_test
 #include "sched_test.h"
 
 #include "node_affinity.c"

@@ -1,5 +1,6 @@
 // SPDX-License-Identifier: Apache-2.0
-// A score: 50 in the zone that the pod wishes for by its label wished-zone, and up to 50 for room for further pods.
+// A score: 50 in the zone that the pod wishes for by its label wished-zone, and up to 50 for room
+// for further pods.
 //
 //   examples/plugins/build prefer_zone.c
 #include "sched.h"

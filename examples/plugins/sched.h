@@ -1,6 +1,6 @@
 // SPDX-License-Identifier: Apache-2.0
-// What wsched tells a plugin of a pod and of a node, and what a plugin answers. docs/PLUGINS.md shows how to begin;
-// "Records" in docs/FORMATS.md has the layout that is read here.
+// What wsched tells a plugin of a pod and of a node, and what a plugin answers. docs/PLUGINS.md
+// shows how to begin; "Records" in docs/FORMATS.md has the layout that is read here.
 //
 //     #include "sched.h"
 //     FILTER { return node_used_pods(read_node()) < 50 ? PASS : UNSCHEDULABLE; }
@@ -19,7 +19,8 @@ enum { PASS = 0, UNSCHEDULABLE = 2, UNSCHEDULABLE_AND_UNRESOLVABLE = 3 };
 #define IMPORTED3(name) __attribute__((import_module("sched3"), import_name(name)))
 #define SECTION(name, text) __asm__(".section .custom_section." name ",\"\",@\n.ascii " text "\n");
 #else
-// On a machine of its own a plugin is an ordinary program, and its test gives the two records: see keep_region_test.c.
+// On a machine of its own a plugin is an ordinary program, and its test gives the two records: see
+// keep_region_test.c.
 #define EXPORTED(name)
 #define IMPORTED(name)
 #define IMPORTED2(name)
@@ -30,14 +31,16 @@ enum { PASS = 0, UNSCHEDULABLE = 2, UNSCHEDULABLE_AND_UNRESOLVABLE = 3 };
 #define SCORE EXPORTED("score") long long score(void)
 #define INLINED inline __attribute__((always_inline))
 
-// What a rule says of itself beside its code, in custom sections of the module. They cost nothing and are kept by --strip-all.
+// What a rule says of itself beside its code, in custom sections of the module. They cost nothing
+// and are kept by --strip-all.
 //
-//     REASON(2, "two pods are there already")      why a node is rejected: for people, where an answer is shown
-//     READS_LABEL("data-class")                    a key that it reads, of a pod or a node; one for each
-//     READS_NO_LABEL                               it reads none
+//     REASON(2, "two pods are there already")  why a node is rejected: told to people
+//     READS_LABEL("data-class")                a key that it reads, of pods or nodes; one for each
+//     READS_NO_LABEL                           it reads none
 //
-// A row has 32 labels. Of a pod or a node with more, those that the rules name are told first: so a label that a rule reads and doesn't
-// name may be missing. A reason has up to 200 bytes; its code is 2 or 3.
+// A row has 32 labels. Of a pod or a node with more, those that the rules name are told first: so a
+// label that a rule reads and doesn't name may be missing. A reason has up to 200 bytes; its code
+// is 2 or 3.
 #define REASON(code, text) REASON_##code(#text) typedef char reason_##code##_has_1_to_200_bytes[sizeof text > 1 && sizeof text <= 201 ? 1 : -1];
 #define REASON_2(text) SECTION("wsched.reason.2", text)
 #define REASON_3(text) SECTION("wsched.reason.3", text)
@@ -47,18 +50,19 @@ enum { PASS = 0, UNSCHEDULABLE = 2, UNSCHEDULABLE_AND_UNRESOLVABLE = 3 };
 // Each writes its record, where that has at most `limit` bytes, and answers how many it has.
 IMPORTED("pod") u32 sched_pod(void *to, u32 limit);
 IMPORTED("node") u32 sched_node(void *to, u32 limit);
-// The same in version 2, whose records have a pod's tolerations and a node's taints as well. A module imports what it calls: a
-// plugin that asks for version 1 alone has nothing of version 2.
+// The same in version 2, whose records have a pod's tolerations and a node's taints as well. A
+// module imports what it calls: a plugin that asks for version 1 alone has nothing of version 2.
 IMPORTED2("pod") u32 sched2_pod(void *to, u32 limit);
 IMPORTED2("node") u32 sched2_node(void *to, u32 limit);
-// Version 2 of a pod without its uid, and of a node of which nothing is used: what many pods share, and what stays of a node while pods
-// come and go. What a rule answers by these two alone is kept for all pods that are alike, so a site asks it seldom. Where it needs
-// what is used, let it ask for the pod in version 3 and for the node in another: that is kept while as much is used.
+// Version 2 of a pod without its uid, and of a node of which nothing is used: what many pods share,
+// and what stays of a node while pods come and go. What a rule answers by these two alone is kept
+// for all pods that are alike, so a site asks it seldom. Where it needs what is used, let it ask
+// for the pod in version 3 and for the node in another: that is kept while as much is used.
 IMPORTED3("pod") u32 sched3_pod(void *to, u32 limit);
 IMPORTED3("node") u32 sched3_node(void *to, u32 limit);
 
-// No record is longer. A layout of another version would be misread, so it traps. All fields but the tolerations and taints are
-// read alike from all versions; a plugin asks for one of them.
+// No record is longer. A layout of another version would be misread, so it traps. All fields but
+// the tolerations and taints are read alike from all versions; a plugin asks for one of them.
 struct pod { u8 bytes[8192]; };
 struct node { u8 bytes[8192]; };
 static inline const struct pod *read_pod(void)
@@ -111,8 +115,8 @@ static inline u32 four(const u8 *at) { u32 n; __builtin_memcpy(&n, at, 4); retur
 static inline u64 eight(const u8 *at) { u64 n; __builtin_memcpy(&n, at, 8); return n; }
 
 #ifdef __wasm__
-// What a compiler calls for `u8 seen[200] = { 0 }` and `copy = *read_node()`. There is no C library; one that is linked in comes first,
-// and a module that needs none of these has none.
+// What a compiler calls for `u8 seen[200] = { 0 }` and `copy = *read_node()`. There is no C
+// library; one that is linked in comes first, and a module that needs none of these has none.
 #define OF_C __attribute__((weak, no_builtin))
 #ifdef __cplusplus
 extern "C" {
@@ -159,7 +163,8 @@ OF_C int memcmp(const void *a, const void *b, __SIZE_TYPE__ size)
 // The fields behind the uid or the name, which is a text at offset 2.
 static inline const u8 *fields(const u8 *record) { return record + 3 + record[2]; }
 
-// CPU in thousandths of a core, memory in bytes. Used is what the pods there ask for, without the pod in question.
+// CPU in thousandths of a core, memory in bytes. Used is what the pods there ask for, without the
+// pod in question.
 static inline int pod_priority(const struct pod *p) { return (int)four(fields(p->bytes)); }
 static inline u64 pod_cpu(const struct pod *p) { return eight(fields(p->bytes) + 4); }
 static inline u64 pod_memory(const struct pod *p) { return eight(fields(p->bytes) + 12); }
@@ -171,7 +176,8 @@ static inline u64 node_used_cpu(const struct node *n) { return eight(fields(n->b
 static inline u64 node_used_memory(const struct node *n) { return eight(fields(n->bytes) + 29); }
 static inline u32 node_used_pods(const struct node *n) { return four(fields(n->bytes) + 37); }
 
-// Whether two places have the same bytes: eight at once, the last of them first, since keys are long and begin alike.
+// Whether two places have the same bytes: eight at once, the last of them first, since keys are
+// long and begin alike.
 static inline int same_bytes(const u8 *a, const u8 *b, u32 size)
 {
     if (size >= 8) {
@@ -193,8 +199,9 @@ static INLINED u32 length(const char *word)
     return size;
 }
 
-// A text is its length in one byte and its bytes, none of them 0. Null is no text, and equals nothing. What a rule reads through null by
-// itself is no fault: address 0 is memory like all other.
+// A text is its length in one byte and its bytes, none of them 0. Null is no text, and equals
+// nothing. What a rule reads through null by itself is no fault: address 0 is memory like all
+// other.
 static INLINED int is_word(const u8 *text, const char *word, u32 size)
 {
     return *text == size && same_bytes(text + 1, (const u8 *)word, size);
@@ -253,7 +260,8 @@ static inline int next_label(struct walk *labels, struct label *next)
     return 1;
 }
 
-// A site's setting, which the script tells as the node's label `/cfg/NAME`: a text, or null where there is none.
+// A site's setting, which the script tells as the node's label `/cfg/NAME`: a text, or null where
+// there is none.
 static INLINED const u8 *setting(const struct node *n, const char *name)
 {
     const u32 size = length(name);
@@ -263,8 +271,8 @@ static INLINED const u8 *setting(const struct node *n, const char *name)
             return it.value;
     return 0;
 }
-// A setting that is a number in digits alone, at most 2^63 - 1, and `otherwise` where there is none. A text that is no such
-// number traps: a slip of the site's must not pass for a setting.
+// A setting that is a number in digits alone, at most 2^63 - 1, and `otherwise` where there is
+// none. A text that is no such number traps: a slip of the site's must not pass for a setting.
 static INLINED u64 setting_number(const struct node *n, const char *name, u64 otherwise)
 {
     const u8 *text = setting(n, name);
@@ -281,14 +289,15 @@ static INLINED u64 setting_number(const struct node *n, const char *name, u64 ot
 static inline const u8 *pod_uid(const struct pod *p) { return p->bytes + 2; }
 static inline const u8 *node_name(const struct node *n) { return n->bytes + 2; }
 
-// What a taint does, and what a toleration's taint does: NO_EFFECT, of tolerations alone, stands for every effect. A toleration
-// compares the values, or takes every value.
+// What a taint does, and what a toleration's taint does: NO_EFFECT, of tolerations alone, stands
+// for every effect. A toleration compares the values, or takes every value.
 enum { NO_EFFECT = 0, NO_SCHEDULE = 1, PREFER_NO_SCHEDULE = 2, NO_EXECUTE = 3 };
 enum { EQUAL = 1, EXISTS = 2 };
 struct taint { const u8 *key, *value; u8 effect; };
 struct toleration { const u8 *key, *value; u8 compares, effect; };
 
-// A walk over a node's taints or a pod's tolerations, in the order of the row, of what read_node2, read_node3, read_pod2 or read_pod3 gave:
+// A walk over a node's taints or a pod's tolerations, in the order of the row, of what read_node2,
+// read_node3, read_pod2 or read_pod3 gave:
 //
 //     struct taint taint;
 //     for (struct walk taints = node_taints(node); next_taint(&taints, &taint);)
@@ -332,8 +341,9 @@ static inline int next_toleration(struct walk *tolerations, struct toleration *n
     return 1;
 }
 
-// Whether a pod tolerates a taint, as Kubernetes has it: one of its tolerations has the taint's key, or none and takes every
-// value; it takes every value or has the taint's; and it has the taint's effect or none.
+// Whether a pod tolerates a taint, as Kubernetes has it: one of its tolerations has the taint's
+// key, or none and takes every value; it takes every value or has the taint's; and it has the
+// taint's effect or none.
 static inline int tolerates(const struct pod *p, const struct taint *taint)
 {
     struct toleration own;

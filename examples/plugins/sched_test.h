@@ -1,9 +1,10 @@
 // SPDX-License-Identifier: Apache-2.0
-// A plugin as a program of this machine: what hands its records over in place of wsched, so that a debugger and a sanitizer can look
-// at it. A test includes this and the plugin's source, says which pod and which node it asks about, and calls filter() and score():
+// A plugin as a program of this machine: what hands its records over in place of wsched, so that a
+// debugger and a sanitizer can look at it. A test includes this and the plugin's source, says which
+// pod and which node it asks about, and calls filter() and score():
 //
-//     ask_about((struct test_pod) { .uid = "p1", .labels = { "app", "web" } }, (struct test_node) { .name = "a", .pods = 110 });
-//     assert(filter() == PASS);
+//     ask_about((struct test_pod) { .uid = "p1", .labels = { "app", "web" } }, (struct test_node) {
+//     .name = "a", .pods = 110 }); assert(filter() == PASS);
 //
 // What isn't named is 0 or empty. "Records" in docs/FORMATS.md has the layout that is written here.
 #pragma once

@@ -1,5 +1,6 @@
 // SPDX-License-Identifier: Apache-2.0
-// A filter: each node of the zone edge-1 keeps its last gibibyte of memory for pods of priority 1000 and above.
+// A filter: each node of the zone edge-1 keeps its last gibibyte of memory for pods of priority
+// 1000 and above.
 //
 //   examples/plugins/build spare_memory.c
 #include "sched.h"

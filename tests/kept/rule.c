@@ -1,8 +1,14 @@
 // SPDX-License-Identifier: Apache-2.0
-// A rule whose records are those of version RECORDS. What it says depends on what versions 2 and 3 tell alike, so that it says the
-// same of every pod and node in both; what else it does is picked by KIND:
-//   0 reads the pod and the node's row    1 what is used too    2 the uid too    3 the pod alone    4 the node alone
-//   5 is cut off for some, uses up its fuel for some, gives no code for some     6 keeps a count of its calls
+// A rule whose records are those of version RECORDS. What it says depends on what versions 2 and 3
+// tell alike, so that it says the same of every pod and node in both; what else it does is picked
+// by KIND:
+//   0 reads the pod and the node's row
+//   1 what is used too
+//   2 the uid too
+//   3 the pod alone
+//   4 the node alone
+//   5 is cut off for some, uses up its fuel for some, gives no code for some
+//   6 keeps a count of its calls
 #define FROM2(v) "sched" #v
 #define FROM(v) FROM2(v)
 __attribute__((import_module(FROM(RECORDS)), import_name("pod"))) unsigned pod_record(unsigned char *, unsigned);

@@ -1,7 +1,8 @@
 // SPDX-License-Identifier: Apache-2.0
-// What kube-scheduler takes pods and nodes for: of each JSON object on standard input, one a line, a line on standard
-// output with what a Pod counts on its node, in thousandths of a core and bytes, or what a Node has, in these and pods.
-// Of an object that isn't read the line is "refused" and why.
+// What kube-scheduler takes pods and nodes for: of each JSON object on standard input, one a line,
+// a line on standard output with what a Pod counts on its node, in thousandths of a core and bytes,
+// or what a Node has, in these and pods. Of an object that isn't read the line is "refused" and
+// why.
 //
 // It is built within the source of Kubernetes 1.20.2 (tests/kube_amounts/run).
 package main
@@ -18,7 +19,8 @@ import (
 	"k8s.io/kubernetes/pkg/scheduler/framework"
 )
 
-// A pod's request is what the API server's defaults make of it, and what the scheduler's cache adds to its node.
+// A pod's request is what the API server's defaults make of it, and what the scheduler's cache adds
+// to its node.
 func answer(line []byte) string {
 	object, _, err := scheme.Codecs.UniversalDeserializer().Decode(line, nil, nil)
 	if err != nil {

@@ -1,5 +1,6 @@
 // SPDX-License-Identifier: Apache-2.0
-//! Texts that are compared by eight bytes at once, beside slices as std compares them: of each length, with a change at each place.
+//! Texts that are compared by eight bytes at once, beside slices as std compares them: of each
+//! length, with a change at each place.
 #[path = "../../examples/plugins/rust-template/src/sched.rs"]
 mod sched;
 

@@ -1,7 +1,8 @@
-# Completion of wsched and of the programs beside it, for bash: /usr/share/bash-completion/completions/wsched.
+# Completion of wsched and of the programs beside it, for bash:
+# /usr/share/bash-completion/completions/wsched.
 
-# The modules that a word may name. One that is a plugin becomes NAME:1:100000:FILE, to be changed as wanted. The shell breaks words at
-# colons, so behind the third one it completes FILE alone.
+# The modules that a word may name. One that is a plugin becomes NAME:1:100000:FILE, to be changed
+# as wanted. The shell breaks words at colons, so behind the third one it completes FILE alone.
 _wsched_modules() {
     local cur=$1 as=$2 file name
     while IFS= read -r file; do

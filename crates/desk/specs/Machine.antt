@@ -10,9 +10,10 @@
 --   PodBound    Old; Full (no place, and the places are full)
 --   PodGone     Old; Gone (neither an entry nor a place)
 --   Pop         none
---   Assume      Gone (neither); Placed; NotInFlight (this pass didn't pop it); NoNode; NoRoom (it doesn't fit now);
---               Full (the places are full, or the last ticket was given)
---   BindDone    Gone (neither); Confirmed (bound); StaleTicket (no place, or another ticket); Confirmed (finished)
+--   Assume      Gone (neither); Placed; NotInFlight (this pass didn't pop it); NoNode;
+--               NoRoom (it doesn't fit now); Full (the places are full, or the last ticket was given)
+--   BindDone    Gone (neither); Confirmed (bound); StaleTicket (no place, or another ticket);
+--               Confirmed (finished)
 --   Forget      as BindDone
 --   Fail        Gone (neither); Placed; NotInFlight (this pass didn't pop it)
 --   Tick        ClockBack (the moment is below the clock)

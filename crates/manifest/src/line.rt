@@ -30,9 +30,9 @@ pub const MAX_LINE: usize = 65_536;
 ///
 /// | `op` | Fields | Command |
 /// |---|---|---|
-/// | `node` | `v`, `name`, `cpu`, `mem`, `pods`, [`labels`], [`taints`], [`unschedulable`] | a node's row |
+/// | `node` | `v`, `name`, `cpu`, `mem`, `pods`, [`labels`], [`taints`], [`unschedulable`] | node |
 /// | `gone` | `v`, `name` | the node is gone |
-/// | `pod` | `v`, `uid`, [`priority`], `containers`, [`init`], [`labels`], [`tolerations`] | a pod that waits |
+/// | `pod` | `v`, `uid`, [`priority`], `containers`, [`init`], [`labels`], [`tolerations`] | pod |
 /// | `bound` | `v`, `uid`, `node`, `cpu`, `mem` | a pod that runs |
 /// | `deleted` | `v`, `uid` | the pod is gone |
 /// | `tick` | `at` | the clock |

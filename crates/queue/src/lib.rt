@@ -8,7 +8,8 @@
 //!   long after each further one, and at most 10,000 ms. So does one that no node would take, if
 //!   there was a move since it was popped; else it is unschedulable.
 //! - A move makes an unschedulable pod active where it has backed off since its failure, and else
-//!   sends it to backoff until it has. A tick at least 300,000 ms after its failure releases it too.
+//!   sends it to backoff until it has. A tick at least 300,000 ms after its failure releases it
+//!   too.
 //!
 //! These rules are the project's own, after the scheduling queue of kube-scheduler. Moments are in
 //! milliseconds of a clock that the caller keeps. The room for all entries is taken when a queue is

@@ -1,10 +1,10 @@
-// Writes the table of accesses that `src/memory.rt` reads: what another engine, the one in `node`, stores and loads. Run in this
-// crate's folder:
+// Writes the table of accesses that `src/memory.rt` reads: what another engine, the one in `node`,
+// stores and loads. Run in this crate's folder:
 //
 //     node tests/accesses.mjs > src/memory/accesses.rt, and then rt fmt
 //
-// Each row stores one value with one width at address 8 of a memory filled with 0x55, and then loads from address 8
-// with each load instruction.
+// Each row stores one value with one width at address 8 of a memory filled with 0x55, and then
+// loads from address 8 with each load instruction.
 
 const stores = [['One', 0x3c, 0], ['Two', 0x3d, 1], ['Four', 0x3e, 2], ['Eight', 0x37, 3]];
 const loads = [
@@ -72,7 +72,8 @@ pub const LOADS: [Load; ${loads.length}] = [
 ${loads.map(([load]) => `    Load::${load},`).join('\n')}
 ];
 
-/// The width of a store at address 8, its value, the byte before it afterwards, and what each load from address 8 gives.
+/// The width of a store at address 8, its value, the byte before it afterwards, and what each load
+/// from address 8 gives.
 pub const ROWS: [(Width, u64, u8, [u64; ${loads.length}]); ${lines.length}] = [
 ${lines.join('\n')}
 ];

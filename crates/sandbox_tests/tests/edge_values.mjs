@@ -1,14 +1,16 @@
-// Writes the table of edge values that `src/operations.rt` reads: what another engine, the one in `node`, answers at each of
-// the integer instructions. Run in this crate's folder:
+// Writes the table of edge values that `src/operations.rt` reads: what another engine, the one in
+// `node`, answers at each of the integer instructions. Run in this crate's folder:
 //
 //     node tests/edge_values.mjs > src/operations/edge_values.rt
 //
-// For each instruction it spells, byte by byte, a function that runs it alone, and calls that function.
+// For each instruction it spells, byte by byte, a function that runs it alone, and calls that
+// function.
 
 const I32 = 0x7f;
 const I64 = 0x7e;
 
-// Opcodes by WebAssembly Core 1.0, 5.4.5, and Core 2.0, 5.4.7. Each list starts at the opcode given.
+// Opcodes by WebAssembly Core 1.0, 5.4.5, and Core 2.0, 5.4.7. Each list starts at the opcode
+// given.
 const numbered = (first, names) => names.map((name, i) => [name, first + i]);
 const relations = ["eq", "ne", "lt_s", "lt_u", "gt_s", "gt_u", "le_s", "le_u", "ge_s", "ge_u"];
 const counts = ["clz", "ctz", "popcnt"];
@@ -23,7 +25,8 @@ const WRAP_I64 = 0xa7;
 const EXTEND_I32_S = 0xac;
 const EXTEND_I32_U = 0xad;
 
-// A module whose one function, exported as "f", runs the instruction on its parameters. All sizes here are below 128.
+// A module whose one function, exported as "f", runs the instruction on its parameters. All sizes
+// here are below 128.
 function instruction(opcode, parameters, result) {
     const section = (id, bytes) => [id, bytes.length, ...bytes];
     const reads = parameters.flatMap((_, i) => [0x20, i]);

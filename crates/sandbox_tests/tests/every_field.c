@@ -1,9 +1,11 @@
-// A score that reads every field of both records, each by its place and its length, and answers them all folded into one number:
-// from 14695981039346656037 on, each number in turn is xored in, and the sum so far is multiplied by 1099511628211, modulo 2^64.
-// A text is told as its length and then its bytes.
+// A score that reads every field of both records, each by its place and its length, and answers
+// them all folded into one number: from 14695981039346656037 on, each number in turn is xored in,
+// and the sum so far is multiplied by 1099511628211, modulo 2^64. A text is told as its length and
+// then its bytes.
 //
 // Built with clang 14 and its wasm-ld, which knows the first edition of WebAssembly:
-//   clang --target=wasm32 -Oz -nostdlib -mcpu=mvp -Wl,--no-entry -Wl,-z,stack-size=1024 -Wl,--strip-all -o every_field.wasm every_field.c
+//   clang --target=wasm32 -Oz -nostdlib -mcpu=mvp -Wl,--no-entry -Wl,-z,stack-size=1024
+//   -Wl,--strip-all -o every_field.wasm every_field.c
 
 __attribute__((import_module("sched"), import_name("pod")))
 unsigned pod(unsigned char *pointer, unsigned limit);

@@ -1,5 +1,6 @@
-// Writes what `src/kits.rt` reads: the module that clang makes of tests/every_field.c, and what it answers of the pod and the node
-// there, computed from their fields and from nothing of the code. Run in this crate's folder, with the module's file:
+// Writes what `src/kits.rt` reads: the module that clang makes of tests/every_field.c, and what it
+// answers of the pod and the node there, computed from their fields and from nothing of the code.
+// Run in this crate's folder, with the module's file:
 //
 //     node tests/every_field.mjs every_field.wasm > src/kits/every_field.rt
 

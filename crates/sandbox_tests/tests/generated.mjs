@@ -1,12 +1,14 @@
-// Writes the table of generated modules that `src/tests/generated.rt` holds: modules of the profile, and what another engine, the
-// one in `node`, says of each. Run in this crate's folder, after which `rt fmt` lays the file out:
+// Writes the table of generated modules that `src/tests/generated.rt` holds: modules of the
+// profile, and what another engine, the one in `node`, says of each. Run in this crate's folder,
+// after which `rt fmt` lays the file out:
 //
 //     node tests/generated.mjs > src/tests/generated.rt
 //
-// A module's `filter` is made by chance out of blocks, loops, branches, calls, accesses and operations, with a fixed seed. Each
-// loop counts a local of its own down at its head, and calls go to later functions alone, so that every call ends. Its `score`
-// is always the same: a digest of the store, which tells what `filter` left. What a call costs is wsched's own, and so is how
-// deep calls go, so `node` isn't asked for these.
+// A module's `filter` is made by chance out of blocks, loops, branches, calls, accesses and
+// operations, with a fixed seed. Each loop counts a local of its own down at its head, and calls go
+// to later functions alone, so that every call ends. Its `score` is always the same: a digest of
+// the store, which tells what `filter` left. What a call costs is wsched's own, and so is how deep
+// calls go, so `node` isn't asked for these.
 
 const SEED = 20_261_123;
 const MODULES = 200;
@@ -63,7 +65,8 @@ function any_constant(type) {
     return constant(type, BigInt(draw()) * (type === I64 ? BigInt(draw()) : 1n));
 }
 
-// Opcodes, by the type that they take: the first and how many there are (5.4.5; sign extension: Core 2.0, 5.4.7).
+// Opcodes, by the type that they take: the first and how many there are (5.4.5; sign extension:
+// Core 2.0, 5.4.7).
 const range = (first, count) => Array.from({ length: count }, (_, i) => first + i);
 const UNARY = { [I32]: [...range(0x67, 3), ...range(0xc0, 2)], [I64]: [...range(0x79, 3), ...range(0xc2, 3)] };
 const BINARY = { [I32]: [...range(0x6a, 3), ...range(0x71, 8)], [I64]: [...range(0x7c, 3), ...range(0x83, 8)] };
@@ -77,7 +80,8 @@ const LOADS = {
 };
 const STORES = { [I32]: [[0x36, 2], [0x3a, 0], [0x3b, 1]], [I64]: [[0x37, 3], [0x3c, 0], [0x3d, 1], [0x3e, 2]] };
 
-// The body of one function of a module: its labels, of which the last is the innermost, and its locals.
+// The body of one function of a module: its labels, of which the last is the innermost, and its
+// locals.
 class Writer {
     constructor(module, index, type) {
         this.module = module;
@@ -348,8 +352,9 @@ class Writer {
     }
 }
 
-// A digest of the store: each i64 of the memory, from the first on, then each global, then how many pages there are. The digest
-// so far is turned left by 7, and the next joins it by xor. Four words a round.
+// A digest of the store: each i64 of the memory, from the first on, then each global, then how many
+// pages there are. The digest so far is turned left by 7, and the next joins it by xor. Four words
+// a round.
 function digest({ memory, globals }) {
     const join = (next) => [...constant(I64, 7), 0x89, ...next, 0x85];
     const words = [0, 8, 16, 24].flatMap((offset) => join([0x20, 0, 0x29, 3, offset]));
@@ -433,8 +438,8 @@ function instance({ bytes }) {
     return made.exports;
 }
 
-// The number of the trap and a value, and the digest of the store behind the call. The engine grows a memory past wsched's limit
-// of 32 pages, but no module here asks for so many.
+// The number of the trap and a value, and the digest of the store behind the call. The engine grows
+// a memory past wsched's limit of 32 pages, but no module here asks for so many.
 function outcome(module) {
     const exports = instance(module);
     const [trap, value] = ended(exports);
@@ -452,8 +457,8 @@ function ended(exports) {
     }
 }
 
-// The engine tells an empty element (6) and one of another type (7) alike. It was empty where the call goes on once empty
-// elements have a function of some type of the module.
+// The engine tells an empty element (6) and one of another type (7) alike. It was empty where the
+// call goes on once empty elements have a function of some type of the module.
 function empty_or_other(module) {
     const to_fill = module.types.some((type) => {
         const exports = instance(module);
@@ -483,8 +488,9 @@ while (rows.length < MODULES) {
 }
 console.log(`//! Made by \`tests/generated.mjs\`, which says how. The answers are those of the engine in \`node\`.
 
-/// ${MODULES} modules, a line each: how many bytes it has, in two bytes with the lower first; the number of the trap that its
-/// \`filter\` ends by, or 0; the value, in four bytes; what \`score\` tells then of the store, in eight; and the module.
+/// ${MODULES} modules, a line each: how many bytes it has, in two bytes with the lower first; the
+/// number of the trap that its \`filter\` ends by, or 0; the value, in four bytes; what \`score\`
+/// tells then of the store, in eight; and the module.
 #[rattlefmt::skip]
 pub const MODULES: &[u8] = b"\\`);
 console.log(rows.join("\n"));

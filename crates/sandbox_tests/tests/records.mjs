@@ -1,5 +1,5 @@
-// Writes the rows that `src/records.rt` reads: the records of some pods and nodes, by the table of docs/FORMATS.md and
-// nothing of the code. Run in this crate's folder:
+// Writes the rows that `src/records.rt` reads: the records of some pods and nodes, by the table of
+// docs/FORMATS.md and nothing of the code. Run in this crate's folder:
 //
 //     node tests/records.mjs > src/records/rows.rt
 

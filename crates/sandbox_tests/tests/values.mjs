@@ -1,6 +1,7 @@
-// Asks another engine, the one in `node`, for the values of the worked calls: it makes each call of `src/tests/rows.rt` in the
-// module of `src/tests/worked_module.rt`, and tells where it gives another value or traps for another reason. What a call costs,
-// how deep calls may go, and that a start function is given no record, is wsched's own, so those rows are passed over. Run in this
+// Asks another engine, the one in `node`, for the values of the worked calls: it makes each call of
+// `src/tests/rows.rt` in the module of `src/tests/worked_module.rt`, and tells where it gives
+// another value or traps for another reason. What a call costs, how deep calls may go, and that a
+// start function is given no record, is wsched's own, so those rows are passed over. Run in this
 // crate's folder:
 //
 //     node tests/values.mjs

@@ -41,7 +41,8 @@ module _ {J : Type 0} (desk : Desk) (fed : List Step) where
       let told : Each (HasFed fed) ws ws' = subst (λ (x : List (Worker J (Unit {0}))). Each (HasFed fed) ws x) same told1 in
       (met.each.0 ∙ told.0, λ i d lt. fed_met p.seen q.seen (slice_index_or ws i d) (slice_index_or ws' i d) (slice_index_or ws'' i d) (told.1 i d lt) (met.each.1 i d (subst (λ n. i < n) (sym told.0) lt)))
 
--- ---- the first cycle pass, which makes cycles beside the feeders, and then meets them and goes on alone
+-- ---- the first cycle pass, which makes cycles beside the feeders, and then meets them and goes on
+-- alone
 
 -- who made cycles had seen, before the last of them, all that it had seen before the first
 first_seen : (rules : RuleSet) (desk : Desk) (p q : Pass) (made : List OneCycle) (c : OneCycle) → HasCycled rules desk p (made ++ c ∷ []) q → BeginsWith c.before.seen p.seen

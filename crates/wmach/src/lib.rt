@@ -8,11 +8,14 @@
 //!
 //! | Question | Module |
 //! |---|---|
-//! | What can be called, what do host functions hand over, how does a call end? | `export`, `host`, `outcome` |
-//! | What does a machine keep, and what of it stays as it is while a call runs? | `machine`, `code`: `shape`, `records`, `widest` |
+//! | What can be called, how does a call end? | `export`, `outcome` |
+//! | What do host functions hand over? | `host` |
+//! | What does a machine keep? | `machine` |
+//! | What of it stays as it is while a call runs? | `code`: `shape`, `records`, `widest` |
 //! | How does a call begin, go on and stop? | `invocation`, `run` |
 //! | Where is a call, and where do the functions stand that wait? | `state`, `activation` |
-//! | Which instruction stands there, and what did it come to? | `step`, `families`, `over`, `over_control`; `went` |
+//! | Which instruction stands there? | `step`, `families`, `over`, `over_control` |
+//! | What did it come to? | `went` |
 //! | What does an instruction do? | `plain` with `numbers`, `control`, `calls` with `signature` |
 #![tactic(auto)]
 

@@ -85,7 +85,8 @@ def is_float(opcode: int) -> bool:
     return named is not None and any(kind in named.name for kind in ("f32", "f64"))
 
 
-# What came later, as far as a compiler of today writes it: (feature, name) of an opcode, and of one behind a prefix.
+# What came later, as far as a compiler of today writes it: (feature, name) of an opcode, and of one
+# behind a prefix.
 _LATER = {
     0x06: ("exceptions", "try"), 0x07: ("exceptions", "catch"), 0x08: ("exceptions", "throw"), 0x09: ("exceptions", "rethrow"),
     0x0a: ("exceptions", "throw_ref"), 0x18: ("exceptions", "delegate"), 0x19: ("exceptions", "catch_all"), 0x1f: ("exceptions", "try_table"),

@@ -63,8 +63,8 @@ const WRITE_FAILS: Want<'static> = (4, PLAIN_LINES, "wsched: 4 Write\n");
 
 // The first read or write that fails and isn't told.
 //
-// 136 bytes in pieces of 10 and the end are 15 reads. Each of the first 6 writes has at most 10 of the 62 bytes, so there are as
-// many.
+// 136 bytes in pieces of 10 and the end are 15 reads. Each of the first 6 writes has at most 10 of
+// the 62 bytes, so there are as many.
 fn first_untold<R: Files + Wait + Threads + Copy + Send + Sync + 'static>(
     rt: &R,
     alloc: Global,

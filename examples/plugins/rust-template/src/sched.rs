@@ -1,6 +1,7 @@
 // SPDX-License-Identifier: Apache-2.0
-//! What wsched tells a plugin of a pod and of a node, and what a plugin answers, for plugins in Rust: what sched.h is for C.
-//! "Records" in docs/FORMATS.md has the layout that is read here. A plugin has it as a module:
+//! What wsched tells a plugin of a pod and of a node, and what a plugin answers, for plugins in
+//! Rust: what sched.h is for C. "Records" in docs/FORMATS.md has the layout that is read here. A
+//! plugin has it as a module:
 //!
 //!     mod sched;
 //!     use sched::{node, PASS, UNSCHEDULABLE};
@@ -10,10 +11,12 @@
 //!         if node().used_pods() < 50 { PASS } else { UNSCHEDULABLE }
 //!     }
 //!
-//! Nothing here indexes and nothing compares slices by `==`, so that neither the texts of panics nor functions of the compiled
-//! core library come along. This crate is one to start from, whose tests `cargo test` runs on this machine.
+//! Nothing here indexes and nothing compares slices by `==`, so that neither the texts of panics
+//! nor functions of the compiled core library come along. This crate is one to start from, whose
+//! tests `cargo test` runs on this machine.
 //!
-//! Every edition from 2021 on takes it. Compilers before 1.82 have no `unsafe extern`: they are told `--cfg before_rustc_1_82`.
+//! Every edition from 2021 on takes it. Compilers before 1.82 have no `unsafe extern`: they are
+//! told `--cfg before_rustc_1_82`.
 #![allow(dead_code, unknown_lints, unexpected_cfgs, unused_imports, unused_macros)]
 
 /// What a filter answers; any other number is an error. A score answers 0 to 100.
@@ -21,14 +24,19 @@ pub const PASS: i32 = 0;
 pub const UNSCHEDULABLE: i32 = 2;
 pub const UNSCHEDULABLE_AND_UNRESOLVABLE: i32 = 3;
 
-/// What a rule says of itself beside its code, in custom sections of the module. They cost nothing and are kept when it is stripped.
+/// What a rule says of itself beside its code, in custom sections of the module. They cost nothing
+/// and are kept when it is stripped.
 ///
-///     sched::reason!(2, "two pods are there already");    // why a node is rejected: for people, where an answer is shown
-///     sched::reads_label!("data-class");                  // a key that it reads, of a pod or a node; one for each
-///     sched::reads_no_label!();                           // it reads none
+///     // why a node is rejected: for people, where an answer is shown
+///     sched::reason!(2, "two pods are there already");
+///     // a key that it reads, of a pod or a node; one for each
+///     sched::reads_label!("data-class");
+///     // it reads none
+///     sched::reads_no_label!();
 ///
-/// A row has 32 labels. Of a pod or a node with more, those that the rules name are told first: so a label that a rule reads and doesn't
-/// name may be missing. A reason has up to 200 bytes; its code is 2 or 3.
+/// A row has 32 labels. Of a pod or a node with more, those that the rules name are told first: so
+/// a label that a rule reads and doesn't name may be missing. A reason has up to 200 bytes; its
+/// code is 2 or 3.
 macro_rules! reason {
     (2, $text:literal) => {
         $crate::sched::reason!("wsched.reason.2", $text);
@@ -97,7 +105,8 @@ mod host {
     pub use core::arch::wasm32::unreachable;
 
     mod version1 {
-        // Each writes its record, where that has at most `limit` bytes, and answers how many it has.
+        // Each writes its record, where that has at most `limit` bytes, and answers how many it
+        // has.
         #[cfg(not(before_rustc_1_82))]
         #[link(wasm_import_module = "sched")]
         unsafe extern "C" {
@@ -179,11 +188,11 @@ mod host {
     }
 }
 
-/// In a test on this machine, which pod and which node the plugin is asked about: `ask_about` in place of wsched, of each thread
-/// for itself. What isn't named is 0 or empty.
+/// In a test on this machine, which pod and which node the plugin is asked about: `ask_about` in
+/// place of wsched, of each thread for itself. What isn't named is 0 or empty.
 ///
-///     ask_about(&PodRow { labels: &[("app", "web")], ..PodRow::default() }, &NodeRow { used_pods: 2, ..NodeRow::default() });
-///     assert_eq!(filter(), PASS);
+///     ask_about(&PodRow { labels: &[("app", "web")], ..PodRow::default() }, &NodeRow { used_pods:
+///     2, ..NodeRow::default() }); assert_eq!(filter(), PASS);
 #[cfg(not(target_arch = "wasm32"))]
 pub mod host {
     use std::cell::RefCell;
@@ -323,8 +332,8 @@ pub fn node() -> Node {
     Node(of_version(1, host::node(1)))
 }
 
-/// The same pod in version 2, which has its tolerations as well. A module imports what it calls: a plugin that asks for version 1
-/// alone has nothing of version 2.
+/// The same pod in version 2, which has its tolerations as well. A module imports what it calls: a
+/// plugin that asks for version 1 alone has nothing of version 2.
 pub fn pod2() -> Pod {
     Pod(of_version(2, host::pod(2)))
 }
@@ -334,13 +343,15 @@ pub fn node2() -> Node {
     Node(of_version(2, host::node(2)))
 }
 
-/// The same pod in version 3, which is version 2 without the uid: what many pods share. What a rule answers by it and by `node3` alone
-/// is kept for all pods that are alike, so a site asks it seldom.
+/// The same pod in version 3, which is version 2 without the uid: what many pods share. What a rule
+/// answers by it and by `node3` alone is kept for all pods that are alike, so a site asks it
+/// seldom.
 pub fn pod3() -> Pod {
     Pod(of_version(3, host::pod(3)))
 }
 
-/// The same node in version 3, which is version 2 with nothing used: what stays of a node while pods come and go.
+/// The same node in version 3, which is version 2 with nothing used: what stays of a node while
+/// pods come and go.
 pub fn node3() -> Node {
     Node(of_version(3, host::node(3)))
 }
@@ -412,7 +423,8 @@ fn is_setting(key: &[u8], name: &str) -> Option<bool> {
     Some(key.len() == 5 + name.len() && is(key.get(5..)?, name) && is(key.get(..5)?, "/cfg/"))
 }
 
-// The list behind the labels, as how many there are and the items. Version 1 has none, so it traps there.
+// The list behind the labels, as how many there are and the items. Version 1 has none, so it traps
+// there.
 fn behind(record: &'static [u8], between: usize) -> (u8, &'static [u8]) {
     // Version 1 has no such list.
     if record.first() == Some(&1) {
@@ -493,8 +505,8 @@ pub fn is(text: &[u8], word: &str) -> bool {
     same(text, word.as_bytes())
 }
 
-/// Whether two texts are the same: of one length, and then eight bytes at once, the last of them first, since keys are long and begin
-/// alike. (By `==` the compiled core library would be called.)
+/// Whether two texts are the same: of one length, and then eight bytes at once, the last of them
+/// first, since keys are long and begin alike. (By `==` the compiled core library would be called.)
 #[inline(always)]
 pub fn same(a: &[u8], b: &[u8]) -> bool {
     if a.len() != b.len() {
@@ -538,8 +550,9 @@ impl Pod {
         let (count, items) = behind(self.0, 20);
         Tolerations(count, items)
     }
-    /// Whether it tolerates a taint, as Kubernetes has it: one of its tolerations has the taint's key, or none and takes every
-    /// value; it takes every value or has the taint's; and it has the taint's effect or none.
+    /// Whether it tolerates a taint, as Kubernetes has it: one of its tolerations has the taint's
+    /// key, or none and takes every value; it takes every value or has the taint's; and it has the
+    /// taint's effect or none.
     pub fn tolerates(self, taint: Taint) -> bool {
         self.tolerations().any(|own| {
             let any = own.compares == EXISTS;
@@ -550,7 +563,8 @@ impl Pod {
     }
 }
 
-/// CPU is in thousandths of a core, memory in bytes. Used is what the pods there ask for, without the pod in question.
+/// CPU is in thousandths of a core, memory in bytes. Used is what the pods there ask for, without
+/// the pod in question.
 impl Node {
     pub fn name(self) -> &'static [u8] {
         parts(self.0).0
@@ -588,8 +602,8 @@ impl Node {
     pub fn setting(self, name: &str) -> Option<&'static [u8]> {
         self.labels().find(|(key, _)| is_setting(key, name).unwrap_or(false)).map(|(_, value)| value)
     }
-    /// A setting that is a number in digits alone, at most 2^63 - 1, and `otherwise` where there is none. A text that is no such
-    /// number traps: a slip of the site's must not pass for a setting.
+    /// A setting that is a number in digits alone, at most 2^63 - 1, and `otherwise` where there is
+    /// none. A text that is no such number traps: a slip of the site's must not pass for a setting.
     #[inline(always)]
     pub fn setting_number(self, name: &str, otherwise: u64) -> u64 {
         let digits = match self.setting(name) {
