@@ -11,7 +11,8 @@
 --   PodGone     Old; Gone (neither an entry nor a place)
 --   Pop         none
 --   Assume      Gone (neither); Placed; NotInFlight (this pass didn't pop it); NoNode;
---               NoRoom (it doesn't fit now); Full (the places are full, or the last ticket was given)
+--               NoRoom (it doesn't fit now); Full (the places are full, or the last ticket was
+--               given)
 --   BindDone    Gone (neither); Confirmed (bound); StaleTicket (no place, or another ticket);
 --               Confirmed (finished)
 --   Forget      as BindDone
