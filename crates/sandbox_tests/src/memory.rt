@@ -1,4 +1,4 @@
-//! What another engine loads after each store, which stretches a write notes, and where accesses
+//! What another engine loads after each store, which pages a write notes, and where accesses
 //! end.
 use accesses::{LOADS, ROWS};
 use std::test::Fail;
@@ -49,9 +49,9 @@ enum Access {
     Copy(u32),
 }
 
-// How many stretches of 256 bytes are noted after it, and after a reset, and how large the memory
-// is then.
-fn stretches_noted(memory: &mut Memory, access: Access) -> (usize, usize, u32) {
+// How many pages of 4,096 bytes are noted after it, and after a reset, and how large the memory is
+// then.
+fn pages_noted(memory: &mut Memory, access: Access) -> (usize, usize, u32) {
     match access {
         Access::Store(at, width, value) => {
             let _ = memory.store(at, 0, width, value);
@@ -71,22 +71,25 @@ fn stretches_noted(memory: &mut Memory, access: Access) -> (usize, usize, u32) {
     (noted, memory.touched(), memory.size())
 }
 
-// What is done, and how many stretches are noted after it.
+// What is done, and how many pages are noted after it.
 const NOTED: &[(Access, usize)] = &[
-    (Access::Store(252, Width::Eight, 1), 2),
+    (Access::Store(4_092, Width::Eight, 1), 2),
+    (Access::Store(252, Width::Eight, 1), 1),
     (Access::Store(0, Width::Four, 0), 1),
     (Access::Store(65_533, Width::Four, 1), 0),
     (Access::Load(0), 0),
     (Access::Grow, 0),
-    (Access::Copy(255), 2),
+    (Access::Copy(255), 1),
+    (Access::Copy(4_095), 2),
+    (Access::Copy(4_096), 1),
     (Access::Copy(65_280), 0),
 ];
 
 #[test]
-fn writes_note_their_stretches(rt: HostRuntime) -> Result<(), Fail> {
+fn writes_note_their_pages(rt: HostRuntime) -> Result<(), Fail> {
     let mut memory = Memory::new(rt.alloc(), 1, MAX_PAGES)?;
     for (access, noted) in NOTED {
-        assert_eq!(rt; stretches_noted(&mut memory, *access), (*noted, 0, 1));
+        assert_eq!(rt; pages_noted(&mut memory, *access), (*noted, 0, 1));
     }
     Ok(())
 }

@@ -1,12 +1,11 @@
 -- What each change of a memory's fields does to what they mean, and that it keeps them sound.
-use Rattle.std.proofs.Common.{◌≡◌, ℕ, ◌+◌, ◌-◌, ◌*◌, ◌%◌, ◌≤◌, List, ◌++◌, length, take, drop, ap, sym, ◌∙◌, arith, Vec, Global, get_or, replicate, inl, inr}
+use Rattle.std.proofs.Common.{◌≡◌, ℕ, ◌+◌, ◌-◌, ◌*◌, ◌/◌, ◌%◌, ◌≤◌, List, ◌++◌, length, take, drop, ap, sym, ◌∙◌, arith, Vec, Global, get_or, replicate, inl, inr}
 use Rattle.std.proofs.lemmas.List.{length-take-le, take-append-le, with_items_is, get_or-take, get_or-drop, get_or_past, get_or-replicate, length-replicate}
 use Rattle.std.proofs.lemmas.Bool.{cases_lt}
 use Rattle.std.specs.Vec.{with_items}
 use Rattle.wmem.specs.declared.memory.Memory.TheInside.{Inside}
 use Rattle.wmem.specs.Access.{with_bytes}
-use Rattle.std.specs.List.{count_by}
-use Rattle.wmem.specs.inside.Noted.{is_set}
+use Rattle.wmem.specs.inside.Noted.{AreIn}
 use Rattle.wmem.specs.inside.Tracked.{TrackedBytes, IsTracked, stretch, extended}
 use Rattle.wmem.specs.Memory.{MemoryInstance, page_size, most_pages, zeros, new_memory, TouchesAtMost}
 use Rattle.wmem.specs.inside.Inside.{instance_of, IsClear, IsSound}
@@ -214,15 +213,16 @@ front_reads buffer from k clear within = elim (cases_lt k from) [
       ∙ ap (λ (xs : List ℕ). get_or xs (k - from) 0) clear.rest_is ∙ zero_at (length buffer - from) (k - from)))
 ]
 
--- pages that aren't noted are untouched
-pub touches : (memory : Inside) (count : ℕ) → IsSound memory → IsTracked memory.tracked → count ≡ count_by is_set memory.tracked.noted.flags
+-- pages of 4,096 bytes of which no stretch is noted are untouched
+pub touches : (memory : Inside) (count : ℕ) → IsSound memory → IsTracked memory.tracked → AreIn memory.tracked.noted.flags count
     → TouchesAtMost (instance_of memory) count
-touches memory count sound tracked is = (
-  memory.tracked.noted.flags,
-  sym is,
+touches memory count sound tracked are = (
+  are.large,
+  are.many,
   λ page unset k on_page.
+      let there : (k / stretch) / 16 ≡ page = omega (arith, on_page) in
       front_reads memory.tracked.bytes memory.len k sound.clear sound.opened
-      ∙ tracked.agrees k (rw on_page unset)
+      ∙ tracked.agrees k (are.unset (k / stretch) (rw there unset))
       ∙ sym (front_reads memory.tracked.image memory.image_len k sound.image_clear (omega (arith, sound.same, sound.opened, sound.grown))),
 )
 

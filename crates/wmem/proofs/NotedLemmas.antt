@@ -1,13 +1,13 @@
 -- Facts about flags and the list of the places where they are set.
-use Rattle.std.proofs.Common.{◌≡◌, ℕ, ◌+◌, ◌<◌, Bool, true, false, cond, List, [], ◌∷◌, ◌++◌, length, get_or, set, replicate, sym, subst, ap, ◌∙◌, inl, inr, arith, length-set, length-append, get_or-set_other}
+use Rattle.std.proofs.Common.{◌≡◌, ℕ, ◌+◌, ◌*◌, ◌/◌, ◌<◌, ◌≤◌, Bool, true, false, cond, List, [], ◌∷◌, ◌++◌, length, get_or, set, replicate, refl, sym, subst, ap, ◌∙◌, inl, inr, arith, length-set, length-append, get_or-set_other}
 use Rattle.std.specs.List.{count_by, Contains}
 use Rattle.std.proofs.lemmas.List.Elements.{All-append, Contains-push, Contains-append_left}
 use Rattle.std.proofs.lemmas.List.Sums.{count_by-le-length, sum_by-set, sum_by-append}
-use Rattle.std.proofs.lemmas.List.{length-replicate}
+use Rattle.std.proofs.lemmas.List.{length-replicate, get_or_append_left, get_or_past, get_or_push}
 use Rattle.wmem.proofs.Buffers.{get_or-lengthened}
 use Rattle.std.proofs.lemmas.Grind.{get_or_head}
-use Rattle.std.proofs.lemmas.Bool.{cases_eq}
-use Rattle.wmem.specs.inside.Noted.{is_set, IsListed}
+use Rattle.std.proofs.lemmas.Bool.{cases_eq, cases_lt}
+use Rattle.wmem.specs.inside.Noted.{is_set, AreIn, IsListed}
 
 -- setting a flag that wasn't set makes one more
 pub count-set_true : (flags : List Bool) (page : ℕ) → page < length flags → get_or flags page true ≡ false
@@ -51,3 +51,43 @@ extend_listed flags order room more listed =
       within = λ k d h. omega (arith, listed.within k d h, longer);
       few = omega (arith, listed.few, sum_by-append one flags (replicate more false));
     }
+
+-- Marks of the first large pages: so many are set, and where one isn't none of its sixteen pages is
+-- noted.
+pub record AreMarked (flags : List Bool) (large count : ℕ) : Type 0 where
+  pub marks : List Bool
+  pub all : length marks ≡ large
+  pub many : count_by is_set marks ≡ count
+  pub unset : (page : ℕ) → page / 16 < large → get_or marks (page / 16) false ≡ false → get_or flags page false ≡ false
+
+-- one large page more
+pub one_more : (flags : List Bool) (large count : ℕ) (mark : Bool) → AreMarked flags large count
+    → (mark ≡ false → (page : ℕ) → page / 16 ≡ large → get_or flags page false ≡ false) → AreMarked flags (large + 1) (count + cond mark 1 0)
+one_more flags large count mark marked none =
+    let one : Bool → ℕ = λ flag. cond (is_set flag) 1 0 in
+    record {
+      marks = marked.marks ++ mark ∷ [];
+      all = omega (arith, length-append marked.marks (mark ∷ []), marked.all);
+      many = omega (arith, sum_by-append one marked.marks (mark ∷ []), marked.many);
+      unset = λ page below unset. elim (cases_eq (page / 16) large) [
+        | inl here ↦ none (sym (get_or_push marked.marks mark false (page / 16) (marked.all ∙ sym here)) ∙ unset) page here
+        | inr other ↦
+            let before : page / 16 < large = omega (arith, below, other) in
+            marked.unset page before (sym (get_or_append_left marked.marks (mark ∷ []) false (page / 16) (omega (arith, before, marked.all))) ∙ unset)
+      ];
+    }
+
+-- no large page yet
+pub none_yet : (flags : List Bool) → AreMarked flags 0 0
+none_yet flags = record { marks = []; all = refl; many = refl; unset = λ page below unset. absurd (omega (arith, below)) }
+
+-- all large pages
+pub all_marked : (flags : List Bool) (large count : ℕ) → length flags ≤ large * 16 → AreMarked flags large count → AreIn flags count
+all_marked flags large count all marked = record {
+  large = marked.marks;
+  many = marked.many;
+  unset = λ page unset. elim (cases_lt (page / 16) large) [
+    | inl below ↦ marked.unset page below unset
+    | inr past ↦ get_or_past flags page false (omega (arith, past, all))
+  ];
+}

@@ -54,11 +54,11 @@ GrowGives old delta (Some pages) new =
     × (new ≡ record old { bytes = old.bytes ++ zeros (page_size * delta) })
 GrowGives old delta None new = (old.cap < pages_in old.bytes + delta) × (new ≡ old)
 
--- the bytes of this stretch of 256 bytes are the image's, and zero past the image's end
+-- the bytes of this page of 4,096 bytes are the image's, and zero past the image's end
 abbrev pub IsUntouched : MemoryInstance → ℕ → Type 0
-IsUntouched memory stretch = (k : ℕ) → k / 256 ≡ stretch → slice_index memory.bytes k ≡ slice_index memory.image k
+IsUntouched memory page = (k : ℕ) → k / 4096 ≡ page → slice_index memory.bytes k ≡ slice_index memory.image k
 
--- no more stretches of 256 bytes than so many have flags, and each one without is untouched
+-- so many pages of 4,096 bytes have flags, and each one without is untouched
 abbrev pub TouchesAtMost : MemoryInstance → ℕ → Type 0
 TouchesAtMost memory count =
-    (flags : List Bool) × (count_by (λ flag. flag) flags ≡ count) × ((stretch : ℕ) → slice_index_or flags stretch false ≡ false → IsUntouched memory stretch)
+    (flags : List Bool) × (count_by (λ flag. flag) flags ≡ count) × ((page : ℕ) → slice_index_or flags page false ≡ false → IsUntouched memory page)

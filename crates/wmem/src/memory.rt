@@ -167,7 +167,7 @@ impl Memory {
         self.len = self.image_len;
     }
 
-    /// How many stretches of 256 bytes were written since the image was kept or brought back. One
+    /// How many pages of 4,096 bytes were written to since the image was kept or brought back. One
     /// that isn't among them is the image's, and zero past the image's end.
     pub fn touched(&self) -> usize
         ensures { TouchesAtMost self.now result }

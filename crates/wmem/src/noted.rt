@@ -1,9 +1,12 @@
 //! Which stretches of a memory were written since its image was kept.
-ghost use Rattle.std.specs.Prelude.{◌≡◌, ◌<◌, ◌++◌, ◌∷◌, [], length, true, false, IfNone, IfSome, IfOk, ℕ, ◌≤◌, slice_set, slice_index_or, count_by};
-ghost use Rattle.wmem.specs.inside.Noted.{is_set, no_pages, with_pages};
+ghost use Rattle.std.specs.Prelude.{◌≡◌, ◌*◌, ◌/◌, ◌<◌, ◌++◌, ◌∷◌, [], length, true, false, IfNone, IfSome, IfOk, ℕ, ◌≤◌, slice_set, slice_index_or};
+ghost use Rattle.wmem.specs.inside.Noted.{AreIn, no_pages, with_pages};
 
 use std::alloc::{AllocError, Global};
 use std::marker::Model;
+
+// How many of these pages make a large one, by which it is told how much was written.
+const IN_A_LARGE: usize = 16;
 
 /// The pages that are noted. These are small pages, for noting alone: 256 bytes each.
 ///
@@ -51,11 +54,33 @@ impl NotedPages {
         }
     }
 
-    /// How many are noted.
-    pub(crate) fn count(&self) -> usize
-        ensures { result ≡ count_by is_set self.now.flags }
+    /// How many large pages, each of sixteen of these, have a noted one.
+    pub(crate) fn count_large(&self) -> usize
+        ensures { AreIn self.now.flags result }
     {
-        self.is_noted.iter().filter(|noted| **noted).count()
+        let mut count = 0;
+        for large in 0..self.is_noted.len().div_ceil(IN_A_LARGE) {
+            if self.has_noted(large) {
+                count += 1;
+            }
+        }
+        count
+    }
+
+    // Whether one of the sixteen pages of a large one is noted.
+    fn has_noted(&self, large: usize) -> bool
+        requires { large * 16 < length self.now.flags }
+        ensures { result ≡ false → (page : ℕ) → page / 16 ≡ large → slice_index_or self.now.flags page false ≡ false }
+    {
+        let len = self.is_noted.len();
+        let first = large * IN_A_LARGE;
+        let end = len.min(first + IN_A_LARGE);
+        for page in first..end {
+            if self.is_noted[page] {
+                return true;
+            }
+        }
+        false
     }
 
     /// Notes a page, where it isn't noted yet.

@@ -1,8 +1,8 @@
 //! The bytes of a memory beside its image, and which of them may differ.
-ghost use Rattle.std.specs.Prelude.{◌≡◌, ◌+◌, ◌-◌, ◌*◌, ◌^◌, ◌<◌, ◌≤◌, length, replicate, slice_set, slice_index_or, true, false, count_by, IfOk, ℕ, ◌/◌, [], take, drop, ◌++◌};
+ghost use Rattle.std.specs.Prelude.{◌≡◌, ◌+◌, ◌-◌, ◌*◌, ◌^◌, ◌<◌, ◌≤◌, length, replicate, slice_set, slice_index_or, true, false, IfOk, ℕ, ◌/◌, [], take, drop, ◌++◌};
 ghost use Rattle.wmem.specs.Access.{byte_count, with_bytes};
 ghost use Rattle.wmem.specs.Bytes.{bytes_of};
-ghost use Rattle.wmem.specs.inside.Noted.{is_set};
+ghost use Rattle.wmem.specs.inside.Noted.{AreIn};
 ghost use Rattle.wmem.specs.inside.Tracked.{TrackedBytes, AgreesElsewhere, stretch, IsTracked, extended};
 
 use crate::access::Width;
@@ -97,12 +97,12 @@ impl Tracked {
         &self.image
     }
 
-    /// How many pages are noted.
+    /// How many pages of 4,096 bytes have a noted stretch.
     pub(crate) fn touched(&self) -> usize
-        ensures count { result ≡ count_by is_set self.now.noted.flags }
+        ensures pages { AreIn self.now.noted.flags result }
         ensures tracked { IsTracked self.now }
     {
-        self.noted.count()
+        self.noted.count_large()
     }
 
     /// Writes the low bytes of `value`, as many as `width` says, at a place.

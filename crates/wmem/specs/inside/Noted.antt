@@ -1,5 +1,5 @@
 -- Which pages are noted: a flag a page, and a list of the pages whose flag is set.
-use Rattle.std.specs.Prelude.{◌≡◌, ℕ, ◌-◌, ◌<◌, ◌≤◌, Bool, true, false, List, [], ◌++◌, length, replicate, slice_index_or, Contains, All, count_by, refl}
+use Rattle.std.specs.Prelude.{◌≡◌, ℕ, ◌-◌, ◌/◌, ◌<◌, ◌≤◌, Bool, true, false, List, [], ◌++◌, length, replicate, slice_index_or, Contains, All, count_by, refl}
 use Rattle.std.specs.Coded.{Coded, code_by, coded×, coded_ℕ, coded_bool, coded_list}
 
 -- a flag a page, pages in the order in which they were noted, and how many pages there is room for
@@ -24,6 +24,13 @@ no_pages room = record { flags = []; order = []; room = room }
 -- there are so many pages at least: those that are new aren't noted
 abbrev pub with_pages : Noted → ℕ → Noted
 with_pages n pages = record n { flags = n.flags ++ replicate (pages - length n.flags) false }
+
+-- so many of the large pages, each of sixteen of these, have a noted one: where one hasn't, none of
+-- its sixteen has its flag
+pub record AreIn (flags : List Bool) (count : ℕ) : Type 0 where
+  pub large : List Bool
+  pub many : count_by is_set large ≡ count
+  pub unset : (page : ℕ) → slice_index_or large (page / 16) false ≡ false → slice_index_or flags page false ≡ false
 
 -- the list has each noted page, and nothing but pages; it isn't longer than there are noted pages
 pub record IsListed (n : Noted) : Type 0 where
