@@ -90,10 +90,10 @@ pub fn verdict_of<R: Rules>(row: &Row, pod: &Pod, notes: &mut R::Notes, rules: &
         return Verdict::Rejected(reason);
     }
     rules.show_node(notes, &row.node, &row.used);
-    if let Some(stopped) = filtered(notes, rules) {
+    if let Some(stopped) = filtered(row, pod, notes, rules) {
         return stopped;
     }
-    match scored(notes, rules) {
+    match scored(row, pod, notes, rules) {
         Ok(added) => passing(row, pod, added),
         Err(erring) => erring,
     }

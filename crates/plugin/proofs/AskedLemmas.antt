@@ -19,7 +19,7 @@ use Rattle.quant.specs.declared.objects.Node.{Node}
 use Rattle.whost.specs.Handed.{node_records}
 use Rattle.plugin.specs.declared.answers.Heard.{Heard}
 use Rattle.plugin.specs.inside.Kept.{Hear, NewlyHeard}
-use Rattle.plugin.specs.inside.Shown.{shown_of, HeardOf}
+use Rattle.plugin.specs.inside.Shown.{HeardOf}
 use Rattle.plugin.proofs.KitLemmas.{nothing_called, plugin_at, said_at}
 
 -- records with the same pod's of version 3 look alike where this one alone is shown
@@ -113,11 +113,6 @@ module _ (kit : List InstanceState) (place : ℕ) (below : place < length kit) w
       → HeardOf (ready_parts kit) now place (heard.Score said) reach
   score_heard reach records now said same says = λ told reaches p there.
       said_of_each (λ p. (r : Records) → Reaches reach records r → ScoreSays p r said) says p there told (subst (λ r. Reaches reach r told) (sym same) reaches)
-
--- what is written twice is written once
-pub written_once : (records written : Records) (node : Option Node) (used : Res) → written ≡ shown_of records node used → written ≡ shown_of written node used
-written_once records written None used is = refl
-written_once records written (Some node) used is = is ∙ ap (λ (r : Records). record r { node = node_records node used }) (sym is)
 
 -- what is heard of the records that are shown is heard of the class and the node's row
 pub newly_heard : (plugins : List Ready) (records : Records) (pod : List ℕ) (node : Node) (used : Res) (place : ℕ) (said : Heard) (far : Reach) → records.node ≡ node_records node used

@@ -167,13 +167,13 @@ pub noted_of_all : (plugins : List Ready) (class : Class) (place : ℕ) (said : 
 noted_of_all plugins class place said hold says =
     record { of_all = noted_hold (HearOfAll plugins class.pod.items) class.of_all place said hold.of_all says; lines = hold.lines }
 
-pub known_of : (plugins : List Ready) (records : Records) (node : Node) (used : Res) (known : Known) → records.node ≡ node_records node used
-    → Holds plugins records.pod.third node used known → IsKnown plugins records known
-known_of plugins records node used known is hold = record {
-  always = hold_more (HearAlways plugins records.pod.third node) (Hear plugins records) known.always
-      (λ place said says. says records refl (ap (λ n. n.third) is)) hold.always;
-  by_used = hold_more (HearNow plugins records.pod.third node used) (Hear plugins records) known.by_used
-      (λ place said says. says records refl is) hold.by_used;
+pub known_of : (plugins : List Ready) (records : Records) (node : Node) (used : Res) (known : Known) (pod : List ℕ) → records.node ≡ node_records node used
+    → pod ≡ records.pod.third → Holds plugins pod node used known → IsKnown plugins records known
+known_of plugins records node used known pod is same hold = record {
+  always = hold_more (HearAlways plugins pod node) (Hear plugins records) known.always
+      (λ place said says. says records (sym same) (ap (λ n. n.third) is)) hold.always;
+  by_used = hold_more (HearNow plugins pod node used) (Hear plugins records) known.by_used
+      (λ place said says. says records (sym same) is) hold.by_used;
 }
 
 -- and so an answer that is known is given

@@ -7,3 +7,4 @@ pub mod Member
 pub mod Answers
 pub mod Asked
 pub mod Kept
+pub mod Told

@@ -85,9 +85,9 @@ pub struct Sighted {
     pub is_changed: bool,
 }
 
-// Whether two amounts are the same.
+/// Whether two amounts are the same.
 #[tactic(auto, using(crate::proofs::KeptLemmas::amounts_are))]
-fn same_amounts(a: &Res, b: &Res) -> bool
+pub fn same_amounts(a: &Res, b: &Res) -> bool
     ensures { IsTrue result → a.now ≡ b.now }
 {
     if a.cpu.0 != b.cpu.0 {

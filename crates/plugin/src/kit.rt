@@ -5,17 +5,21 @@ ghost use Rattle.plugin.specs.Plugins.{IsWeight};
 ghost use Rattle.rules.specs.Verdict.{IsWithin};
 ghost use Rattle.plugin.specs.Kit.{IsKitOf, ready_parts, IsAtImage, FilterSays, ScoreSays, OnlyItsStore, called};
 ghost use Rattle.plugin.specs.Refused.{WhyNoKit};
-ghost use Rattle.whost.specs.declared.records.Records.{Records as Told};
+ghost use Rattle.whost.specs.declared.records.Records.{Records as Handed};
+ghost use Rattle.whost.specs.Handed.{told_of};
+ghost use Rattle.whost.specs.Record.{pod_bytes3};
 ghost use Rattle.plugin.specs.inside.Asked.{Reaches};
 
 use crate::asked::Asked;
 use crate::fault::KitFault;
 use crate::member::Member;
 use crate::plugins::Plugins;
+use crate::told::Told;
+use quant::{Pod, Res, SharedNode};
 use rules::{FilterVerdict, ScoreVerdict};
 use std::alloc::Global;
 use std::marker::Model;
-use whost::Records;
+use whost::{Record, Records};
 use wmach::Export;
 
 /// One instance of each plugin, in the order in which they are configured. It takes all its room
@@ -25,10 +29,12 @@ use wmach::Export;
 pub struct Kit {
     alloc: Global,
     members: Vec<Member>,
+    // By what its plugins are told, where it has one.
+    told: Option<Box<Told>>,
 }
 
 impl Model for Kit {
-    ghost use Rattle.std.specs.Prelude.{List};
+    ghost use Rattle.std.specs.Prelude.{List, ◌<◌, length, IsSome};
     ghost use Rattle.std.specs.Coded.{codes};
     ghost use Rattle.plugin.specs.Kit.{InstanceState};
     ghost use Rattle.plugin.specs.inside.Kit.{AreInstances};
@@ -39,7 +45,7 @@ impl Model for Kit {
 
     ghost view = { λ kit. kit.members.items };
 
-    ghost invariant = { λ kit. AreInstances kit.members.items };
+    ghost invariant = { λ kit. AreInstances kit.members.items × (0 < length kit.members.items → IsSome kit.told) };
 }
 
 impl Kit {
@@ -53,11 +59,16 @@ impl Kit {
         ensures at_image { IfOk result (All IsAtImage) }
         ensures refused { IfErr result (WhyNoKit plugins.now) }
     {
+        let told = plugins.room_to_tell(alloc)?;
         let mut members = Vec::new(alloc);
         for place in 0..plugins.count() {
             plugins.make_ready(alloc, place, &mut members)?;
         }
-        Ok(Kit { alloc, members })
+        Ok(Kit {
+            alloc,
+            members,
+            told,
+        })
     }
 
     /// How many plugins there are: at most 16.
@@ -99,16 +110,26 @@ impl Kit {
         spent
     }
 
-    /// What the filter of the plugin at a place says, and how far that reaches. Only its store may
-    /// change.
-    pub(crate) fn ask_filter(&mut self, place: usize, records: &Records) -> Asked<FilterVerdict>
-        requires { place < length self.old }
-        ensures says { IfSome (slice_get self.old place) (λ i. (told : Told) → Reaches result.reach records.now told →
-            FilterSays i.ready told result.said) }
+    /// What the filter of the plugin at a place says of a pod, whose record of version 3 is
+    /// `class`, and of a node, and how far that reaches. Only its store may change.
+    pub(crate) fn ask_filter(
+        &mut self,
+        place: usize,
+        pod: &Pod,
+        class: &Record,
+        node: &SharedNode,
+        used: &Res,
+    ) -> Asked<FilterVerdict>
+        requires there { place < length self.old }
+        requires class { class.now ≡ pod_bytes3 pod.now }
+        ensures says { IfSome (slice_get self.old place) (λ i. (other : Handed) →
+            Reaches result.reach (told_of pod.now node.now used.now) other → FilterSays i.ready other result.said) }
         ensures few { place < 16 }
         ensures others { OnlyItsStore place self.old self.new }
     {
-        self.members[place].ask_filter(records)
+        let told = self.told.as_mut().unwrap();
+        told.tell(pod, class, node, used);
+        self.members[place].ask_filter(told.records())
     }
 
     /// Asks the filter of the plugin at a place, from its image. A plugin without one lets the node
@@ -122,17 +143,27 @@ impl Kit {
         self.members[place].filter(records)
     }
 
-    /// What the score of the plugin at a place says, and how far that reaches. Only its store may
-    /// change.
-    pub(crate) fn ask_score(&mut self, place: usize, records: &Records) -> Asked<ScoreVerdict>
-        requires { place < length self.old }
-        ensures says { IfSome (slice_get self.old place) (λ i. (told : Told) → Reaches result.reach records.now told →
-            ScoreSays i.ready told result.said) }
+    /// What the score of the plugin at a place says likewise, and how far that reaches. Only its
+    /// store may change.
+    pub(crate) fn ask_score(
+        &mut self,
+        place: usize,
+        pod: &Pod,
+        class: &Record,
+        node: &SharedNode,
+        used: &Res,
+    ) -> Asked<ScoreVerdict>
+        requires there { place < length self.old }
+        requires class { class.now ≡ pod_bytes3 pod.now }
+        ensures says { IfSome (slice_get self.old place) (λ i. (other : Handed) →
+            Reaches result.reach (told_of pod.now node.now used.now) other → ScoreSays i.ready other result.said) }
         ensures few { place < 16 }
         ensures within { IsWithin result.said }
         ensures others { OnlyItsStore place self.old self.new }
     {
-        self.members[place].ask_score(records)
+        let told = self.told.as_mut().unwrap();
+        told.tell(pod, class, node, used);
+        self.members[place].ask_score(told.records())
     }
 
     /// Asks the score of the plugin at a place, from its image. A plugin without one gives 0. No

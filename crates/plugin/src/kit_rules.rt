@@ -54,19 +54,19 @@ impl KitRules {
 
 impl Rules for KitRules {
     ghost use Rattle.std.specs.Prelude.{◌≡◌};
-    ghost use Rattle.whost.specs.Handed.{pod_records};
+    ghost use Rattle.whost.specs.Record.{pod_bytes3};
     ghost use Rattle.plugin.specs.Kit.{rules_of};
     ghost use Rattle.plugin.specs.inside.Shown.{IsOfNode};
     ghost use Rattle.plugin.specs.inside.OneAnswer.{one_answer};
 
-    /// The records by which the plugins are told.
+    /// The pod's class, and what is known of the node.
     type Notes = Shown;
 
     ghost answers = { rules_of };
 
-    ghost OfPod = { λ noted pod. noted.records.pod ≡ pod_records pod };
+    ghost OfPod = { λ shown pod. shown.class ≡ pod_bytes3 pod };
 
-    ghost OfNode = { λ plugins noted node used. IsOfNode plugins noted node used };
+    ghost OfNode = { λ plugins shown node used. IsOfNode plugins shown node used };
 
     fn count(&self) -> usize {
         self.kit.count()
@@ -84,14 +84,28 @@ impl Rules for KitRules {
         shown.show_node(&mut self.kept, node, used);
     }
 
-    fn filter(&mut self, place: usize, shown: &mut Shown) -> FilterVerdict {
+    fn filter(
+        &mut self,
+        place: usize,
+        shown: &Shown,
+        pod: &Pod,
+        node: &SharedNode,
+        used: &Res,
+    ) -> FilterVerdict {
         self.asked = self.asked.wrapping_add(1);
-        shown.ask_filter(&mut self.kit, &mut self.kept, place)
+        shown.ask_filter(&mut self.kit, &mut self.kept, place, pod, node, used)
     }
 
-    fn score(&mut self, place: usize, shown: &mut Shown) -> ScoreVerdict {
+    fn score(
+        &mut self,
+        place: usize,
+        shown: &Shown,
+        pod: &Pod,
+        node: &SharedNode,
+        used: &Res,
+    ) -> ScoreVerdict {
         self.asked = self.asked.wrapping_add(1);
-        shown.ask_score(&mut self.kit, &mut self.kept, place)
+        shown.ask_score(&mut self.kit, &mut self.kept, place, pod, node, used)
     }
 
     fn spent(&self) -> u64 {

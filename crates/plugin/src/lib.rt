@@ -19,6 +19,7 @@ mod member;
 mod plugins;
 mod said;
 mod shown;
+mod told;
 mod verdict;
 
 pub use fault::{AddFault, KitFault};

@@ -1,16 +1,17 @@
 //! The plugins that a site configures.
-ghost use Rattle.std.specs.Prelude.{◌≡◌, ℕ, ◌≤◌, ◌<◌, List, ◌∷◌, ◌++◌, [], length, IfErr, IfOk, IfSome, OnErr, OnOk, Some, slice_get, IsTrue, ◌↔◌};
+ghost use Rattle.std.specs.Prelude.{◌≡◌, ℕ, ◌≤◌, ◌<◌, List, ◌∷◌, ◌++◌, [], length, IfErr, IfOk, IfSome, OnErr, OnOk, Some, slice_get, IsSome, IsTrue, ◌↔◌};
 ghost use Rattle.std.specs.Arc.{arc_value};
 ghost use Rattle.wbin.specs.Syntax.{module_of};
 ghost use Rattle.whost.specs.Refused.{WhyRefused};
 ghost use Rattle.plugin.specs.Plugins.{IsTaken, IsWeight, IsFuel};
 ghost use Rattle.plugin.specs.Entries.{configured_as};
 ghost use Rattle.plugin.specs.inside.Entries.{configured};
-ghost use Rattle.plugin.specs.Refused.{WhyNotAdded, WhyNotReady};
+ghost use Rattle.plugin.specs.Refused.{WhyNotAdded, WhyNotReady, WhyNoKit};
 ghost use Rattle.plugin.specs.inside.Kit.{OneMoreReady};
 
 use crate::fault::{AddFault, KitFault};
 use crate::member::Member;
+use crate::told::Told;
 use indexmap::IndexMap;
 use quant::Name;
 use std::alloc::Global;
@@ -146,6 +147,25 @@ impl Plugins {
         ensures weight { IsWeight result.1.now.weight }
     {
         self.entries.get_index(place).unwrap()
+    }
+
+    /// The records by which the plugins of a kit are told, where there is a plugin.
+    ///
+    /// Errors: where no memory is left for them, as of the first plugin.
+    pub(crate) fn room_to_tell(&self, alloc: Global) -> Result<Option<Box<Told>>, KitFault>
+        ensures room { IfOk result (λ told. 0 < length self.now → IsSome told) }
+        ensures refused { IfErr result (WhyNoKit self.now) }
+    {
+        if self.count() == 0 {
+            return Ok(None);
+        }
+        match Box::new(alloc, Told::new()) {
+            Ok(told) => Ok(Some(told)),
+            Err(_) => Err(KitFault {
+                plugin: self.entry(0).0.copied(),
+                fault: InstanceFault::NoMemory,
+            }),
+        }
     }
 
     /// Makes the plugin at a place ready, as one more of these members.

@@ -133,11 +133,25 @@ impl Rules for Same {
 
     fn show_node(&mut self, _notes: &mut (), _node: &SharedNode, _used: &Res) {}
 
-    fn filter(&mut self, _place: usize, _notes: &mut ()) -> FilterVerdict {
+    fn filter(
+        &mut self,
+        _place: usize,
+        _notes: &(),
+        _pod: &Pod,
+        _node: &SharedNode,
+        _used: &Res,
+    ) -> FilterVerdict {
         self.filter
     }
 
-    fn score(&mut self, _place: usize, _notes: &mut ()) -> ScoreVerdict {
+    fn score(
+        &mut self,
+        _place: usize,
+        _notes: &(),
+        _pod: &Pod,
+        _node: &SharedNode,
+        _used: &Res,
+    ) -> ScoreVerdict {
         match self.errs {
             None => ScoreVerdict::Good(50),
             Some(why) => ScoreVerdict::Errs(why),

@@ -12,6 +12,10 @@ pub record Told : Type 0 where
   pub node : Node
   pub used : Res
 
+-- these as what rules are told
+abbrev pub told_of : Pod → Node → (used : Res) → Told
+told_of pod node used = record { pod = pod; node = node; used = used }
+
 -- A filter that a rule doesn't have passes every node, a score gives 0.
 pub record RuleSet : Type 1 where
   -- how much each rule's score counts: there are as many rules as weights

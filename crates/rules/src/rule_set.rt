@@ -3,7 +3,7 @@ ghost use Rattle.std.specs.Prelude.{◌≡◌, ◌<◌, ◌≤◌, length, Some,
 ghost use Rattle.quant.specs.declared.amount.Res.{Res};
 ghost use Rattle.quant.specs.declared.objects.Node.{Node};
 ghost use Rattle.quant.specs.declared.objects.Pod.{Pod};
-ghost use Rattle.rules.specs.RuleSet.{RuleSet, Told, SayOneThing};
+ghost use Rattle.rules.specs.RuleSet.{RuleSet, SayOneThing, told_of};
 ghost use Rattle.rules.specs.Verdict.{IsWithin};
 
 use crate::verdict::{FilterVerdict, ScoreVerdict};
@@ -50,21 +50,36 @@ pub trait Rules {
         ensures pod { (pod : Pod) → OfPod notes.old pod → OfPod notes.new pod }
         ensures stays { self.new ≡ self.old };
 
-    /// Asks the filter of the rule at a place. A rule without one lets every node pass.
-    fn filter(&mut self, place: usize, notes: &mut Self::Notes) -> FilterVerdict
-        requires { place < length (answers self.old).weights }
-        ensures says { (told : Told) → OfPod notes.old told.pod → OfNode self.old notes.old told.node told.used
-            → (answers self.old).Filters place told result }
-        ensures notes { notes.new ≡ notes.old }
+    /// Asks the filter of the rule at a place about the pod and the node that the notes are of. A
+    /// rule without one lets every node pass.
+    fn filter(
+        &mut self,
+        place: usize,
+        notes: &Self::Notes,
+        pod: &Pod,
+        node: &SharedNode,
+        used: &Res,
+    ) -> FilterVerdict
+        requires there { place < length (answers self.old).weights }
+        requires pod { OfPod notes.now pod.now }
+        requires node { OfNode self.old notes.now node.now used.now }
+        ensures says { (answers self.old).Filters place (told_of pod.now node.now used.now) result }
         ensures stays { self.new ≡ self.old };
 
-    /// Asks the score of the rule at a place. A rule without one adds nothing: it gives 0.
-    fn score(&mut self, place: usize, notes: &mut Self::Notes) -> ScoreVerdict
-        requires { place < length (answers self.old).weights }
-        ensures says { (told : Told) → OfPod notes.old told.pod → OfNode self.old notes.old told.node told.used
-            → (answers self.old).Scores place told result }
+    /// Asks the score of the rule at a place likewise. A rule without one adds nothing: it gives 0.
+    fn score(
+        &mut self,
+        place: usize,
+        notes: &Self::Notes,
+        pod: &Pod,
+        node: &SharedNode,
+        used: &Res,
+    ) -> ScoreVerdict
+        requires there { place < length (answers self.old).weights }
+        requires pod { OfPod notes.now pod.now }
+        requires node { OfNode self.old notes.now node.now used.now }
+        ensures says { (answers self.old).Scores place (told_of pod.now node.now used.now) result }
         ensures within { IsWithin result }
-        ensures notes { notes.new ≡ notes.old }
         ensures stays { self.new ≡ self.old };
 
     /// About how much work the rules' calls have been so far, in units of fuel, from 2^64 on from 0

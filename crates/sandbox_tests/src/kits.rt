@@ -358,9 +358,11 @@ fn first_score<R: Rules>(alloc: Global, rules: &mut R) -> Option<ScoreVerdict> {
     if rules.count() == 0 {
         return None;
     }
-    let mut notes = rules.show_pod(&pod()?);
-    rules.show_node(&mut notes, &SharedNode::new(alloc, node()?).ok()?, &USED);
-    Some(rules.score(0, &mut notes))
+    let pod = pod()?;
+    let node = SharedNode::new(alloc, node()?).ok()?;
+    let mut notes = rules.show_pod(&pod);
+    rules.show_node(&mut notes, &node, &USED);
+    Some(rules.score(0, &notes, &pod, &node, &USED))
 }
 
 fn reader_module() -> &'static [u8] {

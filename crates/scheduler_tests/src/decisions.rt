@@ -62,11 +62,25 @@ impl Rules for Site {
         seen.is_b = !name.is_empty() && name[0] == b'b';
     }
 
-    fn filter(&mut self, _place: usize, seen: &mut Seen) -> FilterVerdict {
+    fn filter(
+        &mut self,
+        _place: usize,
+        seen: &Seen,
+        _pod: &Pod,
+        _node: &SharedNode,
+        _used: &Res,
+    ) -> FilterVerdict {
         if seen.is_b { self.on_b } else { self.on_others }
     }
 
-    fn score(&mut self, _place: usize, _seen: &mut Seen) -> ScoreVerdict {
+    fn score(
+        &mut self,
+        _place: usize,
+        _seen: &Seen,
+        _pod: &Pod,
+        _node: &SharedNode,
+        _used: &Res,
+    ) -> ScoreVerdict {
         match self.errs {
             None => ScoreVerdict::Good(50),
             Some(why) => ScoreVerdict::Errs(why),

@@ -87,12 +87,26 @@ impl Rules for Tally {
 
     fn show_node(&mut self, _notes: &mut (), _node: &SharedNode, _used: &Res) {}
 
-    fn filter(&mut self, _place: usize, _notes: &mut ()) -> FilterVerdict {
+    fn filter(
+        &mut self,
+        _place: usize,
+        _notes: &(),
+        _pod: &Pod,
+        _node: &SharedNode,
+        _used: &Res,
+    ) -> FilterVerdict {
         self.asked.add(self.place);
         FilterVerdict::Errs(Cause::Exhausted)
     }
 
-    fn score(&mut self, _place: usize, _notes: &mut ()) -> ScoreVerdict {
+    fn score(
+        &mut self,
+        _place: usize,
+        _notes: &(),
+        _pod: &Pod,
+        _node: &SharedNode,
+        _used: &Res,
+    ) -> ScoreVerdict {
         ScoreVerdict::Good(0)
     }
 

@@ -1,5 +1,6 @@
 use Rattle.std.proofs.Common.{◌≡◌, ◌*◌, ◌≤◌, Some, slice_get, rules, refl, arith, subst, sym, ◌∙◌}
-use Rattle.rules.specs.RuleSet.{Told}
+use Rattle.desk.specs.Shown.{shown}
+use Rattle.choose.specs.Verdict.{told_of}
 use Rattle.rules.specs.declared.verdict.ScoreVerdict.TheVariants as score
 use Rattle.choose.proofs.AskedRules.{good_before_none, good_before_more, product_within}
 use Rattle.choose.proofs.asking.scored.Goals as goal
@@ -7,36 +8,29 @@ use Rattle.choose.proofs.asking.scored.Goals as goal
 pub loop-place-init : goal.loop-place-init
 loop-place-init g c = record {
   stays = refl;
-  same = refl;
   last = search rules;
   within = omega arith;
   few = search rules;
   small = omega arith;
   places = refl;
-  before = λ told of_pod of_node. good_before_none _ _;
+  before = good_before_none _ _;
 }
 
 pub loop-place-preserved : goal.loop-place-preserved
 loop-place-preserved g c =
-    let said : (told : Told) → g.R.Rules.OfPod c.args.notes.now told.pod → g.R.Rules.OfNode c.args.rules.now c.args.notes.now told.node told.used →
-    (g.R.Rules.answers c.args.rules.now).Scores c.loop-place.place told (score.Good c.in-Good.score) = λ told of_pod of_node.
-    subst (λ r. (g.R.Rules.answers r).Scores c.loop-place.place told (score.Good c.in-Good.score)) c.loop-place.invariant.stays
-    (c.in-Good.ensures.says told
-    (subst (λ n. g.R.Rules.OfPod n told.pod) (sym c.loop-place.invariant.same) of_pod)
-    (subst (λ n. g.R.Rules.OfNode c.loop-place.rules n told.node told.used) (sym c.loop-place.invariant.same)
-    (subst (λ r. g.R.Rules.OfNode r c.args.notes.now told.node told.used) (sym c.loop-place.invariant.stays) of_node))) in
+    let told = told_of c.args.pod.now (shown c.args.row.now) in
+    let said : (g.R.Rules.answers c.args.rules.now).Scores c.loop-place.place told (score.Good c.in-Good.score) =
+    subst (λ r. (g.R.Rules.answers r).Scores c.loop-place.place told (score.Good c.in-Good.score)) c.loop-place.invariant.stays c.in-Good.ensures.says in
     let weighs : slice_get (g.R.Rules.answers c.args.rules.now).weights c.loop-place.place ≡ Some c.weight.result =
     subst (λ r. slice_get (g.R.Rules.answers r).weights c.loop-place.place ≡ Some c.weight.result) (c.score.ensures.stays ∙ c.loop-place.invariant.stays) c.weight.ensures.value in
     let good : c.in-Good.score ≤ 100 = c.in-Good.ensures.within in
     let within : c.weight.result * c.in-Good.score ≤ 1000 = product_within _ _ c.weight.ensures.most good in
     record {
       stays = search rules;
-      same = search rules;
       last = search rules;
       within = omega arith;
       few = search rules;
       small = rw (c.from.ensures, c.from-in-Good.ensures) (omega (arith, within));
       places = search rules;
-      before = λ told of_pod of_node.
-          rw (c.from.ensures, c.from-in-Good.ensures) (good_before_more _ _ _ _ _ _ _ (omega (arith, c.loop-place.invariant.few)) (c.loop-place.invariant.before told of_pod of_node) weighs (said told of_pod of_node));
+      before = rw (c.from.ensures, c.from-in-Good.ensures) (good_before_more _ _ _ _ _ _ _ (omega (arith, c.loop-place.invariant.few)) c.loop-place.invariant.before weighs said);
     }

@@ -1,40 +1,44 @@
-use Rattle.std.proofs.Common.{◌≡◌, ◌∙◌, Some, refl, ap, sym, subst}
+use Rattle.std.proofs.Common.{refl, sym}
+use Rattle.whost.specs.Handed.{told_of}
 use Rattle.plugin.specs.Kit.{ready_parts}
-use Rattle.plugin.specs.declared.answers.Known.{Known}
-use Rattle.plugin.specs.declared.answers.Answers.{Answers}
-use Rattle.plugin.specs.inside.Answers.{KnowsScore, score_at}
-use Rattle.plugin.specs.inside.Shown.{Noted}
-use Rattle.plugin.proofs.AskedLemmas.{score_there, score_heard, lacks_score, reaches_itself, written_once}
-use Rattle.plugin.proofs.KeptLemmas.{score_known}
+use Rattle.plugin.proofs.AskedLemmas.{score_there, score_heard, lacks_score, reaches_itself, newly_heard}
+use Rattle.plugin.proofs.KeptLemmas.{score_known, known_of, of_all_known}
 use Rattle.plugin.proofs.KitLemmas.{plugins_stay}
 use Rattle.plugin.proofs.shown.Shown.ask_score.Goals as goal
 
 pub returns-then-not-has-clause-says : goal.returns-then-not-has-clause-says
-returns-then-not-has-clause-says c = λ of_all known. lacks_score c.args.kit.now c.args.place c.requires c.args.self.now.records c.if-not-has.ensures
+returns-then-not-has-clause-says c =
+    lacks_score c.args.kit.now c.args.place c.requires.there (told_of c.args.pod.now c.args.node.now c.args.used.now) c.if-not-has.ensures
 
 pub returns-in-Some-clause-says : goal.returns-in-Some-clause-says
-returns-in-Some-clause-says c = λ of_all known.
-    score_there c.args.kit.now c.args.place c.requires c.args.self.now.records c.in-Some.said
-    (of_all.scores c.args.place c.in-Some.said (subst (λ (a : Answers). score_at a c.args.place ≡ Some c.in-Some.said) (ap (λ (n : Noted). n.of_all) c.self.view_is) (sym c.in-Some.ensures.said)))
+returns-in-Some-clause-says c =
+    let records = told_of c.args.pod.now c.args.node.now c.args.used.now in
+    let known = of_all_known (ready_parts c.args.kit.now) records c.args.self.now.class c.args.self.now.of_all c.requires.pod c.requires.node.of_all in
+    score_there c.args.kit.now c.args.place c.requires.there records c.in-Some.said
+    (known.scores c.args.place c.in-Some.said (sym c.in-Some.ensures))
 
 pub returns-in-Some-score-clause-says : goal.returns-in-Some-score-clause-says
-returns-in-Some-score-clause-says c = λ of_all known.
-    score_there c.args.kit.now c.args.place c.requires c.args.self.now.records c.in-Some-score.said
-    (score_known (ready_parts c.args.kit.now) c.args.self.now.records c.args.self.now.known c.args.place c.in-Some-score.said known
-    (subst (λ (k : Known). KnowsScore k c.args.place c.in-Some-score.said) (ap (λ (n : Noted). n.known) c.self.view_is) c.in-Some-score.ensures.said))
+returns-in-Some-score-clause-says c =
+    let records = told_of c.args.pod.now c.args.node.now c.args.used.now in
+    let plugins = ready_parts c.args.kit.now in
+    let known = known_of plugins records c.args.node.now c.args.used.now c.args.self.now.known c.args.self.now.class refl c.requires.pod c.requires.node.known in
+    score_there c.args.kit.now c.args.place c.requires.there records c.in-Some-score.said
+    (score_known plugins records c.args.self.now.known c.args.place c.in-Some-score.said known c.in-Some-score.ensures)
 
 pub returns-clause-says : goal.returns-clause-says
-returns-clause-says c = λ of_all known.
-    let same = c.write.ensures ∙ ap (λ (n : Noted). n.records) c.self.view_is in
-    let heard = score_heard c.args.kit.now c.args.place c.requires c.ask_score-asked.result.reach c.write.new.records c.args.self.now.records c.ask_score-asked.result.said same c.ask_score-asked.ensures.says in
-    score_there c.args.kit.now c.args.place c.requires c.args.self.now.records c.ask_score-asked.result.said
-    (λ p there. heard c.args.self.now.records (reaches_itself c.ask_score-asked.result.reach c.args.self.now.records c.args.self.now.records refl) p there)
+returns-clause-says c =
+    let records = told_of c.args.pod.now c.args.node.now c.args.used.now in
+    let heard = score_heard c.args.kit.now c.args.place c.requires.there c.ask_score-asked.result.reach records records c.ask_score-asked.result.said refl c.ask_score-asked.ensures.says in
+    score_there c.args.kit.now c.args.place c.requires.there records c.ask_score-asked.result.said
+    (λ p there. heard records (reaches_itself c.ask_score-asked.result.reach records records refl) p there)
 
 pub returns-clause-kit : goal.returns-clause-kit
 returns-clause-kit c = plugins_stay c.args.place c.args.kit.now c.ask_score-asked.new.self c.ask_score-asked.ensures.others
 
 pub returns-clause-kept : goal.returns-clause-kept
 returns-clause-kept c = λ hold.
-    let once = written_once c.self.inside.records c.write.new.records c.self.inside.node c.self.inside.used c.write.ensures in
-    c.note.ensures (ready_parts c.args.kit.now) hold
-    (score_heard c.args.kit.now c.args.place c.requires c.ask_score-asked.result.reach c.write.new.records _ c.ask_score-asked.result.said once c.ask_score-asked.ensures.says)
+    let records = told_of c.args.pod.now c.args.node.now c.args.used.now in
+    let plugins = ready_parts c.args.kit.now in
+    let heard = score_heard c.args.kit.now c.args.place c.requires.there c.ask_score-asked.result.reach records records c.ask_score-asked.result.said refl c.ask_score-asked.ensures.says in
+    c.note.ensures plugins hold
+    (newly_heard plugins records c.args.self.now.class c.args.node.now c.args.used.now c.args.place _ c.ask_score-asked.result.reach refl (sym c.requires.pod) heard)
