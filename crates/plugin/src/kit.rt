@@ -110,6 +110,15 @@ impl Kit {
         spent
     }
 
+    /// As much of that as calls have used that were shown no node.
+    pub(crate) fn spent_once(&self) -> u64 {
+        let mut spent = 0u64;
+        for member in &self.members {
+            spent = spent.wrapping_add(member.spent_once());
+        }
+        spent
+    }
+
     /// What the filter of the plugin at a place says of a pod, whose record of version 3 is
     /// `class`, and of a node, and how far that reaches. Only its store may change.
     pub(crate) fn ask_filter(

@@ -112,5 +112,9 @@ impl Rules for KitRules {
         self.kit.spent().wrapping_add(self.asked)
     }
 
+    fn spent_once(&self) -> u64 {
+        self.kit.spent_once()
+    }
+
     ghost say_one_thing = { one_answer };
 }

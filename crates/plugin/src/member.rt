@@ -19,7 +19,7 @@ use std::alloc::Global;
 use std::marker::Model;
 use std::sync::Arc;
 use whost::{Instance, InstanceFault, Records, Shows};
-use wmach::Export;
+use wmach::{Export, Outcome};
 use wtype::Checked;
 
 /// An instance of a plugin's module, how much the plugin's score counts, the fuel of each of its
@@ -29,6 +29,8 @@ pub struct Member {
     weight: u8,
     fuel: u64,
     spent: u64,
+    // As much of that as calls have used that were shown no node.
+    spent_once: u64,
     instance: Instance,
     // What its filter and its score said of all nodes.
     filter: Said<FilterVerdict>,
@@ -54,6 +56,15 @@ impl Model for Member {
     ghost use Rattle.plugin.specs.inside.Member.{IsSound};
 
     ghost invariant = { IsSound };
+}
+
+// Counts the fuel of a call, and apart that of one that was shown no node.
+fn count(spent: &mut u64, spent_once: &mut u64, outcome: Outcome, shows: Shows) {
+    let fuel = fuel_used(outcome);
+    *spent = spent.wrapping_add(fuel);
+    if shows == Shows::Class || shows == Shows::ThisPod {
+        *spent_once = spent_once.wrapping_add(fuel);
+    }
 }
 
 impl Member {
@@ -82,6 +93,7 @@ impl Member {
             weight,
             fuel,
             spent: 0,
+            spent_once: 0,
             instance,
             filter,
             score,
@@ -107,6 +119,11 @@ impl Member {
     /// How much fuel its calls have used so far, from 2^64 on from 0 again.
     pub fn spent(&self) -> u64 {
         self.spent
+    }
+
+    /// As much of that as calls have used that were shown no node.
+    pub fn spent_once(&self) -> u64 {
+        self.spent_once
     }
 
     /// What its filter says, and how far that reaches: it is shown as little of the records as it
@@ -211,7 +228,7 @@ impl Member {
             .call_shown(records, shows, Export::Filter, self.fuel)
         {
             Some(outcome) => {
-                self.spent = self.spent.wrapping_add(fuel_used(outcome));
+                count(&mut self.spent, &mut self.spent_once, outcome, shows);
                 Some(filter_verdict(outcome))
             }
             None => None,
@@ -238,7 +255,15 @@ impl Member {
             .instance
             .call_without_node(records, Export::Filter, self.fuel)
         {
-            Some(outcome) => Some(filter_verdict(outcome)),
+            Some(outcome) => {
+                count(
+                    &mut self.spent,
+                    &mut self.spent_once,
+                    outcome,
+                    Shows::ThisPod,
+                );
+                Some(filter_verdict(outcome))
+            }
             None => None,
         };
         self.filter.note(records, said);
@@ -255,7 +280,7 @@ impl Member {
             return FilterVerdict::Passes;
         }
         let outcome = self.instance.call(records, Export::Filter, self.fuel);
-        self.spent = self.spent.wrapping_add(fuel_used(outcome));
+        count(&mut self.spent, &mut self.spent_once, outcome, Shows::All);
         filter_verdict(outcome)
     }
 
@@ -366,7 +391,7 @@ impl Member {
             .call_shown(records, shows, Export::Score, self.fuel)
         {
             Some(outcome) => {
-                self.spent = self.spent.wrapping_add(fuel_used(outcome));
+                count(&mut self.spent, &mut self.spent_once, outcome, shows);
                 Some(score_verdict(outcome))
             }
             None => None,
@@ -394,7 +419,15 @@ impl Member {
             .instance
             .call_without_node(records, Export::Score, self.fuel)
         {
-            Some(outcome) => Some(score_verdict(outcome)),
+            Some(outcome) => {
+                count(
+                    &mut self.spent,
+                    &mut self.spent_once,
+                    outcome,
+                    Shows::ThisPod,
+                );
+                Some(score_verdict(outcome))
+            }
             None => None,
         };
         self.score.note(records, said);
@@ -412,7 +445,7 @@ impl Member {
             return ScoreVerdict::Good(0);
         }
         let outcome = self.instance.call(records, Export::Score, self.fuel);
-        self.spent = self.spent.wrapping_add(fuel_used(outcome));
+        count(&mut self.spent, &mut self.spent_once, outcome, Shows::All);
         score_verdict(outcome)
     }
 }

@@ -87,6 +87,12 @@ pub trait Rules {
     /// shared among them or not.
     fn spent(&self) -> u64;
 
+    /// As much of that as went into calls that were shown no node, which a set makes once and not
+    /// for each node.
+    fn spent_once(&self) -> u64 {
+        0
+    }
+
     // A filter says one thing, and so does a score.
     ghost say_one_thing: { (rules : Self) → SayOneThing (answers rules) };
 }
