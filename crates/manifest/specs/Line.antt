@@ -4,6 +4,7 @@ use Rattle.std.specs.Option.{ok_or}
 use Rattle.serde_json.specs.Data.{Data}
 use Rattle.quant.specs.Request.{pod_request}
 use Rattle.quant.specs.declared.limits.TheConstants.{MAX_LABELS, MAX_TAINTS, MAX_TOLERATIONS, MAX_CONTAINERS, MAX_INIT_CONTAINERS, MAX_PLACED, MAX_VERSION, MAX_TICKET, LATEST_MOMENT}
+use Rattle.quant.specs.declared.objects.Pod.{Pod}
 use Rattle.quant.specs.declared.version.Version.{Version}
 use Rattle.quant.specs.declared.version.Ticket.{Ticket}
 use Rattle.quant.specs.declared.event.Event.TheVariants.{NodeSet, NodeGone, PodPending, PodBound, PodGone}
@@ -58,9 +59,10 @@ gone_in json = do
   name ← at fields.Name name json
   Ok (commands.Event (NodeGone version name))
 
--- the fields of `pod`, in their order, and then what all its containers ask
-unfoldable pub pod_in : Data → Result Command LineFault
-pod_in json = do
+-- the version and the pod's row of a line, whose fields are these in their order, and then what all
+-- its containers ask
+unfoldable pub row_in : Data → Result (Version × Pod) LineFault
+row_in json = do
   version ← version_in json
   uid ← at fields.Uid name json
   priority ← at_or fields.Priority (pos 0) signed json
@@ -69,13 +71,28 @@ pod_in json = do
   labels ← at_or fields.Labels [] (list 0 MAX_LABELS label) json
   tolerations ← at_or fields.Tolerations [] (list 0 MAX_TOLERATIONS toleration) json
   whole ← amount fields.Containers (pod_request containers init)
-  Ok (commands.Event (PodPending version (record {
-    uid = uid;
-    priority = priority;
-    request = whole;
-    labels = record { items = labels };
-    tolerations = record { items = tolerations };
-  })))
+  Ok (
+    version,
+    record {
+      uid = uid;
+      priority = priority;
+      request = whole;
+      labels = record { items = labels };
+      tolerations = record { items = tolerations };
+    },
+  )
+
+-- the row of `pod`
+unfoldable pub pod_in : Data → Result Command LineFault
+pod_in json = do
+  row ← row_in json
+  Ok (commands.Event (PodPending row.0 row.1))
+
+-- the row of `judge`, whose version says nothing
+unfoldable pub judge_in : Data → Result Command LineFault
+judge_in json = do
+  row ← row_in json
+  Ok (commands.Judge row.1)
 
 -- the fields of `bound`, in their order
 unfoldable pub bound_in : Data → Result Command LineFault
@@ -127,6 +144,7 @@ fields_of operations.Cycle json = Ok commands.Cycle
 fields_of operations.Done json = done_in json
 fields_of operations.Forget json = forget_in json
 fields_of operations.Dump json = Ok commands.Dump
+fields_of operations.Judge json = judge_in json
 
 -- what an object asks for: its operation is read first
 unfoldable pub command_in : Data → Result Command LineFault

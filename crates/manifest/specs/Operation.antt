@@ -1,7 +1,7 @@
 -- How a script spells the names of its operations.
 use Rattle.std.specs.Prelude.{ℕ, List, codes, bytes_eq, Option, Some, None, if◌then◌else◌}
 use Rattle.manifest.specs.declared.operation.Operation.{Operation}
-use Rattle.manifest.specs.declared.operation.Operation.TheVariants.{Node, Gone, Pod, Bound, Deleted, Tick, Cycle, Done, Forget, Dump}
+use Rattle.manifest.specs.declared.operation.Operation.TheVariants.{Node, Gone, Pod, Bound, Deleted, Tick, Cycle, Done, Forget, Dump, Judge}
 
 -- the operation of a name
 unfoldable pub operation_named : List ℕ → Option Operation
@@ -16,4 +16,5 @@ operation_named name =
     else if bytes_eq name (codes "done") then Some Done
     else if bytes_eq name (codes "forget") then Some Forget
     else if bytes_eq name (codes "dump") then Some Dump
+    else if bytes_eq name (codes "judge") then Some Judge
     else None

@@ -1,5 +1,5 @@
 //! What a line asks for.
-use quant::{Event, Moment, Name, Ticket};
+use quant::{Event, Moment, Name, SharedPod, Ticket};
 
 /// What a line asks for.
 #[derive(Debug, Drop)]
@@ -26,4 +26,6 @@ pub enum Command {
     },
     /// A look at the nodes, the places and the queue.
     Dump,
+    /// What the rules alone say of each node, for a pod with this row.
+    Judge(SharedPod),
 }

@@ -2,7 +2,7 @@
 ghost use Rattle.std.specs.Prelude.{◌≡◌, IfOk};
 ghost use Rattle.serde_json.specs.View.{view};
 ghost use Rattle.manifest.specs.Reading.{Answers};
-ghost use Rattle.manifest.specs.Line.{version_in, ticket_in, node_in, gone_in, pod_in, bound_in, deleted_in, tick_in, done_in, forget_in, command_in, meaning, IsTimely};
+ghost use Rattle.manifest.specs.Line.{version_in, ticket_in, node_in, gone_in, row_in, pod_in, bound_in, deleted_in, tick_in, done_in, forget_in, judge_in, command_in, meaning, IsTimely};
 
 use crate::command::Command;
 use crate::container::request_within;
@@ -40,6 +40,7 @@ pub const MAX_LINE: usize = 65_536;
 /// | `done` | `uid`, `ticket` | the pod was bound |
 /// | `forget` | `uid`, `ticket` | the pod could not be bound |
 /// | `dump` | | the state is printed |
+/// | `judge` | those of `pod` | what the rules alone say of each node is printed |
 ///
 /// Errors: `OverLimit` of `op` for a line that is too long, which is not read as JSON; `NotJson`
 /// where the line is not JSON or nests deeper than 127; `BadField` of `op` for a line that is no
@@ -79,6 +80,7 @@ fn command_of(alloc: Global, object: &Value) -> Result<Command, LineFault>
         Operation::Done => done_of(object),
         Operation::Forget => forget_of(object),
         Operation::Dump => Ok(Command::Dump),
+        Operation::Judge => judge_of(alloc, object),
     }
 }
 
@@ -128,6 +130,25 @@ fn pod_of(alloc: Global, object: &Value) -> Result<Command, LineFault>
     ensures value { Answers result (pod_in (view object.now)) }
     ensures timely { IfOk result IsTimely }
 {
+    let (version, pod) = row_of(alloc, object)?;
+    Ok(Command::Event(Event::PodPending { version, pod }))
+}
+
+// The pod for which an object asks what the rules say.
+#[tactic(auto, unfolding(crate::specs::Line::judge_in))]
+fn judge_of(alloc: Global, object: &Value) -> Result<Command, LineFault>
+    ensures value { Answers result (judge_in (view object.now)) }
+    ensures timely { IfOk result IsTimely }
+{
+    let (_version, pod) = row_of(alloc, object)?;
+    Ok(Command::Judge(pod))
+}
+
+// The version and the pod's row of an object.
+#[tactic(auto, unfolding(crate::specs::Line::row_in))]
+fn row_of(alloc: Global, object: &Value) -> Result<(Version, SharedPod), LineFault>
+    ensures { Answers result (row_in (view object.now)) }
+{
     let version = version_at(object)?;
     let uid = name_at(object, Field::Uid)?;
     let priority = signed_at(object, Field::Priority)?;
@@ -149,7 +170,7 @@ fn pod_of(alloc: Global, object: &Value) -> Result<Command, LineFault>
         Field::Containers,
     ))?;
     let pod = SharedPod::new(alloc, pod).map_err(|_| LineFault::NoMemory)?;
-    Ok(Command::Event(Event::PodPending { version, pod }))
+    Ok((version, pod))
 }
 
 // The place that an object tells of.

@@ -25,6 +25,8 @@ pub(crate) enum Operation {
     Forget,
     /// The state is to be printed.
     Dump,
+    /// What the rules alone say of each node is to be printed.
+    Judge,
 }
 
 impl Operation {
@@ -44,6 +46,7 @@ impl Operation {
             "done" => Some(Operation::Done),
             "forget" => Some(Operation::Forget),
             "dump" => Some(Operation::Dump),
+            "judge" => Some(Operation::Judge),
             _ => None,
         }
     }
