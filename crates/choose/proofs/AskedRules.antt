@@ -1,5 +1,5 @@
 -- What is known of the rules that were asked, one after the other.
-use Rattle.std.proofs.Common.{◌≡◌, ℕ, zero, suc, ◌+◌, ◌*◌, ◌<◌, ◌≤◌, List, [], ◌∷◌, ◌++◌, length, drop, set, Option, Some, None, Ok, MatchOption, slice_get, get_or, refl, ap, sym, ◌∙◌, subst, arith, length-append}
+use Rattle.std.proofs.Common.{◌≡◌, ℕ, suc, ◌+◌, ◌*◌, ◌<◌, ◌≤◌, List, [], ◌∷◌, ◌++◌, length, drop, set, Option, Some, None, Ok, MatchOption, slice_get, get_or, refl, ap, sym, ◌∙◌, subst, arith, length-append}
 use Rattle.std.specs.List.{AllZip}
 use Rattle.std.proofs.lemmas.List.{get_or_append_left, get_or_push}
 use Rattle.std.proofs.lemmas.Nat.{mul-le}
@@ -11,7 +11,7 @@ use Rattle.desk.specs.Shown.{Shown}
 use Rattle.choose.specs.declared.decision.Reason.{Reason}
 use Rattle.choose.specs.declared.decision.Verdict.{Verdict}
 use Rattle.choose.specs.declared.decision.Verdict.TheVariants.{Rejected}
-use Rattle.choose.specs.Verdict.{AreScores, weighted, no_scores, in_places, built_in, passing, ByRules, HasVerdict}
+use Rattle.choose.specs.Verdict.{AreScores, weighted, no_scores, in_places, built_in, told_of, passing, ByRules, HasVerdict}
 use Rattle.choose.specs.inside.Verdict.{nothing_added}
 use Rattle.choose.specs.Choice.{AreVerdicts}
 use Rattle.choose.specs.inside.Finding.{IsBuiltIn}
@@ -90,7 +90,7 @@ without_rules : (rules : RuleSet) (pod : Pod) (shown : Shown) (verdict : Verdict
 without_rules rules pod shown verdict none = cases (built_in shown pod)
   where
     cases : (found : Option Reason) → MatchOption found (verdict ≡ passing shown pod nothing_added) (λ reason. verdict ≡ Rejected reason)
-        → MatchOption found (ByRules rules pod shown verdict) (λ reason. verdict ≡ Rejected reason)
+        → MatchOption found (ByRules rules (told_of pod shown) (passing shown pod) verdict) (λ reason. verdict ≡ Rejected reason)
     cases None is = record {
       filtered = None;
       are = λ k below. absurd (omega (arith, below, none));

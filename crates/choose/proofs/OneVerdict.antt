@@ -12,7 +12,8 @@ use Rattle.choose.specs.declared.asking.Added.{Added}
 use Rattle.choose.specs.declared.decision.Reason.{Reason}
 use Rattle.choose.specs.declared.decision.Verdict.{Verdict}
 use Rattle.choose.specs.declared.decision.Verdict.TheVariants.{Rejected, Errs}
-use Rattle.choose.specs.Verdict.{built_in, stopped_by, StopsAt, Filtered, AreScores, weighted, in_places, ScoreErrs, Scored, made_by, ByScores, ByRules, HasVerdict}
+use Rattle.choose.specs.Verdict.{built_in, told_of, stopped_by, StopsAt, Filtered, AreScores, weighted, in_places, ScoreErrs, Scored, made_by, passing, passing_alone, ByScores, ByRules, HasVerdict, HasRuling}
+use Rattle.choose.specs.Choice.{AreVerdicts, AreRulings}
 
 by_less : (m n : ℕ) (a : Bool) → nat_lt m n ≡ a → (b : Bool) → nat_lt n m ≡ b → (m < n) ⊎ ((m ≡ n) ⊎ (n < m))
 by_less m n true e b f = inl (ltb-true m n e)
@@ -86,33 +87,46 @@ one_scored rules told (Ok m) (Err w) once a b = absurd (not_erring rules told w 
 one_scored rules told (Err v) (Ok n) once a b = absurd (not_erring rules told v b.scores once a b.are (omega (arith, a.there, b.all)))
 one_scored rules told (Err v) (Err w) once a b = ap (λ x. Err x) (one_error rules told v w once a b)
 
-one_by_scores : (rules : RuleSet) (pod : Pod) (shown : Shown) (v w : Verdict) → SayOneThing rules → ByScores rules pod shown v → ByScores rules pod shown w → v ≡ w
-one_by_scores rules pod shown v w once a b = a.is ∙ (ap (made_by shown pod) (one_scored rules _ a.scored b.scored once a.are b.are) ∙ sym b.is)
+module _ (rules : RuleSet) (told : Told) (made : Added → Verdict) (once : SayOneThing rules) where
+  one_by_scores : (v w : Verdict) → ByScores rules told made v → ByScores rules told made w → v ≡ w
+  one_by_scores v w a b = a.is ∙ (ap (made_by made) (one_scored rules told a.scored b.scored once a.are b.are) ∙ sym b.is)
 
-one_after_filters : (rules : RuleSet) (pod : Pod) (shown : Shown) (v w : Verdict) (filtered : Option Verdict) → SayOneThing rules →
-    MatchOption filtered (ByScores rules pod shown v) (λ stopped. v ≡ stopped) → MatchOption filtered (ByScores rules pod shown w) (λ stopped. w ≡ stopped) → v ≡ w
-one_after_filters rules pod shown v w None once a b = one_by_scores rules pod shown v w once a b
-one_after_filters rules pod shown v w (Some stopped) once a b = a ∙ sym b
+  one_after_filters : (v w : Verdict) (filtered : Option Verdict) → MatchOption filtered (ByScores rules told made v) (λ stopped. v ≡ stopped)
+      → MatchOption filtered (ByScores rules told made w) (λ stopped. w ≡ stopped) → v ≡ w
+  one_after_filters v w None a b = one_by_scores v w a b
+  one_after_filters v w (Some stopped) a b = a ∙ sym b
 
-one_by_rules : (rules : RuleSet) (pod : Pod) (shown : Shown) (v w : Verdict) → SayOneThing rules → ByRules rules pod shown v → ByRules rules pod shown w → v ≡ w
-one_by_rules rules pod shown v w once a b =
-    let same : a.filtered ≡ b.filtered = one_filtered rules _ a.filtered b.filtered once a.are b.are in
-    one_after_filters rules pod shown v w b.filtered once (subst (λ found. MatchOption found (ByScores rules pod shown v) (λ stopped. v ≡ stopped)) same a.is) b.is
+  -- there is one verdict of the rules
+  one_by_rules : (v w : Verdict) → ByRules rules told made v → ByRules rules told made w → v ≡ w
+  one_by_rules v w a b =
+      let same : a.filtered ≡ b.filtered = one_filtered rules told a.filtered b.filtered once a.are b.are in
+      one_after_filters v w b.filtered (subst (λ found. MatchOption found (ByScores rules told made v) (λ stopped. v ≡ stopped)) same a.is) b.is
 
-one_by_built_in : (rules : RuleSet) (pod : Pod) (shown : Shown) (v w : Verdict) (found : Option Reason) → SayOneThing rules →
-    MatchOption found (ByRules rules pod shown v) (λ reason. v ≡ Rejected reason) → MatchOption found (ByRules rules pod shown w) (λ reason. w ≡ Rejected reason) → v ≡ w
-one_by_built_in rules pod shown v w None once a b = one_by_rules rules pod shown v w once a b
+one_by_built_in : (rules : RuleSet) (pod : Pod) (shown : Shown) (v w : Verdict) (found : Option Reason) → SayOneThing rules → MatchOption found (ByRules rules (told_of pod shown) (passing shown pod) v) (λ reason. v ≡ Rejected reason)
+    → MatchOption found (ByRules rules (told_of pod shown) (passing shown pod) w) (λ reason. w ≡ Rejected reason) → v ≡ w
+one_by_built_in rules pod shown v w None once a b = one_by_rules rules (told_of pod shown) (passing shown pod) once v w a b
 one_by_built_in rules pod shown v w (Some reason) once a b = a ∙ sym b
 
 pub one_verdict : (rules : RuleSet) (pod : Pod) (shown : Shown) (v w : Verdict) → SayOneThing rules → HasVerdict rules pod shown v → HasVerdict rules pod shown w → v ≡ w
 one_verdict rules pod shown v w once a b = one_by_built_in rules pod shown v w (built_in shown pod) once a b
 
--- there is one list of verdicts on the nodes
-pub one_list : (rules : RuleSet) (pod : Pod) (nodes : List Shown) (vs ws : List Verdict) → SayOneThing rules → AllZip (HasVerdict rules pod) nodes vs → AllZip (HasVerdict rules pod) nodes ws → vs ≡ ws
-one_list rules pod [] [] [] once a b = refl
-one_list rules pod [] [] (w ∷ ws) once a b = absurd b
-one_list rules pod [] (v ∷ vs) ws once a b = absurd a
-one_list rules pod (x ∷ nodes) [] ws once a b = absurd a
-one_list rules pod (x ∷ nodes) (v ∷ vs) [] once a b = absurd b
-one_list rules pod (x ∷ nodes) (v ∷ vs) (w ∷ ws) once a b =
-    ap (λ y. y ∷ vs) (one_verdict rules pod x v w once a.0 b.0) ∙ ap (λ ys. w ∷ ys) (one_list rules pod nodes vs ws once a.1 b.1)
+-- and one ruling
+pub one_ruling : (rules : RuleSet) (pod : Pod) (shown : Shown) (v w : Verdict) → SayOneThing rules → HasRuling rules pod shown v → HasRuling rules pod shown w → v ≡ w
+one_ruling rules pod shown v w once a b = one_by_rules rules (told_of pod shown) passing_alone once v w a b
+
+-- where there is one for each node, there is one list of them
+one_of_each : (R : Shown → Verdict → Type 0) (nodes : List Shown) (vs ws : List Verdict) → ((node : Shown) (v w : Verdict) → R node v → R node w → v ≡ w) → AllZip R nodes vs → AllZip R nodes ws → vs ≡ ws
+one_of_each R [] [] [] one a b = refl
+one_of_each R [] [] (w ∷ ws) one a b = absurd b
+one_of_each R [] (v ∷ vs) ws one a b = absurd a
+one_of_each R (x ∷ nodes) [] ws one a b = absurd a
+one_of_each R (x ∷ nodes) (v ∷ vs) [] one a b = absurd b
+one_of_each R (x ∷ nodes) (v ∷ vs) (w ∷ ws) one a b = ap (λ y. y ∷ vs) (one x v w a.0 b.0) ∙ ap (λ ys. w ∷ ys) (one_of_each R nodes vs ws one a.1 b.1)
+
+-- so there is one list of verdicts on the nodes
+pub one_list : (rules : RuleSet) (pod : Pod) (nodes : List Shown) (vs ws : List Verdict) → SayOneThing rules → AreVerdicts rules pod nodes vs → AreVerdicts rules pod nodes ws → vs ≡ ws
+one_list rules pod nodes vs ws once a b = one_of_each (HasVerdict rules pod) nodes vs ws (λ node v w. one_verdict rules pod node v w once) a b
+
+-- and one of rulings
+pub one_ruled : (rules : RuleSet) (pod : Pod) (nodes : List Shown) (vs ws : List Verdict) → SayOneThing rules → AreRulings rules pod nodes vs → AreRulings rules pod nodes ws → vs ≡ ws
+one_ruled rules pod nodes vs ws once a b = one_of_each (HasRuling rules pod) nodes vs ws (λ node v w. one_ruling rules pod node v w once) a b

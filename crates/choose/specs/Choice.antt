@@ -14,7 +14,7 @@ use Rattle.choose.specs.declared.decision.Verdict.TheVariants.{Rejected, Rejecte
 use Rattle.choose.specs.declared.decision.Counts.{Counts}
 use Rattle.choose.specs.declared.decision.Decision.{Decision}
 use Rattle.choose.specs.declared.decision.Decision.TheVariants as decision
-use Rattle.choose.specs.Verdict.{HasVerdict, reason_of}
+use Rattle.choose.specs.Verdict.{HasVerdict, HasRuling, reason_of}
 
 -- a node's name, and the verdict on it
 pub record Judged : Type 0 where
@@ -128,6 +128,10 @@ IsChoice nodes (decision.Unschedulable counts) = NoneErrs nodes × NonePasses no
 -- these are the verdicts on the nodes, in order
 abbrev pub AreVerdicts : RuleSet → Pod → List Shown → List Verdict → Type 0
 AreVerdicts rules pod nodes verdicts = AllZip (HasVerdict rules pod) nodes verdicts
+
+-- these are the rulings on the nodes, in order
+abbrev pub AreRulings : RuleSet → Pod → List Shown → List Verdict → Type 0
+AreRulings rules pod nodes verdicts = AllZip (HasRuling rules pod) nodes verdicts
 
 -- the choice among a snapshot's nodes
 pub record Choice (rules : RuleSet) (nodes : List Shown) (pod : Pod) (decision : Decision) : Type 0 where

@@ -5,13 +5,19 @@ use Rattle.quant.specs.declared.objects.Pod.{Pod}
 use Rattle.desk.specs.Shown.{Shown}
 use Rattle.rules.specs.RuleSet.{RuleSet, no_rules}
 use Rattle.choose.specs.declared.decision.Verdict.{Verdict}
-use Rattle.choose.specs.Verdict.{HasVerdict}
+use Rattle.choose.specs.Verdict.{HasVerdict, HasRuling}
 
 -- the verdict that one of the kits has on a node is the verdict of each of them
 abbrev pub JudgeAlike : {Kit : Type 0} → (answers : Kit → RuleSet) → (kits : List Kit) → Type 0
 JudgeAlike answers kits =
     (one other : _) (pod : Pod) (shown : Shown) (verdict : Verdict) → Contains kits one → Contains kits other →
     HasVerdict (answers one) pod shown verdict → HasVerdict (answers other) pod shown verdict
+
+-- the ruling that one of the kits gives on a node is the ruling of each of them
+abbrev pub RuleAlike : {Kit : Type 0} → (answers : Kit → RuleSet) → (kits : List Kit) → Type 0
+RuleAlike answers kits =
+    (one other : _) (pod : Pod) (shown : Shown) (ruling : Verdict) → Contains kits one → Contains kits other →
+    HasRuling (answers one) pod shown ruling → HasRuling (answers other) pod shown ruling
 
 -- the rules of kits that judge alike: those of the first
 abbrev pub rules_of : {Kit : Type 0} → (answers : Kit → RuleSet) → List Kit → RuleSet

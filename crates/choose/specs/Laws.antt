@@ -9,13 +9,17 @@ use Rattle.choose.specs.declared.decision.Verdict.{Verdict}
 use Rattle.choose.specs.declared.decision.Verdict.TheVariants.{Rejected, RejectedBy, Errs, Passes}
 use Rattle.choose.specs.declared.decision.Decision.{Decision}
 use Rattle.choose.specs.declared.decision.Decision.TheVariants as decision
-use Rattle.choose.specs.Verdict.{HasVerdict, reason_of}
+use Rattle.choose.specs.Verdict.{HasVerdict, HasRuling, reason_of}
 use Rattle.choose.specs.Choice.{Judged, judged, same_reason, IsChoice, AreVerdicts, Choice}
 use Rattle.desk.specs.Order.{name_at}
 
 -- There is one verdict on a node, whatever the other nodes are.
 abbrev pub OneVerdict : RuleSet → Type 0
 OneVerdict rules = (pod : Pod) (shown : Shown) (one other : Verdict) → HasVerdict rules pod shown one → HasVerdict rules pod shown other → one ≡ other
+
+-- There is one ruling on a node.
+abbrev pub OneRuling : RuleSet → Type 0
+OneRuling rules = (pod : Pod) (shown : Shown) (one other : Verdict) → HasRuling rules pod shown one → HasRuling rules pod shown other → one ≡ other
 
 -- no two of the nodes have one name
 abbrev pub HaveOwnNames : List Shown → Type 0

@@ -119,25 +119,34 @@ abbrev pub passing : Shown → Pod → Added → Verdict
 passing shown pod added =
     Passes (prefer_not shown.node pod) (least_allocated_score shown.node.allocatable shown.used pod.request + added.sum) added.scores
 
--- the verdict that the scores make
-abbrev pub made_by : Shown → Pod → Result Added Verdict → Verdict
-made_by shown pod (Ok added) = passing shown pod added
-made_by shown pod (Err verdict) = verdict
+-- the verdict that the scores make, where what they add makes this one
+abbrev pub made_by : (made : Added → Verdict) → Result Added Verdict → Verdict
+made_by made (Ok added) = made added
+made_by made (Err verdict) = verdict
 
 -- the verdict on a node that all filters pass: the first score that isn't good, else it passes
-pub record ByScores (rules : RuleSet) (pod : Pod) (shown : Shown) (verdict : Verdict) : Type 0 where
+pub record ByScores (rules : RuleSet) (told : Told) (made : Added → Verdict) (verdict : Verdict) : Type 0 where
   pub scored : Result Added Verdict
-  pub are : Scored rules (told_of pod shown) scored
-  pub is : verdict ≡ made_by shown pod scored
+  pub are : Scored rules told scored
+  pub is : verdict ≡ made_by made scored
 
--- the verdict on a node that no built-in filter rejects: the first filter of the rules that doesn't
--- pass, else by the scores
-pub record ByRules (rules : RuleSet) (pod : Pod) (shown : Shown) (verdict : Verdict) : Type 0 where
+-- the verdict of the rules: the first filter that doesn't pass, else by the scores
+pub record ByRules (rules : RuleSet) (told : Told) (made : Added → Verdict) (verdict : Verdict) : Type 0 where
   pub filtered : Option Verdict
-  pub are : Filtered rules (told_of pod shown) filtered
-  pub is : MatchOption filtered (ByScores rules pod shown verdict) (λ stopped. verdict ≡ stopped)
+  pub are : Filtered rules told filtered
+  pub is : MatchOption filtered (ByScores rules told made verdict) (λ stopped. verdict ≡ stopped)
 
 -- the verdict on a node
 abbrev pub HasVerdict : RuleSet → Pod → Shown → Verdict → Type 0
 HasVerdict rules pod shown verdict =
-    MatchOption (built_in shown pod) (ByRules rules pod shown verdict) (λ reason. verdict ≡ Rejected reason)
+    MatchOption (built_in shown pod) (ByRules rules (told_of pod shown) (passing shown pod) verdict) (λ reason. verdict ≡ Rejected reason)
+
+-- ---- the rules alone
+
+-- a node that the rules alone pass: nothing of its own counts
+abbrev pub passing_alone : Added → Verdict
+passing_alone added = Passes 0 added.sum added.scores
+
+-- the ruling on a node: what the rules alone say of it, whatever the built-in filters do
+abbrev pub HasRuling : RuleSet → Pod → Shown → Verdict → Type 0
+HasRuling rules pod shown verdict = ByRules rules (told_of pod shown) passing_alone verdict

@@ -1,7 +1,7 @@
 //! What decides where pods go.
 ghost use Rattle.std.specs.Prelude.{◌≡◌, List, IfOk, OnOk};
 ghost use denote.Param.Send.{IsSync};
-ghost use Rattle.choose.specs.Choice.{AreVerdicts, Choice};
+ghost use Rattle.choose.specs.Choice.{AreRulings, AreVerdicts, Choice};
 ghost use Rattle.choose.specs.declared.decision.Verdict.{Verdict};
 ghost use Rattle.choose.specs.Kits.{rules_of};
 
@@ -19,7 +19,7 @@ pub trait Decider {
     // The kits for whose rules it stands: the first for all.
     ghost kits: { Self → List Self.Kit };
 
-    // The verdicts of its last decision.
+    // The verdicts of its last decision, or its last rulings.
     ghost last: { Self → List Verdict };
 
     /// Where a pod goes, by a look at the nodes: the choice that the first kit would make alone.
@@ -54,7 +54,16 @@ pub trait Decider {
         self.decide(rt, snapshot, pod)
     }
 
-    /// The verdicts of its last decision, in the order of the nodes.
+    /// What the rules of the first kit alone say of each node, for a pod: the verdicts are these
+    /// rulings then.
+    ///
+    /// Errors: `NoMemory`. Nothing was asked then, and it can be used again.
+    fn judge(&mut self, snapshot: &Snapshot, pod: &SharedPod) -> Result<(), NoMemory>
+        ensures judged { OnOk result (AreRulings (rules_of Self.Kit.answers (kits self.old)) pod.now snapshot.now
+            (last self.new)) }
+        ensures kits { kits self.new ≡ kits self.old };
+
+    /// The verdicts of its last decision, or its last rulings, in the order of the nodes.
     fn verdicts(&self) -> &[Verdict]
         ensures { result.now ≡ last self.now };
 }

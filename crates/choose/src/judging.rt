@@ -3,8 +3,8 @@ ghost use Rattle.std.specs.Prelude.{◌≡◌, ◌≤◌, length, IfOk, map};
 ghost use Rattle.std.specs.List.{AllZip};
 ghost use Rattle.taints.specs.Tolerance.{prefer_not};
 ghost use Rattle.desk.specs.Shown.{shown};
-ghost use Rattle.choose.specs.Verdict.{HasVerdict, built_in, passing};
-ghost use Rattle.choose.specs.Choice.{AreVerdicts};
+ghost use Rattle.choose.specs.Verdict.{HasRuling, HasVerdict, built_in, passing};
+ghost use Rattle.choose.specs.Choice.{AreRulings, AreVerdicts};
 ghost use Rattle.choose.specs.inside.Finding.{IsBuiltIn};
 
 use crate::asking::{Added, filtered, scored};
@@ -132,6 +132,37 @@ fn judge_by_rules<R: Rules>(rows: &[Row], pod: &Pod, rules: &mut R, verdicts: &m
     let mut notes = rules.show_pod(pod);
     for at in 0..rows.len() {
         verdicts[at] = verdict_of(&rows[at], pod, &mut notes, rules);
+    }
+}
+
+// The ruling on a node, which the rules are shown; the pod was shown to them already.
+fn ruling_of<R: Rules>(row: &Row, pod: &Pod, notes: &mut R::Notes, rules: &mut R) -> Verdict
+    requires { R.OfPod notes.old pod.now }
+    ensures is { HasRuling (R.answers rules.old) pod.now (shown row.now) result }
+    ensures stays { rules.new ≡ rules.old }
+    ensures pod { R.OfPod notes.new pod.now }
+{
+    rules.show_node(notes, &row.node, &row.used);
+    if let Some(stopped) = filtered(notes, rules) {
+        return stopped;
+    }
+    match scored(notes, rules) {
+        Ok(added) => Verdict::Passes(0, added.sum, added.scores),
+        Err(erring) => erring,
+    }
+}
+
+/// Writes what the rules alone say of nodes into the places for verdicts, in the nodes' order: no
+/// built-in filter is asked, and no score but the rules' counts. Where there is no rule each node
+/// passes with 0. The pod is shown to the rules once. No memory is taken.
+pub fn rule_on<R: Rules>(rows: &[Row], pod: &Pod, rules: &mut R, verdicts: &mut [Verdict])
+    requires { length verdicts.old ≡ length rows.now }
+    ensures are { AreRulings (R.answers rules.old) pod.now (map shown rows.now) verdicts.new }
+    ensures stays { rules.new ≡ rules.old }
+{
+    let mut notes = rules.show_pod(pod);
+    for at in 0..rows.len() {
+        verdicts[at] = ruling_of(&rows[at], pod, &mut notes, rules);
     }
 }
 

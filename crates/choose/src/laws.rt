@@ -1,11 +1,12 @@
 //! What holds of every choice. The functions do nothing: their contracts are the laws.
-ghost use Rattle.choose.specs.Laws.{OneVerdict, OneDecision, VerdictsDecide, RejectedOnlyCount};
+ghost use Rattle.choose.specs.Laws.{OneVerdict, OneRuling, OneDecision, VerdictsDecide, RejectedOnlyCount};
 
 use rules::Rules;
 
-/// There is one verdict on a node, by the node, the pod and the rules alone.
+/// There is one verdict on a node, and one ruling, by the node, the pod and the rules alone.
 pub fn one_verdict<R: Rules>(_rules: &R)
-    ensures { OneVerdict (R.answers _rules.now) }
+    ensures verdict { OneVerdict (R.answers _rules.now) }
+    ensures ruling { OneRuling (R.answers _rules.now) }
 {}
 
 /// There is one decision where no two nodes have one name: one node is chosen or none, and one

@@ -7,7 +7,7 @@
 //!
 //! - `decision`: what is decided of a node, a `Verdict`, and of a pod, a `Decision`.
 //! - `judging`: the verdicts on nodes, by the built-in filters and scores, and by the rules of a
-//!   site: `asking`.
+//!   site, `asking`; and the rulings, which are by these rules alone.
 //! - `choice`: the decision by the verdicts of all nodes. `best` has the node that goes first, and
 //!   `counts` how many are rejected for which reason.
 //! - `alone`: the choice where there is no rule, without verdicts.
@@ -32,6 +32,6 @@ pub use choice::{choose, decide};
 pub use decider::Decider;
 pub use decision::{Counts, Decision, Reason, UNJUDGED, Verdict};
 pub use desk::NoMemory;
-pub use judging::{judge, verdict_of, verdicts_of};
+pub use judging::{judge, rule_on, verdict_of, verdicts_of};
 pub use laws::{one_decision, one_verdict, rejected_nodes_only_count, verdicts_decide};
 pub use one_of::OneOf;

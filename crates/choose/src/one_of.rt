@@ -48,6 +48,13 @@ impl<A: Decider + Drop, B: Decider<Kit = A::Kit> + Drop> Decider for OneOf<A, B>
         }
     }
 
+    fn judge(&mut self, snapshot: &Snapshot, pod: &SharedPod) -> Result<(), NoMemory> {
+        match self {
+            OneOf::First(one) => one.judge(snapshot, pod),
+            OneOf::Second(one) => one.judge(snapshot, pod),
+        }
+    }
+
     fn verdicts(&self) -> &[Verdict] {
         match self {
             OneOf::First(one) => one.verdicts(),
