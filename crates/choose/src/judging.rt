@@ -143,10 +143,10 @@ fn ruling_of<R: Rules>(row: &Row, pod: &Pod, notes: &mut R::Notes, rules: &mut R
     ensures pod { R.OfPod notes.new pod.now }
 {
     rules.show_node(notes, &row.node, &row.used);
-    if let Some(stopped) = filtered(notes, rules) {
+    if let Some(stopped) = filtered(row, pod, notes, rules) {
         return stopped;
     }
-    match scored(notes, rules) {
+    match scored(row, pod, notes, rules) {
         Ok(added) => Verdict::Passes(0, added.sum, added.scores),
         Err(erring) => erring,
     }
