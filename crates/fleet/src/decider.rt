@@ -1,7 +1,7 @@
 //! Pools decide where pods go.
 ghost use Rattle.std.specs.Prelude.{◌≡◌, List, IfOk, OnOk};
 ghost use denote.Param.Send.{IsSync};
-ghost use Rattle.choose.specs.Choice.{AreVerdicts, Choice};
+ghost use Rattle.choose.specs.Choice.{AreRulings, AreVerdicts, Choice};
 ghost use Rattle.choose.specs.declared.decision.Verdict.{Verdict};
 ghost use Rattle.choose.specs.Kits.{rules_of};
 
@@ -38,6 +38,10 @@ impl<J: Site, K: Rules + Drop, G: Gate + Drop> Decider for Pool<J, K, G> {
         pod: &SharedPod,
     ) -> Result<Decision, NoMemory> {
         self.choose(rt, snapshot, pod)
+    }
+
+    fn judge(&mut self, snapshot: &Snapshot, pod: &SharedPod) -> Result<(), NoMemory> {
+        self.judge(snapshot, pod)
     }
 
     fn verdicts(&self) -> &[Verdict] {

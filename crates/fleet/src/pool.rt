@@ -2,7 +2,7 @@
 ghost use Rattle.std.specs.Prelude.{◌≡◌, ◌+◌, ◌<◌, [], ◌∷◌, length, vec_len, IfOk, OnOk};
 ghost use Rattle.std.specs.List.{All};
 ghost use Rattle.std.specs.Arc.{arc_value};
-ghost use Rattle.choose.specs.Choice.{Choice, AreVerdicts};
+ghost use Rattle.choose.specs.Choice.{Choice, AreRulings, AreVerdicts};
 ghost use Rattle.choose.specs.Kits.{rules_of};
 ghost use Rattle.fleet.specs.Speaking.{SpeaksFor};
 
@@ -10,7 +10,7 @@ use crate::asked::{Asked, Blank, History, Order, Site};
 use crate::fleet::MAX_KITS;
 use crate::gate::Gate;
 use crate::lent_kit::{Helper, collect, judge_said, send_all};
-use choose::{Decision, NoMemory, UNJUDGED, Verdict, choose_alone, decide, judge};
+use choose::{Decision, NoMemory, UNJUDGED, Verdict, choose_alone, decide, judge, rule_on};
 use desk::Snapshot;
 use quant::SharedPod;
 use rules::Rules;
@@ -30,6 +30,21 @@ const LITTLE_WORK: u64 = 300_000;
 // What the rules are to a node beside their fuel: that it is shown to them, and their calls.
 const WORK_A_NODE: u64 = 100;
 
+// Units of fuel that calls used: all, and those among them that were shown no node, which each kit
+// makes for itself, however few nodes it judges.
+#[derive(Clone, Copy)]
+struct Spent {
+    all: u64,
+    once: u64,
+}
+
+// What the rules' calls cost, in units of fuel: for a node, and once a decision.
+#[derive(Clone, Copy)]
+struct Cost {
+    a_node: u64,
+    once: u64,
+}
+
 /// A kit that stays with the caller, and others with a worker each, which stay until the pool ends.
 #[derive(Drop)]
 pub struct Pool<J: Site, K: Rules + Drop, G: Drop> {
@@ -40,9 +55,8 @@ pub struct Pool<J: Site, K: Rules + Drop, G: Drop> {
     history: History<J>,
     // The room for the verdicts of a decision, which stays between two decisions.
     verdicts: Vec<Verdict>,
-    // What the rules' calls cost for a node in the last decision, in units of fuel, once there was
-    // one.
-    cost: Option<u64>,
+    // What the last decision cost, once there was one.
+    cost: Option<Cost>,
 }
 
 impl<J: Site, K: Rules + Drop, G: Drop> Model for Pool<J, K, G> {
@@ -124,25 +138,20 @@ impl<J: Site, K: Rules + Drop, G: Gate + Drop> Pool<J, K, G> {
         ensures kits { self.new.kits ≡ self.old.kits }
     {
         let nodes = snapshot.rows().len();
-        let is_shared = self.is_worth_waking(nodes);
-        let here = if is_shared {
-            nodes / (self.helpers.len() + 1)
-        } else {
-            nodes
-        };
-        let before = self.home.spent();
-        let decided = self.decide_by(rt, snapshot, pod, is_shared);
-        self.note_cost(before, here);
+        let many = self.worth_waking(nodes);
+        let before = self.spent();
+        let decided = self.decide_by(rt, snapshot, pod, many);
+        self.note_cost(before, nodes / many.saturating_add(1));
         decided
     }
 
-    // The same, with the workers or without them.
+    // The same, with so many of the workers.
     fn decide_by<R: Wait>(
         &mut self,
         rt: &R,
         snapshot: Snapshot,
         pod: &SharedPod,
-        is_shared: bool,
+        many: usize,
     ) -> Result<Decision, NoMemory>
         ensures chosen { IfOk result (Choice (rules_of K.answers self.old.kits) snapshot pod.now) }
         ensures judged { OnOk result (AreVerdicts (rules_of K.answers self.old.kits) pod.now snapshot
@@ -150,7 +159,8 @@ impl<J: Site, K: Rules + Drop, G: Gate + Drop> Pool<J, K, G> {
         ensures kits { self.new.kits ≡ self.old.kits }
     {
         self.verdicts.resize(snapshot.rows().len(), UNJUDGED)?;
-        if self.helpers.is_empty() || !is_shared {
+        let many = many.min(self.helpers.len());
+        if many == 0 {
             return Ok(choose_here(
                 &snapshot,
                 pod,
@@ -162,7 +172,7 @@ impl<J: Site, K: Rules + Drop, G: Gate + Drop> Pool<J, K, G> {
         let asked = Asked {
             snapshot,
             pod: pod.share()?,
-            pieces: self.helpers.len() + 1,
+            pieces: many + 1,
         };
         let order = match self.history.add(asked) {
             Ok(order) => order,
@@ -179,45 +189,63 @@ impl<J: Site, K: Rules + Drop, G: Gate + Drop> Pool<J, K, G> {
         let Ok(order) = Arc::new(self.alloc, order) else {
             return Err(NoMemory);
         };
+        let (woken, _asleep) = self.helpers.as_mut_slice().split_at_mut(many);
         Ok(choose_there(
             rt,
             self.alloc,
             &order,
             &*self.gate,
             &mut self.home,
-            self.helpers.as_mut_slice(),
+            woken,
             self.verdicts.as_mut_slice(),
         ))
     }
 
-    // Whether so many nodes are so much work that it is done sooner with the workers: they must be
-    // woken first, and waited for.
-    fn is_worth_waking(&self, nodes: usize) -> bool {
+    // How many workers do the work on so many nodes sooner than the caller alone: they must be
+    // woken first, and waited for. And each makes the calls that are shown no node once more: so
+    // there are no more of them than have as much to do besides.
+    fn worth_waking(&self, nodes: usize) -> usize {
+        let all = self.helpers.len();
         if self.home.count() == 0 {
-            return nodes > FEW_NODES;
+            return if nodes > FEW_NODES { all } else { 0 };
         }
-        match self.cost {
-            None => true,
-            Some(cost) => {
-                (nodes as u64).saturating_mul(cost.saturating_add(WORK_A_NODE)) > LITTLE_WORK
-            }
+        let Some(cost) = self.cost else {
+            return all;
+        };
+        let work = (nodes as u64).saturating_mul(cost.a_node.saturating_add(WORK_A_NODE));
+        if work <= LITTLE_WORK {
+            return 0;
+        }
+        all.min((work / cost.once.max(1)) as usize)
+    }
+
+    // What the first kit's calls have used so far.
+    fn spent(&self) -> Spent {
+        Spent {
+            all: self.home.spent(),
+            once: self.home.spent_once(),
         }
     }
 
-    // Notes what a decision cost for each of so many nodes that were judged here, by what had been
-    // spent before it, where a rule was asked. What is noted falls by half at most: a pod that asks
-    // little doesn't put the workers to sleep for the next one.
-    fn note_cost(&mut self, before: u64, nodes: usize)
+    // Notes what a decision cost, of whose nodes so many were judged here, by what had been spent
+    // before it, where a rule was asked. What is noted falls by half at most: a pod that asks little
+    // doesn't put the workers to sleep for the next one.
+    fn note_cost(&mut self, before: Spent, nodes: usize)
         ensures { self.new ≡ self.old }
     {
-        let spent = self.home.spent().wrapping_sub(before);
+        let now = self.spent();
+        let spent = now.all.wrapping_sub(before.all);
         if nodes == 0 || spent == 0 {
             return;
         }
-        let cost = spent / nodes as u64;
+        let once = now.once.wrapping_sub(before.once);
+        let a_node = spent.wrapping_sub(once) / nodes as u64;
         self.cost = match self.cost {
-            None => Some(cost),
-            Some(last) => Some(cost.max(last / 2)),
+            None => Some(Cost { a_node, once }),
+            Some(last) => Some(Cost {
+                a_node: a_node.max(last.a_node / 2),
+                once: once.max(last.once / 2),
+            }),
         };
     }
 
@@ -243,7 +271,23 @@ impl<J: Site, K: Rules + Drop, G: Gate + Drop> Pool<J, K, G> {
         Ok(choose_alone(&snapshot, pod, &self.home))
     }
 
-    /// The verdicts of the last decision, in the order of the nodes.
+    /// What the rules alone say of each node, for a pod. The first kit says it here: the workers
+    /// are left where they are.
+    ///
+    /// Errors: `NoMemory` where the look has more nodes than any before and there is none for a
+    /// verdict each. Nothing was asked then, and the pool can be used again.
+    pub fn judge(&mut self, snapshot: &Snapshot, pod: &SharedPod) -> Result<(), NoMemory>
+        ensures judged { OnOk result (AreRulings (rules_of K.answers self.old.kits) pod.now snapshot.now
+            self.new.verdicts) }
+        ensures kits { self.new.kits ≡ self.old.kits }
+    {
+        let rows = snapshot.rows();
+        self.verdicts.resize(rows.len(), UNJUDGED)?;
+        rule_on(rows, pod, &mut self.home, self.verdicts.as_mut_slice());
+        Ok(())
+    }
+
+    /// The verdicts of the last decision, or the last rulings, in the order of the nodes.
     pub fn verdicts(&self) -> &[Verdict]
         ensures { result.now ≡ self.now.verdicts }
     {
