@@ -1,5 +1,5 @@
 //! A pool: kits, and workers that stay, which decide with them.
-ghost use Rattle.std.specs.Prelude.{◌≡◌, ◌+◌, ◌<◌, [], ◌∷◌, length, vec_len, IfOk, OnOk};
+ghost use Rattle.std.specs.Prelude.{◌≡◌, ◌+◌, ◌<◌, ◌≤◌, [], ◌∷◌, length, vec_len, IfOk, OnOk};
 ghost use Rattle.std.specs.List.{All};
 ghost use Rattle.std.specs.Arc.{arc_value};
 ghost use Rattle.choose.specs.Choice.{Choice, AreRulings, AreVerdicts};
@@ -189,14 +189,14 @@ impl<J: Site, K: Rules + Drop, G: Gate + Drop> Pool<J, K, G> {
         let Ok(order) = Arc::new(self.alloc, order) else {
             return Err(NoMemory);
         };
-        let (woken, _asleep) = self.helpers.as_mut_slice().split_at_mut(many);
         Ok(choose_there(
             rt,
             self.alloc,
             &order,
             &*self.gate,
             &mut self.home,
-            woken,
+            self.helpers.as_mut_slice(),
+            many,
             self.verdicts.as_mut_slice(),
         ))
     }
@@ -332,7 +332,8 @@ fn choose_here<K: Rules, G: Gate>(
     decide(rows, verdicts)
 }
 
-// The choice with all kits: the first piece is judged here while the others are under way.
+// The choice with the first kit and so many others: the first piece is judged here while those of
+// the others are under way.
 fn choose_there<J: Site, K: Rules + Drop, G: Gate, R: Wait>(
     rt: &R,
     alloc: Global,
@@ -340,11 +341,13 @@ fn choose_there<J: Site, K: Rules + Drop, G: Gate, R: Wait>(
     gate: &G,
     home: &mut K,
     helpers: &mut [Helper<J, K>],
+    many: usize,
     verdicts: &mut [Verdict],
 ) -> Decision
-    requires some { 0 < length helpers.old }
-    requires few { length helpers.old < 64 }
-    requires pieces { (arc_value order.now).pieces ≡ length helpers.old + 1 }
+    requires some { 0 < many }
+    requires few { many < 64 }
+    requires there { many ≤ length helpers.old }
+    requires pieces { (arc_value order.now).pieces ≡ many + 1 }
     requires places { length verdicts.old ≡ length (arc_value order.now).snapshot }
     requires speaks { SpeaksFor J.Says (K.answers home.old) }
     ensures chosen { let asked = arc_value order.now in Choice (K.answers home.old) asked.snapshot asked.pod result }
@@ -353,8 +356,9 @@ fn choose_there<J: Site, K: Rules + Drop, G: Gate, R: Wait>(
     ensures stays { home.new ≡ home.old }
     ensures length { length helpers.new ≡ length helpers.old }
 {
-    send_all(rt, alloc, order, helpers);
-    judge_and_collect(rt, &**order, gate, home, helpers, verdicts);
+    let (woken, _asleep) = helpers.split_at_mut(many);
+    send_all(rt, alloc, order, woken);
+    judge_and_collect(rt, &**order, gate, home, woken, verdicts);
     decide(order.asked().snapshot.rows(), verdicts)
 }
 

@@ -6,3 +6,4 @@ pub mod CallLemmas
 pub mod SaidLemmas
 pub mod KeptLemmas
 pub mod AskedLemmas
+pub mod TellingLemmas

@@ -71,6 +71,11 @@ all_instances plugins kit i most zip weights =
     let long = AllZip-long IsReadyOf (take i plugins) (ready_parts kit) zip in
     record { most = omega (arith, long, length-map kit (λ (i : InstanceState). i.ready), length-take i plugins); weights = weights }
 
+-- where there is an instance there is a plugin
+pub some_plugin : (plugins : List Configured) (kit : List InstanceState) (i : ℕ) → AllZip IsReadyOf (take i plugins) (ready_parts kit) → 0 < length kit → 0 < length plugins
+some_plugin plugins kit i zip some =
+    omega (arith, some, AllZip-long IsReadyOf (take i plugins) (ready_parts kit) zip, length-map kit (λ (i : InstanceState). i.ready), length-take i plugins)
+
 -- what follows from what holds where there is no error
 pub on_ok_more : {T E : Type 0} (r : Result T E) (P Q : Type 0) → (P → Q) → OnOk r P → OnOk r Q
 on_ok_more (Ok x) P Q more holds = more holds

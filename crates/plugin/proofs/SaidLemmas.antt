@@ -13,7 +13,6 @@ use Rattle.rules.specs.declared.verdict.ScoreVerdict.{ScoreVerdict}
 use Rattle.rules.specs.Verdict.{IsWithin}
 use Rattle.plugin.specs.Kit.{Ready, InstanceState, Says, ready_parts}
 use Rattle.plugin.specs.inside.Said.{SaidOfAll}
-use Rattle.plugin.specs.inside.Shown.{shown_of}
 use Rattle.plugin.proofs.KitLemmas.{ends_of_call, said_at}
 
 -- with a pod that has the same records
@@ -65,19 +64,6 @@ plugin_of weight fuel m = record { weight = weight; fuel = fuel; content = m.con
 -- it is the same where its instance's store alone has changed
 pub same_plugin : (weight fuel : ℕ) (before after : MachineState) → after ≡ record before { store = after.store } → plugin_of weight fuel before ≡ plugin_of weight fuel after
 same_plugin weight fuel before after stays = ap (λ (m : MachineState). plugin_of weight fuel m) (sym stays)
-
--- the records that are shown have the pod of those that are written
-shown_is : (records : Records) (node : Option Node) (used : Res) → record records { node = (shown_of records node used).node } ≡ shown_of records node used
-shown_is records None used = refl
-shown_is records (Some node) used = refl
-
--- what a kit's plugin says of all nodes it says of the one that is shown
-pub of_the_shown : (kit : List InstanceState) (place : ℕ) (records : Records) (node : Option Node) (used : Res) (P : Ready → Records → Type 0) → place < length kit
-    → IfSome (slice_get kit place) (λ i. (n : Versions) → P i.ready (record records { node = n }))
-    → (p : Ready) × (slice_get (ready_parts kit) place ≡ Some p) × P p (shown_of records node used)
-of_the_shown kit place records node used P below says =
-    let all = said_at kit place (λ p. (n : Versions) → P p (record records { node = n })) below says in
-    (all.0, all.1, subst (λ (r : Records). P all.0 r) (shown_is records node used) (all.2 (shown_of records node used).node))
 
 -- a kit whose plugins are those of another has as many
 pub as_many_instances : (old mid : List InstanceState) → ready_parts mid ≡ ready_parts old → length mid ≡ length old

@@ -59,11 +59,11 @@ impl Kit {
         ensures at_image { IfOk result (All IsAtImage) }
         ensures refused { IfErr result (WhyNoKit plugins.now) }
     {
-        let told = plugins.room_to_tell(alloc)?;
         let mut members = Vec::new(alloc);
         for place in 0..plugins.count() {
             plugins.make_ready(alloc, place, &mut members)?;
         }
+        let told = plugins.room_to_tell(alloc)?;
         Ok(Kit {
             alloc,
             members,

@@ -67,6 +67,13 @@ fn count(spent: &mut u64, spent_once: &mut u64, outcome: Outcome, shows: Shows) 
     }
 }
 
+// The same of one that was shown no node, and counts only where it didn't ask for one.
+fn count_once(spent: &mut u64, spent_once: &mut u64, outcome: Option<Outcome>) {
+    if let Some(outcome) = outcome {
+        count(spent, spent_once, outcome, Shows::ThisPod);
+    }
+}
+
 impl Member {
     /// Makes an instance of the module. Its start function has the fuel of a call.
     pub fn new(
@@ -251,19 +258,12 @@ impl Member {
         if self.filter.waits() {
             return None;
         }
-        let said = match self
+        let outcome = self
             .instance
-            .call_without_node(records, Export::Filter, self.fuel)
-        {
-            Some(outcome) => {
-                count(
-                    &mut self.spent,
-                    &mut self.spent_once,
-                    outcome,
-                    Shows::ThisPod,
-                );
-                Some(filter_verdict(outcome))
-            }
+            .call_without_node(records, Export::Filter, self.fuel);
+        count_once(&mut self.spent, &mut self.spent_once, outcome);
+        let said = match outcome {
+            Some(outcome) => Some(filter_verdict(outcome)),
             None => None,
         };
         self.filter.note(records, said);
@@ -415,19 +415,12 @@ impl Member {
         if self.score.waits() {
             return None;
         }
-        let said = match self
+        let outcome = self
             .instance
-            .call_without_node(records, Export::Score, self.fuel)
-        {
-            Some(outcome) => {
-                count(
-                    &mut self.spent,
-                    &mut self.spent_once,
-                    outcome,
-                    Shows::ThisPod,
-                );
-                Some(score_verdict(outcome))
-            }
+            .call_without_node(records, Export::Score, self.fuel);
+        count_once(&mut self.spent, &mut self.spent_once, outcome);
+        let said = match outcome {
+            Some(outcome) => Some(score_verdict(outcome)),
             None => None,
         };
         self.score.note(records, said);

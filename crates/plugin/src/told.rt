@@ -84,10 +84,8 @@ impl Told {
         let Some(uid) = &self.uid else {
             return false;
         };
-        if uid.as_bytes() != pod.uid.as_bytes() {
-            return false;
-        }
-        self.records.pod3().as_bytes() == class.as_bytes()
+        uid.as_bytes() == pod.uid.as_bytes()
+            && self.records.pod3().as_bytes() == class.as_bytes()
     }
 
     // Writes the records of a pod. Those of the node stay.
@@ -117,6 +115,16 @@ impl Told {
     {
         self.records.show_node(node, used);
         self.used = *used;
-        self.node = node.share().ok();
+        self.node = shared(node);
+    }
+}
+
+// One more owner of a row, if its owners can still be counted.
+fn shared(node: &SharedNode) -> Option<SharedNode>
+    ensures { IfSome result (λ own. own ≡ node.now) }
+{
+    match node.share() {
+        Ok(own) => Some(own),
+        Err(_) => None,
     }
 }

@@ -16,8 +16,11 @@ loop-place-preserved c =
 pub returns-in_err-make_ready-clause-refused : goal.returns-in_err-make_ready-clause-refused
 returns-in_err-make_ready-clause-refused c =
     let below : c.loop-place.place < length c.args.plugins.now = omega (arith, c.count-place-end.ensures.value, c.loop-place-test.true) in
-    let p = err_from_is_err_and c.from_residual.result c.from_residual.ensures.1 in
+    let p = err_from_is_err_and c.from_residual-in_err-make_ready.result c.from_residual-in_err-make_ready.ensures.1 in
     rw (p.1, p.2) (no_kit c.args.plugins.now (ready_parts c.loop-place.members.items) c.loop-place.place c.in_err-make_ready.field-0.0 below c.loop-place.invariant.made c.in_err-make_ready.ensures.refused)
 
 pub invariant_of-result : goal.invariant_of-result
-invariant_of-result c = all_instances c.args.plugins.now c.loop-place.members.items c.loop-place.place (omega (arith, c.count-place-end.ensures)) c.loop-place.invariant.made c.loop-place.invariant.weights
+invariant_of-result c = (
+  all_instances c.args.plugins.now c.loop-place.members.items c.loop-place.place (omega (arith, c.count-place-end.ensures)) c.loop-place.invariant.made c.loop-place.invariant.weights,
+  λ some. ?,
+)

@@ -1,5 +1,6 @@
 use Rattle.std.proofs.Common.{refl, sym}
 use Rattle.whost.specs.Handed.{told_of}
+use Rattle.plugin.specs.declared.answers.Heard.TheVariants as heard
 use Rattle.plugin.specs.Kit.{ready_parts}
 use Rattle.plugin.proofs.AskedLemmas.{filter_there, filter_heard, lacks_filter, reaches_itself, newly_heard}
 use Rattle.plugin.proofs.KeptLemmas.{filter_known, known_of, of_all_known}
@@ -28,9 +29,9 @@ returns-in-Some-filter-clause-says c =
 pub returns-clause-says : goal.returns-clause-says
 returns-clause-says c =
     let records = told_of c.args.pod.now c.args.node.now c.args.used.now in
-    let heard = filter_heard c.args.kit.now c.args.place c.requires.there c.ask_filter-asked.result.reach records records c.ask_filter-asked.result.said refl c.ask_filter-asked.ensures.says in
+    let hears = filter_heard c.args.kit.now c.args.place c.requires.there c.ask_filter-asked.result.reach records records c.ask_filter-asked.result.said refl c.ask_filter-asked.ensures.says in
     filter_there c.args.kit.now c.args.place c.requires.there records c.ask_filter-asked.result.said
-    (λ p there. heard records (reaches_itself c.ask_filter-asked.result.reach records records refl) p there)
+    (λ p there. hears records (reaches_itself c.ask_filter-asked.result.reach records records refl) p there)
 
 pub returns-clause-kit : goal.returns-clause-kit
 returns-clause-kit c = plugins_stay c.args.place c.args.kit.now c.ask_filter-asked.new.self c.ask_filter-asked.ensures.others
@@ -39,6 +40,6 @@ pub returns-clause-kept : goal.returns-clause-kept
 returns-clause-kept c = λ hold.
     let records = told_of c.args.pod.now c.args.node.now c.args.used.now in
     let plugins = ready_parts c.args.kit.now in
-    let heard = filter_heard c.args.kit.now c.args.place c.requires.there c.ask_filter-asked.result.reach records records c.ask_filter-asked.result.said refl c.ask_filter-asked.ensures.says in
+    let hears = filter_heard c.args.kit.now c.args.place c.requires.there c.ask_filter-asked.result.reach records records c.ask_filter-asked.result.said refl c.ask_filter-asked.ensures.says in
     c.note.ensures plugins hold
-    (newly_heard plugins records c.args.self.now.class c.args.node.now c.args.used.now c.args.place _ c.ask_filter-asked.result.reach refl (sym c.requires.pod) heard)
+    (newly_heard plugins records c.args.self.now.class c.args.node.now c.args.used.now c.args.place (heard.Filter c.ask_filter-asked.result.said) c.ask_filter-asked.result.reach refl (sym c.requires.pod) hears)

@@ -1,5 +1,6 @@
 use Rattle.std.proofs.Common.{refl, sym}
 use Rattle.whost.specs.Handed.{told_of}
+use Rattle.plugin.specs.declared.answers.Heard.TheVariants as heard
 use Rattle.plugin.specs.Kit.{ready_parts}
 use Rattle.plugin.proofs.AskedLemmas.{score_there, score_heard, lacks_score, reaches_itself, newly_heard}
 use Rattle.plugin.proofs.KeptLemmas.{score_known, known_of, of_all_known}
@@ -15,7 +16,7 @@ returns-in-Some-clause-says c =
     let records = told_of c.args.pod.now c.args.node.now c.args.used.now in
     let known = of_all_known (ready_parts c.args.kit.now) records c.args.self.now.class c.args.self.now.of_all c.requires.pod c.requires.node.of_all in
     score_there c.args.kit.now c.args.place c.requires.there records c.in-Some.said
-    (known.scores c.args.place c.in-Some.said (sym c.in-Some.ensures))
+    (known.scores c.args.place c.in-Some.said (sym c.in-Some.ensures.said))
 
 pub returns-in-Some-score-clause-says : goal.returns-in-Some-score-clause-says
 returns-in-Some-score-clause-says c =
@@ -23,14 +24,14 @@ returns-in-Some-score-clause-says c =
     let plugins = ready_parts c.args.kit.now in
     let known = known_of plugins records c.args.node.now c.args.used.now c.args.self.now.known c.args.self.now.class refl c.requires.pod c.requires.node.known in
     score_there c.args.kit.now c.args.place c.requires.there records c.in-Some-score.said
-    (score_known plugins records c.args.self.now.known c.args.place c.in-Some-score.said known c.in-Some-score.ensures)
+    (score_known plugins records c.args.self.now.known c.args.place c.in-Some-score.said known c.in-Some-score.ensures.said)
 
 pub returns-clause-says : goal.returns-clause-says
 returns-clause-says c =
     let records = told_of c.args.pod.now c.args.node.now c.args.used.now in
-    let heard = score_heard c.args.kit.now c.args.place c.requires.there c.ask_score-asked.result.reach records records c.ask_score-asked.result.said refl c.ask_score-asked.ensures.says in
+    let hears = score_heard c.args.kit.now c.args.place c.requires.there c.ask_score-asked.result.reach records records c.ask_score-asked.result.said refl c.ask_score-asked.ensures.says in
     score_there c.args.kit.now c.args.place c.requires.there records c.ask_score-asked.result.said
-    (λ p there. heard records (reaches_itself c.ask_score-asked.result.reach records records refl) p there)
+    (λ p there. hears records (reaches_itself c.ask_score-asked.result.reach records records refl) p there)
 
 pub returns-clause-kit : goal.returns-clause-kit
 returns-clause-kit c = plugins_stay c.args.place c.args.kit.now c.ask_score-asked.new.self c.ask_score-asked.ensures.others
@@ -39,6 +40,6 @@ pub returns-clause-kept : goal.returns-clause-kept
 returns-clause-kept c = λ hold.
     let records = told_of c.args.pod.now c.args.node.now c.args.used.now in
     let plugins = ready_parts c.args.kit.now in
-    let heard = score_heard c.args.kit.now c.args.place c.requires.there c.ask_score-asked.result.reach records records c.ask_score-asked.result.said refl c.ask_score-asked.ensures.says in
+    let hears = score_heard c.args.kit.now c.args.place c.requires.there c.ask_score-asked.result.reach records records c.ask_score-asked.result.said refl c.ask_score-asked.ensures.says in
     c.note.ensures plugins hold
-    (newly_heard plugins records c.args.self.now.class c.args.node.now c.args.used.now c.args.place _ c.ask_score-asked.result.reach refl (sym c.requires.pod) heard)
+    (newly_heard plugins records c.args.self.now.class c.args.node.now c.args.used.now c.args.place (heard.Score c.ask_score-asked.result.said) c.ask_score-asked.result.reach refl (sym c.requires.pod) hears)

@@ -68,37 +68,54 @@ labels_same xs ys s t e =
     let same = labels_apart (in_key_order xs) (in_key_order ys) s t long (tail_is _ _ _ _ e) in
     λ j. many j ∷ same j
 
--- what stands behind the uid
+-- four fields behind a text, and in front of more
+shift : (t a b c d : List ℕ) → t ++ a ++ b ++ c ++ d ≡ t ++ (a ++ b ++ c ++ d)
+shift t a b c d =
+    ap (λ l. l ++ d) (ap (λ l. l ++ c) (append_assoc t a b) ∙ append_assoc t (a ++ b) c) ∙ append_assoc t (a ++ b ++ c) d
+
+spread : (a b c d more : List ℕ) → (a ++ b ++ c ++ d) ++ more ≡ a ++ (b ++ (c ++ (d ++ more)))
+spread a b c d more =
+    append_assoc (a ++ b ++ c) d more ∙ append_assoc (a ++ b) c (d ++ more) ∙ append_assoc a b (c ++ (d ++ more))
+
+-- the fields behind the uid
+abbrev priority_of : Pod → List ℕ
+priority_of pod = number_field 4 (cast_unsigned w32 pod.priority)
+
+abbrev cpu_of : Pod → List ℕ
+cpu_of pod = number_field 8 pod.request.cpu.0
+
+abbrev memory_of : Pod → List ℕ
+memory_of pod = number_field 8 pod.request.mem.0
+
+abbrev labels_of : Pod → List ℕ
+labels_of pod = labels_field pod.labels.items
+
 abbrev behind : Pod → List ℕ
-behind pod =
-    number_field 4 (cast_unsigned w32 pod.priority) ++ number_field 8 pod.request.cpu.0 ++ number_field 8 pod.request.mem.0 ++ labels_field pod.labels.items
+behind pod = priority_of pod ++ cpu_of pod ++ memory_of pod ++ labels_of pod
 
 behind_apart : (p q : Pod) (s t : List ℕ) → behind p ++ s ≡ behind q ++ t → behind p ≡ behind q
 behind_apart p q s t e =
-    let first = λ (pod : Pod). number_field 4 (cast_unsigned w32 pod.priority) in
-    let second = λ (pod : Pod). number_field 8 pod.request.cpu.0 in
-    let third = λ (pod : Pod). number_field 8 pod.request.mem.0 in
-    let last = λ (pod : Pod). labels_field pod.labels.items in
-    let split = λ (pod : Pod) (more : List ℕ).
-    append_assoc (first pod) (second pod ++ (third pod ++ last pod)) more
-    ∙ ap (λ l. first pod ++ l) (append_assoc (second pod) (third pod ++ last pod) more ∙ ap (λ l. second pod ++ l) (append_assoc (third pod) (last pod) more)) in
-    let whole = sym (split p s) ∙ e ∙ split q t in
+    let whole = sym (spread (priority_of p) (cpu_of p) (memory_of p) (labels_of p) s) ∙ e ∙ spread (priority_of q) (cpu_of q) (memory_of q) (labels_of q) t in
     let one = numbers_apart 4 _ _ _ _ whole in
     let two = numbers_apart 8 _ _ _ _ one.1 in
     let three = numbers_apart 8 _ _ _ _ two.1 in
     let labels = labels_same p.labels.items q.labels.items s t three.1 in
-    λ j. one.0 j ++ (two.0 j ++ (three.0 j ++ labels j))
+    λ j. one.0 j ++ two.0 j ++ three.0 j ++ labels j
 
 -- the records by what stands behind the uid
+fields : (p : Pod) → text_field p.uid ++ priority_of p ++ cpu_of p ++ memory_of p ++ labels_of p ≡ text_field p.uid ++ behind p
+fields p = shift (text_field p.uid) (priority_of p) (cpu_of p) (memory_of p) (labels_of p)
+
 firsts : (p q : Pod) → p.uid ≡ q.uid → behind p ≡ behind q → pod_bytes p ≡ pod_bytes q
 unfolding pod_bytes
-firsts p q uid same = λ j. 1 ∷ 1 ∷ text_field (uid j) ++ same j
+firsts p q uid same = ap (λ l. 1 ∷ 1 ∷ l) (fields p ∙ (λ j. text_field (uid j) ++ same j) ∙ sym (fields q))
 
 seconds : (p q : Pod) → p.uid ≡ q.uid → behind p ++ tolerations_field p.tolerations.items ≡ behind q ++ tolerations_field q.tolerations.items → pod_bytes2 p ≡ pod_bytes2 q
 unfolding pod_bytes2
 seconds p q uid same =
-    ap (λ l. 2 ∷ 1 ∷ l) (append_assoc (text_field p.uid) _ (tolerations_field p.tolerations.items)
-    ∙ (λ j. text_field (uid j) ++ same j) ∙ sym (append_assoc (text_field q.uid) _ (tolerations_field q.tolerations.items)))
+    let split = λ (pod : Pod). let more = tolerations_field pod.tolerations.items in
+    ap (λ l. l ++ more) (fields pod) ∙ append_assoc (text_field pod.uid) (behind pod) more in
+    ap (λ l. 2 ∷ 1 ∷ l) (split p ∙ (λ j. text_field (uid j) ++ same j) ∙ sym (split q))
 
 thirds : (p q : Pod) → pod_bytes3 p ≡ pod_bytes3 q → behind p ++ tolerations_field p.tolerations.items ≡ behind q ++ tolerations_field q.tolerations.items
 unfolding pod_bytes3
