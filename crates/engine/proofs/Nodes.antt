@@ -1,20 +1,21 @@
 -- What is told of the nodes that a cycle saw.
-use Rattle.std.proofs.Common.{◌≡◌, ℕ, zero, suc, ◌<◌, min, Bool, true, false, List, [], ◌∷◌, ◌++◌, Option, Some, None, length, map, take, get_or, zip, refl, sym, ap, subst, ◌∙◌, arith}
+use Rattle.std.proofs.Common.{◌≡◌, ℕ, zero, suc, ◌<◌, min, Bool, true, false, List, [], ◌∷◌, ◌++◌, Some, None, length, map, take, get_or, zip, refl, sym, ap, subst, arith}
 use Rattle.quant.specs.declared.objects.Pod.{Pod}
 use Rattle.desk.specs.declared.step.Step.TheVariants.{Pop}
-use Rattle.desk.specs.declared.step.Reply.{Reply}
 use Rattle.desk.specs.Machine as machine
 use Rattle.desk.specs.Machine.{State, reply, snapshot}
 use Rattle.desk.specs.Shown.{Shown}
 use Rattle.rules.specs.RuleSet.{RuleSet}
 use Rattle.choose.specs.declared.decision.Verdict.{Verdict}
-use Rattle.choose.specs.Choice.{AreVerdicts}
+use Rattle.choose.specs.Choice.{AreVerdicts, AreRulings}
 use Rattle.engine.specs.declared.named_rule.NamedRule.{NamedRule}
 use Rattle.engine.specs.declared.one_cycle.Cycled.{Cycled}
 use Rattle.engine.specs.declared.one_cycle.Cycled.TheVariants.{Idle}
 use Rattle.engine.specs.inside.Cycle.{popped_reply}
 use Rattle.engine.specs.CycleAlone.{IsDecidedAlone, AfterPopAlone, IsCycleAlone}
-use Rattle.engine.specs.Telling.{Explains, TellsNodes, verdict_lines}
+use Rattle.engine.specs.Indented.{AreLines}
+use Rattle.engine.specs.Text.{judged_line}
+use Rattle.engine.specs.Telling.{Explains, Judges, TellsNodes, ruling_lines, verdict_lines}
 
 -- ---- two lists, pair by pair
 
@@ -38,6 +39,19 @@ pub image_at : {A B : Type 0} (f : A → B) (xs : List A) (i : ℕ) (x : A) → 
 image_at f [] i x below at = absurd (omega (arith, below))
 image_at f (u ∷ xs) zero x below at = ap f at
 image_at f (u ∷ xs) (suc i) x below at = image_at f xs i x (omega (arith, below)) at
+
+-- ---- a question
+
+-- what is told where the rules were asked of the nodes as they are
+pub judged_by : (rules : RuleSet) (named : List NamedRule) (s : State) (pod : Pod) (nodes : List Shown) (rulings : List Verdict) (many : ℕ) → nodes ≡ snapshot s.cluster → many ≡ length nodes
+    → AreRulings rules pod nodes rulings → AreLines true (ruling_lines named pod nodes rulings) → AreLines false (judged_line pod.uid many)
+    → Judges rules named s pod (ruling_lines named pod nodes rulings ++ judged_line pod.uid many)
+judged_by rules named s pod nodes rulings many seen all are indented last =
+    subst (λ n. Judges rules named s pod (ruling_lines named pod nodes rulings ++ judged_line pod.uid n)) (sym all)
+    (subst (λ (rows : List Shown). AreRulings rules pod rows rulings → AreLines true (ruling_lines named pod rows rulings) → AreLines false (judged_line pod.uid (length rows))
+    → Judges rules named s pod (ruling_lines named pod rows rulings ++ judged_line pod.uid (length rows))) (sym seen)
+    (λ are indented last. record { rulings = rulings; are = are; indented = indented; last = last; is = refl })
+    are indented (subst (λ n. AreLines false (judged_line pod.uid n)) all last))
 
 -- ---- a cycle that popped no pod
 

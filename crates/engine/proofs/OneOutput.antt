@@ -1,7 +1,7 @@
 -- A script has one output.
-use Rattle.std.proofs.Common.{◌≡◌, ℕ, Bool, true, false, List, [], ◌∷◌, ◌++◌, Option, Some, None, sym, ap, subst, ◌∙◌}
+use Rattle.std.proofs.Common.{◌≡◌, ℕ, Bool, true, false, List, [], ◌∷◌, ◌++◌, length, Option, Some, None, sym, ap, subst, ◌∙◌}
 use Rattle.quant.specs.declared.name.Name.{Name}
-use Rattle.engine.specs.Telling.{Telling, Explains, TellsNodes, verdict_lines}
+use Rattle.engine.specs.Telling.{Telling, Explains, TellsNodes, ruling_lines, verdict_lines}
 use Rattle.quant.specs.declared.objects.Pod.{Pod}
 use Rattle.queue.specs.declared.state.Failure.TheVariants.{Unschedulable, Again}
 use Rattle.desk.specs.declared.step.Step.{Step}
@@ -15,13 +15,13 @@ use Rattle.choose.specs.declared.decision.Decision.{Decision}
 use Rattle.choose.specs.declared.decision.Decision.TheVariants as decisions
 use Rattle.choose.specs.Laws.{HaveOwnNames}
 use Rattle.choose.proofs.OneDecision.{one_decision}
-use Rattle.choose.proofs.OneVerdict.{one_list}
+use Rattle.choose.proofs.OneVerdict.{one_list, one_ruled}
 use Rattle.manifest.specs.declared.command.Command.{Command}
 use Rattle.engine.specs.declared.named_rule.NamedRule.{NamedRule}
 use Rattle.engine.specs.declared.one_cycle.Cycled.{Cycled}
 use Rattle.engine.specs.CycleAlone.{AfterAssumeAlone, EndsAlone, IsDecidedAlone, AfterPopAlone}
-use Rattle.engine.specs.Answers.{after, opening, limits, step_of, AnsweredBy, AllAnswered}
-use Rattle.engine.specs.Text.{cycle_line}
+use Rattle.engine.specs.Answers.{after, opening, limits, step_of, asked_of, AnsweredBy, AllAnswered}
+use Rattle.engine.specs.Text.{cycle_line, judged_line}
 use Rattle.engine.specs.Lines.{lines_of}
 use Rattle.engine.specs.Script.{asked_in}
 use Rattle.engine.specs.Output.{taken}
@@ -117,16 +117,20 @@ one_told rules named false s text text' once a b = a ∙ sym b
 -- ---- what is asked
 
 -- all that can be asked keeps it
-answered_own : (rules : RuleSet) (telling : Telling) (s : State) (a : Option Step) (s' : State) (text : List ℕ) → Own s → AnsweredBy rules telling s a s' text → Own s'
+answered_own : (rules : RuleSet) (telling : Telling) (s : State) (a : Option Step) (asked : Option Pod) (s' : State) (text : List ℕ) → Own s → AnsweredBy rules telling s a asked s' text → Own s'
 unfolding after
-answered_own rules telling s (Some step) s' text own told = kept_to s s' step told.0 own
-answered_own rules telling s None s' text own told = after_pop_own rules (machine.after s 0 Pop) (reply s 0 Pop) told.0 s' (kept s 0 Pop own) told.1.is
+answered_own rules telling s (Some step) asked s' text own told = kept_to s s' step told.0 own
+answered_own rules telling s None (Some pod) s' text own told = subst Own (sym told.0) own
+answered_own rules telling s None None s' text own told = after_pop_own rules (machine.after s 0 Pop) (reply s 0 Pop) told.0 s' (kept s 0 Pop own) told.1.is
 
 -- what is asked has one answer
-one_answer : (rules : RuleSet) (telling : Telling) (s : State) (a : Option Step) (one other : State) (text text' : List ℕ) → SayOneThing rules → Own s
-    → AnsweredBy rules telling s a one text → AnsweredBy rules telling s a other text' → Agree one other text text'
-one_answer rules telling s (Some step) one other text text' once own a b = (a.0 ∙ sym b.0, a.1 ∙ sym b.1)
-one_answer rules telling s None one other text text' once own a b =
+one_answer : (rules : RuleSet) (telling : Telling) (s : State) (a : Option Step) (asked : Option Pod) (one other : State) (text text' : List ℕ) → SayOneThing rules → Own s
+    → AnsweredBy rules telling s a asked one text → AnsweredBy rules telling s a asked other text' → Agree one other text text'
+one_answer rules telling s (Some step) asked one other text text' once own a b = (a.0 ∙ sym b.0, a.1 ∙ sym b.1)
+one_answer rules telling s None (Some pod) one other text text' once own a b =
+    let same : a.1.rulings ≡ b.1.rulings = one_ruled rules pod (snapshot s.cluster) a.1.rulings b.1.rulings once a.1.are b.1.are in
+    (a.0 ∙ sym b.0, a.1.is ∙ (ap (λ rulings. ruling_lines telling.named pod (snapshot s.cluster) rulings ++ judged_line pod.uid (length (snapshot s.cluster))) same ∙ sym b.1.is))
+one_answer rules telling s None None one other text text' once own a b =
     let popped : State = machine.after s 0 Pop in
     let same : Agree one other a.0 b.0 = after_pop rules popped (reply s 0 Pop) a.0 b.0 one other once (shown_apart popped.cluster (kept s 0 Pop own)) a.1.is b.1.is in
     let told : a.2.0 ≡ b.2.0 = one_told rules telling.named telling.explains s a.2.0 b.2.0 once a.2.1 b.2.1 in
@@ -137,8 +141,8 @@ pub all_one : (rules : RuleSet) (telling : Telling) (s : State) (l : List Comman
     → AllAnswered rules telling s l one text → AllAnswered rules telling s l other text' → Agree one other text text'
 all_one rules telling s [] one other text text' once own a b = (a.0 ∙ sym b.0, a.1 ∙ sym b.1)
 all_one rules telling s (first ∷ later) one other text text' once own (between, answer, rest, now, then, is) (between', answer', rest', now', then', is') =
-    let here : Agree between between' answer answer' = one_answer rules telling s (step_of first) between between' answer answer' once own now now' in
-    let there : Agree one other rest rest' = all_one rules telling between' later one other rest rest' once (answered_own rules telling s (step_of first) between' answer' own now')
+    let here : Agree between between' answer answer' = one_answer rules telling s (step_of first) (asked_of first) between between' answer answer' once own now now' in
+    let there : Agree one other rest rest' = all_one rules telling between' later one other rest rest' once (answered_own rules telling s (step_of first) (asked_of first) between' answer' own now')
     (subst (λ t. AllAnswered rules telling t later one rest) here.0 then) then' in
     (there.0, is ∙ ((λ i. here.1 i ++ there.1 i) ∙ sym is'))
 

@@ -32,12 +32,12 @@ use Rattle.desk.specs.declared.step.Reply.{Reply}
 use Rattle.desk.specs.declared.step.Reply.TheVariants as replies
 use Rattle.engine.specs.Lines.{IsLine}
 use Rattle.engine.specs.Indented.{is_indented, AreLines}
-use Rattle.engine.specs.Text.{line_of, share_text, node_line, counts, ok_line, idle_line, refused_line, places_line, queue_line, clock_line, assumed_line, reasons_text, unschedulable_line, cause_text, error_line, lost_line, name_at}
+use Rattle.engine.specs.Text.{line_of, share_text, node_line, counts, ok_line, idle_line, refused_line, places_line, queue_line, clock_line, assumed_line, reasons_text, unschedulable_line, cause_text, error_line, lost_line, judged_line, name_at}
 use Rattle.engine.specs.declared.named_rule.NamedRule.{NamedRule}
-use Rattle.engine.specs.Telling.{want_text, effect_name, taint_text, reason_text, code_of, part_text, parts_text, total_text, verdict_text, verdict_line}
+use Rattle.engine.specs.Telling.{want_text, effect_name, taint_text, reason_text, code_of, part_text, parts_text, sum_text, total_text, verdict_text, verdict_line}
 use Rattle.desk.specs.Machine as machine
 use Rattle.desk.specs.declared.step.Step.{Step}
-use Rattle.engine.specs.Answers.{State, look_lines, reply_lines, snapshot_lines, text_of}
+use Rattle.engine.specs.Answers.{State, look_lines, reply_lines, text_of}
 use Rattle.engine.proofs.Indented.{IsLine-by, IsLine-both, IsLine-decimal, IsLine-signed, IsLine-name, IsLine-text, is_flush, name_is_flush, not_true, one_line, more_lines, no_lines, stands_in_line}
 
 -- what holds anyway holds where a result is good
@@ -233,7 +233,13 @@ pub lost_lines : (uid : Name) (why : Refusal) → IsTrue (is_name uid) → AreLi
 unfolding lost_line
 lost_lines uid why one = line (named uid one & words (codes " lost ") refl & number (book.number_of why) & words (codes " ") refl & refusal_name why)
 
--- ---- the line of a node that a cycle saw
+-- ---- the line that ends the answer to a question
+
+pub judged_lines : (uid : Name) (nodes : ℕ) → IsTrue (is_name uid) → AreLines false (judged_line uid nodes)
+unfolding judged_line
+judged_lines uid nodes one = line (front (codes "judged ") refl refl & name_behind uid one & words (codes " ") refl & number nodes)
+
+-- ---- the line of a node that is told
 
 pub want_is_line : (label : List ℕ) (asked allocatable used : ℕ) → list_all stands_in_line label ≡ true → IsLine (label ++ want_text asked allocatable used)
 unfolding want_text
@@ -287,19 +293,23 @@ total_is_line named most pod shown count score scores parts =
     & (words (codes " taints ") refl & number (taint_score count most))
     & behind {text = parts_text named scores} parts).is
 
-pub rejected_is_line : (named : List NamedRule) (most place : ℕ) (pod : Pod) (shown : Shown) (how : Rejection) → IsLine (name_at named place)
+pub sum_is_line : (named : List NamedRule) (score : ℕ) (scores : List ℕ) → IsLine (parts_text named scores) → IsLine (sum_text named score scores)
+unfolding sum_text
+sum_is_line named score scores parts = (words (codes "total ") refl & number score & behind {text = parts_text named scores} parts).is
+
+pub rejected_is_line : (named : List NamedRule) (most : Option ℕ) (place : ℕ) (pod : Pod) (shown : Shown) (how : Rejection) → IsLine (name_at named place)
     → IsLine (verdict_text named most pod shown (verdict.RejectedBy place how))
 unfolding verdict_text
 rejected_is_line named most place pod shown how stands =
     (words (codes "plugin ") refl & behind {text = name_at named place} stands & (words (codes " ") refl & number (code_of how))).is
 
-pub errs_is_line : (named : List NamedRule) (most place : ℕ) (pod : Pod) (shown : Shown) (why : Cause) → IsLine (name_at named place)
+pub errs_is_line : (named : List NamedRule) (most : Option ℕ) (place : ℕ) (pod : Pod) (shown : Shown) (why : Cause) → IsLine (name_at named place)
     → IsLine (verdict_text named most pod shown (verdict.Errs place why))
 unfolding verdict_text
 errs_is_line named most place pod shown why stands =
     (words (codes "error plugin ") refl & behind {text = name_at named place} stands & (words (codes " ") refl & cause_of why)).is
 
-pub verdict_lines_of : (named : List NamedRule) (most : ℕ) (pod : Pod) (node : Shown) (v : Verdict) → IsTrue (is_name node.node.name) → IsLine (verdict_text named most pod node v)
+pub verdict_lines_of : (named : List NamedRule) (most : Option ℕ) (pod : Pod) (node : Shown) (v : Verdict) → IsTrue (is_name node.node.name) → IsLine (verdict_text named most pod node v)
     → AreLines true (verdict_line named most pod (node, v))
 unfolding verdict_line
 verdict_lines_of named most pod node v name stands =

@@ -1,5 +1,7 @@
 -- Kits that judge alike have the same output.
-use Rattle.std.proofs.Common.{ℕ, Bool, true, false, List, [], ◌∷◌, Option, Some, None, refl, arith}
+use Rattle.std.proofs.Common.{◌≡◌, ◌⊎◌, inl, inr, ℕ, Bool, true, false, List, [], ◌∷◌, Option, Some, None, refl, arith}
+use Rattle.std.specs.List.{All, AllZip}
+use Rattle.std.proofs.lemmas.List.Elements.{All-head, All-tail}
 use Rattle.engine.specs.Telling.{Telling, Explains, TellsNodes}
 use Rattle.quant.specs.declared.objects.Pod.{Pod}
 use Rattle.desk.specs.declared.step.Step.{Step}
@@ -12,26 +14,35 @@ use Rattle.desk.specs.Shown.{Shown}
 use Rattle.rules.specs.RuleSet.{RuleSet}
 use Rattle.choose.specs.declared.decision.Decision.{Decision}
 use Rattle.choose.specs.declared.decision.Verdict.{Verdict}
-use Rattle.choose.specs.Verdict.{HasVerdict}
+use Rattle.choose.specs.Verdict.{HasVerdict, HasRuling}
 use Rattle.choose.specs.Choice.{AreVerdicts, Choice}
 use Rattle.manifest.specs.declared.command.Command.{Command}
 use Rattle.engine.specs.declared.named_rule.NamedRule.{NamedRule}
 use Rattle.engine.specs.declared.one_cycle.Cycled.{Cycled}
 use Rattle.engine.specs.CycleAlone.{AfterPopAlone}
-use Rattle.engine.specs.Answers.{opening, step_of, AnsweredBy, AllAnswered}
+use Rattle.engine.specs.Answers.{opening, step_of, asked_of, AnsweredBy, AllAnswered}
 use Rattle.engine.specs.Lines.{lines_of}
 use Rattle.engine.specs.Script.{asked_in}
 use Rattle.engine.specs.Output.{taken}
-use Rattle.engine.specs.Laws.{SameOutput}
+use Rattle.choose.specs.Kits.{RuleAlike}
+use Rattle.engine.specs.Laws.{AsksNothing, SameOutput}
+
+-- what each verdict has that another has, all have
+on_each : (R S : Shown → Verdict → Type 0) → ((node : Shown) (v : Verdict) → R node v → S node v) → (nodes : List Shown) (vs : List Verdict) → AllZip R nodes vs → AllZip S nodes vs
+on_each R S each [] [] are = tt
+on_each R S each [] (v ∷ vs) are = absurd are
+on_each R S each (node ∷ nodes) [] are = absurd are
+on_each R S each (node ∷ nodes) (v ∷ vs) are = (each node v are.0, on_each R S each nodes vs are.1)
+
+-- others give all rulings of some rules
+abbrev pub GiveAll : (rules other : RuleSet) → Type 0
+GiveAll rules other = (pod : Pod) (shown : Shown) (ruling : Verdict) → HasRuling rules pod shown ruling → HasRuling other pod shown ruling
 
 -- Each of these that is so by some rules is so by others that have all their verdicts.
 module _ (rules other : RuleSet) (alike : (pod : Pod) (shown : Shown) (verdict : Verdict) → HasVerdict rules pod shown verdict → HasVerdict other pod shown verdict) where
   -- verdicts on nodes
   verdicts : (pod : Pod) (nodes : List Shown) (vs : List Verdict) → AreVerdicts rules pod nodes vs → AreVerdicts other pod nodes vs
-  verdicts pod [] [] are = tt
-  verdicts pod [] (v ∷ vs) are = absurd are
-  verdicts pod (node ∷ nodes) [] are = absurd are
-  verdicts pod (node ∷ nodes) (v ∷ vs) are = (alike pod node v are.0, verdicts pod nodes vs are.1)
+  verdicts pod nodes vs are = on_each (HasVerdict rules pod) (HasVerdict other pod) (alike pod) nodes vs are
 
   -- the choice among them
   choice : (nodes : List Shown) (pod : Pod) (d : Decision) → Choice rules nodes pod d → Choice other nodes pod d
@@ -59,21 +70,47 @@ module _ (rules other : RuleSet) (alike : (pod : Pod) (shown : Shown) (verdict :
   tells named true s text told = explains named (machine.after s 0 Pop) (reply s 0 Pop) text told
   tells named false s text told = told
 
-  -- the answer to what is asked
-  answered : (telling : Telling) (s : State) (a : Option Step) (s' : State) (text : List ℕ) → AnsweredBy rules telling s a s' text → AnsweredBy other telling s a s' text
-  answered telling s (Some step) s' text told = told
-  answered telling s None s' text (came, cycle, (told, are, indented, others, is)) =
+  -- the answer to what is asked, where they give all rulings or none is asked for
+  answered : (telling : Telling) (s : State) (a : Option Step) (asked : Option Pod) (s' : State) (text : List ℕ) → GiveAll rules other ⊎ (asked ≡ None)
+      → AnsweredBy rules telling s a asked s' text → AnsweredBy other telling s a asked s' text
+  answered telling s (Some step) asked s' text gives told = told
+  answered telling s None (Some pod) s' text (inr none) told = absurd (cc)
+  answered telling s None (Some pod) s' text (inl gives) (stays, judges) = (
+    stays,
+    record {
+      rulings = judges.rulings;
+      are = on_each (HasRuling rules pod) (HasRuling other pod) (gives pod) (machine.snapshot s.cluster) judges.rulings judges.are;
+      indented = judges.indented;
+      last = judges.last;
+      is = judges.is;
+    },
+  )
+  answered telling s None None s' text gives (came, cycle, (told, are, indented, others, is)) =
       (came, record { is = after_pop (machine.after s 0 Pop) (reply s 0 Pop) came s' cycle.is }, (told, tells telling.named telling.explains s told are, indented, others, is))
 
   -- and to all that is asked
-  pub all_answered : (telling : Telling) (s : State) (l : List Command) (s' : State) (text : List ℕ) → AllAnswered rules telling s l s' text → AllAnswered other telling s l s' text
-  all_answered telling s [] s' text told = told
-  all_answered telling s (first ∷ later) s' text (between, answer, rest, now, then, is) =
-      (between, answer, rest, answered telling s (step_of first) between answer now, all_answered telling between later s' rest then, is)
+  pub all_answered : (telling : Telling) (s : State) (l : List Command) (s' : State) (text : List ℕ) → GiveAll rules other ⊎ All (λ command. asked_of command ≡ None) l
+      → AllAnswered rules telling s l s' text → AllAnswered other telling s l s' text
+  all_answered telling s [] s' text gives told = told
+  all_answered telling s (first ∷ later) s' text (inl gives) (between, answer, rest, now, then, is) =
+      (between, answer, rest, answered telling s (step_of first) (asked_of first) between answer (inl gives) now, all_answered telling between later s' rest (inl gives) then, is)
+  all_answered telling s (first ∷ later) s' text (inr none) (between, answer, rest, now, then, is) = (
+    between,
+    answer,
+    rest,
+    answered telling s (step_of first) (asked_of first) between answer (inr (All-head (λ command. asked_of command ≡ None) first later none)) now,
+    all_answered telling between later s' rest (inr (All-tail (λ command. asked_of command ≡ None) first later none)) then,
+    is,
+  )
+
+-- of two kits that rule alike the other gives all rulings of the one
+gives_all : {Kit : Type 0} (answers : Kit → RuleSet) (one other : Kit) (script : List ℕ) → RuleAlike answers (one ∷ other ∷ []) ⊎ AsksNothing script → GiveAll (answers one) (answers other) ⊎ AsksNothing script
+gives_all answers one other script (inl alike) = inl (λ pod shown ruling. alike one other pod shown ruling (0, omega arith, refl) (1, omega arith, refl))
+gives_all answers one other script (inr none) = inr none
 
 -- the output by a kit is the output by one that judges alike
 pub same_output : {Kit : Type 0} (answers : Kit → RuleSet) (one other : Kit) → SameOutput answers one other
-same_output answers one other telling script text alike output = record {
+same_output answers one other telling script text alike rule_alike output = record {
   end = output.end;
-  answered = all_answered (answers one) (answers other) (λ pod shown verdict. alike one other pod shown verdict (0, omega arith, refl) (1, omega arith, refl)) telling opening (asked_in taken (lines_of script)) output.end text output.answered;
+  answered = all_answered (answers one) (answers other) (λ pod shown verdict. alike one other pod shown verdict (0, omega arith, refl) (1, omega arith, refl)) telling opening (asked_in taken (lines_of script)) output.end text (gives_all answers one other script rule_alike) output.answered;
 }

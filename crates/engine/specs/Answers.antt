@@ -4,6 +4,7 @@ use Rattle.std.specs.List.{flat_map}
 use Rattle.std.proofs.Common.{lit≤}
 use Rattle.quant.specs.declared.limits.TheConstants.{MAX_NODES, MAX_PLACED, MAX_QUEUED}
 use Rattle.book.specs.declared.limits.Limits.{Limits}
+use Rattle.quant.specs.declared.objects.Pod.{Pod}
 use Rattle.desk.specs.declared.step.Step.{Step}
 use Rattle.desk.specs.declared.step.Step.TheVariants as steps
 use Rattle.desk.specs.declared.step.Reply.{Reply}
@@ -16,7 +17,7 @@ use Rattle.rules.specs.RuleSet.{RuleSet}
 use Rattle.engine.specs.declared.one_cycle.Cycled.{Cycled}
 use Rattle.engine.specs.CycleAlone.{IsCycleAlone}
 use Rattle.engine.specs.Indented.{AreLines}
-use Rattle.engine.specs.Telling.{Telling, TellsNodes}
+use Rattle.engine.specs.Telling.{Telling, TellsNodes, Judges}
 use Rattle.engine.specs.Text.{ok_line, refused_line, node_line, places_line, queue_line, clock_line, cycle_line}
 
 -- the state in which steps are done
@@ -32,7 +33,7 @@ abbrev pub opening : State
 opening = machine.opening limits
 
 -- the step that a command asks for; a dump is a look, and then this step. A cycle is more than a
--- step
+-- step, and a question is none
 abbrev pub step_of : Command → Option Step
 step_of (commands.Event event) = Some (steps.Event event)
 step_of (commands.Tick now) = Some (steps.Tick now)
@@ -40,6 +41,17 @@ step_of commands.Cycle = None
 step_of (commands.BindDone uid ticket) = Some (steps.BindDone uid ticket)
 step_of (commands.Forget uid ticket) = Some (steps.Forget uid ticket)
 step_of commands.Dump = Some steps.Count
+step_of (commands.Judge pod) = None
+
+-- the pod for which a command asks what the rules alone say
+abbrev pub asked_of : Command → Option Pod
+asked_of (commands.Event event) = None
+asked_of (commands.Tick now) = None
+asked_of commands.Cycle = None
+asked_of (commands.BindDone uid ticket) = None
+asked_of (commands.Forget uid ticket) = None
+asked_of commands.Dump = None
+asked_of (commands.Judge pod) = Some pod
 
 -- the state after a step, which is by pass 0; a look changes nothing
 unfoldable pub after : State → Step → State
@@ -67,19 +79,21 @@ look_lines state _ = []
 unfoldable pub text_of : State → Step → List ℕ
 text_of state step = look_lines state step ++ reply_lines (machine.reply state 0 step)
 
--- This step is done and answered; or, where there is none, a cycle, with what is told of the nodes,
--- and with what it came to. What is told of nodes is whole lines that begin with two spaces, and
--- the rest is whole lines of which none does.
-abbrev pub AnsweredBy : RuleSet → (telling : Telling) → State → Option Step → State → List ℕ → Type 0
-AnsweredBy rules telling s (Some step) s' text = (s' ≡ after s step) × (text ≡ text_of s step) × AreLines false text
-AnsweredBy rules telling s None s' text =
+-- This step is done and answered; or, where there is none, what is asked for a pod, and nothing
+-- changes; or, where nothing is, a cycle, with what is told of the nodes, and with what it came to.
+-- What is told of nodes is whole lines that begin with two spaces, and the rest is whole lines of
+-- which none does.
+abbrev pub AnsweredBy : RuleSet → (telling : Telling) → State → Option Step → Option Pod → State → List ℕ → Type 0
+AnsweredBy rules telling s (Some step) asked s' text = (s' ≡ after s step) × (text ≡ text_of s step) × AreLines false text
+AnsweredBy rules telling s None (Some pod) s' text = (s' ≡ s) × Judges rules telling.named s pod text
+AnsweredBy rules telling s None None s' text =
     (came : Cycled) × IsCycleAlone rules s came s'
     × ((told : List ℕ) × TellsNodes rules telling.named telling.explains s told × AreLines true told × AreLines false (cycle_line telling.named came)
     × (text ≡ told ++ cycle_line telling.named came))
 
 -- what a command asks for is done and answered
 abbrev pub Answered : RuleSet → (telling : Telling) → State → Command → State → List ℕ → Type 0
-Answered rules telling s command s' text = AnsweredBy rules telling s (step_of command) s' text
+Answered rules telling s command s' text = AnsweredBy rules telling s (step_of command) (asked_of command) s' text
 
 -- this is done and answered, and then what is asked later
 abbrev pub AllAnswered : RuleSet → (telling : Telling) → State → List Command → State → List ℕ → Type 0

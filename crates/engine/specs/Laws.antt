@@ -1,12 +1,19 @@
 -- What holds of every script.
-use Rattle.std.specs.Prelude.{◌≡◌, ℕ, ◌⊎◌, true, false, List, [], ◌∷◌, ◌++◌}
+use Rattle.std.specs.Prelude.{◌≡◌, ℕ, ◌⊎◌, true, false, List, [], ◌∷◌, ◌++◌, Option, Some, None}
 use Rattle.std.specs.List.{All, flat_map}
 use Rattle.engine.specs.declared.named_rule.NamedRule.{NamedRule}
 use Rattle.engine.specs.Telling.{Telling, telling}
 use Rattle.engine.specs.Indented.{AreLines, without_indented}
 use Rattle.rules.specs.RuleSet.{RuleSet}
-use Rattle.choose.specs.Kits.{JudgeAlike}
-use Rattle.engine.specs.Output.{IsOutput, BeginsOutput}
+use Rattle.choose.specs.Kits.{JudgeAlike, RuleAlike}
+use Rattle.quant.specs.declared.name.Name.{Name}
+use Rattle.quant.specs.declared.objects.Pod.{Pod}
+use Rattle.manifest.specs.declared.command.Command.{Command}
+use Rattle.engine.specs.Answers.{asked_of}
+use Rattle.engine.specs.Lines.{lines_of}
+use Rattle.engine.specs.Script.{asked_in}
+use Rattle.engine.specs.Text.{judged_line}
+use Rattle.engine.specs.Output.{taken, IsOutput, BeginsOutput}
 
 -- There is one output of a script: it depends on the script, the rules, their names and weights as
 -- they are told, and whether verdicts are told alone.
@@ -26,19 +33,33 @@ abbrev pub FrontsAgree : RuleSet → Type 0
 FrontsAgree rules =
     (telling : Telling) (script one other : List ℕ) → BeginsOutput rules telling script one → BeginsOutput rules telling script other → Begins one other ⊎ Begins other one
 
--- The output of a script by one kit is its output by another that judges alike. A decider's kits
--- do, so that how many they are changes nothing.
+-- what a script asks for, up to its first faulty line
+abbrev pub asked_of_all : (script : List ℕ) → List Command
+asked_of_all script = asked_in taken (lines_of script)
+
+-- a script asks nowhere what the rules alone say
+abbrev pub AsksNothing : (script : List ℕ) → Type 0
+AsksNothing script = All (λ command. asked_of command ≡ None) (asked_of_all script)
+
+-- The output of a script by one kit is its output by another that judges alike and, where it asks
+-- what the rules alone say, rules alike. A decider's kits do, so that how many they are changes
+-- nothing.
 abbrev pub SameOutput : {Kit : Type 0} → (answers : Kit → RuleSet) → (one other : Kit) → Type 0
 SameOutput answers one other =
-    (telling : Telling) (script text : List ℕ) → JudgeAlike answers (one ∷ other ∷ []) → IsOutput (answers one) telling script text → IsOutput (answers other) telling script text
+    (telling : Telling) (script text : List ℕ) → JudgeAlike answers (one ∷ other ∷ []) → RuleAlike answers (one ∷ other ∷ []) ⊎ AsksNothing script
+    → IsOutput (answers one) telling script text → IsOutput (answers other) telling script text
 
--- A text is another, with lines put in before parts of it that begin with two spaces: of each pair
--- the first is put in, and the second is of the other.
-pub record IsWithLines (plain text : List ℕ) : Type 0 where
+-- A text is another, with something of this kind put in before parts of it: of each pair the first
+-- is put in, and the second is of the other.
+pub record IsWith (Kind : List ℕ → Type 0) (plain text : List ℕ) : Type 0 where
   pub parts : List (List ℕ × List ℕ)
   pub text_is : text ≡ flat_map (λ part. part.0 ++ part.1) parts
   pub plain_is : plain ≡ flat_map (λ part. part.1) parts
-  pub indented : All (λ part. AreLines true part.0) parts
+  pub put_in : All (λ part. Kind part.0) parts
+
+-- with lines put in that begin with two spaces
+abbrev pub IsWithLines : (plain text : List ℕ) → Type 0
+IsWithLines plain text = IsWith (AreLines true) plain text
 
 -- What explains a script's cycles is its output without explanations, with lines put in that begin
 -- with two spaces.
@@ -47,7 +68,28 @@ ExplainedOutput rules =
     (named : List NamedRule) (script text : List ℕ) → IsOutput rules (telling named true) script text →
     (plain : List ℕ) × IsOutput rules (telling named false) script plain × IsWithLines plain text
 
--- Without its lines that begin with two spaces it is the output: no line of that begins so.
-abbrev pub PlainOutput : RuleSet → Type 0
-PlainOutput rules =
-    (named : List NamedRule) (script text : List ℕ) → IsOutput rules (telling named true) script text → IsOutput rules (telling named false) script (without_indented text)
+-- Without its lines that begin with two spaces it is the output without these; and where nothing is
+-- asked it is the output, of which no line begins so.
+pub record PlainOutput (rules : RuleSet) : Type 0 where
+  pub both : (named : List NamedRule) (script text plain : List ℕ) → IsOutput rules (telling named true) script text → IsOutput rules (telling named false) script plain → without_indented text ≡ without_indented plain
+  pub unasked : (named : List NamedRule) (script text : List ℕ) → AsksNothing script → IsOutput rules (telling named true) script text → IsOutput rules (telling named false) script (without_indented text)
+
+-- the answer to a question: lines that begin with two spaces, and the line that ends them
+abbrev pub IsAnswer : List ℕ → Type 0
+IsAnswer text = (told : List ℕ) × (uid : Name) × (nodes : ℕ) × AreLines true told × (text ≡ told ++ judged_line uid nodes)
+
+-- what is asked for without the questions
+abbrev pub unless_asked : Option Pod → Command → List Command → List Command
+unless_asked None command later = command ∷ later
+unless_asked (Some pod) command later = later
+
+abbrev pub without_questions : List Command → List Command
+without_questions [] = []
+without_questions (first ∷ later) = unless_asked (asked_of first) first (without_questions later)
+
+-- To ask changes nothing: the output of a script is that of each that asks for the same without the
+-- questions, with their answers put in.
+abbrev pub AskingChangesNothing : RuleSet → Type 0
+AskingChangesNothing rules =
+    (telling : Telling) (script bare text : List ℕ) → asked_of_all bare ≡ without_questions (asked_of_all script) → IsOutput rules telling script text
+    → (plain : List ℕ) × IsOutput rules telling bare plain × IsWith (λ part. (part ≡ []) ⊎ IsAnswer part) plain text

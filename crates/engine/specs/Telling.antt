@@ -1,5 +1,5 @@
 -- What is told of the nodes that a cycle saw: each line begins with two spaces.
-use Rattle.std.specs.Prelude.{◌≡◌, ℕ, ◌-◌, Bool, true, false, List, [], ◌++◌, Option, Some, None, codes, decimal, zip}
+use Rattle.std.specs.Prelude.{◌≡◌, ℕ, ◌-◌, Bool, true, false, List, [], ◌++◌, length, Option, Some, None, codes, decimal, zip}
 use Rattle.std.specs.List.{flat_map}
 use Rattle.quant.specs.declared.objects.Pod.{Pod}
 use Rattle.quant.specs.declared.taint.Effect.{Effect}
@@ -20,9 +20,10 @@ use Rattle.choose.specs.declared.decision.Reason.{Reason}
 use Rattle.choose.specs.declared.decision.Reason.TheVariants as reason
 use Rattle.choose.specs.declared.decision.Verdict.{Verdict}
 use Rattle.choose.specs.declared.decision.Verdict.TheVariants.{Rejected, RejectedBy, Errs, Passes}
-use Rattle.choose.specs.Choice.{judged, most_of, total, AreVerdicts}
+use Rattle.choose.specs.Choice.{judged, most_of, total, AreVerdicts, AreRulings}
 use Rattle.engine.specs.declared.named_rule.NamedRule.{NamedRule}
-use Rattle.engine.specs.Text.{line_of, cause_text, name_at}
+use Rattle.engine.specs.Indented.{AreLines}
+use Rattle.engine.specs.Text.{line_of, cause_text, judged_line, name_at}
 
 -- what the answers to cycles tell: rules by these names and weights, in their order, and the
 -- verdict on each node or not
@@ -89,24 +90,53 @@ total_text named most pod shown count score scores =
     ++ (codes " taints " ++ decimal (taint_score count most))
     ++ parts_text named scores
 
+-- What the rules alone add up to: each rule's score as often as its weight says.
+unfoldable pub sum_text : List NamedRule → (score : ℕ) → (scores : List ℕ) → List ℕ
+sum_text named score scores = codes "total " ++ decimal score ++ parts_text named scores
+
+-- where the most untolerated taints of a node that passes are these; where none are told, it was
+-- asked what the rules alone say
+abbrev pub passing_text : List NamedRule → (most : Option ℕ) → Pod → Shown → (count score : ℕ) → (scores : List ℕ) → List ℕ
+passing_text named (Some most) pod shown count score scores = total_text named most pod shown count score scores
+passing_text named None pod shown count score scores = sum_text named score scores
+
 -- ---- a verdict
 
--- the verdict on a node that is shown, where the most untolerated taints of a node that passes are
--- these
-unfoldable pub verdict_text : List NamedRule → (most : ℕ) → Pod → Shown → Verdict → List ℕ
+-- the verdict on a node that is shown, or the ruling
+unfoldable pub verdict_text : List NamedRule → (most : Option ℕ) → Pod → Shown → Verdict → List ℕ
 verdict_text named most pod shown (Rejected reason) = reason_text pod shown reason
 verdict_text named most pod shown (RejectedBy place how) = codes "plugin " ++ name_at named place ++ (codes " " ++ decimal (code_of how))
 verdict_text named most pod shown (Errs place why) = codes "error plugin " ++ name_at named place ++ (codes " " ++ cause_text why)
-verdict_text named most pod shown (Passes count score scores) = total_text named most pod shown count score scores
+verdict_text named most pod shown (Passes count score scores) = passing_text named most pod shown count score scores
 
 -- the line of a node
-unfoldable pub verdict_line : List NamedRule → (most : ℕ) → Pod → Shown × Verdict → List ℕ
+unfoldable pub verdict_line : List NamedRule → (most : Option ℕ) → Pod → Shown × Verdict → List ℕ
 verdict_line named most pod node =
     line_of (codes "  " ++ node.0.node.name ++ (codes " " ++ verdict_text named most pod node.0 node.1))
 
 -- the lines of all nodes, in their order
+abbrev pub lines_by : List NamedRule → (most : Option ℕ) → Pod → List Shown → List Verdict → List ℕ
+lines_by named most pod nodes verdicts = flat_map (verdict_line named most pod) (zip nodes verdicts)
+
+-- those of verdicts
 abbrev pub verdict_lines : List NamedRule → Pod → List Shown → List Verdict → List ℕ
-verdict_lines named pod nodes verdicts = flat_map (verdict_line named (most_of (judged nodes verdicts)) pod) (zip nodes verdicts)
+verdict_lines named pod nodes verdicts = lines_by named (Some (most_of (judged nodes verdicts))) pod nodes verdicts
+
+-- and those of rulings
+abbrev pub ruling_lines : List NamedRule → Pod → List Shown → List Verdict → List ℕ
+ruling_lines named pod nodes rulings = lines_by named None pod nodes rulings
+
+-- ---- a question
+
+-- The answer to a question for a pod: what the rules alone say of each node as it now is, with what
+-- is used of it, and how many nodes these are. The lines of the nodes begin with two spaces, and
+-- the last line doesn't.
+pub record Judges (rules : RuleSet) (named : List NamedRule) (s : State) (pod : Pod) (text : List ℕ) : Type 0 where
+  pub rulings : List Verdict
+  pub are : AreRulings rules pod (snapshot s.cluster) rulings
+  pub indented : AreLines true (ruling_lines named pod (snapshot s.cluster) rulings)
+  pub last : AreLines false (judged_line pod.uid (length (snapshot s.cluster)))
+  pub is : text ≡ ruling_lines named pod (snapshot s.cluster) rulings ++ judged_line pod.uid (length (snapshot s.cluster))
 
 -- ---- a cycle
 

@@ -100,6 +100,10 @@ error_line uid rule node why =
 unfoldable pub lost_line : Name → Refusal → List ℕ
 lost_line uid why = line_of (uid ++ codes " lost " ++ decimal (number_of why) ++ codes " " ++ name_of why)
 
+-- the rules said what they say of so many nodes, for a pod
+unfoldable pub judged_line : Name → ℕ → List ℕ
+judged_line uid nodes = line_of (codes "judged " ++ uid ++ codes " " ++ decimal nodes)
+
 -- the name of the rule at a place
 abbrev pub name_at : List NamedRule → (place : ℕ) → List ℕ
 name_at named place = slice_index_or (map (λ rule. rule.name) named) place []

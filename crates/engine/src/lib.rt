@@ -13,7 +13,7 @@
 //! - Each way to end early is a `RunFault`, which has a number and a name.
 //! - That a script has one output, whoever runs it and with however many workers, are the laws
 //!   `one_output` and `same_output`; that an explained one is the same with lines put in is
-//!   `explained_output`.
+//!   `explained_output`, and that questions change nothing `asking_changes_nothing`.
 //!
 //! Output is written before more input is read, and before 64 KiB of it wait.
 #![tactic(auto)]
@@ -33,7 +33,7 @@ mod verdicts;
 
 pub use device::{DeviceFailed, Sink, Source, write_all};
 pub use fault::RunFault;
-pub use laws::{explained_output, one_output, same_output};
+pub use laws::{asking_changes_nothing, explained_output, one_output, same_output};
 pub use lines::LineReader;
 pub use named_rule::NamedRule;
 pub use one_cycle::{CutShort, Cycled, cycle};

@@ -8,17 +8,20 @@ ghost use Rattle.engine.specs.Answers.{after, text_of, opening, limits, look_lin
 ghost use Rattle.choose.specs.Kits.{rules_of};
 ghost use Rattle.engine.specs.CycleAlone.{IsCycleAlone};
 ghost use Rattle.engine.specs.Indented.{AreLines};
-ghost use Rattle.engine.specs.Telling.{TellsNodes, telling};
+ghost use Rattle.engine.specs.Telling.{Judges, TellsNodes, telling};
 
 use crate::fault::RunFault;
 use crate::lone_desk::LoneDesk;
 use crate::named_rule::NamedRule;
 use crate::one_cycle::Cycled;
-use crate::text::{push_clock, push_cycled, push_node, push_places, push_queue, push_refused};
-use crate::verdicts::push_verdicts;
+use crate::text::{
+    push_clock, push_cycled, push_judged, push_node, push_places, push_queue, push_refused,
+};
+use crate::verdicts::{push_rulings, push_verdicts};
 use choose::Decider;
 use desk::{Blank, Counts, Limits, Naming, Reply, Snapshot, Step};
 use manifest::Command;
+use quant::SharedPod;
 use std::alloc::{AllocError, Global};
 use std::hash::RandomState;
 use std::sync::Wait;
@@ -100,6 +103,7 @@ impl<J: Naming> Session<J> {
             Command::BindDone { uid, ticket } => self.step(rt, Step::BindDone { uid, ticket }),
             Command::Forget { uid, ticket } => self.step(rt, Step::Forget { uid, ticket }),
             Command::Dump => self.dump(rt),
+            Command::Judge(pod) => self.judge(named, decider, &pod),
         }
     }
 
@@ -187,6 +191,33 @@ impl<J: Naming> Session<J> {
             decider.verdicts(),
         )?;
         Ok(came)
+    }
+
+    // Adds what the rules alone say of each node for a pod to the text, and how many these are.
+    fn judge<D: Decider>(
+        &mut self,
+        named: &[NamedRule],
+        decider: &mut D,
+        pod: &SharedPod,
+    ) -> Result<(), RunFault>
+        ensures state { self.new.desk ≡ self.old.desk }
+        ensures judged { OnOk result ((text : List ℕ) ×
+            Judges (rules_of D.Kit.answers (D.kits decider.old)) named.now self.old.desk pod.now text
+            × (self.new.text.items ≡ self.old.text.items ++ text)) }
+        ensures kits { D.kits decider.new ≡ D.kits decider.old }
+        ensures faults { IfErr result (λ e. e ≡ RunFault.NoMemory) }
+    {
+        let snapshot = self.desk.look()?;
+        decider.judge(&snapshot, pod)?;
+        push_rulings(
+            &mut self.text,
+            named,
+            pod,
+            snapshot.rows(),
+            decider.verdicts(),
+        )?;
+        push_judged(&mut self.text, &pod.uid, snapshot.rows().len() as u64)?;
+        Ok(())
     }
 
     // Adds the lines of the nodes to the text.

@@ -3,7 +3,7 @@ ghost use Rattle.std.specs.Prelude.{◌≡◌, ◌++◌, OnOk, decimal, false};
 ghost use Rattle.std.specs.Fmt.{signed_decimal};
 ghost use Rattle.engine.specs.Lines.{IsLine};
 ghost use Rattle.engine.specs.Indented.{AreLines};
-ghost use Rattle.engine.specs.Text.{refused_line, share_text, node_line, counts, places_line, queue_line, clock_line, assumed_line, reasons_text, unschedulable_line, cause_text, error_line, lost_line, name_at, cycle_line};
+ghost use Rattle.engine.specs.Text.{refused_line, share_text, node_line, counts, places_line, queue_line, clock_line, assumed_line, reasons_text, unschedulable_line, cause_text, error_line, lost_line, judged_line, name_at, cycle_line};
 
 use crate::named_rule::NamedRule;
 use crate::one_cycle::Cycled;
@@ -227,6 +227,17 @@ fn push_lost(out: &mut Vec<u8>, uid: &Name, why: Refusal) -> Result<(), AllocErr
     push_count(out, b" lost ", u64::from(why.number()))?;
     out.extend_from_slice(b" ")?;
     out.extend_from_slice(why.name().as_bytes())?;
+    out.extend_from_slice(b"\n")
+}
+
+// Adds the line of a pod for which so many nodes were judged.
+#[tactic(auto, unfolding(crate::specs::Text::judged_line))]
+pub(crate) fn push_judged(out: &mut Vec<u8>, uid: &Name, nodes: u64) -> Result<(), AllocError>
+    ensures text { OnOk result (out.new.items ≡ out.old.items ++ judged_line uid.now nodes) }
+    ensures lines { OnOk result (AreLines false (judged_line uid.now nodes)) }
+{
+    push_text(out, b"judged ", uid.as_bytes())?;
+    push_count(out, b" ", nodes)?;
     out.extend_from_slice(b"\n")
 }
 

@@ -1,11 +1,12 @@
-//! The lines that tell what a cycle decided of each node.
-ghost use Rattle.std.specs.Prelude.{◌≡◌, ◌≤◌, ◌++◌, OnOk, length, map, true, Some};
+//! The lines that tell what a cycle decided of each node, or what the rules alone say of it.
+ghost use Rattle.std.specs.Prelude.{◌≡◌, ◌≤◌, ◌++◌, IfSome, OnOk, length, map, true, Some};
+ghost use Rattle.std.specs.List.{All};
 ghost use Rattle.taints.specs.Tolerance.{first_untolerated};
 ghost use Rattle.desk.specs.Shown.{shown};
 ghost use Rattle.choose.specs.Choice.{count_of};
 ghost use Rattle.engine.specs.Lines.{IsLine};
 ghost use Rattle.engine.specs.Indented.{AreLines};
-ghost use Rattle.engine.specs.Telling.{code_of, effect_name, part_text, parts_text, reason_text, taint_text, total_text, verdict_line, verdict_lines, verdict_text, want_text};
+ghost use Rattle.engine.specs.Telling.{code_of, effect_name, lines_by, part_text, parts_text, reason_text, ruling_lines, sum_text, taint_text, total_text, verdict_line, verdict_lines, verdict_text, want_text};
 
 use crate::named_rule::NamedRule;
 use crate::text::{name_at, push_cause, push_count, push_text};
@@ -148,19 +149,35 @@ fn push_total(
     push_parts(out, named, scores)
 }
 
+// Adds what the rules alone add up to.
+#[tactic(auto, unfolding(crate::specs::Telling::sum_text))]
+fn push_sum(
+    out: &mut Vec<u8>,
+    named: &[NamedRule],
+    score: u16,
+    scores: &[u8],
+) -> Result<(), AllocError>
+    ensures text { OnOk result (out.new.items ≡ out.old.items ++ sum_text named.now score scores.now) }
+    ensures line { OnOk result (IsLine (sum_text named.now score scores.now)) }
+{
+    push_count(out, b"total ", u64::from(score))?;
+    push_parts(out, named, scores)
+}
+
 // ---- a verdict
 
-// Adds a verdict, where the most untolerated taints of a node that passes are these.
+// Adds a verdict, where the most untolerated taints of a node that passes are these, or, where none
+// are told, a ruling.
 #[tactic(auto, unfolding(crate::specs::Telling::verdict_text))]
 fn push_verdict(
     out: &mut Vec<u8>,
     named: &[NamedRule],
-    most: u8,
+    most: Option<u8>,
     pod: &Pod,
     row: &Row,
     verdict: Verdict,
 ) -> Result<(), AllocError>
-    requires { count_of verdict ≤ most }
+    requires { IfSome most (λ most. count_of verdict ≤ most) }
     ensures text { OnOk result (out.new.items ≡ out.old.items ++ verdict_text named.now most pod.now (shown row.now)
         verdict) }
     ensures line { OnOk result (IsLine (verdict_text named.now most pod.now (shown row.now) verdict)) }
@@ -176,9 +193,10 @@ fn push_verdict(
             out.extend_from_slice(b" ")?;
             push_cause(out, why)
         }
-        Verdict::Passes(count, score, scores) => {
-            push_total(out, named, most, pod, row, count, score, &scores)
-        }
+        Verdict::Passes(count, score, scores) => match most {
+            Some(most) => push_total(out, named, most, pod, row, count, score, &scores),
+            None => push_sum(out, named, score, &scores),
+        },
     }
 }
 
@@ -187,12 +205,12 @@ fn push_verdict(
 fn push_line(
     out: &mut Vec<u8>,
     named: &[NamedRule],
-    most: u8,
+    most: Option<u8>,
     pod: &Pod,
     row: &Row,
     verdict: Verdict,
 ) -> Result<(), AllocError>
-    requires { count_of verdict ≤ most }
+    requires { IfSome most (λ most. count_of verdict ≤ most) }
     ensures text { OnOk result (out.new.items ≡ out.old.items ++ verdict_line named.now most pod.now
         (shown row.now, verdict)) }
     ensures lines { OnOk result (AreLines true (verdict_line named.now most pod.now (shown row.now, verdict))) }
@@ -201,6 +219,29 @@ fn push_line(
     out.extend_from_slice(b" ")?;
     push_verdict(out, named, most, pod, row, verdict)?;
     out.extend_from_slice(b"\n")
+}
+
+// ---- all nodes
+
+// Adds the lines of all nodes, in their order.
+fn push_lines(
+    out: &mut Vec<u8>,
+    named: &[NamedRule],
+    most: Option<u8>,
+    pod: &Pod,
+    rows: &[Row],
+    verdicts: &[Verdict],
+) -> Result<(), AllocError>
+    requires all { length verdicts.now ≡ length rows.now }
+    requires most { IfSome most (λ most. All (λ verdict. count_of verdict ≤ most) verdicts.now) }
+    ensures text { OnOk result (out.new.items ≡ out.old.items ++ lines_by named.now most pod.now (map shown rows.now)
+        verdicts.now) }
+    ensures lines { OnOk result (AreLines true (lines_by named.now most pod.now (map shown rows.now) verdicts.now)) }
+{
+    for at in 0..rows.len() {
+        push_line(out, named, most, pod, &rows[at], verdicts[at])?;
+    }
+    Ok(())
 }
 
 /// Adds the lines of all nodes, in their order, each with the verdict on it for the pod. The rules
@@ -218,8 +259,22 @@ pub(crate) fn push_verdicts(
     ensures lines { OnOk result (AreLines true (verdict_lines named.now pod.now (map shown rows.now) verdicts.now)) }
 {
     let most = most_taints(verdicts);
-    for at in 0..rows.len() {
-        push_line(out, named, most, pod, &rows[at], verdicts[at])?;
-    }
-    Ok(())
+    push_lines(out, named, Some(most), pod, rows, verdicts)
+}
+
+/// Adds the lines of all nodes, in their order, each with the ruling on it. The rules have these
+/// names and weights, in their order.
+pub(crate) fn push_rulings(
+    out: &mut Vec<u8>,
+    named: &[NamedRule],
+    pod: &Pod,
+    rows: &[Row],
+    rulings: &[Verdict],
+) -> Result<(), AllocError>
+    requires { length rulings.now ≡ length rows.now }
+    ensures text { OnOk result (out.new.items ≡ out.old.items ++ ruling_lines named.now pod.now (map shown rows.now)
+        rulings.now) }
+    ensures lines { OnOk result (AreLines true (ruling_lines named.now pod.now (map shown rows.now) rulings.now)) }
+{
+    push_lines(out, named, None, pod, rows, rulings)
 }

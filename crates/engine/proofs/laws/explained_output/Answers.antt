@@ -5,4 +5,4 @@ pub returns-clause-explained : goal.returns-clause-explained
 returns-clause-explained g c = explained_output _
 
 pub returns-clause-plain : goal.returns-clause-plain
-returns-clause-plain g c = plain_output _
+returns-clause-plain g c = plain_output _ (g.met.K.Rules.say_one_thing c.args._kit.now)

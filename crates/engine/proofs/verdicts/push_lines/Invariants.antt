@@ -3,7 +3,7 @@ use Rattle.std.specs.List.{flat_map}
 use Rattle.desk.specs.Shown.{shown}
 use Rattle.engine.specs.Indented.{AreLines}
 use Rattle.engine.specs.Telling.{verdict_line}
-use Rattle.engine.proofs.verdicts.push_verdicts.Given as goal
+use Rattle.engine.proofs.verdicts.push_lines.Given as goal
 
 abbrev pub invariant-loop-at : goal.invariant-loop-at
 invariant-loop-at l =

@@ -1,57 +1,21 @@
-use Rattle.std.proofs.Common.{◌≡◌, ℕ, List, ◌+◌, ◌<◌, ◌++◌, ◌∷◌, [], true, add-one, append_assoc, length, map, take, get_or, zip, sym, ap, subst, ◌∙◌, arith}
-use Rattle.std.specs.List.{flat_map}
-use Rattle.std.proofs.lemmas.List.{flat_map_more, get_or_default, length-map, take_all}
-use Rattle.desk.specs.Shown.{Shown, shown}
+use Rattle.std.proofs.Common.{◌≡◌, ◌++◌, true, map, Some, OnOk, sym, subst, ◌∙◌}
+use Rattle.std.proofs.lemmas.List.{length-map}
+use Rattle.desk.specs.Shown.{shown}
 use Rattle.choose.specs.Choice.{judged, most_of}
-use Rattle.choose.specs.declared.decision.Reason.TheVariants.{Marked}
-use Rattle.choose.specs.declared.decision.Verdict.{Verdict}
-use Rattle.choose.specs.declared.decision.Verdict.TheVariants.{Rejected}
 use Rattle.choose.proofs.Deciding.{all_bounded, most_judged}
 use Rattle.engine.specs.Indented.{AreLines}
-use Rattle.engine.specs.Telling.{verdict_line}
-use Rattle.engine.proofs.Indented.{more_lines}
-use Rattle.engine.proofs.Nodes.{image_at, zip_long, zip_more}
+use Rattle.engine.specs.Telling.{lines_by}
 use Rattle.engine.proofs.verdicts.push_verdicts.Goals as goal
 
-pub push_line-requires : goal.push_line-requires
-push_line-requires c =
-    let vs = c.args.verdicts.now in
-    all_bounded vs c.most_taints-most.result c.most_taints-most.ensures c.loop-at.at (Rejected Marked) (omega (arith, c.requires, c.loop-at-test.true))
-
-pub loop-at-preserved : goal.loop-at-preserved
-loop-at-preserved c =
-    let rows = c.args.rows.now in
-    let vs = c.args.verdicts.now in
-    let at = c.loop-at.at in
-    let row = c.index-rows-at.result in
-    let was = c.args.out.now.items in
-    let f : Shown × Verdict → List ℕ = verdict_line c.args.named.now c.most_taints-most.result c.args.pod.now in
-    let nodes = zip (map shown rows) vs in
-    let v : Verdict = get_or vs at (Rejected Marked) in
-    let below : at < length vs = omega (arith, c.requires, c.loop-at-test.true) in
-    let next : take (at + 1) nodes ≡ take at nodes ++ (shown row, v) ∷ [] =
-    rw add-one (zip_more (map shown rows) vs at (shown row) v (omega (arith, c.loop-at-test.true, length-map rows shown)) below (image_at shown rows at row c.loop-at-test.true c.index-rows-at.is) (get_or_default vs at (Rejected Marked) v below)) in
-    let more : flat_map f (take at nodes) ++ f (shown row, v) ≡ flat_map f (take (at + 1) nodes) = flat_map_more f [] (take at nodes) (shown row, v) ∙ ap (flat_map f) (sym next) in (
-      c.in_ok-push_line.ensures.text
-          ∙ ap (λ t. t ++ f (shown row, v)) c.loop-at.invariant.0
-          ∙ append_assoc was (flat_map f (take at nodes)) (f (shown row, v))
-          ∙ ap (λ t. was ++ t) more,
-      subst (AreLines true) more (more_lines true (flat_map f (take at nodes)) (f (shown row, v)) c.loop-at.invariant.1 c.in_ok-push_line.ensures.lines),
-    )
+pub push_lines-requires-clause-most : goal.push_lines-requires-clause-most
+push_lines-requires-clause-most c = all_bounded c.args.verdicts.now c.most_taints-most.result c.most_taints-most.ensures
 
 pub returns : goal.returns
 returns c =
-    let rows = c.args.rows.now in
     let vs = c.args.verdicts.now in
-    let nodes = zip (map shown rows) vs in
-    let same : length vs ≡ length (map shown rows) = c.requires ∙ sym (length-map rows shown) in
-    let many : length nodes ≡ length rows = omega (arith, zip_long (map shown rows) vs, same, c.requires) in
-    let most : c.most_taints-most.result ≡ most_of (judged (map shown rows) vs) = c.most_taints-most.ensures ∙ most_judged (map shown rows) vs same in
-    let all : flat_map (verdict_line c.args.named.now c.most_taints-most.result c.args.pod.now) (take c.loop-at.at nodes)
-    ≡ flat_map (verdict_line c.args.named.now (most_of (judged (map shown rows) vs)) c.args.pod.now) nodes =
-    ap (flat_map (verdict_line c.args.named.now c.most_taints-most.result c.args.pod.now)) (take_all c.loop-at.at nodes (omega (arith, many)))
-    ∙ ap (λ m. flat_map (verdict_line c.args.named.now m c.args.pod.now) nodes) most in
+    let nodes = map shown c.args.rows.now in
+    let most : c.most_taints-most.result ≡ most_of (judged nodes vs) = c.most_taints-most.ensures ∙ most_judged nodes vs (c.requires ∙ sym (length-map c.args.rows.now shown)) in
     record {
-      text = c.loop-at.invariant.0 ∙ ap (λ t. c.args.out.now.items ++ t) all;
-      lines = subst (AreLines true) all c.loop-at.invariant.1;
+      text = subst (λ m. OnOk c.push_lines.result (c.push_lines.new.out.items ≡ c.args.out.now.items ++ lines_by c.args.named.now (Some m) c.args.pod.now nodes vs)) most c.push_lines.ensures.text;
+      lines = subst (λ m. OnOk c.push_lines.result (AreLines true (lines_by c.args.named.now (Some m) c.args.pod.now nodes vs))) most c.push_lines.ensures.lines;
     }

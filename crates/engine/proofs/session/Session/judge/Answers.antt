@@ -1,0 +1,41 @@
+use Rattle.std.proofs.Common.{◌≡◌, ◌∙◌, ◌++◌, true, false, map, length, sym, ap, subst, append_assoc}
+use Rattle.std.proofs.lemmas.List.{length-map}
+use Rattle.quant.specs.declared.objects.Pod.{Pod}
+use Rattle.desk.specs.Machine.{snapshot}
+use Rattle.desk.specs.Shown.{shown}
+use Rattle.choose.specs.Kits.{rules_of}
+use Rattle.choose.specs.Choice.{AreRulings}
+use Rattle.choose.proofs.Verdicts.{all_zip_length}
+use Rattle.engine.specs.Indented.{AreLines}
+use Rattle.engine.specs.Telling.{ruling_lines}
+use Rattle.engine.specs.Text.{judged_line}
+use Rattle.engine.proofs.Nodes.{judged_by}
+use Rattle.engine.proofs.session.Session.judge.Goals as goal
+
+pub push_rulings-requires : goal.push_rulings-requires
+push_rulings-requires g c =
+    ap length c.verdicts.ensures ∙ (all_zip_length _ _ _ c.in_ok-judge.ensures.judged ∙ (sym (ap length c.rows.ensures) ∙ length-map c.rows.result.now shown))
+
+-- the lines of the nodes, and then the last one
+pub returns-clause-judged : goal.returns-clause-judged
+returns-clause-judged g c =
+    let rules = rules_of g.D.Kit.Rules.answers (g.D.Decider.kits c.args.decider.now) in
+    let named = c.args.named.now in
+    let s = c.args.self.now.desk in
+    let pod = c.args.pod.now in
+    let was = c.args.self.now.text.items in
+    let nodes = map shown c.rows.result.now in
+    let rulings = c.verdicts.result.now in
+    let many = length c.rows-2.result.now in
+    let seen : nodes ≡ snapshot s.cluster = c.rows.ensures ∙ c.in_ok-snapshot.ensures.shown in
+    let all : many ≡ length nodes = sym (length-map c.rows-2.result.now shown) ∙ ap length (c.rows-2.ensures ∙ sym c.rows.ensures) in
+    let are : AreRulings rules pod nodes rulings = subst (λ vs. AreRulings rules pod nodes vs) (sym c.verdicts.ensures) (subst (λ rows. AreRulings rules pod rows (g.D.Decider.last c.judge.new.self)) (sym c.rows.ensures) c.in_ok-judge.ensures.judged) in
+    let indented = subst (λ (p : Pod). AreLines true (ruling_lines named p nodes rulings)) c.deref.ensures c.in_ok-push_rulings.ensures.lines in
+    let last = subst (λ (p : Pod). AreLines false (judged_line p.uid many)) c.deref-2.ensures c.in_ok-push_judged.ensures.lines in (
+      ruling_lines named pod nodes rulings ++ judged_line pod.uid many,
+      judged_by rules named s pod nodes rulings many seen all are indented last,
+      c.in_ok-push_judged.ensures.text
+          ∙ ap (λ (p : Pod). c.push_rulings.new.out.items ++ judged_line p.uid many) c.deref-2.ensures
+          ∙ ap (λ t. t ++ judged_line pod.uid many) (c.in_ok-push_rulings.ensures.text ∙ ap (λ (p : Pod). was ++ ruling_lines named p nodes rulings) c.deref.ensures)
+          ∙ append_assoc was (ruling_lines named pod nodes rulings) (judged_line pod.uid many),
+    )
