@@ -18,6 +18,7 @@ watched commands.Cycle = Err (BadField Op)
 watched (commands.BindDone uid ticket) = Err (BadField Op)
 watched (commands.Forget uid ticket) = Err (BadField Op)
 watched commands.Dump = Err (BadField Op)
+watched (commands.Judge pod) = Err (BadField Op)
 
 -- the steps of a storm's script, which each of its feeders makes
 unfoldable pub script_steps : List ℕ → List Step

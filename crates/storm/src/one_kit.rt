@@ -1,11 +1,11 @@
 //! One kit as what decides.
 ghost use Rattle.std.specs.Prelude.{◌≡◌, [], ◌∷◌, List, IfOk, OnOk};
 ghost use denote.Param.Send.{IsSync};
-ghost use Rattle.choose.specs.Choice.{AreVerdicts, Choice};
+ghost use Rattle.choose.specs.Choice.{AreRulings, AreVerdicts, Choice};
 ghost use Rattle.choose.specs.declared.decision.Verdict.{Verdict};
 ghost use Rattle.choose.specs.Kits.{rules_of};
 
-use choose::{Decider, Decision, UNJUDGED, Verdict, choose_alone, decide, judge};
+use choose::{Decider, Decision, UNJUDGED, Verdict, choose_alone, decide, judge, rule_on};
 use desk::{NoMemory, Snapshot};
 use quant::SharedPod;
 use rules::Rules;
@@ -62,6 +62,13 @@ impl<K: Rules + Drop> Decider for OneKit<K> {
             return self.decide(rt, snapshot, pod);
         }
         Ok(choose_alone(&snapshot, pod, &self.kit))
+    }
+
+    fn judge(&mut self, snapshot: &Snapshot, pod: &SharedPod) -> Result<(), NoMemory> {
+        let rows = snapshot.rows();
+        self.verdicts.resize(rows.len(), UNJUDGED)?;
+        rule_on(rows, pod, &mut self.kit, self.verdicts.as_mut_slice());
+        Ok(())
     }
 
     fn verdicts(&self) -> &[Verdict] {

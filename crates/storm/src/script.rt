@@ -28,6 +28,7 @@ fn step_for(command: Command) -> Result<Step, LineFault>
         Command::BindDone { uid: _, ticket: _ } => Err(LineFault::BadField(Field::Op)),
         Command::Forget { uid: _, ticket: _ } => Err(LineFault::BadField(Field::Op)),
         Command::Dump => Err(LineFault::BadField(Field::Op)),
+        Command::Judge(_) => Err(LineFault::BadField(Field::Op)),
     }
 }
 
