@@ -2,12 +2,12 @@
 ghost use Rattle.std.specs.Prelude.{◌≡◌, ◌<◌, ◌≤◌, [], ◌∷◌, length, vec_len, map, IfOk, OnErr, OnOk};
 ghost use Rattle.std.specs.List.{All};
 ghost use Rattle.desk.specs.Shown.{shown};
-ghost use Rattle.choose.specs.Choice.{AreVerdicts, Choice};
-ghost use Rattle.choose.specs.Kits.{JudgeAlike};
+ghost use Rattle.choose.specs.Choice.{AreRulings, AreVerdicts, Choice};
+ghost use Rattle.choose.specs.Kits.{JudgeAlike, rules_of};
 
 use crate::gate::Gate;
 use crate::pieces::{Work, judge_pieces};
-use choose::{Decision, NoMemory, UNJUDGED, Verdict, decide};
+use choose::{Decision, NoMemory, UNJUDGED, Verdict, decide, rule_on};
 use desk::{Row, Snapshot};
 use quant::Pod;
 use rules::Rules;
@@ -109,6 +109,26 @@ where
         self.decide_among(rt, snapshot.rows(), pod, gate)
     }
 
+    /// What the rules alone say of each node, for a pod. The first kit says it here.
+    ///
+    /// Errors: `NoMemory` where the look has more nodes than any before and there is no memory for
+    /// a verdict each. Nothing was asked then, and the fleet can be used again.
+    pub fn judge(&mut self, snapshot: &Snapshot, pod: &Pod) -> Result<(), NoMemory>
+        ensures judged { OnOk result (AreRulings (rules_of K.answers self.old.kits) pod.now snapshot.now
+            self.new.verdicts) }
+        ensures kits { self.new.kits ≡ self.old.kits }
+    {
+        let rows = snapshot.rows();
+        self.verdicts.resize(rows.len(), UNJUDGED)?;
+        rule_by_first(
+            rows,
+            pod,
+            self.kits.as_mut_slice(),
+            self.verdicts.as_mut_slice(),
+        );
+        Ok(())
+    }
+
     // The decision among these nodes.
     fn decide_among<R: Threads + Sync, G: Gate + Sync>(
         &mut self,
@@ -164,4 +184,14 @@ where
         );
         Ok(())
     }
+}
+
+// Writes what the rules alone say of nodes, by the first of these kits.
+fn rule_by_first<K: Rules>(rows: &[Row], pod: &Pod, kits: &mut [K], verdicts: &mut [Verdict])
+    requires some { 0 < length kits.old }
+    requires places { length verdicts.old ≡ length rows.now }
+    ensures are { AreRulings (rules_of K.answers kits.old) pod.now (map shown rows.now) verdicts.new }
+    ensures stay { kits.new ≡ kits.old }
+{
+    rule_on(rows, pod, &mut kits[0], verdicts);
 }
