@@ -34,7 +34,7 @@ use Rattle.manifest.specs.declared.fault.LineFault.TheVariants.{BadField}
 use Rattle.manifest.specs.Field.{key}
 use Rattle.manifest.specs.Operation.{operation_named}
 use Rattle.manifest.specs.Reading.{◌>>=◌, member, text, integer, natural, signed, flag, name, name_from, cpu, cpu_from, memory, memory_from, request}
-use Rattle.manifest.specs.Line.{version_in, node_in, gone_in, pod_in, bound_in, deleted_in, fields_of, command_in, meaning}
+use Rattle.manifest.specs.Line.{version_in, node_in, gone_in, pod_in, row_in, bound_in, deleted_in, fields_of, command_in, meaning}
 use Rattle.manifest.proofs.Parsed.{parsed_read}
 use Rattle.objects.specs.inside.Line.{cpu_text, memory_text, label_json, taint_json, toleration_json, items_json, line_json}
 use Rattle.objects.specs.Sayable.{IsVersion, IsNodeRow, IsPodRow, IsSayable}
@@ -164,7 +164,7 @@ pod_back : (d : Data) (version : Version) (pod : Pod)
     → get (key fields.Labels) d ≡ Some (array (items_data label_data pod.labels.items))
     → get (key fields.Tolerations) d ≡ Some (array (items_data toleration_data pod.tolerations.items))
     → IsVersion version → IsPodRow pod → pod_in d ≡ Ok (commands.Event (PodPending version pod))
-unfolding pod_in
+unfolding pod_in row_in
 pod_back d version pod in_version in_uid in_priority in_containers in_init in_labels in_tolerations v row =
     rw (
       version_back d version in_version v,
