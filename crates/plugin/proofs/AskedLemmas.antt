@@ -1,5 +1,5 @@
 -- How far what a plugin says reaches.
-use Rattle.std.proofs.Common.{◌≡◌, ℕ, zero, suc, ◌<◌, true, false, IsTrue, IsSome, ◌↔◌, List, length, Option, Some, None, IfSome, slice_get, refl, sym, ap, ◌∙◌, subst, inl}
+use Rattle.std.proofs.Common.{◌≡◌, ℕ, zero, suc, ◌<◌, true, false, IsTrue, IsSome, ◌↔◌, List, length, Option, Some, IfSome, slice_get, refl, sym, ap, ◌∙◌, subst, inl}
 use Rattle.wmach.proofs.OverBr.{slice_get_some}
 use Rattle.wmach.specs.declared.export.Export.TheVariants as export
 use Rattle.whost.specs.declared.records.Records.{Records}

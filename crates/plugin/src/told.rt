@@ -84,8 +84,7 @@ impl Told {
         let Some(uid) = &self.uid else {
             return false;
         };
-        uid.as_bytes() == pod.uid.as_bytes()
-            && self.records.pod3().as_bytes() == class.as_bytes()
+        uid.as_bytes() == pod.uid.as_bytes() && self.records.pod3().as_bytes() == class.as_bytes()
     }
 
     // Writes the records of a pod. Those of the node stay.

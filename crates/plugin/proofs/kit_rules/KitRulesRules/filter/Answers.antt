@@ -1,8 +1,6 @@
-use Rattle.std.proofs.Common.{◌≡◌, ◌∙◌, sym, subst, List, ◌<◌, length, arith}
-use Rattle.plugin.specs.Kit.{Ready, ready_parts}
+use Rattle.std.proofs.Common.{◌∙◌, sym, subst, List}
+use Rattle.plugin.specs.Kit.{Ready}
 use Rattle.plugin.specs.inside.Kept.{KeptHolds}
-use Rattle.plugin.specs.inside.Shown.{IsOfNode}
-use Rattle.plugin.proofs.KitLemmas.{as_many}
 use Rattle.plugin.proofs.kit_rules.KitRulesRules.filter.Goals as goal
 
 pub returns-clause-says : goal.returns-clause-says

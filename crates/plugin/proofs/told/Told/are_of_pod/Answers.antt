@@ -1,7 +1,6 @@
-use Rattle.std.proofs.Common.{◌≡◌, ◌∙◌, refl, sym, ap, subst}
+use Rattle.std.proofs.Common.{◌∙◌, sym, ap}
 use Rattle.std.specs.Cmp.Lexicographic.{bytes_decides}
 use Rattle.whost.specs.declared.records.Records.{Records}
-use Rattle.whost.specs.declared.records.Versions.{Versions}
 use Rattle.plugin.proofs.TellingLemmas.{noted_pod}
 use Rattle.plugin.proofs.told.Told.are_of_pod.Goals as goal
 

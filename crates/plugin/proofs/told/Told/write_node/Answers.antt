@@ -1,4 +1,4 @@
-use Rattle.std.proofs.Common.{◌≡◌, ◌∙◌, sym, ap, subst}
+use Rattle.std.proofs.Common.{◌∙◌, ap}
 use Rattle.quant.specs.declared.objects.Node.{Node}
 use Rattle.whost.specs.declared.records.Records.{Records}
 use Rattle.whost.specs.Handed.{node_records}

@@ -1,6 +1,5 @@
-use Rattle.std.proofs.Common.{◌≡◌, sym, ap, subst}
+use Rattle.std.proofs.Common.{sym, ap}
 use Rattle.whost.specs.declared.records.Records.{Records}
-use Rattle.whost.specs.declared.records.Versions.{Versions}
 use Rattle.plugin.proofs.told.Told.write_pod.Goals as goal
 
 pub invariant_of-self : goal.invariant_of-self
