@@ -30,6 +30,13 @@ const FIRST_FAULTS: &str = r#"1 |{"op":"dump"
 2 op|{"op":"dump","op":"x"}
 0 |{"op":"dump","v":0,"other":[{"op":1}]}
 0 |{"op":"cycle"}
+2 v|{"op":"judge"}
+4 v|{"op":"judge","v":0,"uid":"a","containers":[["1","1"]]}
+2 uid|{"op":"judge","v":1,"containers":[["1","1"]]}
+2 containers|{"op":"judge","v":1,"uid":"a"}
+4 containers|{"op":"judge","v":1,"uid":"a","containers":[]}
+3 containers|{"op":"judge","v":1,"uid":"a","containers":[["1","much"]]}
+0 |{"op":"judge","v":1,"uid":"a","containers":[["1","1"]]}
 0 |{"op":"gone","v":1,"name":"a"}
 0 |{"op":"gone","v":1000000000000000000,"name":"a"}
 4 v|{"op":"gone","v":1000000000000000001,"name":"a"}

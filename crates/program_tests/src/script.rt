@@ -190,6 +190,10 @@ impl Decider for Crew {
         self.fleet.decide(rt, &snapshot, pod, &NoGate)
     }
 
+    fn judge(&mut self, snapshot: &Snapshot, pod: &SharedPod) -> Result<(), NoMemory> {
+        self.fleet.judge(snapshot, pod)
+    }
+
     fn verdicts(&self) -> &[Verdict] {
         self.fleet.verdicts()
     }
@@ -457,14 +461,53 @@ fn told() -> &'static [(Same, &'static str)] {
     TOLD
 }
 
-// The first rule by which a cycle comes to something else.
+// Two nodes, of which the second takes no pod, and a question.
+const ONE_QUESTION: &[u8] = br#"{"op":"node","v":1,"name":"a","cpu":"4","mem":"8Gi","pods":110}
+{"op":"node","v":2,"name":"b","cpu":"0","mem":"0","pods":0,"unschedulable":true}
+{"op":"judge","v":1,"uid":"p1","containers":[["100m","64Mi"]]}
+{"op":"cycle"}
+"#;
+
+// What a rule alone says.
+const JUDGED: &[(Same, &str)] = &[
+    (
+        NOTHING,
+        "ok\nok\n  a total 0\n  b total 0\njudged p1 2\nidle\n",
+    ),
+    (
+        PASSING,
+        "ok\nok\n  a total 100 rule 2 50\n  b total 100 rule 2 50\njudged p1 2\nidle\n",
+    ),
+    (
+        Same {
+            filter: FilterVerdict::Rejects(Rejection::UnschedulableAndUnresolvable),
+            ..PASSING
+        },
+        "ok\nok\n  a plugin rule 3\n  b plugin rule 3\njudged p1 2\nidle\n",
+    ),
+    (
+        Same {
+            errs: Some(Cause::Score(101)),
+            ..PASSING
+        },
+        "ok\nok\n  a error plugin rule score 101\n  b error plugin rule score 101\njudged p1 2\nidle\n",
+    ),
+];
+
+fn judged() -> &'static [(Same, &'static str)] {
+    JUDGED
+}
+
+// The first rule by which a script comes to something else.
 fn first_other<T: Wait + Threads + Sync>(
     rt: &T,
     alloc: Global,
     keys: Option<RandomState>,
+    script: &[u8],
+    table: &[(Same, &str)],
 ) -> Option<usize> {
-    for (at, (rules, output)) in told().iter().enumerate() {
-        let pieces = [TWO_CYCLES];
+    for (at, (rules, output)) in table.iter().enumerate() {
+        let pieces = [script];
         let answered = [0, output.len()];
         if !writes(
             rt,
@@ -484,7 +527,13 @@ fn first_other<T: Wait + Threads + Sync>(
 #[test]
 fn a_cycle_is_told_on_a_line(rt: HostRuntime) {
     let keys = RandomState::new(&rt).ok();
-    assert_eq!(rt; first_other(&rt, rt.alloc(), keys), None);
+    assert_eq!(rt; first_other(&rt, rt.alloc(), keys, TWO_CYCLES, told()), None);
+}
+
+#[test]
+fn what_the_rules_alone_say_is_told_of_each_node(rt: HostRuntime) {
+    let keys = RandomState::new(&rt).ok();
+    assert_eq!(rt; first_other(&rt, rt.alloc(), keys, ONE_QUESTION, judged()), None);
 }
 
 // So many kits of such rules.
