@@ -22,7 +22,7 @@ use Rattle.desk.specs.Plain.{is_plain}
 use Rattle.desk.specs.Shown.{Shown, shown}
 use Rattle.desk.specs.Order.{name_at, AreInOrder}
 use Rattle.choose.specs.declared.decision.Reason.{Reason}
-use Rattle.choose.specs.declared.decision.Reason.TheVariants.{Marked, Cpu, Memory, Pods, Plugin, Final}
+use Rattle.choose.specs.declared.decision.Reason.TheVariants.{Marked, Plugin, Final}
 use Rattle.choose.specs.declared.decision.Verdict.{Verdict}
 use Rattle.choose.specs.declared.decision.Verdict.TheVariants.{Rejected}
 use Rattle.choose.specs.declared.best.Worth.TheVariants.{Total}

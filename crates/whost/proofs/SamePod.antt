@@ -1,5 +1,5 @@
 -- Pods of one uid and one record of version 3 have the same records.
-use Rattle.std.proofs.Common.{◌≡◌, ℕ, zero, suc, ◌+◌, Bool, true, false, List, [], ◌∷◌, ◌++◌, length, take, drop, if◌then◌else◌, refl, sym, ap, ◌∙◌, append_assoc}
+use Rattle.std.proofs.Common.{◌≡◌, ℕ, suc, Bool, true, false, List, [], ◌∷◌, ◌++◌, length, take, drop, if◌then◌else◌, refl, sym, ap, ◌∙◌, append_assoc}
 use Rattle.std.proofs.Math.Seq.{take-append_seam, drop-append_seam}
 use Rattle.std.specs.List.{flat_map}
 use Rattle.std.specs.Int.{cast_unsigned, w32}
@@ -8,7 +8,7 @@ use Rattle.quant.specs.Name.{is_before}
 use Rattle.quant.specs.declared.objects.Label.{Label}
 use Rattle.quant.specs.declared.objects.Pod.{Pod}
 use Rattle.whost.specs.KeyOrder.{put_in_order, in_key_order}
-use Rattle.whost.specs.Record.{number_field, text_field, label_field, labels_field, tolerations_field, pod_fields, pod_bytes, pod_bytes2, pod_bytes3}
+use Rattle.whost.specs.Record.{number_field, text_field, label_field, labels_field, tolerations_field, pod_bytes, pod_bytes2, pod_bytes3}
 use Rattle.whost.specs.Handed.{pod_records}
 
 -- of two lists that begin with parts of one length these are the same, and so is what follows

@@ -1,4 +1,4 @@
-use Rattle.std.proofs.Common.{◌≡◌, ◌*◌, ◌≤◌, Some, slice_get, rules, refl, arith, subst, sym, ◌∙◌}
+use Rattle.std.proofs.Common.{◌≡◌, ◌*◌, ◌≤◌, Some, slice_get, rules, refl, arith, subst, ◌∙◌}
 use Rattle.desk.specs.Shown.{shown}
 use Rattle.choose.specs.Verdict.{told_of}
 use Rattle.rules.specs.declared.verdict.ScoreVerdict.TheVariants as score

@@ -1,4 +1,4 @@
-use Rattle.std.proofs.Common.{◌≡◌, ◌≤◌, ◌+◌, ◌*◌, ℕ, true, false, length, subst, sym, ap, ◌∙◌, arith}
+use Rattle.std.proofs.Common.{◌≡◌, ◌≤◌, ◌+◌, ◌*◌, ℕ, true, false, length, subst, sym, ap, arith}
 use Rattle.std.proofs.lemmas.Grind.{div_ceil_times}
 use Rattle.wmem.specs.inside.Noted.{Noted}
 use Rattle.wmem.proofs.NotedLemmas.{AreMarked, none_yet, one_more, all_marked}
