@@ -35,11 +35,11 @@ class Core:
     """The child, and the lines that it is to be told. It has a session of its own: what a terminal or a service manager sends to all
     that belongs to this process isn't meant for it, which ends when its input does."""
 
-    def __init__(self, words: list[str], record: Record | None, beat: Callable[[], None]) -> None:
+    def __init__(self, words: list[str], record: Record | None, beat: Callable[[], None], patience: float = PATIENCE) -> None:
         self.child = subprocess.Popen(words, stdin=subprocess.PIPE, stdout=subprocess.PIPE, bufsize=0, start_new_session=True)
         assert self.child.stdin and self.child.stdout
         self.input, self.output = self.child.stdin.fileno(), self.child.stdout.fileno()
-        self.record, self.beat, self.read = record, beat, b""
+        self.record, self.beat, self.patience, self.read = record, beat, patience, b""
         self.meanwhile: Callable[[], None] | None = None
         self.waiting: collections.deque[Told] = collections.deque()
         self.ready = select.poll()
@@ -62,12 +62,7 @@ class Core:
 
     def exchange(self, some: list[Told]) -> None:
         lines = b"".join(it.line for it in some)
-        try:
-            written = 0
-            while written < len(lines):
-                written += os.write(self.input, lines[written:])
-        except BrokenPipeError:
-            pass
+        self.write(lines)
         if not self.record:
             for it in some:
                 it.then(self.answer(it))
@@ -78,14 +73,24 @@ class Core:
         for it, answer in zip(some, answers):
             it.then(answer)
 
+    def write(self, lines: bytes) -> None:
+        """(where nobody reads them any more the answers will end)"""
+        try:
+            written = 0
+            while written < len(lines):
+                written += os.write(self.input, lines[written:])
+        except BrokenPipeError:
+            pass
+
     def answer(self, told: Told) -> str:
-        line = self.line(told)
         if not told.last:
-            return line
-        lines = [line]
-        while not lines[-1].startswith(told.last):
-            lines.append(self.line(told))
-        return "\n".join(lines)
+            return self.line(told)
+        last = told.last.encode()
+        while (end := end_of(self.read, last)) < 0:
+            self.more(told)
+        lines, self.read = self.read[:end], self.read[end + 1 :]
+        self.beat()
+        return lines.decode()
 
     def line(self, told: Told) -> str:
         end = self.read.find(b"\n")
@@ -97,12 +102,12 @@ class Core:
 
     def more(self, told: Told) -> int:
         """Reads until there is a whole line, and gives where it ends."""
-        pieces, deadline = [self.read], time.monotonic() + PATIENCE
+        pieces, deadline = [self.read], time.monotonic() + self.patience
         while True:
             left = deadline - time.monotonic()
             if left <= 0:
                 self.kill()
-                raise CoreFault(f"wsched has said nothing for {PATIENCE:.0f} s, at {told.line.decode()}")
+                raise CoreFault(f"wsched has said nothing for {self.patience:.0f} s, at {told.line.decode()}")
             if not self.ready.poll(1000 * (min(left, MEANWHILE) if self.meanwhile else left)):
                 if self.meanwhile:
                     self.meanwhile()
@@ -129,6 +134,12 @@ class Core:
         except subprocess.TimeoutExpired as late:
             self.kill()
             raise CoreFault(f"wsched hasn't ended within {PATIENCE:.0f} s of its input") from late
+
+
+def end_of(text: bytes, last: bytes) -> int:
+    """Where the first line that begins so ends, or -1."""
+    start = 0 if text.startswith(last) else text.find(b"\n" + last) + 1
+    return text.find(b"\n", start) if start or text.startswith(last) else -1
 
 
 def command(program: str, workers: int, specs: list[str]) -> list[str]:

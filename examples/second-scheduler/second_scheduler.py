@@ -19,8 +19,7 @@ import threading
 from typing import Any
 
 import urllib3
-import yaml
-from kubernetes import client, config
+from kubernetes import client
 
 sys.path.append(str(pathlib.Path(__file__).resolve().parent.parent))
 
@@ -36,9 +35,10 @@ import site_settings
 from core import CoreFault, command, try_on_nothing
 from health import Health
 from metrics import Metrics
+from official import NoAccount, calls_by
 from scheduler import Scheduler, end_process
 from translating import words_of
-from way import OPTIONS, NoWay, Way
+from way import NoWay, Way
 
 LOG = logging.getLogger("second-scheduler")
 # The rule that --node-affinity asks, and the fuel of its calls: enough for any pod and node.
@@ -121,25 +121,15 @@ def log_to_standard_error(is_verbose: bool) -> None:
 
 
 def connect(given: argparse.Namespace) -> tuple[Any, Way]:
-    """The API server, by the account of the pod that this runs in or by a kubeconfig: the official client's calls, and the way for what
-    is written as often as pods are bound."""
+    """The API server: the official client's calls, and the way for what is written as often as pods are bound."""
     try:
-        if not given.kubeconfig and os.environ.get("KUBERNETES_SERVICE_HOST"):
-            config.load_incluster_config()
-        else:
-            config.load_kube_config(given.kubeconfig)
-    except (config.ConfigException, OSError, yaml.YAMLError, TypeError, ValueError) as why:
-        where = given.kubeconfig or os.environ.get("KUBECONFIG") or "the usual kubeconfig, ~/.kube/config"
-        sys.exit(f"second_scheduler.py: no way to the API server by {where}: {why}")
-    settings = client.Configuration.get_default_copy()
-    settings.connection_pool_maxsize = given.binders + 16
-    settings.retries = False
-    calls = client.ApiClient(settings)
-    calls.rest_client.pool_manager.connection_pool_kw["socket_options"] = OPTIONS
+        calls = calls_by(given.kubeconfig, given.binders + 16)
+    except NoAccount as why:
+        sys.exit(f"second_scheduler.py: {why}")
     try:
-        return client.CoreV1Api(calls), Way(settings)
+        return client.CoreV1Api(calls), Way(calls.configuration)
     except (NoWay, OSError, ValueError) as why:
-        sys.exit(f"second_scheduler.py: no way to the API server {settings.host}: {why}")
+        sys.exit(f"second_scheduler.py: no way to the API server {calls.configuration.host}: {why}")
 
 
 class Replica:

@@ -13,10 +13,7 @@ import os
 import socket
 import ssl
 import threading
-from typing import Any, NamedTuple
-
-from health import Health
-from metrics import Metrics
+from typing import Any, NamedTuple, Protocol
 
 LOG = logging.getLogger("second-scheduler")
 FORM = "text/plain; version=0.0.4; charset=utf-8"
@@ -76,66 +73,89 @@ def token_in(file: str | None) -> str:
         return it.read().strip()
 
 
-def serve(where: tuple[str, int], health: Health, metrics: Metrics, files: Files = Files()) -> None:
+class Told(Protocol):
+    """What is counted."""
+
+    def text(self) -> bytes: ...
+
+
+class Well(Protocol):
+    """Whether this process does what it is for, and why it doesn't."""
+
+    def is_live(self) -> bool: ...
+
+    def is_ready(self) -> bool: ...
+
+    def why_not_ready(self) -> str: ...
+
+
+class Answer(http.server.BaseHTTPRequestHandler):
+    """One connection. `serve` gives it what it tells of."""
+
+    protocol_version = "HTTP/1.1"
+    timeout = 30
+    certificate: Certificate | None
+    files: Files
+    health: Well
+    metrics: Told
+
+    def setup(self) -> None:
+        if self.certificate:
+            # (in the thread of this request: one that says nothing keeps no other waiting)
+            self.request.settimeout(self.timeout)
+            self.request = self.certificate.newest().wrap_socket(self.request, server_side=True)
+        super().setup()
+
+    def may_read(self) -> bool:
+        if not self.files.token:
+            return True
+        try:
+            wanted = f"Bearer {token_in(self.files.token)}"
+        except (OSError, ValueError) as why:
+            LOG.warning("the token of --listen can't be read: %s", why)
+            return False
+        return hmac.compare_digest((self.headers.get("Authorization") or "").encode(), wanted.encode())
+
+    def do_GET(self) -> None:  # pylint: disable=invalid-name
+        path = self.path.partition("?")[0]
+        if path == "/metrics" and not self.may_read():
+            return self.say(401, b"who are you?\n", more={"WWW-Authenticate": "Bearer"})
+        if path == "/metrics":
+            return self.say(200, self.metrics.text(), FORM)
+        if path in ("/healthz", "/livez"):
+            return self.say_whether(self.health.is_live(), "the main loop does nothing")
+        if path == "/readyz":
+            return self.say_whether(self.health.is_ready(), self.health.why_not_ready())
+        return self.say(404, b"not found\n")
+
+    def say_whether(self, is_well: bool, why: str) -> None:
+        self.say(200 if is_well else 503, b"ok" if is_well else why.encode() + b"\n")
+
+    def say(self, status: int, body: bytes, form: str = "text/plain; charset=utf-8", more: dict[str, str] | None = None) -> None:
+        self.send_response(status)
+        for name, value in (more or {}).items():
+            self.send_header(name, value)
+        self.send_header("Content-Type", form)
+        self.send_header("Content-Length", str(len(body)))
+        self.end_headers()
+        self.wfile.write(body)
+
+    def log_message(self, format: str, *args: object) -> None:  # pylint: disable=redefined-builtin
+        LOG.debug(format, *args)
+
+
+def serve(where: tuple[str, int], health: Well, metrics: Told, files: Files = Files(), answer: type[Answer] = Answer) -> http.server.ThreadingHTTPServer:
     """Raises OSError where it can't be: for the address, the certificate or the token."""
-    certificate = Certificate(files) if files.cert else None
     if files.token and not token_in(files.token):
         raise OSError(f"{files.token} has no token")
-
-    class Answer(http.server.BaseHTTPRequestHandler):
-        """One request."""
-
-        protocol_version = "HTTP/1.1"
-        timeout = 30
-
-        def setup(self) -> None:
-            if certificate:
-                # (in the thread of this request: one that says nothing keeps no other waiting)
-                self.request.settimeout(self.timeout)
-                self.request = certificate.newest().wrap_socket(self.request, server_side=True)
-            super().setup()
-
-        def may_read(self) -> bool:
-            if not files.token:
-                return True
-            try:
-                wanted = f"Bearer {token_in(files.token)}"
-            except (OSError, ValueError) as why:
-                LOG.warning("the token of --listen can't be read: %s", why)
-                return False
-            return hmac.compare_digest((self.headers.get("Authorization") or "").encode(), wanted.encode())
-
-        def do_GET(self) -> None:  # pylint: disable=invalid-name
-            path = self.path.partition("?")[0]
-            if path == "/metrics" and not self.may_read():
-                return self.say(401, b"who are you?\n", more={"WWW-Authenticate": "Bearer"})
-            if path == "/metrics":
-                return self.say(200, metrics.text(), FORM)
-            if path in ("/healthz", "/livez"):
-                return self.say_whether(health.is_live(), "the main loop does nothing")
-            if path == "/readyz":
-                return self.say_whether(health.is_ready(), health.why_not_ready())
-            return self.say(404, b"not found\n")
-
-        def say_whether(self, is_well: bool, why: str) -> None:
-            self.say(200 if is_well else 503, b"ok" if is_well else why.encode() + b"\n")
-
-        def say(self, status: int, body: bytes, form: str = "text/plain; charset=utf-8", more: dict[str, str] | None = None) -> None:
-            self.send_response(status)
-            for name, value in (more or {}).items():
-                self.send_header(name, value)
-            self.send_header("Content-Type", form)
-            self.send_header("Content-Length", str(len(body)))
-            self.end_headers()
-            self.wfile.write(body)
-
-        def log_message(self, format: str, *args: object) -> None:  # pylint: disable=redefined-builtin
-            LOG.debug(format, *args)
+    certificate = Certificate(files) if files.cert else None
+    told = type(answer.__name__, (answer,), {"certificate": certificate, "files": files, "health": health, "metrics": metrics})
 
     class Server(http.server.ThreadingHTTPServer):
         """Where no host is named, it listens on all addresses of both kinds."""
 
         daemon_threads = True
+        request_queue_size = 128
         address_family = socket.AF_INET6 if ":" in where[0] or (not where[0] and socket.has_dualstack_ipv6()) else socket.AF_INET
 
         def handle_error(self, request: Any, client_address: Any) -> None:
@@ -147,5 +167,6 @@ def serve(where: tuple[str, int], health: Health, metrics: Metrics, files: Files
                 self.socket.setsockopt(socket.IPPROTO_IPV6, socket.IPV6_V6ONLY, 0 if not where[0] else 1)
             super().server_bind()
 
-    server = Server(where, Answer)
+    server = Server(where, told)
     threading.Thread(target=server.serve_forever, daemon=True, name="listen").start()
+    return server

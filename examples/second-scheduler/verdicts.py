@@ -76,13 +76,17 @@ def is_of_rules(counts: list[str]) -> bool:
     return any(why in RULES and n != "0" for why, n in zip(counts[::2], counts[1::2]))
 
 
+def rejected_by(rule: str, code: str) -> str:
+    return f"node(s) were rejected by {rule}{CODES[code]}"
+
+
 def said_of_no_node(counts: list[str], nodes: dict[str, list[str]] | None = None, whose: str = "", reasons: Reasons | None = None) -> str:
     """The message of kube-scheduler's kind, of the words and numbers that wsched answers; with what `explain` says of each node it names
     the rules, and what each says of itself. `whose` says which nodes were looked at, where these aren't all."""
     some = [(int(n), WHY[why], "") for why, n in zip(counts[::2], counts[1::2]) if n != "0" and (nodes is None or why not in RULES)]
     named = collections.Counter((words[1], words[2]) for words in (nodes or {}).values() if words[0] == "plugin")
     some += [
-        (n, f"node(s) were rejected by {rule}{CODES[code]}", (reasons or {}).get(rule, {}).get(int(code), ""))
+        (n, rejected_by(rule, code), (reasons or {}).get(rule, {}).get(int(code), ""))
         for (rule, code), n in named.items()
     ]
     some.sort(key=lambda it: it[1])

@@ -51,8 +51,8 @@ def _number(module: bytes, at: int) -> tuple[int, int]:
     raise _Ends
 
 
-def custom_sections(module: bytes) -> Iterator[tuple[str, bytes]]:
-    """Of each custom section the name and what it holds, up to where the module can't be read."""
+def _sections(module: bytes) -> Iterator[tuple[int, int, int]]:
+    """Of each section its number, and where what it holds begins and ends, up to where the module can't be read."""
     at = len(HEADER)
     try:
         while module.startswith(HEADER) and at < len(module):
@@ -60,9 +60,34 @@ def custom_sections(module: bytes) -> Iterator[tuple[str, bytes]]:
             at = start + size
             if at > len(module):
                 return
+            yield kind, start, at
+    except _Ends:
+        return
+
+
+def custom_sections(module: bytes) -> Iterator[tuple[str, bytes]]:
+    """Of each custom section the name and what it holds, up to where the module can't be read."""
+    try:
+        for kind, start, end in _sections(module):
             if kind == 0:
-                length, start = _number(module[:at], start)
-                yield module[start:start + length].decode("utf-8", "replace"), module[start + length:at]
+                length, start = _number(module[:end], start)
+                yield module[start:start + length].decode("utf-8", "replace"), module[start + length:end]
+    except _Ends:
+        return
+
+
+def exported(module: bytes) -> Iterator[str]:
+    """The names that it exports (WebAssembly Core 1.0, 5.5.10), up to where it can't be read."""
+    try:
+        for kind, start, end in _sections(module):
+            if kind == 7:
+                held = module[:end]
+                count, at = _number(held, start)
+                for _ in range(count):
+                    length, at = _number(held, at)
+                    yield held[at:at + length].decode("utf-8", "replace")
+                    # (behind its kind is its index)
+                    _, at = _number(held, at + length + 1)
     except _Ends:
         return
 
@@ -140,6 +165,15 @@ def of_spec(spec: str) -> Said:
         return of_file(spec.split(":", 3)[3])
     except (OSError, IndexError):
         return NOTHING
+
+
+def has_score(spec: str) -> bool:
+    """Whether the module of a word NAME:WEIGHT:FUEL:FILE has a score; it has none where it can't be read."""
+    try:
+        with open(spec.split(":", 3)[3], "rb") as it:
+            return "score" in exported(it.read())
+    except (OSError, IndexError):
+        return False
 
 
 def reasons_by_name(specs: Sequence[str]) -> dict[str, dict[int, str]]:
