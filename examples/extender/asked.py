@@ -1,0 +1,144 @@
+# SPDX-License-Identifier: Apache-2.0
+"""kube-scheduler's requests as they come over a connection: read, answered and counted. It keeps its connection, and asks the next by the same."""
+from __future__ import annotations
+
+import contextlib
+import http
+import json
+import logging
+import threading
+import time
+from typing import Any, Callable, Mapping
+
+from serving import Answer
+
+from counting import Counting
+from service import Reply, Service
+
+LOG = logging.getLogger("second-scheduler")
+# The largest body that is read, and how many of more than so many bytes are read and answered at once.
+LARGEST, LARGE, LARGE_AT_ONCE = 2**26, 2**20, 4
+# How long a line and how many fields a head may have.
+LINE, FIELDS = 65536, 100
+# For how long a connection may have no request, and one that has begun to come may say nothing, in seconds.
+IDLE, SILENT = 600.0, 30
+Verb = Callable[[bytes], Reply]
+LARGE_ONES = threading.BoundedSemaphore(LARGE_AT_ONCE)
+
+
+class Asked(Answer):
+    """One connection. (What http.server does with a head takes longer than all else here, so a POST's is read by this.)"""
+
+    timeout = SILENT
+    disable_nagle_algorithm = True
+    # (an answer is one write)
+    wbufsize = 2**16
+    service: Service
+    counting: Counting
+    fields: Mapping[str, str]
+    began, close_connection = 0.0, False
+    requestline = request_version = command = ""
+    raw_requestline = b""
+
+    def handle_one_request(self) -> None:
+        self.connection.settimeout(IDLE)
+        try:
+            self.raw_requestline = self.rfile.readline(LINE + 1)
+            self.began = time.perf_counter()
+            self.connection.settimeout(SILENT)
+            if self.raw_requestline.startswith(b"POST "):
+                self.post()
+            elif self.raw_requestline:
+                self.get()
+            else:
+                self.close_connection = True
+        except TimeoutError:
+            self.close_connection = True
+
+    def get(self) -> None:
+        """As for whoever asks for metrics and health."""
+        if len(self.raw_requestline) > LINE:
+            self.send_error(http.HTTPStatus.REQUEST_URI_TOO_LONG)
+        elif self.parse_request():
+            if self.command == "GET":
+                self.do_GET()
+            else:
+                self.close_connection = True
+                self.answer(refused(405, "GET and POST alone are answered"))
+        self.wfile.flush()
+
+    def post(self) -> None:
+        words = self.raw_requestline.decode("latin-1").split()
+        self.close_connection = len(words) != 3 or words[2] != "HTTP/1.1"
+        if len(words) != 3 or not self.head():
+            self.close_connection = True
+            return self.answer(refused(400, "the head is none of HTTP/1.1"))
+        answer = self.service.verbs.get(words[1])
+        if self.fields.get("connection", "").lower() == "close":
+            self.close_connection = True
+        size, said = self.size()
+        if said:
+            # (what follows isn't read)
+            self.close_connection = True
+            self.answer(said)
+        else:
+            one: Any = LARGE_ONES if size > LARGE else contextlib.nullcontext()
+            with one:
+                said = self.answered(answer, size)
+        if answer:
+            verb = words[1][1:]
+            self.counting.requests.labels(verb, said.result).inc()
+            self.counting.seconds.labels(verb).observe(time.perf_counter() - self.began)
+        return None
+
+    def head(self) -> bool:
+        """Reads the fields."""
+        fields: dict[str, str] = {}
+        for _ in range(FIELDS):
+            line = self.rfile.readline(LINE + 1)
+            if line in (b"\r\n", b"\n"):
+                self.fields = fields
+                return True
+            name, colon, value = line.decode("latin-1").partition(":")
+            if not colon or not line.endswith(b"\n") or name.lower() in fields:
+                return False
+            fields[name.lower()] = value.strip()
+        return False
+
+    def size(self) -> tuple[int, Reply | None]:
+        """Of the body, or why it isn't read."""
+        text = self.fields.get("content-length", "")
+        if "transfer-encoding" in self.fields or not text.isdecimal():
+            return 0, refused(411, "a body is read where Content-Length says how long it is")
+        if len(text) > 20 or int(text) > LARGEST:
+            return 0, refused(413, f"a body of {text[:20]} bytes, and at most {LARGEST} are read")
+        return int(text), None
+
+    def answered(self, answer: Verb | None, size: int) -> Reply:
+        if self.fields.get("expect", "").lower() == "100-continue":
+            self.wfile.write(b"HTTP/1.1 100 Continue\r\n\r\n")
+            self.wfile.flush()
+        body = self.rfile.read(size)
+        if len(body) < size:
+            self.close_connection = True
+            return refused(400, "the body ended too early")
+        try:
+            said = answer(body) if answer else refused(404, f"there are {' and '.join(self.service.verbs)}")
+        except Exception:  # pylint: disable=broad-except
+            # (a pod that is held up must be told of, and the connection goes on)
+            LOG.exception("a request wasn't answered by a fault of this program's own")
+            said = refused(500, "a fault of the extender's own, which its log has")
+        self.answer(said)
+        return said
+
+    def answer(self, said: Reply) -> None:
+        more = f"Wsched-Unheard-Seconds: {said.age:.1f}\r\n" if said.age else ""
+        more += "Connection: close\r\n" if self.close_connection else ""
+        phrase = http.HTTPStatus(said.status).phrase
+        head = f"HTTP/1.1 {said.status} {phrase}\r\nContent-Type: application/json\r\nContent-Length: {len(said.body)}\r\n{more}\r\n"
+        self.wfile.write(head.encode("latin-1") + said.body)
+        self.wfile.flush()
+
+
+def refused(status: int, why: str) -> Reply:
+    return Reply(status, json.dumps({"Error": why}).encode(), "refused")

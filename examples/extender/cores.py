@@ -1,0 +1,268 @@
+# SPDX-License-Identifier: Apache-2.0
+"""`wsched run` as children, each with a share of the nodes: what is known of the nodes is told to them, and they are asked what the rules say.
+
+A node is one child's, since a child has room for 1,000. One that has ended, or says nothing for too long, is ended and begun anew, and told
+again what is known. Whoever calls holds `lock`.
+"""
+from __future__ import annotations
+
+import itertools
+import logging
+import os
+import threading
+import time
+from typing import Callable, Iterator
+
+from core import Core, CoreFault, Told, command, quoted
+from translating import Size, spelled
+
+from questions import Row
+
+LOG = logging.getLogger("second-scheduler")
+# How many nodes one has room for, and how many pods on them.
+NODES, PLACES = 1000, 150_000
+# For how long an answer may be waited for, in seconds, beside what the fuel of all calls can take; and what a unit of fuel takes on a slow machine.
+PATIENCE, UNIT = 4.0, 5e-9
+# Of each node what its line says behind its name.
+Said = dict[str, str]
+
+
+def nothing() -> None:
+    """(whoever asks waits for the answer)"""
+
+
+class Share:
+    """One child, the nodes that are its own, and how many pods are on them. `core` is None while it can't be started, and `why` says why."""
+
+    def __init__(self) -> None:
+        self.core: Core | None = None
+        self.why, self.version, self.places = "it isn't started yet", 0, 0
+        self.names: set[str] = set()
+
+
+class Cores:
+    """All of them, and what they know."""
+
+    def __init__(self, program: str, workers: int, specs: list[str], again: Callable[[str], None]) -> None:
+        """`again` is told of each that is begun anew, and why."""
+        self.words, self.again, self.lock = command(program, workers, specs), again, threading.Lock()
+        self.patience = PATIENCE + 2 * NODES * UNIT * sum(2 * int(it.split(":")[2]) for it in specs)
+        self.shares: list[Share] = [Share()]
+        # each node's row and whose it is; the pods on each node, known or not; and where each pod is
+        self.rows: dict[str, str] = {}
+        self.whose: dict[str, Share] = {}
+        self.on: dict[str, dict[str, Size]] = {}
+        self.at: dict[str, str] = {}
+        # how often something has changed, and how many lines were refused
+        self.changes = self.refused = 0
+        self.began, self.spent_before = time.monotonic(), 0.0
+
+    # What is told.
+
+    def set_node(self, name: str, row: str) -> None:
+        if self.rows.get(name) == row:
+            return
+        self.changes += 1
+        self.rows[name] = row
+        share = self.whose.get(name)
+        if share:
+            self.tell(share, f'"op":"node",{{v}},{row}')
+            return
+        self.settle_in(name)
+
+    def settle_in(self, name: str) -> None:
+        """Gives a node to a child that has room for it and the pods on it, and tells that one of both."""
+        pods = self.on.get(name, {})
+        share = next((it for it in self.shares if len(it.names) < NODES and it.places + len(pods) <= PLACES), None)
+        if not share:
+            share = Share()
+            self.shares.append(share)
+            self.start(share)
+        self.whose[name] = share
+        share.names.add(name)
+        share.places += len(pods)
+        for line in self.lines_of(name):
+            self.tell(share, line)
+
+    def lines_of(self, name: str) -> Iterator[str]:
+        """A node, and the pods on it, without braces and version."""
+        yield f'"op":"node",{{v}},{self.rows[name]}'
+        for uid, size in self.on.get(name, {}).items():
+            yield bound(uid, name, size)
+
+    def drop_node(self, name: str) -> None:
+        if self.rows.pop(name, None) is not None:
+            self.changes += 1
+            self.leave(name)
+
+    def leave(self, name: str) -> None:
+        """Takes a node from the child that has it."""
+        share = self.whose.pop(name)
+        share.names.discard(name)
+        share.places -= len(self.on.get(name, ()))
+        for uid in self.on.get(name, ()):
+            self.tell(share, gone(uid))
+        self.tell(share, f'"op":"gone",{{v}},"name":{quoted(name)}')
+
+    def set_pod(self, uid: str, name: str, size: Size) -> None:
+        """A pod is on a node."""
+        if self.at.get(uid) == name and self.on[name][uid] == size:
+            return
+        if self.at.get(uid, name) != name:
+            self.drop_pod(uid)
+        self.changes += 1
+        share, is_new = self.whose.get(name), uid not in self.at
+        moves = share is not None and is_new and share.places >= PLACES
+        if moves:
+            LOG.info("node %s is another wsched's now: one has room for %d pods", name, PLACES)
+            self.leave(name)
+        self.at[uid] = name
+        self.on.setdefault(name, {})[uid] = size
+        if moves:
+            self.settle_in(name)
+        elif share:
+            share.places += is_new
+            self.tell(share, bound(uid, name, size))
+
+    def drop_pod(self, uid: str) -> None:
+        name = self.at.pop(uid, None)
+        if name is None:
+            return
+        self.changes += 1
+        del self.on[name][uid]
+        if not self.on[name]:
+            del self.on[name]
+        share = self.whose.get(name)
+        if share:
+            share.places -= 1
+            self.tell(share, gone(uid))
+
+    def tell(self, share: Share, line: str) -> None:
+        """Has it told at the next `settle`."""
+        if share.core:
+            share.version += 1
+            text = line.replace("{v}", f'"v":{share.version}', 1)
+            share.core.tell(f"{{{text}}}", lambda answer: self.answered(text, answer))
+
+    def answered(self, line: str, answer: str) -> None:
+        if answer != "ok":
+            self.refused += 1
+            LOG.error("wsched answers %s to %s", answer, line)
+
+    def settle(self) -> None:
+        """Writes what is to be told; one that doesn't answer is begun anew."""
+        for it in self.shares:
+            try:
+                if it.core:
+                    it.core.flush()
+            except CoreFault as why:
+                self.begin_anew(it, why)
+
+    # What is asked.
+
+    def judge(self, row: Row) -> Said:
+        """What the rules say of each node, all children at once. Raises CoreFault where one can't be asked, and not when it is begun anew either."""
+        self.settle()
+        line = row.line.encode() + b"\n"
+        told = Told(line, lambda answer: None, "judged ")
+        for it in self.shares:
+            if it.core:
+                it.core.write(line)
+        said: Said = {}
+        fault: CoreFault | None = None
+        for it in self.shares:
+            try:
+                said.update(read(self.answer(it, told)))
+            except CoreFault as why:
+                # (the others are heard all the same: what they say is of this question)
+                fault = why
+        if fault:
+            raise fault
+        return said
+
+    def answer(self, share: Share, told: Told) -> str:
+        """One child's answer to what it was told; where there is none it is begun anew, and asked again."""
+        for is_last in (False, True):
+            if not share.core:
+                break
+            try:
+                return share.core.answer(told)
+            except CoreFault as why:
+                self.begin_anew(share, why)
+                if share.core and not is_last:
+                    share.core.write(told.line)
+        raise CoreFault(f"wsched isn't heard: {share.why}")
+
+    # Beginning, ending.
+
+    def begin_anew(self, share: Share, why: CoreFault) -> None:
+        text = str(why).partition(", at {")[0].partition(" at {")[0]
+        LOG.warning("%s; it is begun anew with %d nodes and %d pods", text, len(share.names), share.places)
+        self.again(text)
+        self.end(share)
+        share.why = text
+        self.start(share)
+
+    def start(self, share: Share) -> None:
+        """Starts it, and tells it what is known of its nodes."""
+        try:
+            share.core, share.version = Core(self.words, None, nothing, self.patience), 0
+            for name in share.names:
+                for line in self.lines_of(name):
+                    self.tell(share, line)
+            share.core.flush()
+        except (CoreFault, OSError) as why:
+            self.end(share)
+            share.why = str(why).partition(", at {")[0].partition(" at {")[0]
+            LOG.error("wsched isn't started: %s", share.why)
+
+    def end(self, share: Share) -> None:
+        core, share.core = share.core, None
+        if core:
+            self.spent_before += spent(core.child.pid)
+            core.kill()
+            core.child.wait()
+            for it in (core.child.stdin, core.child.stdout):
+                if it:
+                    it.close()
+
+    def poke(self) -> None:
+        """Notices those that hang or have ended though nobody asks, and tries again to start those that couldn't be."""
+        for it in self.shares:
+            if it.core:
+                it.core.tell(f'{{"op":"tick","at":{int(1000 * (time.monotonic() - self.began))}}}', lambda answer: None)
+            else:
+                self.start(it)
+        self.settle()
+
+    def why_not(self) -> str:
+        """Why not all can be asked; empty where they can."""
+        return next((it.why for it in self.shares if not it.core), "")
+
+    def seconds(self) -> float:
+        """How much processor time they have taken."""
+        return self.spent_before + sum(spent(it.core.child.pid) for it in self.shares if it.core)
+
+
+def bound(uid: str, name: str, size: Size) -> str:
+    return f'"op":"bound",{{v}},"uid":{quoted(uid)},"node":{quoted(name)},{spelled(size)}'
+
+
+def gone(uid: str) -> str:
+    return f'"op":"deleted",{{v}},"uid":{quoted(uid)}'
+
+
+def read(answer: str) -> Said:
+    """Of each node what its line says."""
+    lines, judged, _ = answer.rpartition("\njudged ")
+    # (a thousand at each question: so this is as short as can be)
+    return {name: what for name, _, what in map(str.partition, lines[2:].split("\n  "), itertools.repeat(" "))} if judged else {}
+
+
+def spent(pid: int) -> float:
+    """The processor seconds of a process so far."""
+    try:
+        with open(f"/proc/{pid}/stat", encoding="ascii") as file:
+            return sum(map(int, file.read().rpartition(")")[2].split()[11:13])) / os.sysconf("SC_CLK_TCK")
+    except OSError:
+        return 0.0

@@ -1,0 +1,158 @@
+#!/usr/bin/python3
+# SPDX-License-Identifier: Apache-2.0
+"""wsched's rules behind a kube-scheduler: an extender that answers which nodes a pod may have, and how good they are.
+
+It lists and watches nodes and pods, tells `wsched run` of them, and answers kube-scheduler's POST /filter and /prioritize by what the rules
+say, as the plugins that are named say it: NAME:WEIGHT:FUEL:FILE. The README.md beside this says how to use it.
+"""
+from __future__ import annotations
+
+import argparse
+import logging
+import os
+import pathlib
+import signal
+import sys
+import threading
+from typing import Any
+
+HERE = pathlib.Path(__file__).resolve().parent
+# (what it shares with the second scheduler stands there, and what reads rules beside both)
+sys.path += [str(HERE.parent / "second-scheduler"), str(HERE.parent)]
+
+# pylint: disable=wrong-import-position
+from kubernetes import client
+from tools import rules
+from tools.wasm_sections import has_score, reasons_by_name
+
+import rule_labels
+import serving
+import site_settings
+from affinity import NodeLabels
+from core import CoreFault, command, try_on_nothing
+from official import NoAccount, calls_by
+from second_scheduler import log_to_standard_error
+from translating import words_of
+
+from answers import Words
+from asked import Asked
+from cores import Cores
+from counting import Counting
+from knowing import Knowing
+from questions import WHO, Row, Rows
+from service import Service
+
+LOG = logging.getLogger("second-scheduler")
+# For how long requests under way are waited for at the end, in seconds.
+PATIENCE = 5.0
+# A rule that reads what kube-scheduler sees to itself.
+AFFINITY = "node_affinity"
+
+
+def words() -> argparse.Namespace:
+    said = argparse.ArgumentParser(prog="extender.py", description=(__doc__ or "").split("\n", maxsplit=1)[0])
+    said.add_argument("spec", nargs="*", help="plugins, as `wsched run` takes them: NAME:WEIGHT:FUEL:FILE")
+    said.add_argument("--listen", type=serving.address, default=("127.0.0.1", 8888), metavar="[HOST]:PORT", help="where it is asked; else 127.0.0.1:8888")
+    said.add_argument(
+        "--on-error",
+        choices=("error", "reject-node"),
+        default="error",
+        help="where a rule says nothing of a node, or the node has labels that it may read and no room: the pod waits, or that node is rejected",
+    )
+    said.add_argument("--max-stale", type=seconds, metavar="SECONDS", help="nothing is answered by what was heard longer ago; else it is, however old")
+    said.add_argument("--wsched", default="wsched", help="the program")
+    said.add_argument("--workers", type=int, default=1, help="how many workers each wsched has")
+    said.add_argument("--kubeconfig", help="a file; else the account of the pod, else the usual one")
+    said.add_argument("--rules", metavar="FILE", help="rules and settings in a file (examples/tools/rules.py has its form), before the SPECs")
+    said.add_argument("--settings", metavar="FILE", help="settings of the rules, as lines NAME=VALUE: labels /cfg/NAME of each node's row")
+    said.add_argument(
+        "--labels",
+        type=rule_labels.words,
+        metavar="KEY,..",
+        help="the labels that rules read, of which none gives way where a pod or a node has more than a row has room for; others than modules name",
+    )
+    said.add_argument("--tls-cert", metavar="FILE", help="be asked by TLS, with this certificate, and what it is signed by behind it (PEM)")
+    said.add_argument("--tls-key", metavar="FILE", help="the certificate's key, where it doesn't stand in the same file")
+    said.add_argument("--token-file", metavar="FILE", help="/metrics is for those alone that bear the token that stands there")
+    said.add_argument("--verbose", action="store_true")
+    given = said.parse_args()
+    if given.tls_key and not given.tls_cert:
+        said.error("argument --tls-key: without --tls-cert")
+    try:
+        by = rules.given_by(given)
+    except rules.BadRules as why:
+        said.error(f"argument --rules: {why}")
+    except (OSError, ValueError, site_settings.BadSetting) as why:
+        said.error(f"argument --settings: {why}")
+    if by.tells_affinity:
+        said.error(f"the rule {AFFINITY} reads what is told to a second scheduler alone: kube-scheduler sees to selectors and affinity itself")
+    if not by.specs:
+        said.error("no rule is named, by a SPEC or by --rules")
+    given.spec, given.settings, given.named = [*by.specs], [*by.labels], rule_labels.read_by(by.specs, by.keys, "")
+    return given
+
+
+def seconds(text: str) -> float:
+    value = float(text)
+    if not 0 <= value < 10**6:
+        raise argparse.ArgumentTypeError(f"{text} are no seconds")
+    return value
+
+
+def words_for(specs: list[str]) -> Words:
+    """How the rules' answers are told, by what their modules say (as they are now: wsched reads them once as well)."""
+    weights = {name: int(weight) for name, weight, *_ in (it.split(":", 3) for it in specs if has_score(it))}
+    LOG.info("rules with a score: %s", ", ".join(weights) or "none, so there is no need of prioritizeVerb")
+    return Words(reasons_by_name(specs), weights)
+
+
+def begin(given: argparse.Namespace, calls: Any) -> Service:
+    """The cores, what is known, and who answers. Raises CoreFault."""
+    counting = Counting()
+    cores = Cores(given.wsched, given.workers, given.spec, lambda why: counting.begun.inc())
+    with cores.lock:
+        cores.start(cores.shares[0])
+        # (a program that doesn't know the word would be begun anew at each question)
+        cores.judge(Row("a-pod", '"containers":[["0m","0"]]'))
+    service = Service(cores, Rows(given.wsched, given.named), words_for(given.spec), counting, given.on_error == "reject-node", given.max_stale)
+    answer = type("Asked", (Asked,), {"service": service, "counting": counting})
+    serving.serve(given.listen, service, counting, serving.Files(given.tls_cert, given.tls_key, given.token_file), answer)
+    service.knowing = Knowing(client.CoreV1Api(calls), cores, given.wsched, NodeLabels(given.settings, given.named), given.named, counting)
+    service.watch_over()
+    return service
+
+
+def end(service: Service) -> None:
+    """Whoever asks to know whether it is ready is told that it isn't; requests under way have their answers."""
+    service.stopping = True
+    LOG.info("it ends")
+    if service.cores.lock.acquire(timeout=PATIENCE):  # pylint: disable=consider-using-with
+        for it in service.cores.shares:
+            service.cores.end(it)
+    logging.shutdown()
+    os._exit(0)
+
+
+def main() -> None:
+    given = words()
+    sys.setswitchinterval(0.001)
+    log_to_standard_error(given.verbose)
+    for it in (command(given.wsched, given.workers, given.spec), words_of(given.wsched, WHO)):
+        if wrong := try_on_nothing(it):
+            sys.exit(f"extender.py: wsched {it[1]}: {wrong}")
+    stop = threading.Event()
+    for number in (signal.SIGTERM, signal.SIGINT, signal.SIGHUP):
+        signal.signal(number, lambda *_: stop.set())
+    try:
+        service = begin(given, calls_by(given.kubeconfig, 4))
+    except (NoAccount, CoreFault) as why:
+        sys.exit(f"extender.py: {why}")
+    except OSError as why:
+        sys.exit(f"extender.py: --listen: {why}")
+    LOG.info("asked at %s:%d%s", given.listen[0] or "*", given.listen[1], " by TLS" if given.tls_cert else "")
+    stop.wait()
+    end(service)
+
+
+if __name__ == "__main__":
+    main()

@@ -1,0 +1,141 @@
+# SPDX-License-Identifier: Apache-2.0
+"""What is known of nodes, and of the pods on them, by a list and a watch of each kind; and how old that is."""
+from __future__ import annotations
+
+import logging
+import time
+from typing import Any, Sequence
+
+from affinity import NodeLabels
+from rule_labels import Named
+from seen import Reader, SeenNode, row_of
+from translating import Json
+from watch import PHASES, Watched
+
+from cores import Cores
+from counting import Counting
+from questions import WHO
+
+LOG = logging.getLogger("second-scheduler")
+# Pods without a node take nothing of any; one that ends is told of as gone.
+ON_NODES = f"spec.nodeName!=,{PHASES}"
+
+
+class NodeEars:
+    """Nodes, by their names. `unsaid` are those that no row says as they are, and why."""
+
+    kind = "node"
+
+    def __init__(self, cores: Cores, reader: Reader, labels: NodeLabels, counting: Counting) -> None:
+        self.cores, self.reader, self.labels, self.counting = cores, reader, labels, counting
+        self.unsaid: dict[str, str] = {}
+        self.is_listed = False
+
+    def key(self, thing: Json) -> str:
+        return str(thing["metadata"]["name"])
+
+    def hear(self, event: str, things: Sequence[Json]) -> None:
+        seen = [] if event == "DELETED" else self.reader.nodes(things, self.labels)
+        with self.cores.lock:
+            for name in map(self.key, things if event == "DELETED" else ()):
+                self.forget(name)
+            for it in seen:
+                self.take(it)
+            self.cores.settle()
+
+    def take(self, seen: SeenNode) -> None:
+        row = row_of(seen, self.labels)
+        if row is not None:
+            self.unsaid.pop(seen.name, None)
+            self.cores.set_node(seen.name, row)
+            return
+        why = ", ".join(seen.left_out) or "no row says it"
+        if self.unsaid.get(seen.name) != why:
+            LOG.warning("left out: node %s: %s", seen.name, why)
+        self.forget(seen.name)
+        self.unsaid[seen.name] = why
+
+    def forget(self, name: str) -> None:
+        self.unsaid.pop(name, None)
+        self.cores.drop_node(name)
+
+    def listed(self, keys: set[str]) -> None:
+        self.counting.lists.labels(self.kind).inc()
+        with self.cores.lock:
+            for name in [it for it in (*self.cores.rows, *self.unsaid) if it not in keys]:
+                self.forget(name)
+            self.cores.settle()
+        self.is_listed = True
+
+    def failed(self) -> None:
+        self.counting.breaks.labels(self.kind).inc()
+
+
+class PodEars:
+    """Pods that have a node, by their uids."""
+
+    kind = "pod"
+
+    def __init__(self, cores: Cores, reader: Reader, counting: Counting) -> None:
+        self.cores, self.reader, self.counting, self.is_listed = cores, reader, counting, False
+
+    def key(self, thing: Json) -> str:
+        return str(thing["metadata"]["uid"])
+
+    def hear(self, event: str, things: Sequence[Json]) -> None:
+        seen = {} if event == "DELETED" else self.reader.pods(things)
+        with self.cores.lock:
+            for uid in map(self.key, things):
+                it = seen.get(uid)
+                if it and it.node:
+                    self.cores.set_pod(uid, it.node, it.size)
+                else:
+                    self.cores.drop_pod(uid)
+            self.cores.settle()
+
+    def listed(self, keys: set[str]) -> None:
+        self.counting.lists.labels(self.kind).inc()
+        with self.cores.lock:
+            for uid in [it for it in self.cores.at if it not in keys]:
+                self.cores.drop_pod(uid)
+            self.cores.settle()
+        self.is_listed = True
+
+    def failed(self) -> None:
+        self.counting.breaks.labels(self.kind).inc()
+
+
+class Knowing:
+    """Both. Their watches begin at once."""
+
+    def __init__(self, api: Any, cores: Cores, program: str, labels: NodeLabels, named: Named, counting: Counting) -> None:
+        reader = Reader(program, WHO, named)
+        self.nodes, self.pods = NodeEars(cores, reader, labels, counting), PodEars(cores, reader, counting)
+        self.watches = [Watched(api.list_node, self.nodes), Watched(api.list_pod_for_all_namespaces, self.pods, field_selector=ON_NODES)]
+        counting.look = self.look
+        self.cores, self.counting = cores, counting
+
+    def is_listed(self) -> bool:
+        return self.nodes.is_listed and self.pods.is_listed
+
+    def age(self) -> float:
+        """For how many seconds nothing has been heard of a kind, 0 while both are."""
+        now = time.monotonic()
+        return max(it.shut_for(now) for it in self.watches)
+
+    def unheard(self) -> list[str]:
+        """The kinds of which more may have happened than was heard."""
+        now = time.monotonic()
+        return [it.ears.kind for it in self.watches if it.is_deaf(now)]
+
+    def look(self) -> None:
+        """Before what is counted is told."""
+        it, now = self.counting, time.monotonic()
+        for watch in self.watches:
+            it.shut.labels(watch.ears.kind).set(watch.shut_for(now))
+        with self.cores.lock:
+            it.nodes.set(len(self.cores.rows))
+            it.places.labels("bound").set(len(self.cores.at))
+            it.left_out.labels("node").set(len(self.nodes.unsaid))
+            it.refused.set(self.cores.refused)
+            it.core_seconds.set(self.cores.seconds())

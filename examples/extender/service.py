@@ -1,0 +1,161 @@
+# SPDX-License-Identifier: Apache-2.0
+"""The answers to kube-scheduler's requests: what is known, what the rules say of that, and how old it is."""
+from __future__ import annotations
+
+import collections
+import logging
+import threading
+import time
+from typing import Callable, NamedTuple
+
+from core import CoreFault
+from watch import DEAF
+
+from answers import Sorted, Words, fault, faulty, filtered
+from cores import Cores, Said
+from counting import Counting
+from knowing import Knowing
+from questions import Bad, Question, Row, Rows, Untold, read
+
+LOG = logging.getLogger("second-scheduler")
+# Of how many pods the answers are kept for the request that follows, and how often it is looked whether all is well, in seconds.
+KEPT, LOOK = 64, 1.0
+# For how long nobody may have looked, in seconds, before this process is held to do nothing.
+SILENCE = 60.0
+# The least seconds between two lines of the log that say the same kind of thing.
+SELDOM = 10.0
+
+
+class Reply(NamedTuple):
+    """A status and a body; `result` is how it is counted, and `age` for how many seconds nothing has been heard."""
+
+    status: int
+    body: bytes
+    result: str = "answered"
+    age: float = 0.0
+
+
+class Unknown(Exception):
+    """Too little is known to answer, and why."""
+
+
+class Service:
+    """Each call may come from any thread."""
+
+    def __init__(self, cores: Cores, rows: Rows, words: Words, counting: Counting, rejects: bool, max_stale: float | None) -> None:
+        """`rejects`: a node of which nothing can be said is rejected alone."""
+        self.cores, self.rows, self.words, self.counting = cores, rows, words, counting
+        self.rejects, self.max_stale = rejects, max_stale
+        self.knowing: Knowing | None = None
+        self.kept: collections.OrderedDict[Row, tuple[int, Said]] = collections.OrderedDict()
+        self.looked, self.logged, self.stopping = time.monotonic(), 0.0, False
+        self.verbs: dict[str, Callable[[bytes], Reply]] = {"/filter": self.filter, "/prioritize": self.prioritize}
+
+    # Requests.
+
+    def filter(self, body: bytes) -> Reply:
+        try:
+            asked = read(body)
+            self.look_at_age()
+            found = self.sort(asked, self.said(asked))
+        except Bad as why:
+            return Reply(400, fault(str(why)), "refused")
+        except (Untold, Unknown, CoreFault) as why:
+            return self.no_answer(200, str(why))
+        if found.faults and not self.rejects:
+            return self.no_answer(200, faulty(found))
+        return Reply(200, filtered(found, asked.nodes), age=self.age())
+
+    def prioritize(self, body: bytes) -> Reply:
+        """(it has no field for an error, and a status that is none of success has all nodes alike)"""
+        try:
+            asked = read(body)
+            self.look_at_age()
+            return Reply(200, self.words.scores(asked.names, self.said(asked)), age=self.age())
+        except Bad as why:
+            return Reply(400, fault(str(why)), "refused")
+        except (Untold, Unknown, CoreFault) as why:
+            return self.no_answer(503, str(why))
+
+    def no_answer(self, status: int, why: str) -> Reply:
+        now = time.monotonic()
+        if now >= self.logged + SELDOM:
+            self.logged = now
+            LOG.warning("no answer: %s", why)
+        return Reply(status, fault(f"wsched: {why}"), "error", self.age())
+
+    def said(self, asked: Question) -> Said:
+        """What the rules say of each node for this pod: as it was answered before, where nothing has changed since."""
+        row = self.rows.row(asked.pod)
+        with self.cores.lock:
+            changes, said = self.kept.get(row, (-1, {}))
+            if changes == self.cores.changes:
+                self.counting.kept.inc()
+                return said
+            said = self.cores.judge(row)
+            self.kept[row] = self.cores.changes, said
+            self.kept.move_to_end(row)
+            if len(self.kept) > KEPT:
+                self.kept.popitem(last=False)
+        return said
+
+    def sort(self, asked: Question, said: Said) -> Sorted:
+        assert self.knowing
+        found = self.words.sort(asked.names, said, self.knowing.nodes.unsaid)
+        self.counting.count(found.counts)
+        return found
+
+    # How old what is known is.
+
+    def age(self) -> float:
+        return self.knowing.age() if self.knowing else 0.0
+
+    def look_at_age(self) -> None:
+        """Raises Unknown."""
+        if not self.knowing or not self.knowing.is_listed():
+            raise Unknown("nodes and pods aren't listed yet")
+        age = self.knowing.age()
+        if self.max_stale is not None and age > self.max_stale:
+            raise Unknown(f"{self.unheard()}, and --max-stale is {self.max_stale:g}")
+
+    def unheard(self) -> str:
+        """What isn't heard, and for how long; empty where all is."""
+        assert self.knowing
+        kinds, age = self.knowing.unheard(), self.knowing.age()
+        return f"nothing has been heard of any {', of any '.join(kinds)} for {age:.0f} s" if kinds and age > DEAF else ""
+
+    # Whether all is well.
+
+    def is_live(self) -> bool:
+        return time.monotonic() - self.looked < SILENCE
+
+    def is_ready(self) -> bool:
+        return not self.why_not_ready()
+
+    def why_not_ready(self) -> str:
+        if not self.is_live():
+            return "nobody has looked whether all is well"
+        if self.stopping:
+            return "it is being ended"
+        if not self.knowing or not self.knowing.is_listed():
+            return "not listed yet"
+        why = self.cores.why_not()
+        return f"wsched isn't heard: {why}" if why else self.unheard()
+
+    def watch_over(self) -> None:
+        """In a thread of its own: what hangs or has ended is noticed though nobody asks."""
+        threading.Thread(target=self.go, daemon=True, name="look").start()
+
+    def go(self) -> None:
+        unheard = ""
+        while True:
+            time.sleep(LOOK)
+            with self.cores.lock:
+                self.cores.poke()
+            self.looked = time.monotonic()
+            if self.knowing and self.knowing.is_listed():
+                before, unheard = unheard, self.unheard()
+                if unheard and not before:
+                    LOG.warning("%s: answers are of what was known before", unheard)
+                elif before and not unheard:
+                    LOG.info("the cluster is heard")
