@@ -60,6 +60,9 @@ class Asked(Answer):
         if len(self.raw_requestline) > LINE:
             self.send_error(http.HTTPStatus.REQUEST_URI_TOO_LONG)
         elif self.parse_request():
+            if self.headers.get("Content-Length", "0") != "0":
+                # (nobody reads it)
+                self.close_connection = True
             if self.command == "GET":
                 self.do_GET()
             else:

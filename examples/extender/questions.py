@@ -44,7 +44,7 @@ class Row(NamedTuple):
 
     @property
     def line(self) -> str:
-        return f'{{"op":"judge","uid":"{self.uid}",{self.fields}}}'
+        return f'{{"op":"judge","v":1,"uid":"{self.uid}",{self.fields}}}'
 
 
 def read(body: bytes) -> Question:

@@ -1,0 +1,170 @@
+# SPDX-License-Identifier: Apache-2.0
+"""What a trial of the extender has: the extender beside a stub of an API server or a real one, a caller that asks as kube-scheduler does, and the
+shipped rules keep_region and prefer_zone written down once more, by which answers are judged."""
+import http.client
+import json
+import pathlib
+import socket
+import ssl
+import sys
+from typing import Any, Mapping, Optional, Sequence
+
+TOP = pathlib.Path(__file__).resolve().parent.parent.parent
+EXTENDER = TOP / "examples/extender"
+PLUGINS = TOP / "examples/plugins"
+sys.path[:0] = [str(TOP / "examples/second-scheduler"), str(TOP / "examples")]
+
+# pylint: disable=wrong-import-position
+from trials.site import PATIENCE, REGION, Scheduler, Site, children, command, wait_for
+from trials.store import Thing
+
+ZONE, EUROPE = "topology.kubernetes.io/zone", "eu-central-1"
+KEEP, PREFER = f"keep_region:1:100000:{PLUGINS}/keep_region.wasm", f"prefer_zone:1:100000:{PLUGINS}/prefer_zone.wasm"
+PERSONAL = {"data-class": "personal"}
+REASON = "node(s) were rejected by keep_region for good (pods labelled data-class=personal run in the region eu-central-1 alone)"
+UNKNOWN = "node(s) weren't known to wsched"
+
+
+def free_port() -> int:
+    """A port that is free just now."""
+    with socket.socket() as it:
+        it.bind(("127.0.0.1", 0))
+        port: int = it.getsockname()[1]
+        return port
+
+
+class Caller:
+    """Asks one extender, by a connection that it keeps."""
+
+    def __init__(self, port: int, authority: Optional[str] = None) -> None:
+        self.port, self.authority = port, authority
+        self.line: Optional[http.client.HTTPConnection] = None
+        self.headers: Mapping[str, str] = {}
+
+    def connect(self) -> http.client.HTTPConnection:
+        """The connection."""
+        if self.line is None:
+            if self.authority:
+                self.line = http.client.HTTPSConnection("127.0.0.1", self.port, timeout=60, context=ssl.create_default_context(cafile=self.authority))
+            else:
+                self.line = http.client.HTTPConnection("127.0.0.1", self.port, timeout=60)
+        return self.line
+
+    def close(self) -> None:
+        """The next request goes by a new one."""
+        if self.line:
+            self.line.close()
+        self.line = None
+
+    def send(self, method: str, path: str, body: Any = None, **headers: str) -> tuple[int, str]:
+        """A status, and a body as it is."""
+        line = self.connect()
+        try:
+            line.request(method, path, body, headers)
+            answer = line.getresponse()
+            said = answer.read()
+        except (OSError, http.client.HTTPException):
+            self.close()
+            raise
+        self.headers = {name.lower(): value for name, value in answer.getheaders()}
+        return answer.status, said.decode()
+
+    def get(self, path: str) -> tuple[int, str]:
+        """A status, 0 where nobody answers, and a body."""
+        try:
+            return self.send("GET", path)
+        except (OSError, http.client.HTTPException):
+            return 0, ""
+
+    def ask(self, verb: str, one: Thing, names: Sequence[str], nodes: Optional[Sequence[Thing]] = None) -> tuple[int, Any]:
+        """A question as kube-scheduler asks it; with whole nodes where they are given."""
+        asked = {"Pod": one, "Nodes": None if nodes is None else {"metadata": {}, "items": nodes}, "NodeNames": names if nodes is None else None}
+        status, said = self.send("POST", f"/{verb}", json.dumps(asked), **{"Content-Type": "application/json"})
+        return status, json.loads(said)
+
+    def metrics(self) -> dict[str, float]:
+        """Each sample by its name and labels."""
+        status, said = self.get("/metrics")
+        assert status == 200, f"/metrics answers {status}"
+        return {line.rpartition(" ")[0]: float(line.rpartition(" ")[2]) for line in said.splitlines() if not line.startswith("#")}
+
+
+class Running:
+    """An extender that runs, and who asks it."""
+
+    def __init__(self, site: Site, *words: str, name: str = "extender", authority: Optional[str] = None, **other: Optional[str]) -> None:
+        self.site, self.port = site, free_port()
+        program = other.get("program") or str(EXTENDER / "extender.py")
+        self.it: Scheduler = site.start("--listen", f"127.0.0.1:{self.port}", *words, name=name, words=[program], wsched=other.get("wsched"), config=other.get("config"))
+        self.caller = Caller(self.port, authority)
+
+    def ready(self, patience: float = 30) -> "Running":
+        """Waits until it is."""
+        self.site.wait(lambda: self.caller.get("/readyz")[0] == 200, patience, "it is ready")
+        return self
+
+    def cores(self) -> list[int]:
+        """The processes of its wsched run."""
+        found = [pid for pid in children(self.it.pid) if "run" in command(pid)]
+        self.it.known |= set(found)
+        return found
+
+    def filter(self, one: Thing, names: Sequence[str]) -> Thing:
+        """A good answer to a filter."""
+        status, said = self.caller.ask("filter", one, names)
+        assert status == 200 and isinstance(said, dict), f"{status} {said}"
+        return said
+
+    def error(self, one: Thing, names: Sequence[str]) -> str:
+        """The `Error` of a filter's answer, as kube-scheduler tells it; empty where there is none."""
+        error = str(self.filter(one, names).get("Error", ""))
+        assert "%" not in error.replace("%%", ""), f"a format's percent sign in {error}"
+        return error.replace("%%", "%")
+
+    def scores(self, one: Thing, names: Sequence[str]) -> dict[str, int]:
+        """A good answer to a prioritize."""
+        status, said = self.caller.ask("prioritize", one, names)
+        assert status == 200 and isinstance(said, list), f"{status} {said}"
+        found = {it["Host"]: it["Score"] for it in said}
+        assert len(found) == len(said) and sorted(found) == sorted({*names}), "other hosts than were asked about"
+        return found
+
+    def begun_anew(self) -> float:
+        """How often a wsched was."""
+        return self.caller.metrics()["wsched_extender_begun_anew_total"]
+
+
+def pod(name: str, labels: Optional[Thing] = None, **spec: Any) -> Thing:
+    """A pod as kube-scheduler hands it over."""
+    container = {"name": "c", "image": "x", "resources": {"requests": {"cpu": "100m", "memory": "64Mi"}}}
+    meta = {"name": name, "namespace": "default", "uid": f"uid-of-{name}", "resourceVersion": "7", "labels": labels or {}}
+    return {"metadata": meta, "spec": {"containers": [container], "schedulerName": "default-scheduler", **spec}, "status": {"phase": "Pending"}}
+
+
+# The rules once more.
+
+
+def passes(one: Thing, node: Thing) -> bool:
+    """keep_region."""
+    return one["metadata"]["labels"].get("data-class") != "personal" or node["labels"].get(REGION) == EUROPE
+
+
+def score(one: Thing, node: Thing, used: int) -> int:
+    """prefer_zone, of a node with so many pods."""
+    wish = one["metadata"]["labels"].get("wished-zone")
+    there = wish is not None and wish == node["labels"].get(ZONE)
+    return (50 if there else 0) + 50 * (node["pods"] - used - 1) // int(node["pods"])
+
+
+def check(running: Running, one: Thing, nodes: Mapping[str, Thing], used: Mapping[str, int], names: Sequence[str]) -> None:
+    """Both verbs answer as the rules do. `nodes` have labels and room for pods, and `used` how many pods there are."""
+    said = running.filter(one, names)
+    assert not said.get("Error"), said["Error"]
+    may = [it for it in names if passes(one, nodes[it])]
+    assert sorted(said["NodeNames"]) == sorted(may), f"{one['metadata']}: other nodes pass than may"
+    assert said["FailedNodes"] == said["FailedAndUnresolvableNodes"] == {it: REASON for it in names if it not in may}, said
+    wanted = {it: score(one, nodes[it], used.get(it, 0)) * 10 // 100 for it in may}
+    assert running.scores(one, may) == wanted, f"{one['metadata']}: other scores"
+
+
+__all__ = ["PATIENCE", "wait_for"]
