@@ -73,7 +73,7 @@ def verdicts(site: Site) -> str:
     assert said["FailedNodes"] == {it: REASON for it in names if it not in may} | {"nobody's": UNKNOWN}, said["FailedNodes"]
     assert running.scores(one, [*names, 'no "name\n'])['no "name\n'] == 0
     said = running.filter(pod("other"), [*names, 'no "name\n'])
-    assert said["NodeNames"] == names and said["FailedNodes"] == {'no "name\n': UNKNOWN} and not said["FailedAndUnresolvableNodes"], said
+    assert sorted(said["NodeNames"]) == names and said["FailedNodes"] == {'no "name\n': UNKNOWN} and not said["FailedAndUnresolvableNodes"], said
     assert running.filter(one, []) == {"NodeNames": [], "FailedNodes": {}, "FailedAndUnresolvableNodes": {}} and running.scores(one, []) == {}
     return "120 pods by both verbs, by names and by whole nodes"
 
@@ -430,9 +430,9 @@ def deploy(site: Site) -> str:
     site.node("a", labels={REGION: EUROPE})
     default = (EXTENDER / "wsched-extender.default").read_text(encoding="utf-8").partition('OPTIONS="')[2].partition('"')[0].split()
     for name, words in (("container", container["args"]), ("unit", default)):
-        at = words.index("--listen")
-        mine = [it.replace("/usr/share/wsched/examples/plugins", str(PLUGINS)) for it in [*words[:at], *words[at + 2:]] if not it.startswith("--tls")]
-        running = Running(site, *mine, name=name).ready()
+        # (it has a port of its own, and no certificate)
+        mine = [it for at, it in enumerate(words) if not {*words[max(0, at - 1):at + 1]} & {"--listen", "--tls-cert", "--tls-key"}]
+        running = Running(site, *(it.replace("/usr/share/wsched/examples/plugins", str(PLUGINS)) for it in mine), name=name).ready()
         assert running.filter(pod("one", PERSONAL), ["a"])["NodeNames"] == ["a"]
         for it in ("livenessProbe", "readinessProbe"):
             assert running.caller.get(container[it]["httpGet"]["path"])[0] == 200, it
