@@ -1,8 +1,9 @@
 # SPDX-License-Identifier: Apache-2.0
 """What kube-scheduler is answered, of what wsched says of each node.
 
-Of a filter: which nodes pass, and of each other why. A rule's code 3, which no eviction changes, stands both in FailedNodes, which every
-version reads, and in FailedAndUnresolvableNodes, which older ones pass over and newer ones prefer. Of a prioritize: 0 to 10 for each node.
+Of a filter: which nodes pass, and of each other why. A rule's code 3, which no eviction changes,
+stands both in FailedNodes, which every version reads, and in FailedAndUnresolvableNodes, which
+older ones pass over and newer ones prefer. Of a prioritize: 0 to 10 for each node.
 """
 from __future__ import annotations
 
@@ -16,17 +17,20 @@ from verdicts import Reasons, rejected_by
 
 # What kube-scheduler takes at most ("MaxExtenderPriority"), and what a rule's score is at most.
 HIGHEST, SCORE = 10, 100
-# What is said of a node that wsched doesn't know; no reason names a node, since equal ones are counted together.
+# What is said of a node that wsched doesn't know; no reason names a node, since equal ones are
+# counted together.
 UNKNOWN = "node(s) weren't known to wsched"
 
 
+PERCENT = "\N{FULLWIDTH PERCENT SIGN}"
 # How many nodes there are of a rule and its answer.
 Counts = dict[tuple[str, str], int]
 
 
 class Verdict(NamedTuple):
-    """What the rules say of a node: by which rule it is rejected with which code, or which rule says nothing and why; it passes where there is
-    no rule. `parts` are each rule's weight and score."""
+    """What the rules say of a node: by which rule it is rejected with which code, or which rule
+    says nothing and why; it passes where there is no rule. `parts` are each rule's weight and
+    score."""
 
     rule: str = ""
     code: str = ""
@@ -44,12 +48,18 @@ UNSAID = Verdict(cause="unknown")
 
 @functools.lru_cache(maxsize=65536)
 def verdict(said: str) -> Verdict:
-    """Of what stands behind a node's name: `total SUM RULE WEIGHT SCORE ..`, `plugin RULE CODE` or `error plugin RULE CAUSE`."""
+    """Of what stands behind a node's name: `total SUM RULE WEIGHT SCORE ..`, `plugin RULE CODE` or
+    `error plugin RULE CAUSE`."""
     if not said:
         return UNSAID
     kind, *words = said.split(" ")
     if kind == "total":
-        return Verdict(parts=tuple((rule, int(weight), int(score)) for rule, weight, score in zip(words[1::3], words[2::3], words[3::3])))
+        return Verdict(
+            parts=tuple(
+                (rule, int(weight), int(score))
+                for rule, weight, score in zip(words[1::3], words[2::3], words[3::3])
+            )
+        )
     if kind == "plugin":
         return Verdict(words[0], words[1])
     return Verdict(words[1], "", " ".join(words[2:]))
@@ -59,8 +69,9 @@ Groups = dict[str, list[str]]
 
 
 class Sorted(NamedTuple):
-    """The nodes that pass; by why they don't all others, by why those of code 3, and by why those of which nothing can be said. Names in
-    `strange` may be any text; all others are those that a script can say."""
+    """The nodes that pass; by why they don't all others, by why those of code 3, and by why those
+    of which nothing can be said. Names in `strange` may be any text; all others are those that a
+    script can say."""
 
     passed: list[str]
     failed: Groups
@@ -81,16 +92,29 @@ class Words:
     def why(self, it: Verdict) -> str:
         if not it.code:
             return f"rule {it.rule} says nothing: {it.cause}"
-        reason = self.reasons.get(it.rule, {}).get(int(it.code), "")
+        # (an event's text is a format to kube-scheduler, and a condition's isn't: so neither has a
+        # percent sign)
+        reason = self.reasons.get(it.rule, {}).get(int(it.code), "").replace("%", PERCENT)
         return rejected_by(it.rule, it.code) + (f" ({reason})" if reason else "")
 
     def score_of(self, said: str) -> int:
-        """The weighted mean of the scores, as a part of HIGHEST and rounded down; 0 where a node doesn't pass."""
+        """The weighted mean of the scores, as a part of HIGHEST and rounded down; 0 where a node
+        doesn't pass."""
         if not self.most:
             return 0
-        return sum(weight * score for rule, weight, score in verdict(said).parts if rule in self.weights) * HIGHEST // self.most
+        return (
+            sum(
+                weight * score
+                for rule, weight, score in verdict(said).parts
+                if rule in self.weights
+            )
+            * HIGHEST
+            // self.most
+        )
 
-    def sort(self, names: Sequence[str], said: Mapping[str, str], unsaid: Mapping[str, str]) -> Sorted:
+    def sort(
+        self, names: Sequence[str], said: Mapping[str, str], unsaid: Mapping[str, str]
+    ) -> Sorted:
         """`unsaid` are the nodes that no row says as they are, and why."""
         found = Sorted([], {}, {}, {}, {}, {})
         for what, some in grouped(names, said).items():
@@ -103,7 +127,10 @@ class Words:
             elif not it.rule:
                 found.passed.extend(some)
             else:
-                kinds = [found.failed, *([found.final] if it.code == "3" else [] if it.code else [found.faults])]
+                kinds = [
+                    found.failed,
+                    *([found.final] if it.code == "3" else [] if it.code else [found.faults]),
+                ]
                 for kind in kinds:
                     kind.setdefault(self.why(it), []).extend(some)
         return found
@@ -114,7 +141,9 @@ class Words:
             # (what isn't known may have any name)
             some = some if what else [spell(it)[1:-1] for it in some]
             score = self.score(what) if what else 0
-            parts.append('{"Host":"' + f'","Score":{score}}},{{"Host":"'.join(some) + f'","Score":{score}}}')
+            parts.append(
+                '{"Host":"' + f'","Score":{score}}},{{"Host":"'.join(some) + f'","Score":{score}}}'
+            )
         return f"[{','.join(parts)}]".encode()
 
 
@@ -141,10 +170,14 @@ def by_name(groups: Groups, strange: Mapping[str, str]) -> str:
 def filtered(found: Sorted, nodes: Sequence[Json] | None) -> bytes:
     """What a filter is answered; of nodes that were handed over those that pass are handed back."""
     if nodes is None:
-        passed = '"NodeNames":[' + ('"' + '","'.join(found.passed) + '"' if found.passed else "") + "]"
+        passed = (
+            '"NodeNames":[' + ('"' + '","'.join(found.passed) + '"' if found.passed else "") + "]"
+        )
     else:
         names = {*found.passed}
-        passed = f'"Nodes":{spell({"items": [it for it in nodes if it["metadata"]["name"] in names]})}'
+        passed = (
+            f'"Nodes":{spell({"items": [it for it in nodes if it["metadata"]["name"] in names]})}'
+        )
     failed, final = by_name(found.failed, found.strange), by_name(found.final, {})
     return f'{{{passed},"FailedNodes":{failed},"FailedAndUnresolvableNodes":{final}}}'.encode()
 
@@ -155,7 +188,8 @@ def fault(why: str) -> bytes:
 
 
 def faulty(found: Sorted) -> str:
-    """Of the nodes of which nothing can be said the first, and how many others there are."""
-    why, names = next(iter(found.faults.items()))
+    """Of the nodes of which nothing can be said the first by name (so that the same is said each
+    time), and how many others there are."""
+    name, why = min((min(names), why) for why, names in found.faults.items())
     count = sum(map(len, found.faults.values()))
-    return f"node {names[0]}: {why}" + (f"; and {count - 1} nodes more" if count > 1 else "")
+    return f"node {name}: {why}" + (f"; and {count - 1} nodes more" if count > 1 else "")

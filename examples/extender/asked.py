@@ -1,5 +1,6 @@
 # SPDX-License-Identifier: Apache-2.0
-"""kube-scheduler's requests as they come over a connection: read, answered and counted. It keeps its connection, and asks the next by the same."""
+"""kube-scheduler's requests as they come over a connection: read, answered and counted. It keeps
+its connection, and asks the next by the same."""
 from __future__ import annotations
 
 import contextlib
@@ -16,18 +17,21 @@ from counting import Counting
 from service import Reply, Service
 
 LOG = logging.getLogger("second-scheduler")
-# The largest body that is read, and how many of more than so many bytes are read and answered at once.
+# The largest body that is read, and how many of more than so many bytes are read and answered at
+# once.
 LARGEST, LARGE, LARGE_AT_ONCE = 2**26, 2**20, 4
 # How long a line and how many fields a head may have.
 LINE, FIELDS = 65536, 100
-# For how long a connection may have no request, and one that has begun to come may say nothing, in seconds.
+# For how long a connection may have no request, and one that has begun to come may say nothing, in
+# seconds.
 IDLE, SILENT = 600.0, 30
 Verb = Callable[[bytes], Reply]
 LARGE_ONES = threading.BoundedSemaphore(LARGE_AT_ONCE)
 
 
 class Asked(Answer):
-    """One connection. (What http.server does with a head takes longer than all else here, so a POST's is read by this.)"""
+    """One connection. (What http.server does with a head takes longer than all else here, so a
+    POST's is read by this.)"""
 
     timeout = SILENT
     disable_nagle_algorithm = True
@@ -126,7 +130,11 @@ class Asked(Answer):
             self.close_connection = True
             return refused(400, "the body ended too early")
         try:
-            said = answer(body) if answer else refused(404, f"there are {' and '.join(self.service.verbs)}")
+            said = (
+                answer(body)
+                if answer
+                else refused(404, f"there are {' and '.join(self.service.verbs)}")
+            )
         except Exception:  # pylint: disable=broad-except
             # (a pod that is held up must be told of, and the connection goes on)
             LOG.exception("a request wasn't answered by a fault of this program's own")
@@ -137,8 +145,8 @@ class Asked(Answer):
     def answer(self, said: Reply) -> None:
         more = f"Wsched-Unheard-Seconds: {said.age:.1f}\r\n" if said.age else ""
         more += "Connection: close\r\n" if self.close_connection else ""
-        phrase = http.HTTPStatus(said.status).phrase
-        head = f"HTTP/1.1 {said.status} {phrase}\r\nContent-Type: application/json\r\nContent-Length: {len(said.body)}\r\n{more}\r\n"
+        head = f"HTTP/1.1 {said.status} {http.HTTPStatus(said.status).phrase}\r\n"
+        head += f"Content-Type: application/json\r\nContent-Length: {len(said.body)}\r\n{more}\r\n"
         self.wfile.write(head.encode("latin-1") + said.body)
         self.wfile.flush()
 

@@ -1,8 +1,9 @@
 # SPDX-License-Identifier: Apache-2.0
-"""`wsched run` as children, each with a share of the nodes: what is known of the nodes is told to them, and they are asked what the rules say.
+"""`wsched run` as children, each with a share of the nodes: what is known of the nodes is told to
+them, and they are asked what the rules say.
 
-A node is one child's, since a child has room for 1,000. One that has ended, or says nothing for too long, is ended and begun anew, and told
-again what is known. Whoever calls holds `lock`.
+A node is one child's, since a child has room for 1,000. One that has ended, or says nothing for
+too long, is ended and begun anew, and told again what is known. Whoever calls holds `lock`.
 """
 from __future__ import annotations
 
@@ -21,7 +22,8 @@ from questions import Row
 LOG = logging.getLogger("second-scheduler")
 # How many nodes one has room for, and how many pods on them.
 NODES, PLACES = 1000, 150_000
-# For how long an answer may be waited for, in seconds, beside what the fuel of all calls can take; and what a unit of fuel takes on a slow machine.
+# For how long an answer may be waited for, in seconds, beside what the fuel of all calls can take;
+# and what a unit of fuel takes on a slow machine.
 PATIENCE, UNIT = 4.0, 5e-9
 # Of each node what its line says behind its name.
 Said = dict[str, str]
@@ -32,7 +34,8 @@ def nothing() -> None:
 
 
 class Share:
-    """One child, the nodes that are its own, and how many pods are on them. `core` is None while it can't be started, and `why` says why."""
+    """One child, the nodes that are its own, and how many pods are on them. `core` is None while
+    it can't be started, and `why` says why."""
 
     def __init__(self) -> None:
         self.core: Core | None = None
@@ -43,18 +46,25 @@ class Share:
 class Cores:
     """All of them, and what they know."""
 
-    def __init__(self, program: str, workers: int, specs: list[str], again: Callable[[str], None]) -> None:
+    def __init__(
+        self, program: str, workers: int, specs: list[str], again: Callable[[str], None]
+    ) -> None:
         """`again` is told of each that is begun anew, and why."""
-        self.words, self.again, self.lock = command(program, workers, specs), again, threading.Lock()
+        self.words, self.again, self.lock = (
+            command(program, workers, specs),
+            again,
+            threading.Lock(),
+        )
         self.patience = PATIENCE + 2 * NODES * UNIT * sum(2 * int(it.split(":")[2]) for it in specs)
         self.shares: list[Share] = [Share()]
-        # each node's row and whose it is; the pods on each node, known or not; and where each pod is
+        # each node's row and whose it is; the pods on each node, known or not; and where each pod
+        # is
         self.rows: dict[str, str] = {}
         self.whose: dict[str, Share] = {}
         self.on: dict[str, dict[str, Size]] = {}
         self.at: dict[str, str] = {}
-        # how often something has changed, and how many lines were refused
-        self.changes = self.refused = 0
+        # how often something has changed, how often a node, and how many lines were refused
+        self.changes = self.row_changes = self.refused = 0
         self.began, self.spent_before = time.monotonic(), 0.0
 
     # What is told.
@@ -63,6 +73,7 @@ class Cores:
         if self.rows.get(name) == row:
             return
         self.changes += 1
+        self.row_changes += 1
         self.rows[name] = row
         share = self.whose.get(name)
         if share:
@@ -71,9 +82,13 @@ class Cores:
         self.settle_in(name)
 
     def settle_in(self, name: str) -> None:
-        """Gives a node to a child that has room for it and the pods on it, and tells that one of both."""
+        """Gives a node to a child that has room for it and the pods on it, and tells that one of
+        both."""
         pods = self.on.get(name, {})
-        share = next((it for it in self.shares if len(it.names) < NODES and it.places + len(pods) <= PLACES), None)
+        share = next(
+            (it for it in self.shares if len(it.names) < NODES and it.places + len(pods) <= PLACES),
+            None,
+        )
         if not share:
             share = Share()
             self.shares.append(share)
@@ -93,6 +108,7 @@ class Cores:
     def drop_node(self, name: str) -> None:
         if self.rows.pop(name, None) is not None:
             self.changes += 1
+            self.row_changes += 1
             self.leave(name)
 
     def leave(self, name: str) -> None:
@@ -161,7 +177,8 @@ class Cores:
     # What is asked.
 
     def judge(self, row: Row) -> Said:
-        """What the rules say of each node, all children at once. Raises CoreFault where one can't be asked, and not when it is begun anew either."""
+        """What the rules say of each node, all children at once. Raises CoreFault where one can't
+        be asked, and not when it is begun anew either."""
         self.settle()
         line = row.line.encode() + b"\n"
         told = Told(line, lambda answer: None, "judged ")
@@ -181,7 +198,8 @@ class Cores:
         return said
 
     def answer(self, share: Share, told: Told) -> str:
-        """One child's answer to what it was told; where there is none it is begun anew, and asked again."""
+        """One child's answer to what it was told; where there is none it is begun anew, and asked
+        again."""
         for is_last in (False, True):
             if not share.core:
                 break
@@ -197,7 +215,9 @@ class Cores:
 
     def begin_anew(self, share: Share, why: CoreFault) -> None:
         text = str(why).partition(", at {")[0].partition(" at {")[0]
-        LOG.warning("%s; it is begun anew with %d nodes and %d pods", text, len(share.names), share.places)
+        LOG.warning(
+            "%s; it is begun anew with %d nodes and %d pods", text, len(share.names), share.places
+        )
         self.again(text)
         self.end(share)
         share.why = text
@@ -227,10 +247,14 @@ class Cores:
                     it.close()
 
     def poke(self) -> None:
-        """Notices those that hang or have ended though nobody asks, and tries again to start those that couldn't be."""
+        """Notices those that hang or have ended though nobody asks, and tries again to start those
+        that couldn't be."""
         for it in self.shares:
             if it.core:
-                it.core.tell(f'{{"op":"tick","at":{int(1000 * (time.monotonic() - self.began))}}}', lambda answer: None)
+                it.core.tell(
+                    f'{{"op":"tick","at":{int(1000 * (time.monotonic() - self.began))}}}',
+                    lambda answer: None,
+                )
             else:
                 self.start(it)
         self.settle()
@@ -256,13 +280,22 @@ def read(answer: str) -> Said:
     """Of each node what its line says."""
     lines, judged, _ = answer.rpartition("\njudged ")
     # (a thousand at each question: so this is as short as can be)
-    return {name: what for name, _, what in map(str.partition, lines[2:].split("\n  "), itertools.repeat(" "))} if judged else {}
+    return (
+        {
+            name: what
+            for name, _, what in map(str.partition, lines[2:].split("\n  "), itertools.repeat(" "))
+        }
+        if judged
+        else {}
+    )
 
 
 def spent(pid: int) -> float:
     """The processor seconds of a process so far."""
     try:
         with open(f"/proc/{pid}/stat", encoding="ascii") as file:
-            return sum(map(int, file.read().rpartition(")")[2].split()[11:13])) / os.sysconf("SC_CLK_TCK")
+            return sum(map(int, file.read().rpartition(")")[2].split()[11:13])) / os.sysconf(
+                "SC_CLK_TCK"
+            )
     except OSError:
         return 0.0

@@ -9,7 +9,10 @@ from prometheus_client import CollectorRegistry, Counter, Gauge, Histogram, gene
 from metrics import SECONDS
 
 VERDICTS = "Verdicts of filters on nodes: that all rules pass it, or what a rule answers."
-REQUEST, CORE = "Seconds from a request's first byte to its answer's last.", "wsched's processor time, which is what rules and their fuel take."
+REQUEST, CORE = (
+    "Seconds from a request's first byte to its answer's last.",
+    "wsched's processor time, which is what rules and their fuel take.",
+)
 
 
 class Counting:
@@ -17,17 +20,50 @@ class Counting:
 
     def __init__(self) -> None:
         self.registry = it = CollectorRegistry()
-        self.requests = Counter("wsched_extender_requests_total", "Requests, and how they were answered.", ["verb", "result"], registry=it)
-        self.seconds = Histogram("wsched_extender_request_seconds", REQUEST, ["verb"], buckets=SECONDS, registry=it)
-        self.verdicts = Counter("wsched_extender_verdicts_total", VERDICTS, ["rule", "answer"], registry=it)
-        self.kept = Counter("wsched_extender_kept_answers_total", "Requests that were answered by what was kept of the one before.", registry=it)
-        self.begun = Counter("wsched_extender_begun_anew_total", "How often a wsched that hung or ended was begun anew.", registry=it)
+        self.requests = Counter(
+            "wsched_extender_requests_total",
+            "Requests, and how they were answered.",
+            ["verb", "result"],
+            registry=it,
+        )
+        self.seconds = Histogram(
+            "wsched_extender_request_seconds", REQUEST, ["verb"], buckets=SECONDS, registry=it
+        )
+        self.verdicts = Counter(
+            "wsched_extender_verdicts_total", VERDICTS, ["rule", "answer"], registry=it
+        )
+        self.kept = Counter(
+            "wsched_extender_kept_answers_total",
+            "Requests that were answered by what was kept of the one before.",
+            registry=it,
+        )
+        self.begun = Counter(
+            "wsched_extender_begun_anew_total",
+            "How often a wsched that hung or ended was begun anew.",
+            registry=it,
+        )
         self.lists = Counter("wsched_lists_total", "Whole lists.", ["kind"], registry=it)
-        self.breaks = Counter("wsched_watch_failures_total", "Lists and watches that were refused or broke.", ["kind"], registry=it)
-        self.shut = Gauge("wsched_watch_shut_seconds", "For how long nothing has been heard of a kind, 0 while its watch is open.", ["kind"], registry=it)
-        self.refused = Gauge("wsched_extender_lines_refused", "Lines of nodes and pods that wsched refused.", registry=it)
+        self.breaks = Counter(
+            "wsched_watch_failures_total",
+            "Lists and watches that were refused or broke.",
+            ["kind"],
+            registry=it,
+        )
+        self.shut = Gauge(
+            "wsched_watch_shut_seconds",
+            "For how long nothing has been heard of a kind, 0 while its watch is open.",
+            ["kind"],
+            registry=it,
+        )
+        self.refused = Gauge(
+            "wsched_extender_lines_refused",
+            "Lines of nodes and pods that wsched refused.",
+            registry=it,
+        )
         self.nodes = Gauge("wsched_nodes", "Nodes that wsched is told of.", registry=it)
-        self.left_out = Gauge("wsched_left_out", "Nodes that no line can say as they are.", ["kind"], registry=it)
+        self.left_out = Gauge(
+            "wsched_left_out", "Nodes that no line can say as they are.", ["kind"], registry=it
+        )
         self.places = Gauge("wsched_places", "Pods on nodes.", ["state"], registry=it)
         self.core_seconds = Gauge("wsched_extender_core_seconds", CORE, registry=it)
         for kind in ("node", "pod"):

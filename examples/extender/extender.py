@@ -1,9 +1,11 @@
 #!/usr/bin/python3
 # SPDX-License-Identifier: Apache-2.0
-"""wsched's rules behind a kube-scheduler: an extender that answers which nodes a pod may have, and how good they are.
+"""wsched's rules behind a kube-scheduler: an extender that answers which nodes a pod may have, and
+how good they are.
 
-It lists and watches nodes and pods, tells `wsched run` of them, and answers kube-scheduler's POST /filter and /prioritize by what the rules
-say, as the plugins that are named say it: NAME:WEIGHT:FUEL:FILE. The README.md beside this says how to use it.
+It lists and watches nodes and pods, tells `wsched run` of them, and answers kube-scheduler's POST
+/filter and /prioritize by what the rules say, as the plugins that are named say it:
+NAME:WEIGHT:FUEL:FILE. The README.md beside this says how to use it.
 """
 from __future__ import annotations
 
@@ -50,30 +52,69 @@ AFFINITY = "node_affinity"
 
 
 def words() -> argparse.Namespace:
-    said = argparse.ArgumentParser(prog="extender.py", description=(__doc__ or "").split("\n", maxsplit=1)[0])
-    said.add_argument("spec", nargs="*", help="plugins, as `wsched run` takes them: NAME:WEIGHT:FUEL:FILE")
-    said.add_argument("--listen", type=serving.address, default=("127.0.0.1", 8888), metavar="[HOST]:PORT", help="where it is asked; else 127.0.0.1:8888")
+    said = argparse.ArgumentParser(
+        prog="extender.py", description=(__doc__ or "").split("\n", maxsplit=1)[0]
+    )
+    said.add_argument(
+        "spec", nargs="*", help="plugins, as `wsched run` takes them: NAME:WEIGHT:FUEL:FILE"
+    )
+    said.add_argument(
+        "--listen",
+        type=serving.address,
+        default=("127.0.0.1", 8888),
+        metavar="[HOST]:PORT",
+        help="where it is asked; else 127.0.0.1:8888",
+    )
     said.add_argument(
         "--on-error",
         choices=("error", "reject-node"),
         default="error",
-        help="where a rule says nothing of a node, or the node has labels that it may read and no room: the pod waits, or that node is rejected",
+        help="where a rule says nothing of a node, or a label that it may read has no room in the "
+        "node's row: the pod waits, or that node is rejected",
     )
-    said.add_argument("--max-stale", type=seconds, metavar="SECONDS", help="nothing is answered by what was heard longer ago; else it is, however old")
+    said.add_argument(
+        "--max-stale",
+        type=seconds,
+        metavar="SECONDS",
+        help="nothing is answered by what was heard longer ago; else it is, however old",
+    )
     said.add_argument("--wsched", default="wsched", help="the program")
     said.add_argument("--workers", type=int, default=1, help="how many workers each wsched has")
-    said.add_argument("--kubeconfig", help="a file; else the account of the pod, else the usual one")
-    said.add_argument("--rules", metavar="FILE", help="rules and settings in a file (examples/tools/rules.py has its form), before the SPECs")
-    said.add_argument("--settings", metavar="FILE", help="settings of the rules, as lines NAME=VALUE: labels /cfg/NAME of each node's row")
+    said.add_argument(
+        "--kubeconfig", help="a file; else the account of the pod, else the usual one"
+    )
+    said.add_argument(
+        "--rules",
+        metavar="FILE",
+        help="a file of rules and settings (its form: examples/tools/rules.py), before the SPECs",
+    )
+    said.add_argument(
+        "--settings",
+        metavar="FILE",
+        help="settings of the rules, as lines NAME=VALUE: labels /cfg/NAME of each node's row",
+    )
     said.add_argument(
         "--labels",
         type=rule_labels.words,
         metavar="KEY,..",
-        help="the labels that rules read, of which none gives way where a pod or a node has more than a row has room for; others than modules name",
+        help="the labels that rules read beside those that their modules name: none of these gives "
+        "way where a pod or a node has more than a row has room for",
     )
-    said.add_argument("--tls-cert", metavar="FILE", help="be asked by TLS, with this certificate, and what it is signed by behind it (PEM)")
-    said.add_argument("--tls-key", metavar="FILE", help="the certificate's key, where it doesn't stand in the same file")
-    said.add_argument("--token-file", metavar="FILE", help="/metrics is for those alone that bear the token that stands there")
+    said.add_argument(
+        "--tls-cert",
+        metavar="FILE",
+        help="be asked by TLS, with this certificate, and what it is signed by behind it (PEM)",
+    )
+    said.add_argument(
+        "--tls-key",
+        metavar="FILE",
+        help="the certificate's key, where it doesn't stand in the same file",
+    )
+    said.add_argument(
+        "--token-file",
+        metavar="FILE",
+        help="/metrics is for those alone that bear the token that stands there",
+    )
     said.add_argument("--verbose", action="store_true")
     given = said.parse_args()
     if given.tls_key and not given.tls_cert:
@@ -85,10 +126,17 @@ def words() -> argparse.Namespace:
     except (OSError, ValueError, site_settings.BadSetting) as why:
         said.error(f"argument --settings: {why}")
     if by.tells_affinity:
-        said.error(f"the rule {AFFINITY} reads what is told to a second scheduler alone: kube-scheduler sees to selectors and affinity itself")
+        said.error(
+            f"the rule {AFFINITY} reads what a second scheduler tells: kube-scheduler sees to "
+            "selectors and affinity itself"
+        )
     if not by.specs:
         said.error("no rule is named, by a SPEC or by --rules")
-    given.spec, given.settings, given.named = [*by.specs], [*by.labels], rule_labels.read_by(by.specs, by.keys, "")
+    given.spec, given.settings, given.named = (
+        [*by.specs],
+        [*by.labels],
+        rule_labels.read_by(by.specs, by.keys, ""),
+    )
     return given
 
 
@@ -100,9 +148,16 @@ def seconds(text: str) -> float:
 
 
 def words_for(specs: list[str]) -> Words:
-    """How the rules' answers are told, by what their modules say (as they are now: wsched reads them once as well)."""
-    weights = {name: int(weight) for name, weight, *_ in (it.split(":", 3) for it in specs if has_score(it))}
-    LOG.info("rules with a score: %s", ", ".join(weights) or "none, so there is no need of prioritizeVerb")
+    """How the rules' answers are told, by what their modules say (as they are now: wsched reads
+    them once as well)."""
+    weights = {
+        name: int(weight)
+        for name, weight, *_ in (it.split(":", 3) for it in specs if has_score(it))
+    }
+    LOG.info(
+        "rules with a score: %s",
+        ", ".join(weights) or "none, so there is no need of prioritizeVerb",
+    )
     return Words(reasons_by_name(specs), weights)
 
 
@@ -114,16 +169,33 @@ def begin(given: argparse.Namespace, calls: Any) -> Service:
         cores.start(cores.shares[0])
         # (a program that doesn't know the word would be begun anew at each question)
         cores.judge(Row("a-pod", '"containers":[["0m","0"]]'))
-    service = Service(cores, Rows(given.wsched, given.named), words_for(given.spec), counting, given.on_error == "reject-node", given.max_stale)
+    rows = Rows(given.wsched, given.named)
+    service = Service(
+        cores,
+        rows,
+        words_for(given.spec),
+        counting,
+        given.on_error == "reject-node",
+        given.max_stale,
+    )
     answer = type("Asked", (Asked,), {"service": service, "counting": counting})
-    serving.serve(given.listen, service, counting, serving.Files(given.tls_cert, given.tls_key, given.token_file), answer)
-    service.knowing = Knowing(client.CoreV1Api(calls), cores, given.wsched, NodeLabels(given.settings, given.named), given.named, counting)
+    serving.serve(
+        given.listen,
+        service,
+        counting,
+        serving.Files(given.tls_cert, given.tls_key, given.token_file),
+        answer,
+    )
+    service.knowing = Knowing(
+        client.CoreV1Api(calls), cores, rows, NodeLabels(given.settings, given.named), counting
+    )
     service.watch_over()
     return service
 
 
 def end(service: Service) -> None:
-    """Whoever asks to know whether it is ready is told that it isn't; requests under way have their answers."""
+    """Whoever asks to know whether it is ready is told that it isn't; requests under way have
+    their answers."""
     service.stopping = True
     LOG.info("it ends")
     if service.cores.lock.acquire(timeout=PATIENCE):  # pylint: disable=consider-using-with
@@ -149,7 +221,12 @@ def main() -> None:
         sys.exit(f"extender.py: {why}")
     except OSError as why:
         sys.exit(f"extender.py: --listen: {why}")
-    LOG.info("asked at %s:%d%s", given.listen[0] or "*", given.listen[1], " by TLS" if given.tls_cert else "")
+    LOG.info(
+        "asked at %s:%d%s",
+        given.listen[0] or "*",
+        given.listen[1],
+        " by TLS" if given.tls_cert else "",
+    )
     stop.wait()
     end(service)
 

@@ -1,5 +1,6 @@
 # SPDX-License-Identifier: Apache-2.0
-"""What is known of nodes, and of the pods on them, by a list and a watch of each kind; and how old that is."""
+"""What is known of nodes, and of the pods on them, by a list and a watch of each kind; and how old
+that is."""
 from __future__ import annotations
 
 import logging
@@ -7,14 +8,13 @@ import time
 from typing import Any, Sequence
 
 from affinity import NodeLabels
-from rule_labels import Named
-from seen import Reader, SeenNode, row_of
+from seen import ENDED, Reader, SeenNode, row_of
 from translating import Json
 from watch import PHASES, Watched
 
 from cores import Cores
 from counting import Counting
-from questions import WHO
+from questions import WHO, Rows
 
 LOG = logging.getLogger("second-scheduler")
 # Pods without a node take nothing of any; one that ends is told of as gone.
@@ -26,7 +26,9 @@ class NodeEars:
 
     kind = "node"
 
-    def __init__(self, cores: Cores, reader: Reader, labels: NodeLabels, counting: Counting) -> None:
+    def __init__(
+        self, cores: Cores, reader: Reader, labels: NodeLabels, counting: Counting
+    ) -> None:
         self.cores, self.reader, self.labels, self.counting = cores, reader, labels, counting
         self.unsaid: dict[str, str] = {}
         self.is_listed = False
@@ -76,19 +78,30 @@ class PodEars:
 
     kind = "pod"
 
-    def __init__(self, cores: Cores, reader: Reader, counting: Counting) -> None:
-        self.cores, self.reader, self.counting, self.is_listed = cores, reader, counting, False
+    def __init__(self, cores: Cores, rows: Rows, counting: Counting) -> None:
+        self.cores, self.rows, self.counting, self.is_listed = cores, rows, counting, False
 
     def key(self, thing: Json) -> str:
         return str(thing["metadata"]["uid"])
 
     def hear(self, event: str, things: Sequence[Json]) -> None:
-        seen = {} if event == "DELETED" else self.reader.pods(things)
+        there = (
+            []
+            if event == "DELETED"
+            else [
+                it
+                for it in things
+                if it["spec"].get("nodeName") and (it.get("status") or {}).get("phase") not in ENDED
+            ]
+        )
+        sizes = {
+            self.key(it): (it["spec"]["nodeName"], size)
+            for it, size in zip(there, self.rows.sizes(there))
+        }
         with self.cores.lock:
             for uid in map(self.key, things):
-                it = seen.get(uid)
-                if it and it.node:
-                    self.cores.set_pod(uid, it.node, it.size)
+                if uid in sizes:
+                    self.cores.set_pod(uid, *sizes[uid])
                 else:
                     self.cores.drop_pod(uid)
             self.cores.settle()
@@ -108,10 +121,17 @@ class PodEars:
 class Knowing:
     """Both. Their watches begin at once."""
 
-    def __init__(self, api: Any, cores: Cores, program: str, labels: NodeLabels, named: Named, counting: Counting) -> None:
-        reader = Reader(program, WHO, named)
-        self.nodes, self.pods = NodeEars(cores, reader, labels, counting), PodEars(cores, reader, counting)
-        self.watches = [Watched(api.list_node, self.nodes), Watched(api.list_pod_for_all_namespaces, self.pods, field_selector=ON_NODES)]
+    def __init__(
+        self, api: Any, cores: Cores, rows: Rows, labels: NodeLabels, counting: Counting
+    ) -> None:
+        reader = Reader(rows.translator.words[0], WHO, rows.named)
+        self.nodes, self.pods = NodeEars(cores, reader, labels, counting), PodEars(
+            cores, rows, counting
+        )
+        self.watches = [
+            Watched(api.list_node, self.nodes),
+            Watched(api.list_pod_for_all_namespaces, self.pods, field_selector=ON_NODES),
+        ]
         counting.look = self.look
         self.cores, self.counting = cores, counting
 

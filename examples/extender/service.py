@@ -1,5 +1,6 @@
 # SPDX-License-Identifier: Apache-2.0
-"""The answers to kube-scheduler's requests: what is known, what the rules say of that, and how old it is."""
+"""The answers to kube-scheduler's requests: what is known, what the rules say of that, and how old
+it is."""
 from __future__ import annotations
 
 import collections
@@ -18,8 +19,13 @@ from knowing import Knowing
 from questions import Bad, Question, Row, Rows, Untold, read
 
 LOG = logging.getLogger("second-scheduler")
-# Of how many pods the answers are kept for the request that follows, and how often it is looked whether all is well, in seconds.
+# Of how many pods the answers are kept for the request that follows, and how often it is looked
+# whether all is well, in seconds.
 KEPT, LOOK = 64, 1.0
+# For how long a filter and a prioritize are answered by what was said before pods came or went, in
+# seconds: kube-scheduler itself has one picture of the cluster for both, and where pods are bound
+# quickly the one before is told of between the two.
+FILTER, PRIORITIZE = 0.0, 1.0
 # For how long nobody may have looked, in seconds, before this process is held to do nothing.
 SILENCE = 60.0
 # The least seconds between two lines of the log that say the same kind of thing.
@@ -27,12 +33,22 @@ SELDOM = 10.0
 
 
 class Reply(NamedTuple):
-    """A status and a body; `result` is how it is counted, and `age` for how many seconds nothing has been heard."""
+    """A status and a body; `result` is how it is counted, and `age` for how many seconds nothing
+    has been heard."""
 
     status: int
     body: bytes
     result: str = "answered"
     age: float = 0.0
+
+
+class Kept(NamedTuple):
+    """An answer, what had changed by then, of all and of nodes' rows alone, and when it was."""
+
+    said: Said
+    changes: int
+    rows: int
+    when: float
 
 
 class Unknown(Exception):
@@ -42,14 +58,25 @@ class Unknown(Exception):
 class Service:
     """Each call may come from any thread."""
 
-    def __init__(self, cores: Cores, rows: Rows, words: Words, counting: Counting, rejects: bool, max_stale: float | None) -> None:
+    def __init__(
+        self,
+        cores: Cores,
+        rows: Rows,
+        words: Words,
+        counting: Counting,
+        rejects: bool,
+        max_stale: float | None,
+    ) -> None:
         """`rejects`: a node of which nothing can be said is rejected alone."""
         self.cores, self.rows, self.words, self.counting = cores, rows, words, counting
         self.rejects, self.max_stale = rejects, max_stale
         self.knowing: Knowing | None = None
-        self.kept: collections.OrderedDict[Row, tuple[int, Said]] = collections.OrderedDict()
+        self.kept: collections.OrderedDict[Row, Kept] = collections.OrderedDict()
         self.looked, self.logged, self.stopping = time.monotonic(), 0.0, False
-        self.verbs: dict[str, Callable[[bytes], Reply]] = {"/filter": self.filter, "/prioritize": self.prioritize}
+        self.verbs: dict[str, Callable[[bytes], Reply]] = {
+            "/filter": self.filter,
+            "/prioritize": self.prioritize,
+        }
 
     # Requests.
 
@@ -57,7 +84,7 @@ class Service:
         try:
             asked = read(body)
             self.look_at_age()
-            found = self.sort(asked, self.said(asked))
+            found = self.sort(asked, self.said(asked, FILTER))
         except Bad as why:
             return Reply(400, fault(str(why)), "refused")
         except (Untold, Unknown, CoreFault) as why:
@@ -67,11 +94,14 @@ class Service:
         return Reply(200, filtered(found, asked.nodes), age=self.age())
 
     def prioritize(self, body: bytes) -> Reply:
-        """(it has no field for an error, and a status that is none of success has all nodes alike)"""
+        """(it has no field for an error, and a status that is none of success has all nodes alike)
+        """
         try:
             asked = read(body)
             self.look_at_age()
-            return Reply(200, self.words.scores(asked.names, self.said(asked)), age=self.age())
+            return Reply(
+                200, self.words.scores(asked.names, self.said(asked, PRIORITIZE)), age=self.age()
+            )
         except Bad as why:
             return Reply(400, fault(str(why)), "refused")
         except (Untold, Unknown, CoreFault) as why:
@@ -84,16 +114,20 @@ class Service:
             LOG.warning("no answer: %s", why)
         return Reply(status, fault(f"wsched: {why}"), "error", self.age())
 
-    def said(self, asked: Question) -> Said:
-        """What the rules say of each node for this pod: as it was answered before, where nothing has changed since."""
-        row = self.rows.row(asked.pod)
+    def said(self, asked: Question, fresh: float) -> Said:
+        """What the rules say of each node for this pod: as it was said before, where nothing has
+        changed since, or but for pods that came or went in so many seconds."""
+        row, now = self.rows.row(asked.pod), time.monotonic()
         with self.cores.lock:
-            changes, said = self.kept.get(row, (-1, {}))
-            if changes == self.cores.changes:
+            kept = self.kept.get(row)
+            if kept and (
+                kept.changes == self.cores.changes
+                or (kept.rows == self.cores.row_changes and now < kept.when + fresh)
+            ):
                 self.counting.kept.inc()
-                return said
+                return kept.said
             said = self.cores.judge(row)
-            self.kept[row] = self.cores.changes, said
+            self.kept[row] = Kept(said, self.cores.changes, self.cores.row_changes, now)
             self.kept.move_to_end(row)
             if len(self.kept) > KEPT:
                 self.kept.popitem(last=False)
@@ -122,7 +156,11 @@ class Service:
         """What isn't heard, and for how long; empty where all is."""
         assert self.knowing
         kinds, age = self.knowing.unheard(), self.knowing.age()
-        return f"nothing has been heard of any {', of any '.join(kinds)} for {age:.0f} s" if kinds and age > DEAF else ""
+        return (
+            f"nothing has been heard of any {', of any '.join(kinds)} for {age:.0f} s"
+            if kinds and age > DEAF
+            else ""
+        )
 
     # Whether all is well.
 

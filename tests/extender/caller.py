@@ -1,27 +1,29 @@
 # SPDX-License-Identifier: Apache-2.0
-"""What a trial of the extender has: the extender beside a stub of an API server or a real one, a caller that asks as kube-scheduler does, and the
-shipped rules keep_region and prefer_zone written down once more, by which answers are judged."""
+"""What a trial of the extender has: the extender beside a stub of an API server or a real one, a
+caller that asks as kube-scheduler does, and the shipped rules keep_region and prefer_zone written
+down once more, by which answers are judged."""
 import http.client
 import json
 import pathlib
 import socket
 import ssl
-import sys
 from typing import Any, Mapping, Optional, Sequence
 
-TOP = pathlib.Path(__file__).resolve().parent.parent.parent
-EXTENDER = TOP / "examples/extender"
-PLUGINS = TOP / "examples/plugins"
-sys.path[:0] = [str(TOP / "examples/second-scheduler"), str(TOP / "examples")]
-
-# pylint: disable=wrong-import-position
-from trials.site import PATIENCE, REGION, Scheduler, Site, children, command, wait_for
+from trials.site import REGION, TOP, Scheduler, Site, children, command
 from trials.store import Thing
 
+EXTENDER = TOP / "examples/extender"
+PLUGINS = TOP / "examples/plugins"
 ZONE, EUROPE = "topology.kubernetes.io/zone", "eu-central-1"
-KEEP, PREFER = f"keep_region:1:100000:{PLUGINS}/keep_region.wasm", f"prefer_zone:1:100000:{PLUGINS}/prefer_zone.wasm"
+KEEP, PREFER = (
+    f"keep_region:1:100000:{PLUGINS}/keep_region.wasm",
+    f"prefer_zone:1:100000:{PLUGINS}/prefer_zone.wasm",
+)
 PERSONAL = {"data-class": "personal"}
-REASON = "node(s) were rejected by keep_region for good (pods labelled data-class=personal run in the region eu-central-1 alone)"
+REASON = (
+    "node(s) were rejected by keep_region for good (pods labelled data-class=personal run in the "
+    "region eu-central-1 alone)"
+)
 UNKNOWN = "node(s) weren't known to wsched"
 
 
@@ -31,6 +33,17 @@ def free_port() -> int:
         it.bind(("127.0.0.1", 0))
         port: int = it.getsockname()[1]
         return port
+
+
+def with_record(folder: pathlib.Path, wsched: str) -> str:
+    """A program that stands before wsched, and writes what `run` is told to the file `told`."""
+    program, told = folder / "tee", folder / "told"
+    told.write_text("", encoding="utf-8")
+    tee = f'exec {wsched} "$@" < <(exec tee -a {told})'
+    text = f'#!/bin/bash\nif [ "$1" = run ]; then {tee}; fi\nexec {wsched} "$@"\n'
+    program.write_text(text, encoding="utf-8")
+    program.chmod(0o755)
+    return str(program)
 
 
 class Caller:
@@ -45,7 +58,12 @@ class Caller:
         """The connection."""
         if self.line is None:
             if self.authority:
-                self.line = http.client.HTTPSConnection("127.0.0.1", self.port, timeout=60, context=ssl.create_default_context(cafile=self.authority))
+                self.line = http.client.HTTPSConnection(
+                    "127.0.0.1",
+                    self.port,
+                    timeout=60,
+                    context=ssl.create_default_context(cafile=self.authority),
+                )
             else:
                 self.line = http.client.HTTPConnection("127.0.0.1", self.port, timeout=60)
         return self.line
@@ -76,26 +94,48 @@ class Caller:
         except (OSError, http.client.HTTPException):
             return 0, ""
 
-    def ask(self, verb: str, one: Thing, names: Sequence[str], nodes: Optional[Sequence[Thing]] = None) -> tuple[int, Any]:
+    def ask(
+        self, verb: str, one: Thing, names: Sequence[str], nodes: Optional[Sequence[Thing]] = None
+    ) -> tuple[int, Any]:
         """A question as kube-scheduler asks it; with whole nodes where they are given."""
-        asked = {"Pod": one, "Nodes": None if nodes is None else {"metadata": {}, "items": nodes}, "NodeNames": names if nodes is None else None}
-        status, said = self.send("POST", f"/{verb}", json.dumps(asked), **{"Content-Type": "application/json"})
+        asked = {
+            "Pod": one,
+            "Nodes": None if nodes is None else {"metadata": {}, "items": nodes},
+            "NodeNames": names if nodes is None else None,
+        }
+        status, said = self.send(
+            "POST", f"/{verb}", json.dumps(asked), **{"Content-Type": "application/json"}
+        )
         return status, json.loads(said)
 
     def metrics(self) -> dict[str, float]:
         """Each sample by its name and labels."""
         status, said = self.get("/metrics")
         assert status == 200, f"/metrics answers {status}"
-        return {line.rpartition(" ")[0]: float(line.rpartition(" ")[2]) for line in said.splitlines() if not line.startswith("#")}
+        return {
+            line.rpartition(" ")[0]: float(line.rpartition(" ")[2])
+            for line in said.splitlines()
+            if not line.startswith("#")
+        }
 
 
 class Running:
     """An extender that runs, and who asks it."""
 
-    def __init__(self, site: Site, *words: str, name: str = "extender", authority: Optional[str] = None, **other: Optional[str]) -> None:
+    def __init__(
+        self,
+        site: Site,
+        *words: str,
+        name: str = "extender",
+        authority: Optional[str] = None,
+        **other: Optional[str],
+    ) -> None:
         self.site, self.port = site, free_port()
         program = other.get("program") or str(EXTENDER / "extender.py")
-        self.it: Scheduler = site.start("--listen", f"127.0.0.1:{self.port}", *words, name=name, words=[program], wsched=other.get("wsched"), config=other.get("config"))
+        own = ["--listen", f"127.0.0.1:{self.port}", *words]
+        self.it: Scheduler = site.start(
+            *own, name=name, words=[program], wsched=other.get("wsched"), config=other.get("config")
+        )
         self.caller = Caller(self.port, authority)
 
     def ready(self, patience: float = 30) -> "Running":
@@ -115,8 +155,13 @@ class Running:
         assert status == 200 and isinstance(said, dict), f"{status} {said}"
         return said
 
+    def passes(self, one: Thing, names: Sequence[str]) -> bool:
+        """Whether all of these nodes pass."""
+        return self.filter(one, names).get("NodeNames") == names
+
     def error(self, one: Thing, names: Sequence[str]) -> str:
-        """The `Error` of a filter's answer, as kube-scheduler tells it; empty where there is none."""
+        """The `Error` of a filter's answer, as kube-scheduler tells it; empty where there is none.
+        """
         error = str(self.filter(one, names).get("Error", ""))
         assert "%" not in error.replace("%%", ""), f"a format's percent sign in {error}"
         return error.replace("%%", "%")
@@ -126,7 +171,9 @@ class Running:
         status, said = self.caller.ask("prioritize", one, names)
         assert status == 200 and isinstance(said, list), f"{status} {said}"
         found = {it["Host"]: it["Score"] for it in said}
-        assert len(found) == len(said) and sorted(found) == sorted({*names}), "other hosts than were asked about"
+        assert len(found) == len(said) and sorted(found) == sorted(
+            {*names}
+        ), "other hosts than were asked about"
         return found
 
     def begun_anew(self) -> float:
@@ -136,9 +183,23 @@ class Running:
 
 def pod(name: str, labels: Optional[Thing] = None, **spec: Any) -> Thing:
     """A pod as kube-scheduler hands it over."""
-    container = {"name": "c", "image": "x", "resources": {"requests": {"cpu": "100m", "memory": "64Mi"}}}
-    meta = {"name": name, "namespace": "default", "uid": f"uid-of-{name}", "resourceVersion": "7", "labels": labels or {}}
-    return {"metadata": meta, "spec": {"containers": [container], "schedulerName": "default-scheduler", **spec}, "status": {"phase": "Pending"}}
+    container = {
+        "name": "c",
+        "image": "x",
+        "resources": {"requests": {"cpu": "100m", "memory": "64Mi"}},
+    }
+    meta = {
+        "name": name,
+        "namespace": "default",
+        "uid": f"uid-of-{name}",
+        "resourceVersion": "7",
+        "labels": labels or {},
+    }
+    return {
+        "metadata": meta,
+        "spec": {"containers": [container], "schedulerName": "default-scheduler", **spec},
+        "status": {"phase": "Pending"},
+    }
 
 
 # The rules once more.
@@ -146,25 +207,37 @@ def pod(name: str, labels: Optional[Thing] = None, **spec: Any) -> Thing:
 
 def passes(one: Thing, node: Thing) -> bool:
     """keep_region."""
-    return one["metadata"]["labels"].get("data-class") != "personal" or node["labels"].get(REGION) == EUROPE
+    return bool(
+        one["metadata"]["labels"].get("data-class") != "personal"
+        or node["labels"].get(REGION) == EUROPE
+    )
 
 
 def score(one: Thing, node: Thing, used: int) -> int:
     """prefer_zone, of a node with so many pods."""
     wish = one["metadata"]["labels"].get("wished-zone")
     there = wish is not None and wish == node["labels"].get(ZONE)
-    return (50 if there else 0) + 50 * (node["pods"] - used - 1) // int(node["pods"])
+    room = int(node["pods"])
+    return (50 if there else 0) + 50 * (room - used - 1) // room
 
 
-def check(running: Running, one: Thing, nodes: Mapping[str, Thing], used: Mapping[str, int], names: Sequence[str]) -> None:
-    """Both verbs answer as the rules do. `nodes` have labels and room for pods, and `used` how many pods there are."""
+def check(
+    running: Running,
+    one: Thing,
+    nodes: Mapping[str, Thing],
+    used: Mapping[str, int],
+    names: Sequence[str],
+) -> None:
+    """Both verbs answer as the rules do. `nodes` have labels and room for pods, and `used` how
+    many pods there are."""
     said = running.filter(one, names)
     assert not said.get("Error"), said["Error"]
     may = [it for it in names if passes(one, nodes[it])]
     assert sorted(said["NodeNames"]) == sorted(may), f"{one['metadata']}: other nodes pass than may"
-    assert said["FailedNodes"] == said["FailedAndUnresolvableNodes"] == {it: REASON for it in names if it not in may}, said
+    assert (
+        said["FailedNodes"]
+        == said["FailedAndUnresolvableNodes"]
+        == {it: REASON for it in names if it not in may}
+    ), said
     wanted = {it: score(one, nodes[it], used.get(it, 0)) * 10 // 100 for it in may}
     assert running.scores(one, may) == wanted, f"{one['metadata']}: other scores"
-
-
-__all__ = ["PATIENCE", "wait_for"]

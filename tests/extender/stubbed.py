@@ -1,6 +1,7 @@
 # SPDX-License-Identifier: Apache-2.0
 """Trials of the extender beside a stub of an API server."""
 import concurrent.futures
+import functools
 import json
 import os
 import random
@@ -13,13 +14,30 @@ from typing import Callable, Iterator
 
 import yaml
 
-from caller import EUROPE, EXTENDER, KEEP, PATIENCE, PERSONAL, PLUGINS, PREFER, REASON, UNKNOWN, ZONE, Caller, Running, check, pod
-from modules import FOREVER, UNREACHABLE, answering, rule
+from trials.answers import merge
 from trials.certificates import certificate
 from trials.sections import labels as labels_read, section, without_sections
 from trials.server import RESET
-from trials.site import REGION, Site, alive, children, wait_for
+from trials.site import PATIENCE, REGION, Site, alive, children, wait_for
 from trials.store import Thing
+
+from caller import (
+    EUROPE,
+    EXTENDER,
+    KEEP,
+    PERSONAL,
+    PLUGINS,
+    PREFER,
+    REASON,
+    UNKNOWN,
+    ZONE,
+    Caller,
+    Running,
+    check,
+    pod,
+    with_record,
+)
+from modules import FOREVER, UNREACHABLE, answering, rule
 
 # Labels that sort before those that rules read.
 MANY = {f"a{i:02}": "x" for i in range(40)}
@@ -30,32 +48,74 @@ def some_nodes(site: Site, count: int) -> dict[str, Thing]:
     found = {}
     for i in range(count):
         labels = {REGION: EUROPE if i % 2 else "us-east-1", ZONE: "abc"[i % 3], "number": str(i)}
-        node = {"labels": labels, "pods": [20, 110, 250][i % 3]}
+        node: Thing = {"labels": labels, "pods": [20, 110, 250][i % 3]}
         site.node(name := f"node-{i:04}", cpu="64", memory="256Gi", **node)
         found[name] = node
     return found
 
 
 def some_pods(count: int, seed: int = 1) -> Iterator[Thing]:
-    """Pods that ask for all kinds of things that are kube-scheduler's to see to; half of them are one region's."""
+    """Pods that ask for all kinds of things that are kube-scheduler's to see to; half of them are
+    one region's."""
     dice = random.Random(seed)
-    spread = {"maxSkew": 1, "topologyKey": ZONE, "whenUnsatisfiable": "DoNotSchedule", "labelSelector": {"matchLabels": {"app": "x"}}}
-    anti = {"podAntiAffinity": {"requiredDuringSchedulingIgnoredDuringExecution": [{"topologyKey": ZONE, "labelSelector": {"matchLabels": {"app": "x"}}}]}}
+    spread = {
+        "maxSkew": 1,
+        "topologyKey": ZONE,
+        "whenUnsatisfiable": "DoNotSchedule",
+        "labelSelector": {"matchLabels": {"app": "x"}},
+    }
+    anti = {
+        "podAntiAffinity": {
+            "requiredDuringSchedulingIgnoredDuringExecution": [
+                {"topologyKey": ZONE, "labelSelector": spread["labelSelector"]}
+            ]
+        }
+    }
     kinds: list[Thing] = [
-        {}, {"affinity": anti}, {"topologySpreadConstraints": [spread]}, {"nodeSelector": {"pool": "a"}}, {"priority": 7},
-        {"containers": [{"name": f"c{i}", "ports": [{"hostPort": 8080, "containerPort": 80}]} for i in range(20)]},
-        {"volumes": [{"name": "v", "persistentVolumeClaim": {"claimName": "v"}}]}, {"schedulingGates": [{"name": "g"}], "resourceClaims": [{"name": "r"}]},
-        {"initContainers": [{"name": "s", "restartPolicy": "Always", "resources": {"requests": {"cpu": "1", "example.com/gpu": "2"}}}], "overhead": {"cpu": "1"}},
-        {"tolerations": [{"key": "k", "operator": "Exists", "effect": "NoExecute", "tolerationSeconds": 300}], "hostNetwork": True, "newInTheApi": {"x": 1}},
+        {},
+        {"affinity": anti},
+        {"topologySpreadConstraints": [spread]},
+        {"nodeSelector": {"pool": "a"}},
+        {"priority": 7},
+        {
+            "containers": [
+                {"name": f"c{i}", "ports": [{"hostPort": 8080, "containerPort": 80}]}
+                for i in range(20)
+            ]
+        },
+        {"volumes": [{"name": "v", "persistentVolumeClaim": {"claimName": "v"}}]},
+        {"schedulingGates": [{"name": "g"}], "resourceClaims": [{"name": "r"}]},
+        {
+            "initContainers": [
+                {
+                    "name": "s",
+                    "restartPolicy": "Always",
+                    "resources": {"requests": {"cpu": "1", "example.com/gpu": "2"}},
+                }
+            ],
+            "overhead": {"cpu": "1"},
+        },
+        {
+            "tolerations": [
+                {"key": "k", "operator": "Exists", "effect": "NoExecute", "tolerationSeconds": 300}
+            ],
+            "hostNetwork": True,
+            "newInTheApi": {"x": 1},
+        },
     ]
     for i in range(count):
-        labels = {"app": "x", **(PERSONAL if i % 2 else {}), **({"wished-zone": dice.choice("abc")} if dice.random() < 0.5 else {})}
+        labels = {
+            "app": "x",
+            **(PERSONAL if i % 2 else {}),
+            **({"wished-zone": dice.choice("abc")} if dice.random() < 0.5 else {}),
+        }
         yield pod(f"asked-{i}", labels, **kinds[i % len(kinds)])
 
 
 def verdicts(site: Site) -> str:
-    """60 nodes and 120 pods that ask for whatever there is, half of them one region's: each is answered as the rules are, written down once more; by
-    names, of some of the nodes, and of whole nodes, which are judged as the watch has them; a node that nobody knows is rejected by name."""
+    """60 nodes and 120 pods that ask for whatever there is, half of them one region's: each is
+    answered as the rules are, written down once more; by names, of some of the nodes, and of whole
+    nodes, which are judged as the watch has them; a node that nobody knows is rejected by name."""
     nodes = some_nodes(site, 60)
     used = {name: i % 7 for i, name in enumerate(nodes)}
     for name, count in used.items():
@@ -66,20 +126,38 @@ def verdicts(site: Site) -> str:
     for one in some_pods(120):
         check(running, one, nodes, used, dice.sample(sorted(nodes), dice.randrange(1, 60)))
     one, names = pod("one", PERSONAL), [*nodes][:6]
-    handed = [{"metadata": {"name": name, "labels": {REGION: EUROPE}}, "spec": {}, "status": {"x": "ÿ"}} for name in [*names, "nobody's"]]
+    handed: list[Thing] = [
+        {"metadata": {"name": name, "labels": {REGION: EUROPE}}, "spec": {}, "status": {"x": "ÿ"}}
+        for name in [*names, "nobody's"]
+    ]
     status, said = running.caller.ask("filter", one, (), handed)
     may = [it for it in names if nodes[it]["labels"][REGION] == EUROPE]
-    assert status == 200 and said["Nodes"]["items"] == [it for it in handed if it["metadata"]["name"] in may] and "NodeNames" not in said, said
-    assert said["FailedNodes"] == {it: REASON for it in names if it not in may} | {"nobody's": UNKNOWN}, said["FailedNodes"]
+    assert (
+        status == 200
+        and said["Nodes"]["items"] == [it for it in handed if it["metadata"]["name"] in may]
+        and "NodeNames" not in said
+    ), said
+    assert said["FailedNodes"] == {it: REASON for it in names if it not in may} | {
+        "nobody's": UNKNOWN
+    }, said["FailedNodes"]
     assert running.scores(one, [*names, 'no "name\n'])['no "name\n'] == 0
     said = running.filter(pod("other"), [*names, 'no "name\n'])
-    assert sorted(said["NodeNames"]) == names and said["FailedNodes"] == {'no "name\n': UNKNOWN} and not said["FailedAndUnresolvableNodes"], said
-    assert running.filter(one, []) == {"NodeNames": [], "FailedNodes": {}, "FailedAndUnresolvableNodes": {}} and running.scores(one, []) == {}
+    assert (
+        sorted(said["NodeNames"]) == names
+        and said["FailedNodes"] == {'no "name\n': UNKNOWN}
+        and not said["FailedAndUnresolvableNodes"]
+    ), said
+    assert (
+        running.filter(one, [])
+        == {"NodeNames": [], "FailedNodes": {}, "FailedAndUnresolvableNodes": {}}
+        and running.scores(one, []) == {}
+    )
     return "120 pods by both verbs, by names and by whole nodes"
 
 
 def watched(site: Site) -> str:
-    """What counts is what the watches tell: a node's new label, a pod that comes to a node, ends, or goes, and a node that goes and comes again."""
+    """What counts is what the watches tell: a node's new label, a pod that comes to a node, ends,
+    or goes, and a node that goes and comes again."""
     nodes = some_nodes(site, 6)
     running, used = Running(site, KEEP, PREFER).ready(), dict.fromkeys(nodes, 0)
     first, ones = [*nodes][0], [pod("personal", PERSONAL), pod("open", {"wished-zone": "a"})]
@@ -97,54 +175,80 @@ def watched(site: Site) -> str:
                     raise
 
     soon()
-    site.store.change("nodes", first, lambda it: it["metadata"]["labels"].update({REGION: EUROPE}))
+    site.store.change("nodes", first, lambda it: merge(it["metadata"]["labels"], {REGION: EUROPE}))
     nodes[first]["labels"][REGION] = EUROPE
     soon()
     for i in range(5):
         site.pod(f"on-{i}", on=first, scheduler="other")
         used[first] += 1
         soon()
-    site.store.change("pods", "default/on-0", lambda it: it["status"].update({"phase": "Succeeded"}))
+    site.store.change(
+        "pods", "default/on-0", lambda it: merge(it["status"], {"phase": "Succeeded"})
+    )
     site.delete_pod("on-1")
     used[first] -= 2
     soon()
     site.delete_node(first)
-    wait_for(lambda: running.filter(ones[0], [first])["FailedNodes"] == {first: UNKNOWN}, 5, "it is gone")
+    wait_for(
+        lambda: running.filter(ones[0], [first])["FailedNodes"] == {first: UNKNOWN}, 5, "it is gone"
+    )
     site.node(first, **nodes[first])
     soon()
     site.pod("waits", labels={"wished-zone": "a"})
-    assert site.server.all("list", "pods")[0].query["fieldSelector"].startswith("spec.nodeName!="), "pods that wait are listed"
+    assert (
+        site.server.all("list", "pods")[0].query["fieldSelector"].startswith("spec.nodeName!=")
+    ), "pods that wait are listed"
     soon()
     return "a label, pods that come, end and go, a node that goes and comes"
 
 
 def faults(site: Site) -> str:
-    """A rule that traps and one that never ends: `Error` names rule, cause and node; with --on-error=reject-node that node alone is rejected. A reason
-    with a percent sign is told as it is."""
+    """A rule that traps and one that never ends: `Error` names rule, cause and node; with
+    --on-error=reject-node that node alone is rejected. A reason with a percent sign is no format.
+    """
     site.node("a", cpu="64")
     trap, loop = rule(site.folder, "trap", UNREACHABLE), rule(site.folder, "loop", FOREVER)
     running = Running(site, KEEP, trap, name="trap").ready()
     site.node("b", labels={REGION: EUROPE})
     wait_for(lambda: running.filter(pod("one", PERSONAL), ["b"]).get("Error"), 5, "b is known")
     error = running.error(pod("one"), ["a", "b"])
-    assert error == "wsched: node a: rule trap says nothing: trap 1 Unreachable; and 1 nodes more", error
+    assert (
+        error == "wsched: node a: rule trap says nothing: trap 1 Unreachable; and 1 nodes more"
+    ), error
     # (keep_region rejects a before the other is asked)
     assert running.filter(pod("one", PERSONAL), ["a"])["FailedNodes"] == {"a": REASON}
     assert running.scores(pod("one"), ["a", "b"]) == {"a": 0, "b": 0}
     looping = Running(site, loop, "--on-error=reject-node", name="loop").ready()
     said = looping.filter(pod("one"), ["a", "b", "c"])
-    assert said["FailedNodes"] == {"a": "rule loop says nothing: exhausted", "b": "rule loop says nothing: exhausted", "c": UNKNOWN}, said
-    percent = rule(site.folder, "percent", answering(2), section("wsched.reason.2", "100% of nodes %s".encode()))
+    assert said["FailedNodes"] == {
+        "a": "rule loop says nothing: exhausted",
+        "b": "rule loop says nothing: exhausted",
+        "c": UNKNOWN,
+    }, said
+    percent = rule(
+        site.folder,
+        "percent",
+        answering(2),
+        section("wsched.reason.2", "100% of nodes %s".encode()),
+    )
     said = Running(site, percent, name="percent").ready().filter(pod("one"), ["a"])
-    assert said["FailedNodes"] == {"a": "node(s) were rejected by percent (100% of nodes %s)"} and not said["FailedAndUnresolvableNodes"], said
+    assert (
+        said["FailedNodes"]
+        == {"a": "node(s) were rejected by percent (100\uff05 of nodes \uff05s)"}
+        and not said["FailedAndUnresolvableNodes"]
+    ), said
     seen = running.caller.metrics()
-    assert seen['wsched_extender_verdicts_total{answer="error",rule="trap"}'] >= 2 and seen['wsched_extender_requests_total{result="error",verb="filter"}'] >= 2
+    assert (
+        seen['wsched_extender_verdicts_total{answer="error",rule="trap"}'] >= 2
+        and seen['wsched_extender_requests_total{result="error",verb="filter"}'] >= 2
+    )
     return error
 
 
 def holes(site: Site) -> str:
-    """A pod, or a node, of more labels than a row has room for: `Error` by name, unless the labels that rules read are named, by a word or by the rule
-    itself; with --on-error=reject-node such a node alone is rejected. So is a pod of more tolerations than there is room for."""
+    """A pod, or a node, of more labels than a row has room for: `Error` by name, unless the labels
+    that rules read are named, by a word or by the rule itself; with --on-error=reject-node such a
+    node alone is rejected. So is a pod of more tolerations than there is room for."""
     silent = site.folder / "silent.wasm"
     silent.write_bytes(without_sections((PLUGINS / "keep_region.wasm").read_bytes()))
     word = f"keep_region:1:100000:{silent}"
@@ -159,14 +263,27 @@ def holes(site: Site) -> str:
     status, said = running.caller.ask("prioritize", evades, ["us"])
     assert status == 503 and "41 labels" in said["Error"], said
     site.node("wide", labels={**MANY, REGION: "us-east-1"})
-    wait_for(lambda: "node wide: 41 labels" in running.error(pod("other", PERSONAL), ["us", "wide"]), 5, "a node of many labels is an error by name")
+    wait_for(
+        lambda: "node wide: 41 labels" in running.error(pod("other", PERSONAL), ["us", "wide"]),
+        5,
+        "a node of many labels is an error by name",
+    )
     rejects = Running(site, word, "--on-error=reject-node", name="rejects").ready()
     said = rejects.filter(pod("other"), ["us", "wide"])
-    assert said["NodeNames"] == ["us"] and "41 labels" in said["FailedNodes"]["wide"] and "wide" not in said["FailedNodes"]["wide"], said
-    assert "41 labels" in rejects.error(evades, ["us"]), "no row says the pod as it is, so no node may have it"
+    assert (
+        said["NodeNames"] == ["us"]
+        and "41 labels" in said["FailedNodes"]["wide"]
+        and "wide" not in said["FailedNodes"]["wide"]
+    ), said
+    assert "41 labels" in rejects.error(
+        evades, ["us"]
+    ), "no row says the pod as it is, so no node may have it"
     named = silent.with_name("named.wasm")
     named.write_bytes(silent.read_bytes() + labels_read("data-class", REGION))
-    for name, words in (("word", [word, "--labels", f"data-class,{REGION}"]), ("section", [f"keep_region:1:100000:{named}"])):
+    for name, words in (
+        ("word", [word, "--labels", f"data-class,{REGION}"]),
+        ("section", [f"keep_region:1:100000:{named}"]),
+    ):
         knows = Running(site, *words, name=name).ready()
         assert sorted(knows.filter(evades, ["us", "wide"])["FailedNodes"]) == ["us", "wide"], name
         assert knows.filter(pod("many", MANY), ["us", "wide"])["NodeNames"] == ["us", "wide"], name
@@ -174,42 +291,74 @@ def holes(site: Site) -> str:
 
 
 def bodies(site: Site) -> str:
-    """What is no request: 400 with the reason for a bad body, 411 without its length, 413 above 64 MiB, 404 and 405; the connection goes on where it can."""
+    """What is no request: 400 with the reason for a bad body, 411 without its length, 413 above 64
+    MiB, 404 and 405; the connection goes on where it can."""
     site.node("a")
     running = Running(site, KEEP).ready()
     good = json.dumps({"Pod": pod("one"), "NodeNames": ["a"]})
     wrong = {
-        "{": "the body is no JSON", "[]": "the body is no object", "{}": "Pod is no object", '{"Pod":{"metadata":{}}}': "Pod.spec is no object",
-        '{"Pod":{"metadata":{},"spec":{}}}': "neither NodeNames nor Nodes", '{"Pod":{"metadata":{},"spec":{}},"NodeNames":"a"}': "NodeNames",
-        '{"Pod":{"metadata":{},"spec":{}},"NodeNames":[1]}': "NodeNames", '{"Pod":{"metadata":{"labels":{"a":1}},"spec":{}},"NodeNames":[]}': "no text",
-        '{"Pod":{"metadata":{},"spec":{}},"Nodes":{"items":[{}]}}': "Nodes.items", "[" * 100000: "the body is no JSON", '{"Pod":{"metadata":[]}}': "metadata",
+        "{": "the body is no JSON",
+        "[]": "the body is no object",
+        "{}": "Pod is no object",
+        '{"Pod":{"metadata":{}}}': "Pod.spec is no object",
+        '{"Pod":{"metadata":{},"spec":{}}}': "neither NodeNames nor Nodes",
+        '{"Pod":{"metadata":{},"spec":{}},"NodeNames":"a"}': "NodeNames",
+        '{"Pod":{"metadata":{},"spec":{}},"NodeNames":[1]}': "NodeNames",
+        '{"Pod":{"metadata":{"labels":{"a":1}},"spec":{}},"NodeNames":[]}': "no text",
+        '{"Pod":{"metadata":{},"spec":{}},"Nodes":{"items":[{}]}}': "Nodes.items",
+        "[" * 100000: "the body is no JSON",
+        '{"Pod":{"metadata":[]}}': "metadata",
         '{"Pod":{"metadata":{},"spec":{"containers":7}},"NodeNames":[]}': "",
     }
     for body, why in wrong.items():
         status, said = running.caller.send("POST", "/filter", body)
-        assert status == (400 if why else 200) and why in json.loads(said).get("Error", ""), f"{body[:60]}: {status} {said}"
+        assert status == (400 if why else 200) and why in json.loads(said).get(
+            "Error", ""
+        ), f"{body[:60]}: {status} {said}"
         line = running.caller.line
-        assert running.caller.send("POST", "/filter", good)[0] == 200 and running.caller.line is line, "the connection ended"
-    for method, path, status in (("POST", "/bind", 404), ("GET", "/filter", 404), ("PUT", "/filter", 405), ("POST", "/", 404)):
-        assert running.caller.send(method, path, good if method == "POST" else None)[0] == status, path
+        assert (
+            running.caller.send("POST", "/filter", good)[0] == 200 and running.caller.line is line
+        ), "the connection ended"
+    for method, path, status in (
+        ("POST", "/bind", 404),
+        ("GET", "/filter", 404),
+        ("PUT", "/filter", 405),
+        ("POST", "/", 404),
+    ):
+        assert (
+            running.caller.send(method, path, good if method == "POST" else None)[0] == status
+        ), path
         running.caller.close()
-    for head, status in ((f"Content-Length: {2**26 + 1}", 413), ("Transfer-Encoding: chunked", 411), ("X: y", 411), ("Content-Length: -1", 411), ("bad", 400),
-                         ("Content-Length: " + "9" * 30, 413)):
+    for head, status in (
+        (f"Content-Length: {2**26 + 1}", 413),
+        ("Transfer-Encoding: chunked", 411),
+        ("X: y", 411),
+        ("Content-Length: -1", 411),
+        ("bad", 400),
+        ("Content-Length: " + "9" * 30, 413),
+    ):
         with socket.create_connection(("127.0.0.1", running.port), 10) as raw:
             raw.sendall(f"POST /filter HTTP/1.1\r\nHost: x\r\n{head}\r\n\r\n".encode())
             told = raw.makefile("rb").read().decode()
-            assert told.startswith(f"HTTP/1.1 {status} ") and "Connection: close" in told, f"{head}: {told}"
+            assert (
+                told.startswith(f"HTTP/1.1 {status} ") and "Connection: close" in told
+            ), f"{head}: {told}"
     large = json.dumps({"Pod": pod("one") | {"more": "x" * (2**26 - 5000)}, "NodeNames": ["a"]})
-    assert len(large) < 2**26 and json.loads(running.caller.send("POST", "/filter", large)[1])["NodeNames"] == ["a"]
+    assert len(large) < 2**26 and json.loads(running.caller.send("POST", "/filter", large)[1])[
+        "NodeNames"
+    ] == ["a"]
     with socket.create_connection(("127.0.0.1", running.port), 10) as raw:
         raw.sendall(b"POST /filter HTTP/1.1\r\nContent-Length: 100\r\n\r\n{")
     assert running.filter(pod("one"), ["a"])["NodeNames"] == ["a"]
-    refused = running.caller.metrics()['wsched_extender_requests_total{result="refused",verb="filter"}']
+    refused = running.caller.metrics()[
+        'wsched_extender_requests_total{result="refused",verb="filter"}'
+    ]
     return f"{len(wrong)} bodies and 6 heads: {refused:.0f} requests refused"
 
 
 def at_once(site: Site) -> str:
-    """32 callers at once, each with 20 questions of its own, while pods come to nodes: every answer is the right one."""
+    """32 callers at once, each with 20 questions of its own, while pods come to nodes: every
+    answer is the right one."""
     nodes = some_nodes(site, 200)
     running = Running(site, KEEP).ready()
 
@@ -218,7 +367,9 @@ def at_once(site: Site) -> str:
         for i in range(20):
             labels = PERSONAL if (i + number) % 2 else {}
             status, said = own.ask("filter", pod(f"of-{number}-{i}", labels), [*nodes])
-            may = [it for it, node in nodes.items() if not labels or node["labels"][REGION] == EUROPE]
+            may = [
+                it for it, node in nodes.items() if not labels or node["labels"][REGION] == EUROPE
+            ]
             assert status == 200 and sorted(said["NodeNames"]) == may, f"{number}: {status}"
             if i % 5 == 0:
                 site.pod(f"on-{number}-{i}", on=[*nodes][number], scheduler="other")
@@ -227,16 +378,20 @@ def at_once(site: Site) -> str:
     began = time.monotonic()
     with concurrent.futures.ThreadPoolExecutor(32) as some:
         count = sum(some.map(one_caller, range(32)))
-    return f"{count} questions of 32 callers in {time.monotonic() - began:.1f} s, load {os.getloadavg()[0]:.0f}"
+    took, load = time.monotonic() - began, os.getloadavg()[0]
+    return f"{count} questions of 32 callers in {took:.1f} s, load {load:.0f}"
 
 
 def hung(site: Site) -> str:
-    """wsched is killed, and stopped: the next question is answered, by one that was begun anew and told what is known; while nobody asks it is noticed
-    too, and told by log and metric. The program is away: not ready, an `Error`, and well again when it is back."""
+    """wsched is killed, and stopped: the next question is answered, by one that was begun anew and
+    told what is known; while nobody asks it is noticed too, and told by log and metric. The
+    program is away: not ready, an `Error`, and well again when it is back."""
     nodes = some_nodes(site, 30)
     program = site.folder / "wsched"
     program.symlink_to(site.programs.wsched)
-    running, used = Running(site, KEEP, PREFER, wsched=str(program)).ready(), dict.fromkeys(nodes, 0)
+    running, used = Running(site, KEEP, PREFER, wsched=str(program)).ready(), dict.fromkeys(
+        nodes, 0
+    )
     site.pod("on", on="node-0000", scheduler="other")
     used["node-0000"] = 1
     time.sleep(0.5)
@@ -246,7 +401,9 @@ def hung(site: Site) -> str:
         began = time.monotonic()
         check(running, pod(f"asked-{count}", PERSONAL), nodes, used, [*nodes])
         taken.append(time.monotonic() - began)
-        assert running.begun_anew() == count and taken[-1] < 10 * PATIENCE, f"begun anew {running.begun_anew():.0f} times, {taken} s"
+        assert (
+            running.begun_anew() == count and taken[-1] < 10 * PATIENCE
+        ), f"begun anew {running.begun_anew():.0f} times, {taken} s"
     os.kill(running.cores()[-1], signal.SIGKILL)
     wait_for(lambda: running.begun_anew() == 3, 5, "it is noticed though nobody asks")
     os.kill(running.cores()[-1], signal.SIGSTOP)
@@ -263,31 +420,50 @@ def hung(site: Site) -> str:
     return f"answered {taken[0]:.1f} s after a kill, and {taken[1]:.1f} s after a stop; {error}"
 
 
+def not_ready(running: Running) -> None:
+    """Waits until it isn't."""
+    wait_for(lambda: running.caller.get("/readyz")[0] == 503, 10, "it isn't ready")
+
+
 def away(site: Site) -> str:
-    """A watch that is away: not ready within some seconds, answers of what was known, which say for how long nothing was heard; with --max-stale they
-    are errors then. When the API server answers again all is well."""
+    """A watch that is away: not ready within some seconds, answers of what was known, which say
+    for how long nothing was heard; with --max-stale they are errors then. When the API server
+    answers again all is well."""
     site.node("a", labels={REGION: EUROPE})
-    running, strict = Running(site, KEEP).ready(), Running(site, KEEP, "--max-stale", "4", name="strict").ready()
+    running, strict = (
+        Running(site, KEEP).ready(),
+        Running(site, KEEP, "--max-stale", "4", name="strict").ready(),
+    )
     one, both = pod("one", PERSONAL), (running, strict)
-    assert running.filter(one, ["a"])["NodeNames"] == ["a"] and "wsched-unheard-seconds" not in running.caller.headers
-    site.server.refuse = lambda asked: (503, "the API server is away") if asked.what == "nodes" else None
+    assert (
+        running.filter(one, ["a"])["NodeNames"] == ["a"]
+        and "wsched-unheard-seconds" not in running.caller.headers
+    )
+    site.server.refuse = (
+        lambda asked: (503, "the API server is away") if asked.what == "nodes" else None
+    )
     site.server.break_watches(RESET)
     began = time.monotonic()
     for it in both:
-        wait_for(lambda it=it: it.caller.get("/readyz")[0] == 503, 10, "it isn't ready")  # type: ignore[misc]
+        not_ready(it)
     noticed, why = time.monotonic() - began, running.caller.get("/readyz")[1]
-    assert "nothing has been heard of any node" in why and running.caller.get("/healthz")[0] == 200, why
+    assert (
+        "nothing has been heard of any node" in why and running.caller.get("/healthz")[0] == 200
+    ), why
     wait_for(lambda: strict.filter(one, ["a"]).get("Error"), 10, "what is known is too old")
     error = strict.error(one, ["a"])
     assert "nothing has been heard of any node for" in error and "--max-stale is 4" in error, error
     assert strict.caller.ask("prioritize", one, ["a"])[0] == 503
-    assert running.filter(one, ["a"])["NodeNames"] == ["a"] and float(running.caller.headers["wsched-unheard-seconds"]) >= 4
+    assert (
+        running.filter(one, ["a"])["NodeNames"] == ["a"]
+        and float(running.caller.headers["wsched-unheard-seconds"]) >= 4
+    )
     assert running.caller.metrics()['wsched_watch_shut_seconds{kind="node"}'] >= 4
     site.node("b", labels={REGION: EUROPE})
     site.server.refuse = lambda asked: None
     for it in both:
         it.ready(30)
-        wait_for(lambda it=it: it.filter(one, ["a", "b"]).get("NodeNames") == ["a", "b"], 5, "what happened meanwhile is known")  # type: ignore[misc]
+        wait_for(functools.partial(it.passes, one, ["a", "b"]), 5, "what happened is known")
     return f"not ready after {noticed:.1f} s; {error}"
 
 
@@ -299,7 +475,10 @@ def unlisted(site: Site) -> str:
     wait_for(lambda: running.caller.get("/healthz")[0] == 200, 20, "it listens")
     assert running.caller.get("/readyz") == (503, "not listed yet\n")
     error = running.error(pod("one"), ["a"])
-    assert "aren't listed yet" in error and running.caller.ask("prioritize", pod("one"), ["a"])[0] == 503
+    assert (
+        "aren't listed yet" in error
+        and running.caller.ask("prioritize", pod("one"), ["a"])[0] == 503
+    )
     site.server.refuse = lambda asked: None
     running.ready()
     assert running.filter(pod("one"), ["a"])["NodeNames"] == ["a"]
@@ -307,7 +486,8 @@ def unlisted(site: Site) -> str:
 
 
 def secure(site: Site) -> str:
-    """Behind TLS: asked by its certificate, and by a renewed one without a restart; whoever speaks none isn't answered."""
+    """Behind TLS: asked by its certificate, and by a renewed one without a restart; whoever speaks
+    none isn't answered."""
     site.node("a")
     first, second = certificate(site, "first"), certificate(site, "second")
     files = [site.folder / f"own.{it}" for it in ("crt", "key")]
@@ -317,12 +497,16 @@ def secure(site: Site) -> str:
             there.write_bytes(open(it, "rb").read())
 
     put(first)
-    running = Running(site, "--tls-cert", str(files[0]), "--tls-key", str(files[1]), KEEP, authority=first[0]).ready()
+    running = Running(
+        site, "--tls-cert", str(files[0]), "--tls-key", str(files[1]), KEEP, authority=first[0]
+    ).ready()
     assert running.filter(pod("one"), ["a"])["NodeNames"] == ["a"]
     assert Caller(running.port).get("/readyz")[0] == 0, "it answers without TLS"
     time.sleep(1)
     put(second)
-    assert running.filter(pod("two"), ["a"])["NodeNames"] == ["a"], "a connection that was there ends"
+    assert running.filter(pod("two"), ["a"])["NodeNames"] == [
+        "a"
+    ], "a connection that was there ends"
     running.caller.close()
     try:
         running.caller.ask("filter", pod("three"), ["a"])
@@ -339,32 +523,61 @@ def secure(site: Site) -> str:
 
 
 def kept(site: Site) -> str:
-    """The prioritize behind a filter is answered by what the filter was told, while nothing has changed; after a change it asks anew."""
+    """The prioritize behind a filter is answered by what the filter was told, also where a pod
+    came to a node between them; after a node's change, and some time later, it asks anew; and a
+    filter does after each change."""
     nodes = some_nodes(site, 20)
-    running, used, one = Running(site, PREFER).ready(), dict.fromkeys(nodes, 0), pod("one", {"wished-zone": "a"})
+    running, used, one = (
+        Running(site, PREFER).ready(),
+        dict.fromkeys(nodes, 0),
+        pod("one", {"wished-zone": "a"}),
+    )
 
     def count() -> float:
         return running.caller.metrics()["wsched_extender_kept_answers_total"]
 
+    def come(name: str) -> None:
+        site.pod(name, on="node-0000", scheduler="other")
+        used["node-0000"] += 1
+        wait_for(
+            lambda: running.caller.metrics()['wsched_places{state="bound"}'] == used["node-0000"],
+            5,
+            "the pod is known",
+        )
+
     check(running, one, nodes, used, [*nodes])
     assert count() == 1
-    site.pod("on", on="node-0000", scheduler="other")
-    used["node-0000"] = 1
-    wait_for(lambda: running.caller.metrics()['wsched_places{state="bound"}'] == 1, 5, "the pod is known")
-    assert running.scores(one, [*nodes])["node-0000"] == (50 + 50 * 18 // 20) // 10 and count() == 1
+    come("on-0")
+    check(running, one, nodes, used, [*nodes])
+    assert count() == 2, "a filter was answered by what is no more"
+    come("on-1")
+    before, began = running.scores(one, [*nodes]), time.monotonic()
+    if began + 0.5 > time.monotonic():
+        assert before["node-0000"] == (50 + 50 * 18 // 20) // 10 and count() == 3
+    time.sleep(1.1)
+    assert running.scores(one, [*nodes])["node-0000"] == (50 + 50 * 17 // 20) // 10
+    site.store.change("nodes", "node-0001", lambda it: merge(it["metadata"]["labels"], {ZONE: "a"}))
+    nodes["node-0001"]["labels"][ZONE] = "a"
+    wait_for(
+        lambda: running.scores(one, [*nodes])["node-0001"] >= 5,
+        0.8,
+        "a node's change counts at once",
+    )
     check(running, pod("two", {"wished-zone": "a"}), nodes, used, [*nodes])
-    assert count() == 2
     return "one question to wsched for both verbs"
 
 
 def shares(site: Site) -> str:
-    """2,300 nodes, of which one wsched has room for 1,000: three have them, each node is answered of; also when one of the three was killed."""
+    """2,300 nodes, of which one wsched has room for 1,000: three have them, each node is answered
+    of; also when one of the three was killed."""
     nodes = some_nodes(site, 2300)
     running = Running(site, KEEP).ready(120)
     assert len(running.cores()) == 3, running.cores()
     for i in range(2):
         said = running.filter(pod(f"one-{i}", PERSONAL), [*nodes])
-        assert not said.get("Error") and [*said["NodeNames"]] and sorted(said["NodeNames"]) == [it for it in nodes if nodes[it]["labels"][REGION] == EUROPE]
+        assert not said.get("Error") and sorted(said["NodeNames"]) == [
+            name for name, it in nodes.items() if it["labels"][REGION] == EUROPE
+        ]
         os.kill(running.cores()[i], signal.SIGKILL)
     for name in [*nodes][:1500]:
         site.delete_node(name)
@@ -372,80 +585,143 @@ def shares(site: Site) -> str:
     for i in range(1000):
         site.node(f"new-{i:04}", labels={REGION: EUROPE})
     wait_for(lambda: running.caller.metrics()["wsched_nodes"] == 1800, 60, "others are there")
-    assert len(running.filter(pod("last", PERSONAL), [f"new-{i:04}" for i in range(1000)])["NodeNames"]) == 1000
-    assert running.caller.metrics()["wsched_extender_lines_refused"] == 0 and len(running.cores()) == 3
+    assert (
+        len(
+            running.filter(pod("last", PERSONAL), [f"new-{i:04}" for i in range(1000)])["NodeNames"]
+        )
+        == 1000
+    )
+    assert (
+        running.caller.metrics()["wsched_extender_lines_refused"] == 0 and len(running.cores()) == 3
+    )
     return f"three have them; begun anew {running.begun_anew():.0f} times"
 
 
+def by_explain(site: Site, uids: set[str]) -> dict[str, dict[str, list[str]]]:
+    """What `wsched explain` says of each node for each of these pods, behind what was told."""
+    lines = [
+        json.loads(line) for line in (site.folder / "told").read_text(encoding="utf-8").splitlines()
+    ]
+    script, version = [it for it in lines if it["op"] in ("node", "bound", "gone", "deleted")], max(
+        it.get("v", 0) for it in lines
+    )
+    for it in lines:
+        if it["op"] == "judge" and it["uid"] in uids:
+            version += 2
+            script += [
+                it | {"op": "pod", "v": version - 1},
+                {"op": "cycle"},
+                {"op": "deleted", "v": version, "uid": it["uid"]},
+            ]
+    words, text = [site.programs.wsched, "explain", KEEP, PREFER], "".join(
+        f"{json.dumps(it)}\n" for it in script
+    )
+    found, nodes = dict[str, dict[str, list[str]]](), dict[str, list[str]]()
+    for line in subprocess.run(
+        words, input=text, capture_output=True, text=True, check=True
+    ).stdout.splitlines():
+        name, *what = line.split()
+        if line.startswith("  "):
+            nodes[name] = what
+        elif nodes:
+            found[name], nodes = nodes, {}
+    return found
+
+
 def explained(site: Site) -> str:
-    """What was told to wsched, told to `wsched explain` with a cycle of each pod: where its own filters let a node pass, the verdicts are the same."""
+    """What was told to wsched, told to `wsched explain` with a cycle of each pod: where its own
+    filters let a node pass, the verdicts are the same."""
     nodes = some_nodes(site, 40)
     for i in range(60):
         site.pod(f"on-{i}", on=f"node-{i % 40:04}", scheduler="other")
-    told, program = site.folder / "told", site.folder / "tee"
-    program.write_text(f'#!/bin/bash\nif [ "$1" = run ]; then exec {site.programs.wsched} "$@" < <(exec tee -a {told}); fi\nexec {site.programs.wsched} "$@"\n', encoding="utf-8")
-    program.chmod(0o755)
-    running = Running(site, KEEP, PREFER, wsched=str(program)).ready()
-    ones = [*some_pods(40, seed=3)]
-    answers = {it["metadata"]["uid"]: (running.filter(it, [*nodes]), running.scores(it, [*nodes])) for it in ones}
-    lines = [json.loads(line) for line in told.read_text(encoding="utf-8").splitlines()]
-    script, version = [it for it in lines if it["op"] in ("node", "bound", "gone", "deleted")], max(it.get("v", 0) for it in lines)
-    asked: dict[str, Thing] = {it["uid"]: it for it in lines if it["op"] == "judge" and it["uid"] != "a-pod"}
-    assert asked.keys() == answers.keys()
-    for uid, it in asked.items():
-        version += 2
-        script += [it | {"op": "pod", "v": version - 1}, {"op": "cycle"}, {"op": "deleted", "v": version, "uid": uid}]
-    text = "".join(f"{json.dumps(it)}\n" for it in script)
-    said = subprocess.run([site.programs.wsched, "explain", KEEP, PREFER], input=text, capture_output=True, text=True, check=True).stdout
-    compared, told_of = 0, dict[str, list[str]]()
-    for line in said.splitlines():
-        name, *what = line.split()
-        if line.startswith("  "):
-            told_of[name] = what
-        elif name in answers:
-            found, scores = answers[name]
-            for node, words in told_of.items():
-                assert (node in found["NodeNames"]) == (words[0] == "total") and words[0] in ("total", "plugin"), f"{name} on {node}: {words}"
-                assert scores[node] == (int(words[-1]) * 10 // 100 if words[0] == "total" else 0), f"{name} on {node}: {words}, {scores[node]}"
-                compared += 1
-            told_of = {}
-    assert compared == 40 * 40, compared
-    return f"{compared} verdicts and scores"
+    running = Running(
+        site, KEEP, PREFER, wsched=with_record(site.folder, site.programs.wsched)
+    ).ready()
+    answers = {
+        it["metadata"]["uid"]: (running.filter(it, [*nodes]), running.scores(it, [*nodes]))
+        for it in some_pods(40, seed=3)
+    }
+    told = by_explain(site, {*answers})
+    for uid, (found, scores) in answers.items():
+        assert told[uid].keys() == nodes.keys()
+        for node, words in told[uid].items():
+            assert (node in found["NodeNames"]) == (words[0] == "total") and words[0] in (
+                "total",
+                "plugin",
+            ), f"{uid} on {node}: {words}"
+            assert scores[node] == (
+                int(words[-1]) * 10 // 100 if words[0] == "total" else 0
+            ), f"{uid} on {node}: {words}, {scores[node]}"
+    return f"{len(answers) * len(nodes)} verdicts and scores"
 
 
 def deploy(site: Site) -> str:
-    """deploy.yaml: its words start one whose probes are answered; its account may list and watch nodes and pods and nothing else; what the level
-    `restricted` of the pod security standards asks for stands there, and the unit's words start one too."""
-    every: list[Thing] = [*yaml.safe_load_all((EXTENDER / "deploy.yaml").read_text(encoding="utf-8"))]
+    """deploy.yaml: its words start one whose probes are answered; its account may list and watch
+    nodes and pods and nothing else; what the level `restricted` of the pod security standards asks
+    for stands there, and the unit's words start one too."""
+    every: list[Thing] = [
+        *yaml.safe_load_all((EXTENDER / "deploy.yaml").read_text(encoding="utf-8"))
+    ]
     of = {it["kind"]: it for it in every}
-    assert of["ClusterRole"]["rules"] == [{"apiGroups": [""], "resources": ["nodes", "pods"], "verbs": ["list", "watch"]}] and "Role" not in of, of["ClusterRole"]
+    own = [{"apiGroups": [""], "resources": ["nodes", "pods"], "verbs": ["list", "watch"]}]
+    assert of["ClusterRole"]["rules"] == own and "Role" not in of, of["ClusterRole"]
     spec = of["Deployment"]["spec"]["template"]["spec"]
     container = spec["containers"][0]
     has = container["securityContext"]
-    assert has["runAsNonRoot"] and has["runAsUser"] > 0 and has["readOnlyRootFilesystem"] and has["allowPrivilegeEscalation"] is False, has
-    assert has["capabilities"] == {"drop": ["ALL"]} and has["seccompProfile"] == {"type": "RuntimeDefault"}, has
+    assert (
+        has["runAsNonRoot"]
+        and has["runAsUser"] > 0
+        and has["readOnlyRootFilesystem"]
+        and has["allowPrivilegeEscalation"] is False
+    ), has
+    assert has["capabilities"] == {"drop": ["ALL"]} and has["seccompProfile"] == {
+        "type": "RuntimeDefault"
+    }, has
     rolling = of["Deployment"]["spec"]["strategy"]["rollingUpdate"]
-    assert of["Deployment"]["spec"]["replicas"] == 2 and (rolling["maxSurge"], rolling["maxUnavailable"]) == (0, 1), rolling
-    assert of["Service"]["spec"]["selector"] == of["Deployment"]["spec"]["template"]["metadata"]["labels"]
+    assert of["Deployment"]["spec"]["replicas"] == 2 and (
+        rolling["maxSurge"],
+        rolling["maxUnavailable"],
+    ) == (0, 1), rolling
+    assert (
+        of["Service"]["spec"]["selector"]
+        == of["Deployment"]["spec"]["template"]["metadata"]["labels"]
+    )
     site.node("a", labels={REGION: EUROPE})
-    default = (EXTENDER / "wsched-extender.default").read_text(encoding="utf-8").partition('OPTIONS="')[2].partition('"')[0].split()
+    default = (
+        (EXTENDER / "wsched-extender.default")
+        .read_text(encoding="utf-8")
+        .partition('OPTIONS="')[2]
+        .partition('"')[0]
+        .split()
+    )
     for name, words in (("container", container["args"]), ("unit", default)):
         # (it has a port of its own, and no certificate)
-        mine = [it for at, it in enumerate(words) if not {*words[max(0, at - 1):at + 1]} & {"--listen", "--tls-cert", "--tls-key"}]
-        running = Running(site, *(it.replace("/usr/share/wsched/examples/plugins", str(PLUGINS)) for it in mine), name=name).ready()
+        mine = [
+            it
+            for at, it in enumerate(words)
+            if not {*words[max(0, at - 1) : at + 1]} & {"--listen", "--tls-cert", "--tls-key"}
+        ]
+        running = Running(
+            site,
+            *(it.replace("/usr/share/wsched/examples/plugins", str(PLUGINS)) for it in mine),
+            name=name,
+        ).ready()
         assert running.filter(pod("one", PERSONAL), ["a"])["NodeNames"] == ["a"]
         for it in ("livenessProbe", "readinessProbe"):
             assert running.caller.get(container[it]["httpGet"]["path"])[0] == 200, it
             assert container[it]["httpGet"]["port"] == container["ports"][0]["name"]
     verbs = {(it.verb, it.what) for it in site.server.asked}
-    assert verbs == {(verb, what) for verb in ("list", "watch") for what in ("nodes", "pods")}, verbs
+    assert verbs == {
+        (verb, what) for verb in ("list", "watch") for what in ("nodes", "pods")
+    }, verbs
     unit = (EXTENDER / "wsched-extender.service").read_text(encoding="utf-8")
     assert "KillMode=mixed\n" in unit and "Restart=always\n" in unit and "DynamicUser=yes\n" in unit
     return "its words, probes and rights; restricted"
 
 
 def ended(site: Site) -> str:
-    """SIGTERM ends it with status 0 and leaves no child; words that can't be followed end it with 2 or 1, and why."""
+    """SIGTERM ends it with status 0 and leaves no child; words that can't be followed end it with
+    2 or 1, and why."""
     site.node("a")
     running = Running(site, KEEP).ready()
     own = children(running.it.pid)
@@ -456,12 +732,22 @@ def ended(site: Site) -> str:
     assert status == 0 and not any(alive(it) for it in own), f"status {status}"
     site.schedulers.remove(running.it)
     bad: dict[str, tuple[list[str], str]] = {
-        "no rule": ([], "no rule is named"), "no module": (["x:1:1000:/nowhere"], "plugin x"), "affinity": ([f"node_affinity:1:500000:{PLUGINS}/node_affinity.wasm"], "itself"),
-        "key": ([KEEP, "--tls-key", "x"], "--tls-cert"), "certificate": ([KEEP, "--tls-cert", "/nowhere"], "No such file"), "stale": ([KEEP, "--max-stale", "-1"], "max-stale"),
+        "no rule": ([], "no rule is named"),
+        "no module": (["x:1:1000:/nowhere"], "plugin x"),
+        "affinity": ([f"node_affinity:1:500000:{PLUGINS}/node_affinity.wasm"], "itself"),
+        "key": ([KEEP, "--tls-key", "x"], "--tls-cert"),
+        "certificate": ([KEEP, "--tls-cert", "/nowhere"], "No such file"),
+        "stale": ([KEEP, "--max-stale", "-1"], "max-stale"),
         "error": ([KEEP, "--on-error", "pass"], "on-error"),
     }
     for name, (words, why) in bad.items():
-        it = site.start("--listen", f"127.0.0.1:{running.port}", *words, name=name.replace(" ", "-"), words=[str(EXTENDER / "extender.py")])
+        it = site.start(
+            "--listen",
+            f"127.0.0.1:{running.port}",
+            *words,
+            name=name.replace(" ", "-"),
+            words=[str(EXTENDER / "extender.py")],
+        )
         site.schedulers.remove(it)
         status = it.wait(30 * PATIENCE)
         it.end()
@@ -470,5 +756,19 @@ def ended(site: Site) -> str:
 
 
 TRIALS: list[Callable[[Site], str]] = [
-    verdicts, watched, faults, holes, bodies, at_once, hung, away, unlisted, secure, kept, shares, explained, deploy, ended,
+    verdicts,
+    watched,
+    faults,
+    holes,
+    bodies,
+    at_once,
+    hung,
+    away,
+    unlisted,
+    secure,
+    kept,
+    shares,
+    explained,
+    deploy,
+    ended,
 ]

@@ -1,0 +1,768 @@
+# SPDX-License-Identifier: Apache-2.0
+"""Trials of the extender beside a real API server and a stock kube-scheduler."""
+import collections
+import json
+import os
+import pathlib
+import signal
+import subprocess
+import time
+from typing import Any, Callable, Iterable, Iterator, Mapping, Optional, Sequence
+
+import cluster
+from cluster import API, Cluster, kubeconfig
+from trials.certificates import certificate
+from trials.sections import section, without_sections
+from trials.site import REGION, children, command, spent, wait_for
+from trials.store import Thing
+
+from caller import (
+    EUROPE,
+    EXTENDER,
+    KEEP,
+    PERSONAL,
+    PLUGINS,
+    PREFER,
+    REASON,
+    ZONE,
+    Caller,
+    free_port,
+    with_record,
+)
+from modules import FOREVER, UNREACHABLE, answering, rule
+
+ACCOUNT = "system:serviceaccount:kube-system:wsched-extender"
+TOKENS = f"""admintoken,admin,admin,"system:masters"
+extendertoken,{ACCOUNT},extender,"system:serviceaccounts,system:serviceaccounts:kube-system"
+"""
+PODS = "/api/v1/namespaces/default/pods"
+HOST = "kubernetes.io/hostname"
+
+
+class Ours(Cluster):
+    """An API server with the account of the extender's deploy.yaml, and a stock kube-scheduler
+    that asks an extender."""
+
+    def start(self) -> None:
+        """(what else the account asks for than its two kinds is refused, and in the audit log)"""
+        self.write("tokens.csv", TOKENS)
+        self.write(
+            "policy.json",
+            (self.folder / "policy.json")
+            .read_text(encoding="utf-8")
+            .replace(cluster.ACCOUNT, ACCOUNT),
+        )
+        self.write("extender.kubeconfig", json.dumps(kubeconfig("extendertoken")))
+        super().start()
+
+    def extend(
+        self,
+        *words: str,
+        port: Optional[int] = None,
+        authority: Optional[str] = None,
+        wsched: Optional[str] = None,
+    ) -> Caller:
+        """Starts an extender, and waits until it is ready."""
+        port = port or free_port()
+        own = [
+            "--kubeconfig",
+            self.folder / "extender.kubeconfig",
+            "--wsched",
+            wsched or self.programs.wsched,
+            "--listen",
+            f"127.0.0.1:{port}",
+        ]
+        self.run("extender", EXTENDER / "extender.py", *own, *words)
+        caller = Caller(port, authority)
+        wait_for(
+            lambda: self.alive("extender") and caller.get("/readyz")[0] == 200,
+            60,
+            "the extender is ready",
+        )
+        return caller
+
+    def alive(self, name: str) -> bool:
+        """Whether it runs."""
+        assert (
+            self.own[name].poll() is None
+        ), f"{name} has ended: {(self.folder / f'{name}.log').read_text(encoding='utf-8')[-300:]}"
+        return True
+
+    def schedule(self, caller: Optional[Caller], **more: Any) -> None:
+        """Starts kube-scheduler, whose stanza says this besides."""
+        config: Thing = json.loads((self.folder / "scheduler.json").read_text(encoding="utf-8"))
+        if caller:
+            scheme = "https" if caller.authority else "http"
+            stanza = {
+                "urlPrefix": f"{scheme}://127.0.0.1:{caller.port}",
+                "filterVerb": "filter",
+                "prioritizeVerb": "prioritize",
+                "weight": 1,
+            }
+            stanza |= {"nodeCacheCapable": True, "ignorable": False, "httpTimeout": "5s"}
+            stanza |= (
+                {"enableHTTPS": True, "tlsConfig": {"caFile": caller.authority}}
+                if caller.authority
+                else {}
+            )
+            config["extenders"] = [
+                {key: value for key, value in (stanza | more).items() if value is not None}
+            ]
+        self.write("stock.json", json.dumps(config))
+        words = [
+            "--config",
+            self.folder / "stock.json",
+            "--bind-address=127.0.0.1",
+            "--secure-port=0",
+        ]
+        self.run("kube-scheduler", cluster.HOME / "bin/kube-scheduler", *words)
+
+    def stop(self, *names: str) -> None:
+        """Ends these."""
+        for it in names:
+            self.end(it)
+
+    def make(self, name: str, labels: Thing, **spec: Any) -> None:
+        """A pod in `default`."""
+        asks = {
+            "containers": [
+                {
+                    "name": "c",
+                    "image": "x",
+                    "resources": {"requests": {"cpu": "10m", "memory": "1Mi"}},
+                }
+            ],
+            "terminationGracePeriodSeconds": 0,
+        }
+        self.ask(
+            "POST",
+            PODS,
+            {
+                "apiVersion": "v1",
+                "kind": "Pod",
+                "metadata": {"name": name, "labels": labels},
+                "spec": asks | spec,
+            },
+        )
+
+    def move(self, what: str) -> None:
+        """A node's label changes."""
+        node = self.ask("GET", "/api/v1/nodes/node-0000")
+        node["metadata"]["labels"]["moved"] = what
+        self.ask("PUT", "/api/v1/nodes/node-0000", node)
+
+    def message(self, name: str) -> str:
+        """What its condition says why it has no node; empty where nothing does."""
+        pod = self.ask("GET", f"{PODS}/{name}")
+        found = [
+            it
+            for it in (pod.get("status") or {}).get("conditions") or []
+            if it["type"] == "PodScheduled" and it["status"] == "False"
+        ]
+        return str(found[0].get("message") or "") if found else ""
+
+    def said(self, name: str, patience: float = 30) -> str:
+        """Waits for that."""
+        wait_for(lambda: self.message(name) or self.place(name), patience, f"a word of {name}")
+        assert not self.place(name), f"{name} is on {self.place(name)}"
+        return self.message(name)
+
+    def place(self, name: str) -> Optional[str]:
+        """Its node."""
+        return self.places()[name]
+
+    def bound(self) -> int:
+        """How many pods have a node."""
+        return sum(1 for it in self.places().values() if it)
+
+    def wait_for_bound(self, count: int, patience: float = 60) -> None:
+        """Waits until so many have, while the extender runs."""
+
+        def are() -> bool:
+            return ("extender" not in self.own or self.alive("extender")) and self.bound() == count
+
+        wait_for(are, patience, f"{count} are bound")
+
+
+def some_nodes(count: int) -> dict[str, Thing]:
+    """Nodes in two regions and four zones; some have a taint, some are marked unschedulable."""
+    found = dict[str, Thing]()
+    for i in range(count):
+        labels = {
+            REGION: EUROPE if i % 2 else "us-east-1",
+            ZONE: "abcd"[i // 2 % 4],
+            HOST: f"node-{i:04}",
+            "pool": "xy"[i // 8 % 2],
+        }
+        found[f"node-{i:04}"] = {
+            "cpu": 16000,
+            "memory": 64 << 30,
+            "pods": 110,
+            "labels": labels,
+            "taints": ["database"] * (i % 25 == 24),
+            "marked": i % 50 == 7,
+        }
+    return found
+
+
+def some_pods(count: int) -> Iterator[tuple[str, Thing, Thing]]:
+    """Pods with all that the rule knows nothing of, half of them one region's: names, labels, and
+    specs."""
+    for i in range(count):
+        kind, is_personal = ("spread", "apart", "ports", "selects", "plain")[i % 5], i // 5 % 2 == 0
+        labels = {
+            "kind": kind,
+            "group": f"{kind}-{i // 100}-{is_personal}",
+            **(PERSONAL if is_personal else {}),
+        }
+        same = {"matchLabels": {"group": labels["group"]}}
+        kinds: dict[str, Thing] = {
+            "spread": {
+                "topologySpreadConstraints": [
+                    {
+                        "maxSkew": 1,
+                        "topologyKey": ZONE,
+                        "whenUnsatisfiable": "DoNotSchedule",
+                        "labelSelector": same,
+                    }
+                ]
+            },
+            "apart": {
+                "affinity": {
+                    "podAntiAffinity": {
+                        "requiredDuringSchedulingIgnoredDuringExecution": [
+                            {"topologyKey": HOST, "labelSelector": same}
+                        ]
+                    }
+                }
+            },
+            "ports": {
+                "containers": [
+                    {
+                        "name": "c",
+                        "image": "x",
+                        "ports": [{"containerPort": 80, "hostPort": 8000 + i // 100}],
+                    }
+                ]
+            },
+            "selects": {
+                "nodeSelector": {"pool": "xy"[i // 10 % 2]},
+                "tolerations": [{"key": "database", "operator": "Exists"}],
+            },
+            "plain": {},
+        }
+        spec = kinds[kind]
+        # (a few can be nowhere: the rule and the selector leave no node)
+        if kind == "selects" and is_personal and i % 100 == 53:
+            spec["nodeSelector"] = {REGION: "us-east-1"}
+        yield f"pod-{i:03}", labels, spec
+
+
+def takers(nodes: Mapping[str, Thing], labels: Thing, spec: Thing) -> set[str]:
+    """The nodes that may have a pod by the manifests and the rule, whatever runs there."""
+    wanted = spec.get("nodeSelector") or {}
+
+    def may(node: Thing) -> bool:
+        has: Thing = node["labels"]
+        is_free = not node["marked"] and (spec.get("tolerations") or not node["taints"])
+        return (
+            bool(is_free)
+            and wanted.items() <= has.items()
+            and (labels.get("data-class") != "personal" or has[REGION] == EUROPE)
+        )
+
+    return {name for name, it in nodes.items() if may(it)}
+
+
+def wrong(
+    nodes: Mapping[str, Thing],
+    pods: Mapping[str, tuple[Thing, Thing]],
+    places: Mapping[str, Optional[str]],
+) -> Iterator[str]:
+    """Pod by pod: what is nowhere and may be somewhere, or is where it may not be; and what is
+    together that is to be apart, or uneven."""
+    apart: collections.Counter[tuple[str, str]] = collections.Counter()
+    spread: collections.defaultdict[str, collections.Counter[str]] = collections.defaultdict(
+        collections.Counter
+    )
+    for name, (labels, spec) in pods.items():
+        on, may = places[name], takers(nodes, labels, spec)
+        if on is None and may:
+            yield f"{name} waits, and {len(may)} nodes may have it"
+        if on is None:
+            continue
+        if on not in may:
+            yield f"{name} is on {on}"
+        if labels["kind"] == "spread":
+            spread[labels["group"]][nodes[on]["labels"][ZONE]] += 1
+        ports = [
+            f"port {it['hostPort']}" for it in spec.get("containers", [{}])[0].get("ports", [])
+        ]
+        for it in [labels["group"]] if labels["kind"] == "apart" else ports:
+            apart[on, it] += 1
+    yield from (
+        f"{on} has {count} pods of {what}" for (on, what), count in apart.items() if count > 1
+    )
+    for group, zones in spread.items():
+        if max(zones.values()) - min(zones[it] for it in "abcd") > 1:
+            yield f"{group} is spread so: {dict(zones)}"
+
+
+def with_cycles(lines: Sequence[Thing]) -> Iterator[Thing]:
+    """What was told, with a cycle of each pod in place of the question about it."""
+    version = 0
+    for it in lines:
+        version += 2
+        if it["op"] == "judge":
+            # (a pod that has its place by now isn't told twice)
+            uid = f"asked/{version}"
+            told: list[Thing] = [
+                it | {"op": "pod", "v": version, "uid": uid},
+                {"op": "cycle"},
+                {"op": "deleted", "v": version + 1, "uid": uid},
+            ]
+            yield from told
+        elif it["op"] != "tick":
+            yield it | {"v": version}
+
+
+def answers(
+    site: Ours, word: str, lines: Iterable[Thing], specs: Sequence[str]
+) -> list[dict[str, list[str]]]:
+    """Of each question or cycle what is said of each node."""
+    text = "".join(f"{json.dumps(it)}\n" for it in lines)
+    said = subprocess.run(
+        [site.programs.wsched, word, *specs], input=text, capture_output=True, text=True, check=True
+    ).stdout
+    found, nodes = list[dict[str, list[str]]](), dict[str, list[str]]()
+    for line in said.splitlines():
+        first, *words = line.split()
+        if line.startswith("  "):
+            nodes[first] = words
+        elif line not in ("ok", "idle") and first != "refused":
+            found.append(nodes)
+            nodes = {}
+    return found
+
+
+def as_explained(site: Ours, *specs: str) -> int:
+    """The record of what was told, told to `explain`, with a cycle of each pod that was asked
+    about: where wsched's own filters let a node pass, it says what was answered. Gives how many
+    verdicts were compared."""
+    lines = [
+        json.loads(line) for line in (site.folder / "told").read_text(encoding="utf-8").splitlines()
+    ]
+    judged, explained, compared = (
+        answers(site, "run", lines, specs),
+        answers(site, "explain", with_cycles(lines), specs),
+        0,
+    )
+    assert len(judged) == len(explained) >= 1, (len(judged), len(explained))
+    for one, other in zip(judged, explained):
+        assert one.keys() == other.keys()
+        for node, words in one.items():
+            # (behind a total stand wsched's own scores, and the rules')
+            mine, told = (
+                words[2:] if words[0] == "total" else words,
+                other[node][6:] if other[node][0] == "total" else other[node],
+            )
+            if other[node][0] in ("total", "plugin", "error"):
+                assert mine == told, f"{node}: {words}, and explain says {other[node]}"
+                compared += 1
+    return compared
+
+
+def all_kinds(site: Ours) -> str:
+    """500 pods with affinity, spread, ports and selectors, half of them one region's, on 200
+    nodes: each is bound where the scheduler and the rule allow it, and those that no node may have
+    wait, and say by which rule; the record of what wsched was told, told to `wsched explain`,
+    gives the same verdicts."""
+    nodes = some_nodes(200)
+    site.make_nodes(nodes)
+    caller = site.extend(KEEP, PREFER, wsched=with_record(site.folder, site.programs.wsched))
+    site.schedule(caller)
+    pods = {name: (labels, spec) for name, labels, spec in some_pods(500)}
+    asks = [{"name": "c", "image": "x"}]
+    site.ask_all(
+        (
+            "POST",
+            PODS,
+            {
+                "apiVersion": "v1",
+                "kind": "Pod",
+                "metadata": {"name": name, "labels": labels},
+                "spec": {"containers": asks} | spec,
+            },
+        )
+        for name, (labels, spec) in pods.items()
+    )
+    nowhere = sum(
+        (spec.get("nodeSelector") or {}).get(REGION) == "us-east-1" for _, spec in pods.values()
+    )
+    wait_for(
+        lambda: site.alive("extender") and site.bound() == 500 - nowhere,
+        120,
+        "all are bound that may be",
+    )
+    waits = next(
+        name for name, (_, spec) in pods.items() if REGION in (spec.get("nodeSelector") or {})
+    )
+    said = site.said(waits)
+    assert REASON in said, said
+    bad = [*wrong(nodes, pods, site.places())]
+    assert not bad, f"{len(bad)} wrong: {'; '.join(bad[:3])}"
+    seen = caller.metrics()
+    asked = seen['wsched_extender_requests_total{result="answered",verb="filter"}']
+    assert seen['wsched_extender_requests_total{result="error",verb="filter"}'] == 0
+    site.stop("kube-scheduler", "extender")
+    compared = as_explained(site, KEEP, PREFER)
+    assert compared > 10000 or compared > 100 * asked / 2, compared
+    site.clear()
+    return (
+        f"{asked:.0f} filters, {nowhere} pods wait; {compared} verdicts as explain has them; {said}"
+    )
+
+
+def rights(site: Ours) -> str:
+    """The account of deploy.yaml: all that the extender has asked for so far was granted, and it
+    may do nothing else."""
+    asked = {
+        (it["verb"], it["objectRef"]["resource"], it["responseStatus"]["code"])
+        for it in site.audit()
+        if "objectRef" in it and "responseStatus" in it
+    }
+    assert (
+        asked <= {(verb, what, 200) for verb in ("list", "watch") for what in ("nodes", "pods")}
+        and len(asked) == 4
+    ), asked
+    status, said = site.kubectl("auth", "can-i", "--list", user="extender")
+    own = sorted(line.split()[0] for line in said.splitlines() if "[list watch]" in line)
+    assert status == 0 and own == ["nodes", "pods"], said
+    others = {line.split()[-1] for line in said.splitlines()[1:] if not line.split()[0] in own} - {
+        "[get]",
+        "[create]",
+    }
+    assert not others, said
+    return "list and watch of nodes and pods"
+
+
+def misbehaving(site: Ours) -> str:
+    """Rules that trap and that never end hold pods up, by an event that names the rule, the cause
+    and a node; with --on-error=reject-node the nodes are rejected. A reason with percent signs is
+    told whole by condition and event."""
+    site.make_nodes(some_nodes(4))
+    shown = []
+    for name, body, cause in (
+        ("traps", UNREACHABLE, "trap 1 Unreachable"),
+        ("endless", FOREVER, "exhausted"),
+    ):
+        for word, want in (
+            ("error", f"node node-0000: rule {name} says nothing: {cause}; and 3 nodes more"),
+            ("reject-node", f"rule {name} says nothing: {cause}"),
+        ):
+            site.schedule(site.extend("--on-error", word, rule(site.folder, name, body)))
+            site.make(f"{name}-{word}", {})
+            said = site.said(f"{name}-{word}")
+            shown.append(said)
+            assert want in said, said
+            site.stop("kube-scheduler", "extender")
+            site.delete_pods(site.places())
+    more = section("wsched.reason.2", "100% of %s".encode())
+    site.schedule(site.extend(rule(site.folder, "percent", answering(2), more)))
+    site.make("percent", {})
+    whole = "4 node(s) were rejected by percent (100\uff05 of \uff05s)"
+    assert whole in site.said("percent"), site.said("percent")
+    wait_for(
+        lambda: [it for it in site.events() if it["involvedObject"]["name"] == "percent"],
+        20,
+        "an event",
+    )
+    event = [it for it in site.events() if it["involvedObject"]["name"] == "percent"][0]["message"]
+    assert whole in event, event
+    site.stop("kube-scheduler", "extender")
+    site.clear()
+    return f"{shown[0]} / {shown[1]} / {event}"
+
+
+def evading(site: Ours) -> str:
+    """A pod of 41 labels, and a rule that doesn't say which it reads: the pod waits, and its event
+    says why; with --labels it's placed as the rule says."""
+    silent = site.folder / "silent.wasm"
+    silent.write_bytes(without_sections((PLUGINS / "keep_region.wasm").read_bytes()))
+    word = f"keep_region:1:100000:{silent}"
+    site.make_nodes(some_nodes(4))
+    site.schedule(site.extend(word))
+    labels = {**{f"a{i:02}": "x" for i in range(40)}, **PERSONAL}
+    site.make("evades", labels)
+    said = site.said("evades")
+    assert "41 labels" in said and "keep_region" in said and "--labels" in said, said
+    site.stop("kube-scheduler", "extender")
+    site.schedule(site.extend(word, "--labels", f"data-class,{REGION}"))
+    for i in range(10):
+        site.make(f"knows-{i}", labels)
+    wait_for(lambda: site.bound() >= 10, 60, "all are bound")
+    places = site.places()
+    assert all(not on or int(on[5:]) % 2 for on in places.values()), places
+    site.stop("kube-scheduler", "extender")
+    site.clear()
+    return said
+
+
+def in_the_midst(site: Ours) -> str:
+    """200 pods, half of them one region's, and the extender is killed and started again, hangs for
+    a while, and has its wsched killed in the midst: all are bound at the end, and none outside.
+    One that is `ignorable` and down is passed over, and the rule isn't kept."""
+    nodes = some_nodes(50)
+    site.make_nodes(nodes)
+    caller = site.extend(KEEP)
+    site.schedule(caller, httpTimeout="2s")
+
+    def some(first: int) -> None:
+        for i in range(first, first + 50):
+            site.make(f"pod-{i}", PERSONAL if i % 2 else {})
+
+    some(0)
+    wait_for(site.bound, 30, "some are bound")
+    os.kill(
+        next(it for it in children(site.own["extender"].pid) if "run" in command(it)),
+        signal.SIGKILL,
+    )
+    some(50)
+    wait_for(lambda: site.bound() == 100, 60, "those are bound behind a wsched that was begun anew")
+    site.end("extender", signal.SIGKILL)
+    some(100)
+    refused = site.said("pod-149")
+    assert "connection refused" in refused and f"127.0.0.1:{caller.port}/filter" in refused, refused
+    caller = site.extend(KEEP, port=caller.port)
+    began = time.monotonic()
+    # (whatever moves in the cluster has all that wait tried again; else they wait for more than a
+    # minute)
+    site.move("1")
+    wait_for(lambda: site.bound() == 150, 100, "those that waited are bound")
+    back = time.monotonic() - began
+    os.kill(site.own["extender"].pid, signal.SIGSTOP)
+    site.make("hangs", PERSONAL)
+    late = site.said("hangs")
+    assert "Client.Timeout exceeded" in late or "deadline exceeded" in late, late
+    os.kill(site.own["extender"].pid, signal.SIGCONT)
+    some(150)
+    site.move("2")
+    wait_for(lambda: site.bound() == 201, 100, "all are bound")
+    outside = [
+        name
+        for name, on in site.places().items()
+        if on and name != "hangs" and int(name[4:]) % 2 and nodes[on]["labels"][REGION] != EUROPE
+    ]
+    assert not outside, outside
+    site.stop("kube-scheduler", "extender")
+    site.schedule(caller, ignorable=True)
+    for i in range(300, 320):
+        site.make(f"pod-{i}", PERSONAL)
+    wait_for(lambda: site.bound() == 221, 30, "they are bound without it")
+    passed_over = {f"pod-{i}" for i in range(300, 320)}
+    outside = [
+        name
+        for name, on in site.places().items()
+        if name in passed_over and on and nodes[on]["labels"][REGION] != EUROPE
+    ]
+    assert outside, "an ignorable extender that is down is passed over"
+    site.stop("kube-scheduler")
+    site.clear()
+    shown = f"bound {back:.1f} s after it was back; ignorable: {len(outside)} of 20 outside"
+    return f"{refused[:120]} / {late[:160]} / {shown}"
+
+
+def by_tls(site: Ours) -> str:
+    """kube-scheduler asks by TLS, by a certificate that is renewed under its feet by the same
+    authority: all pods are bound, and none outside."""
+    site.make_nodes(some_nodes(20))
+    holder: Any = type("Holder", (), {"folder": site.folder})
+    first, second = certificate(holder, "first"), certificate(holder, "second")
+    both = site.folder / "authorities.pem"
+    both.write_text(
+        "".join(pathlib.Path(it[0]).read_text(encoding="ascii") for it in (first, second)),
+        encoding="ascii",
+    )
+    own = [site.folder / f"own.{it}" for it in ("crt", "key")]
+
+    def put(pair: tuple[str, str]) -> None:
+        for there, it in zip(own, pair):
+            there.write_bytes(pathlib.Path(it).read_bytes())
+
+    put(first)
+    caller = site.extend(
+        "--tls-cert", str(own[0]), "--tls-key", str(own[1]), KEEP, authority=str(both)
+    )
+    site.schedule(caller)
+    for i in range(20):
+        site.make(f"pod-{i}", PERSONAL)
+    wait_for(lambda: site.bound() == 20, 60, "all are bound")
+    time.sleep(1)
+    put(second)
+    site.stop("kube-scheduler")
+    site.schedule(caller)
+    for i in range(20, 40):
+        site.make(f"pod-{i}", PERSONAL)
+    wait_for(lambda: site.bound() == 40, 60, "all are bound")
+    assert all(on and int(on[5:]) % 2 for on in site.places().values())
+    site.stop("kube-scheduler", "extender")
+    site.clear()
+    return "40 pods, and a renewed certificate"
+
+
+def whole_nodes(site: Ours) -> str:
+    """1,000 nodes: 300 pods by names, and 20 by whole nodes, which kube-scheduler hands over where
+    `nodeCacheCapable` is false; none is outside."""
+    nodes = some_nodes(1000)
+    site.make_nodes(nodes)
+    caller, shown = site.extend(KEEP, PREFER), []
+    for by_names, count in ((True, 300), (False, 20)):
+        site.schedule(caller, nodeCacheCapable=by_names)
+        before, began = site.bound(), time.monotonic()
+        site.ask_all(
+            (
+                "POST",
+                PODS,
+                {
+                    "apiVersion": "v1",
+                    "kind": "Pod",
+                    "metadata": {
+                        "name": f"pod-{by_names}-{i}".lower(),
+                        "labels": PERSONAL if i % 2 else {},
+                    },
+                    "spec": {"containers": [{"name": "c", "image": "x"}]},
+                },
+            )
+            for i in range(count)
+        )
+        site.wait_for_bound(before + count, 120)
+        shown.append(f"{count} pods in {time.monotonic() - began:.1f} s")
+        site.stop("kube-scheduler")
+    labels = {
+        it["metadata"]["name"]: it["metadata"].get("labels")
+        for it in site.ask("GET", PODS)["items"]
+    }
+    outside = [
+        name
+        for name, on in site.places().items()
+        if labels[name] and on and nodes[on]["labels"][REGION] != EUROPE
+    ]
+    assert not outside, outside
+    site.stop("extender")
+    site.clear()
+    return ", then by whole nodes ".join(shown)
+
+
+TRIALS: list[Callable[[Ours], str]] = [
+    all_kinds,
+    misbehaving,
+    evading,
+    in_the_midst,
+    by_tls,
+    whole_nodes,
+    rights,
+]
+
+
+# How fast.
+
+
+def speed(site: Ours, count: int = 1000, pods: int = 300, turns: int = 2) -> None:
+    """Pods bound a second from the first to the last, with kube-scheduler alone, with both verbs,
+    and with a filter alone, in turns; and the processor time that the extender, its wsched and its
+    translate take a request."""
+    site.make_nodes(some_nodes(count))
+    rates: collections.defaultdict[str, list[float]] = collections.defaultdict(list)
+    for _ in range(turns):
+        for who, words in (("alone", ()), ("both", (KEEP, PREFER)), ("filter", (KEEP,))):
+            caller = site.extend(*words) if words else None
+            before = taken(site, caller)
+            rates[who].append(
+                bound_a_second(
+                    site, caller, pods, **({"prioritizeVerb": None} if who == "filter" else {})
+                )
+            )
+            after = taken(site, caller)
+            requests = after.pop("requests", 0) - before.get("requests", 0)
+            took = ", ".join(
+                f"{name} {1000 * (ms - before[name]) / requests:.2f}" for name, ms in after.items()
+            )
+            if caller:
+                site.stop("extender")
+            print(
+                f"{count} nodes, {who}: {rates[who][-1]:.0f} pods a second, "
+                f"load {os.getloadavg()[0]:.1f}; ms a request: {took}",
+                flush=True,
+            )
+    means = {who: sum(it) / turns for who, it in rates.items()}
+    print(
+        f"{count} nodes: both verbs {means['both'] / means['alone']:.2f}, "
+        f"filter alone {means['filter'] / means['alone']:.2f}"
+    )
+
+
+def taken(site: Ours, caller: Optional[Caller]) -> dict[str, float]:
+    """The processor seconds of an extender and of its children so far, and how many requests it
+    has had."""
+    if not caller:
+        return {}
+    first, found = site.own["extender"].pid, caller.metrics()
+    own = {
+        next(word for word in ("run", "translate") if word in command(it)): spent(it)
+        for it in children(first)
+    }
+    return {
+        "extender": spent(first),
+        **own,
+        "requests": sum(
+            it for name, it in found.items() if name.startswith("wsched_extender_requests_total")
+        ),
+    }
+
+
+def bound_a_second(site: Ours, caller: Optional[Caller], pods: int, **more: Any) -> float:
+    """Makes pods, half of them one region's, has them bound, and takes them away."""
+    site.ask_all(
+        (
+            "POST",
+            PODS,
+            {
+                "apiVersion": "v1",
+                "kind": "Pod",
+                "metadata": {
+                    "name": f"speed-{i}",
+                    "labels": PERSONAL if caller and i % 2 else {"app": "x"},
+                },
+                "spec": {
+                    "containers": [
+                        {"name": "c", "image": "x", "resources": {"requests": {"cpu": "10m"}}}
+                    ]
+                },
+            },
+        )
+        for i in range(pods)
+    )
+    version = site.ask("GET", f"{PODS}?limit=1")["metadata"]["resourceVersion"]
+    watch = subprocess.Popen(
+        [
+            "curl",
+            "-sSNk",
+            "-H",
+            "Authorization: Bearer admintoken",
+            f"https://127.0.0.1:{API}{PODS}?watch=true&resourceVersion={version}",
+        ],
+        stdout=subprocess.PIPE,
+    )
+    assert watch.stdout
+    site.schedule(caller, **more)
+    times, seen = list[float](), set[str]()
+    while len(seen) < pods:
+        pod = json.loads(watch.stdout.readline())["object"]
+        if pod["spec"].get("nodeName") and pod["metadata"]["name"] not in seen:
+            seen.add(pod["metadata"]["name"])
+            times.append(time.monotonic())
+    watch.kill()
+    watch.wait()
+    site.stop("kube-scheduler")
+    site.delete_pods(seen)
+    return (pods - 1) / (times[-1] - times[0])
