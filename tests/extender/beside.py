@@ -4,6 +4,7 @@ import collections
 import json
 import os
 import pathlib
+import re
 import signal
 import subprocess
 import time
@@ -13,7 +14,7 @@ import cluster
 from cluster import API, Cluster, kubeconfig
 from trials.certificates import certificate
 from trials.sections import section, without_sections
-from trials.site import REGION, children, command, spent, wait_for
+from trials.site import REGION, TOP, children, command, spent, wait_for
 from trials.store import Thing
 
 from caller import (
@@ -145,11 +146,11 @@ class Ours(Cluster):
             },
         )
 
-    def move(self, what: str) -> None:
-        """A node's label changes."""
-        node = self.ask("GET", "/api/v1/nodes/node-0000")
-        node["metadata"]["labels"]["moved"] = what
-        self.ask("PUT", "/api/v1/nodes/node-0000", node)
+    def move(self, what: str, name: str = "node-0000", labels: Optional[Thing] = None) -> None:
+        """A node's labels change."""
+        node = self.ask("GET", f"/api/v1/nodes/{name}")
+        node["metadata"]["labels"] |= {"moved": what, **(labels or {})}
+        self.ask("PUT", f"/api/v1/nodes/{name}", node)
 
     def message(self, name: str) -> str:
         """What its condition says why it has no node; empty where nothing does."""
@@ -416,7 +417,7 @@ def all_kinds(site: Ours) -> str:
     assert seen['wsched_extender_requests_total{result="error",verb="filter"}'] == 0
     site.stop("kube-scheduler", "extender")
     compared = as_explained(site, KEEP, PREFER)
-    assert compared > 10000 or compared > 100 * asked / 2, compared
+    assert compared > 10000, compared
     site.clear()
     return (
         f"{asked:.0f} filters, {nowhere} pods wait; {compared} verdicts as explain has them; {said}"
@@ -653,7 +654,61 @@ def whole_nodes(site: Ours) -> str:
     return ", then by whole nodes ".join(shown)
 
 
+def page(site: Ours) -> str:
+    """The commands of the extender's README.md, each as it stands there: from a stock
+    kube-scheduler to the first rejected pod, and on to deploy.yaml."""
+    site.make_nodes(
+        {it: node | {"marked": False, "taints": []} for it, node in some_nodes(3).items()}
+    )
+    for i in range(3):
+        site.move("1", f"node-{i:04}", {REGION: "us-east-1"})
+    at, own = site.folder / "clone", site.folder / "bin"
+    (at / "crates/wsched/out").mkdir(parents=True)
+    own.mkdir()
+    (at / "examples").symlink_to(TOP / "examples")
+    (at / "crates/wsched/out/wsched").symlink_to(site.programs.wsched)
+    stock = own / "kube-scheduler"
+    more = "--bind-address=127.0.0.1 --secure-port=0 --port=20251"
+    stock.write_text(
+        f'#!/bin/sh\nexec {cluster.HOME}/bin/kube-scheduler "$@" {more}\n', encoding="utf-8"
+    )
+    stock.chmod(0o755)
+    text = (EXTENDER / "README.md").read_text(encoding="utf-8")
+    blocks = re.findall(r"^```sh\n(.*?)^```$", text, re.M | re.S)
+    assert len(blocks) == 6, len(blocks)
+    path = f"{own}:{os.environ['PATH']}"
+    env = os.environ | {"KUBECONFIG": str(site.folder / "admin.kubeconfig"), "PATH": path}
+    words, script = ["bash", "-e", "-o", "pipefail"], "\necho == >&2\n".join(blocks)
+    began = time.monotonic()
+    with open(site.folder / "page.log", "wb") as log:
+        shell = subprocess.Popen(
+            words,
+            cwd=at,
+            env=env,
+            stdin=subprocess.PIPE,
+            stdout=log,
+            stderr=log,
+            start_new_session=True,
+        )
+        try:
+            shell.communicate(script.encode(), timeout=120)
+        finally:
+            # (what it has left in the background is of its session)
+            os.killpg(shell.pid, signal.SIGTERM)
+    said = (site.folder / "page.log").read_text(encoding="utf-8").split("==\n")
+    assert shell.returncode == 0 and len(said) == 6, said
+    assert said[1] == "ok", said[1]
+    assert json.loads(said[2].splitlines()[-1])["FailedNodes"] == {"node-0000": REASON}, said[2]
+    assert f"0/3 nodes are available: 3 {REASON}." in said[4], said[4]
+    assert re.fullmatch(r"10\.0\.0\.\d+", said[5].splitlines()[-1]), said[5]
+    for it in ("secret", "deployment", "service"):
+        site.kubectl("delete", "-n", "kube-system", it, "wsched-extender")
+    site.clear()
+    return f"{time.monotonic() - began:.0f} s; {said[2].splitlines()[-1][:200]}"
+
+
 TRIALS: list[Callable[[Ours], str]] = [
+    page,
     all_kinds,
     misbehaving,
     evading,
@@ -662,107 +717,3 @@ TRIALS: list[Callable[[Ours], str]] = [
     whole_nodes,
     rights,
 ]
-
-
-# How fast.
-
-
-def speed(site: Ours, count: int = 1000, pods: int = 300, turns: int = 2) -> None:
-    """Pods bound a second from the first to the last, with kube-scheduler alone, with both verbs,
-    and with a filter alone, in turns; and the processor time that the extender, its wsched and its
-    translate take a request."""
-    site.make_nodes(some_nodes(count))
-    rates: collections.defaultdict[str, list[float]] = collections.defaultdict(list)
-    for _ in range(turns):
-        for who, words in (("alone", ()), ("both", (KEEP, PREFER)), ("filter", (KEEP,))):
-            caller = site.extend(*words) if words else None
-            before = taken(site, caller)
-            rates[who].append(
-                bound_a_second(
-                    site, caller, pods, **({"prioritizeVerb": None} if who == "filter" else {})
-                )
-            )
-            after = taken(site, caller)
-            requests = after.pop("requests", 0) - before.get("requests", 0)
-            took = ", ".join(
-                f"{name} {1000 * (ms - before[name]) / requests:.2f}" for name, ms in after.items()
-            )
-            if caller:
-                site.stop("extender")
-            print(
-                f"{count} nodes, {who}: {rates[who][-1]:.0f} pods a second, "
-                f"load {os.getloadavg()[0]:.1f}; ms a request: {took}",
-                flush=True,
-            )
-    means = {who: sum(it) / turns for who, it in rates.items()}
-    print(
-        f"{count} nodes: both verbs {means['both'] / means['alone']:.2f}, "
-        f"filter alone {means['filter'] / means['alone']:.2f}"
-    )
-
-
-def taken(site: Ours, caller: Optional[Caller]) -> dict[str, float]:
-    """The processor seconds of an extender and of its children so far, and how many requests it
-    has had."""
-    if not caller:
-        return {}
-    first, found = site.own["extender"].pid, caller.metrics()
-    own = {
-        next(word for word in ("run", "translate") if word in command(it)): spent(it)
-        for it in children(first)
-    }
-    return {
-        "extender": spent(first),
-        **own,
-        "requests": sum(
-            it for name, it in found.items() if name.startswith("wsched_extender_requests_total")
-        ),
-    }
-
-
-def bound_a_second(site: Ours, caller: Optional[Caller], pods: int, **more: Any) -> float:
-    """Makes pods, half of them one region's, has them bound, and takes them away."""
-    site.ask_all(
-        (
-            "POST",
-            PODS,
-            {
-                "apiVersion": "v1",
-                "kind": "Pod",
-                "metadata": {
-                    "name": f"speed-{i}",
-                    "labels": PERSONAL if caller and i % 2 else {"app": "x"},
-                },
-                "spec": {
-                    "containers": [
-                        {"name": "c", "image": "x", "resources": {"requests": {"cpu": "10m"}}}
-                    ]
-                },
-            },
-        )
-        for i in range(pods)
-    )
-    version = site.ask("GET", f"{PODS}?limit=1")["metadata"]["resourceVersion"]
-    watch = subprocess.Popen(
-        [
-            "curl",
-            "-sSNk",
-            "-H",
-            "Authorization: Bearer admintoken",
-            f"https://127.0.0.1:{API}{PODS}?watch=true&resourceVersion={version}",
-        ],
-        stdout=subprocess.PIPE,
-    )
-    assert watch.stdout
-    site.schedule(caller, **more)
-    times, seen = list[float](), set[str]()
-    while len(seen) < pods:
-        pod = json.loads(watch.stdout.readline())["object"]
-        if pod["spec"].get("nodeName") and pod["metadata"]["name"] not in seen:
-            seen.add(pod["metadata"]["name"])
-            times.append(time.monotonic())
-    watch.kill()
-    watch.wait()
-    site.stop("kube-scheduler")
-    site.delete_pods(seen)
-    return (pods - 1) / (times[-1] - times[0])

@@ -56,12 +56,16 @@ _wsched_beside() {
         --rules | --settings | --from | --page | --script) _wsched_files "$cur"; return ;;
         --kubeconfig | --record | --tls-cert | --tls-key | --token-file | --plugins | --wsched) _wsched_files "$cur"; return ;;
         --scheduler | --nodes | --labels | --most | -n | --namespace) return ;;
-        --workers | --binders | --share | --node-affinity | --lease | --listen) return ;;
+        --workers | --binders | --share | --node-affinity | --lease | --listen | --max-stale) return ;;
+        --on-error) _wsched_options "error reject-node" "$cur"; return ;;
     esac
     case $name in
         wsched-scheduler)
             options="--scheduler --nodes --share --rules --settings --labels --node-affinity --plugins --wsched --workers --binders"
             options="$options --kubeconfig --lease --listen --tls-cert --tls-key --token-file --record --dry-run --verbose --help" ;;
+        wsched-extender)
+            options="--listen --on-error --max-stale --rules --settings --labels --wsched --workers --kubeconfig"
+            options="$options --tls-cert --tls-key --token-file --verbose --help" ;;
         wsched-plan) options="--json --script --page --rules --settings --labels --scheduler --from --nodes --help" ;;
         wsched-why) options="--namespace --rules --settings --labels --from --nodes --help" ;;
         wsched-what-if) options="--page --rules --" ;;
@@ -70,7 +74,7 @@ _wsched_beside() {
     esac
     case $name:$cur in
         *:-*) _wsched_options "$options" "$cur" ;;
-        wsched-plan:* | wsched-scheduler:*) _wsched_modules "$cur" spec ;;
+        wsched-plan:* | wsched-scheduler:* | wsched-extender:*) _wsched_modules "$cur" spec ;;
         wsched-why:*) [ "$COMP_CWORD" = 1 ] || _wsched_modules "$cur" spec ;;
         wsched-what-if:* | wsched-report:*) _wsched_files "$cur" ;;
         wsched-lint:*) mapfile -t COMPREPLY < <(compgen -f -X '!*.jsonl' -- "$cur"; compgen -d -S / -- "$cur") ;;
@@ -78,4 +82,4 @@ _wsched_beside() {
 }
 
 complete -o nospace -F _wsched wsched
-complete -F _wsched_beside wsched-plan wsched-why wsched-what-if wsched-lint wsched-report wsched-scheduler
+complete -F _wsched_beside wsched-plan wsched-why wsched-what-if wsched-lint wsched-report wsched-scheduler wsched-extender

@@ -1,6 +1,5 @@
-#compdef wsched wsched-plan wsched-why wsched-what-if wsched-lint wsched-report wsched-scheduler
-# Completion of wsched and of the programs beside it, for zsh:
-# /usr/share/zsh/vendor-completions/_wsched.
+#compdef wsched wsched-plan wsched-why wsched-what-if wsched-lint wsched-report wsched-scheduler wsched-extender
+# Completion of wsched and of the programs beside it, for zsh: /usr/share/zsh/vendor-completions/_wsched.
 
 # A module's file as the word of a plugin, NAME:1:100000:FILE, to be changed as wanted; behind three
 # colons the file alone.
@@ -54,6 +53,12 @@ _wsched() {
                 '--listen[serve metrics and health]:[HOST]\:PORT:' '--tls-cert[by TLS]:file:_files' '--tls-key[its key]:file:_files' \
                 '--token-file[whom metrics are for]:file:_files' '--record[what was told and answered]:file:_files' \
                 '--dry-run[write nothing to the cluster]' '--verbose[log more]' '--help[the words]' '*:plugin:_wsched_spec' ;;
+        wsched-extender)
+            _arguments "$rules[@]" '--listen[where it is asked]:[HOST]\:PORT:' '--on-error[where a rule says nothing]:what:(error reject-node)' \
+                '--max-stale[nothing is answered by what is older]:seconds:' '--settings[the settings of the site]:file:_files' \
+                '--labels[the labels that rules read]:keys:' '--wsched[the program]:file:_files' '--workers[of each wsched]:number:' \
+                '--kubeconfig[the way to the API server]:file:_files' '--tls-cert[be asked by TLS]:file:_files' '--tls-key[its key]:file:_files' \
+                '--token-file[whom metrics are for]:file:_files' '--verbose[log more]' '--help[the words]' '*:plugin:_wsched_spec' ;;
         wsched)
             if (( CURRENT == 2 )); then
                 _describe command commands
