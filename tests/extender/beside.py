@@ -11,10 +11,10 @@ import time
 from typing import Any, Callable, Iterable, Iterator, Mapping, Optional, Sequence
 
 import cluster
-from cluster import API, Cluster, kubeconfig
+from cluster import Cluster, kubeconfig
 from trials.certificates import certificate
 from trials.sections import section, without_sections
-from trials.site import REGION, TOP, children, command, spent, wait_for
+from trials.site import REGION, TOP, children, command, wait_for
 from trials.store import Thing
 
 from caller import (
@@ -125,25 +125,20 @@ class Ours(Cluster):
 
     def make(self, name: str, labels: Thing, **spec: Any) -> None:
         """A pod in `default`."""
-        asks = {
-            "containers": [
-                {
-                    "name": "c",
-                    "image": "x",
-                    "resources": {"requests": {"cpu": "10m", "memory": "1Mi"}},
-                }
-            ],
-            "terminationGracePeriodSeconds": 0,
-        }
-        self.ask(
-            "POST",
-            PODS,
-            {
-                "apiVersion": "v1",
-                "kind": "Pod",
-                "metadata": {"name": name, "labels": labels},
-                "spec": asks | spec,
-            },
+        self.make_all({name: (labels, spec)})
+
+    def make_all(self, pods: Mapping[str, tuple[Thing, Thing]]) -> None:
+        """Pods with these labels and specs."""
+        asks = {"requests": {"cpu": "10m", "memory": "1Mi"}}
+        bare: Thing = {"containers": [{"name": "c", "image": "x", "resources": asks}]}
+        kind = {"apiVersion": "v1", "kind": "Pod"}
+        self.ask_all(
+            (
+                "POST",
+                PODS,
+                {**kind, "metadata": {"name": it, "labels": labels}, "spec": bare | spec},
+            )
+            for it, (labels, spec) in pods.items()
         )
 
     def move(self, what: str, name: str = "node-0000", labels: Optional[Thing] = None) -> None:
@@ -383,20 +378,7 @@ def all_kinds(site: Ours) -> str:
     caller = site.extend(KEEP, PREFER, wsched=with_record(site.folder, site.programs.wsched))
     site.schedule(caller)
     pods = {name: (labels, spec) for name, labels, spec in some_pods(500)}
-    asks = [{"name": "c", "image": "x"}]
-    site.ask_all(
-        (
-            "POST",
-            PODS,
-            {
-                "apiVersion": "v1",
-                "kind": "Pod",
-                "metadata": {"name": name, "labels": labels},
-                "spec": {"containers": asks} | spec,
-            },
-        )
-        for name, (labels, spec) in pods.items()
-    )
+    site.make_all(pods)
     nowhere = sum(
         (spec.get("nodeSelector") or {}).get(REGION) == "us-east-1" for _, spec in pods.values()
     )
@@ -620,22 +602,8 @@ def whole_nodes(site: Ours) -> str:
     for by_names, count in ((True, 300), (False, 20)):
         site.schedule(caller, nodeCacheCapable=by_names)
         before, began = site.bound(), time.monotonic()
-        site.ask_all(
-            (
-                "POST",
-                PODS,
-                {
-                    "apiVersion": "v1",
-                    "kind": "Pod",
-                    "metadata": {
-                        "name": f"pod-{by_names}-{i}".lower(),
-                        "labels": PERSONAL if i % 2 else {},
-                    },
-                    "spec": {"containers": [{"name": "c", "image": "x"}]},
-                },
-            )
-            for i in range(count)
-        )
+        names = [f"pod-{by_names}-{i}".lower() for i in range(count)]
+        site.make_all({it: (PERSONAL if i % 2 else {}, {}) for i, it in enumerate(names)})
         site.wait_for_bound(before + count, 120)
         shown.append(f"{count} pods in {time.monotonic() - began:.1f} s")
         site.stop("kube-scheduler")
@@ -669,15 +637,14 @@ def page(site: Ours) -> str:
     (at / "crates/wsched/out/wsched").symlink_to(site.programs.wsched)
     stock = own / "kube-scheduler"
     more = "--bind-address=127.0.0.1 --secure-port=0 --port=20251"
-    stock.write_text(
-        f'#!/bin/sh\nexec {cluster.HOME}/bin/kube-scheduler "$@" {more}\n', encoding="utf-8"
-    )
+    text = f'#!/bin/sh\nexec {cluster.HOME}/bin/kube-scheduler "$@" {more}\n'
+    stock.write_text(text, encoding="utf-8")
     stock.chmod(0o755)
     text = (EXTENDER / "README.md").read_text(encoding="utf-8")
     blocks = re.findall(r"^```sh\n(.*?)^```$", text, re.M | re.S)
     assert len(blocks) == 6, len(blocks)
-    path = f"{own}:{os.environ['PATH']}"
-    env = os.environ | {"KUBECONFIG": str(site.folder / "admin.kubeconfig"), "PATH": path}
+    env = os.environ | {"KUBECONFIG": str(site.folder / "admin.kubeconfig")}
+    env["PATH"] = f"{own}:{env['PATH']}"
     words, script = ["bash", "-e", "-o", "pipefail"], "\necho == >&2\n".join(blocks)
     began = time.monotonic()
     with open(site.folder / "page.log", "wb") as log:

@@ -70,26 +70,8 @@ def taken(site: Ours, caller: Optional[Caller]) -> dict[str, float]:
 
 def bound_a_second(site: Ours, caller: Optional[Caller], pods: int, **more: Any) -> float:
     """Makes pods, half of them one region's, has them bound, and takes them away."""
-    site.ask_all(
-        (
-            "POST",
-            PODS,
-            {
-                "apiVersion": "v1",
-                "kind": "Pod",
-                "metadata": {
-                    "name": f"speed-{i}",
-                    "labels": PERSONAL if caller and i % 2 else {"app": "x"},
-                },
-                "spec": {
-                    "containers": [
-                        {"name": "c", "image": "x", "resources": {"requests": {"cpu": "10m"}}}
-                    ]
-                },
-            },
-        )
-        for i in range(pods)
-    )
+    labels = [PERSONAL if caller and i % 2 else {"app": "x"} for i in range(pods)]
+    site.make_all({f"speed-{i}": (it, {}) for i, it in enumerate(labels)})
     version = site.ask("GET", f"{PODS}?limit=1")["metadata"]["resourceVersion"]
     watch = subprocess.Popen(
         [
