@@ -25,6 +25,8 @@ LINE, FIELDS = 65536, 100
 # For how long a connection may have no request, and one that has begun to come may say nothing, in
 # seconds.
 IDLE, SILENT = 600.0, 30
+# What mustn't stand twice in a head.
+ONCE = ("content-length", "transfer-encoding")
 Verb = Callable[[bytes], Reply]
 LARGE_ONES = threading.BoundedSemaphore(LARGE_AT_ONCE)
 
@@ -81,7 +83,7 @@ class Asked(Answer):
             self.close_connection = True
             return self.answer(refused(400, "the head is none of HTTP/1.1"))
         answer = self.service.verbs.get(words[1])
-        if self.fields.get("connection", "").lower() == "close":
+        if self.fields.get("connection", "").lower() == "close" or self.service.stopping:
             self.close_connection = True
         size, said = self.size()
         if said:
@@ -90,7 +92,7 @@ class Asked(Answer):
             self.answer(said)
         else:
             one: Any = LARGE_ONES if size > LARGE else contextlib.nullcontext()
-            with one:
+            with self.service.under_way, one:
                 said = self.answered(answer, size)
         if answer:
             verb = words[1][1:]
@@ -107,9 +109,10 @@ class Asked(Answer):
                 self.fields = fields
                 return True
             name, colon, value = line.decode("latin-1").partition(":")
-            if not colon or not line.endswith(b"\n") or name.lower() in fields:
+            name = name.lower()
+            if not colon or not line.endswith(b"\n") or (name in fields and name in ONCE):
                 return False
-            fields[name.lower()] = value.strip()
+            fields[name] = value.strip()
         return False
 
     def size(self) -> tuple[int, Reply | None]:

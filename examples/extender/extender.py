@@ -16,6 +16,7 @@ import pathlib
 import signal
 import sys
 import threading
+import time
 from typing import Any
 
 HERE = pathlib.Path(__file__).resolve().parent
@@ -161,8 +162,8 @@ def words_for(specs: list[str]) -> Words:
     return Words(reasons_by_name(specs), weights)
 
 
-def begin(given: argparse.Namespace, calls: Any) -> Service:
-    """The cores, what is known, and who answers. Raises CoreFault."""
+def begin(given: argparse.Namespace, calls: Any) -> tuple[Service, Any]:
+    """The cores, what is known, who answers, and who listens. Raises CoreFault."""
     counting = Counting()
     cores = Cores(given.wsched, given.workers, given.spec, lambda why: counting.begun.inc())
     with cores.lock:
@@ -179,7 +180,7 @@ def begin(given: argparse.Namespace, calls: Any) -> Service:
         given.max_stale,
     )
     answer = type("Asked", (Asked,), {"service": service, "counting": counting})
-    serving.serve(
+    server = serving.serve(
         given.listen,
         service,
         counting,
@@ -190,14 +191,17 @@ def begin(given: argparse.Namespace, calls: Any) -> Service:
         client.CoreV1Api(calls), cores, rows, NodeLabels(given.settings, given.named), counting
     )
     service.watch_over()
-    return service
+    return service, server
 
 
-def end(service: Service) -> None:
-    """Whoever asks to know whether it is ready is told that it isn't; requests under way have
-    their answers."""
-    service.stopping = True
+def end(service: Service, server: Any) -> None:
+    """Nobody new is listened to, and requests under way have their answers."""
+    service.stopping, until = True, time.monotonic() + PATIENCE
     LOG.info("it ends")
+    server.shutdown()
+    server.server_close()
+    while service.under_way.count and time.monotonic() < until:
+        time.sleep(0.01)
     if service.cores.lock.acquire(timeout=PATIENCE):  # pylint: disable=consider-using-with
         for it in service.cores.shares:
             service.cores.end(it)
@@ -216,7 +220,7 @@ def main() -> None:
     for number in (signal.SIGTERM, signal.SIGINT, signal.SIGHUP):
         signal.signal(number, lambda *_: stop.set())
     try:
-        service = begin(given, calls_by(given.kubeconfig, 4))
+        service, server = begin(given, calls_by(given.kubeconfig, 4))
     except (NoAccount, CoreFault) as why:
         sys.exit(f"extender.py: {why}")
     except OSError as why:
@@ -228,7 +232,7 @@ def main() -> None:
         " by TLS" if given.tls_cert else "",
     )
     stop.wait()
-    end(service)
+    end(service, server)
 
 
 if __name__ == "__main__":

@@ -51,6 +51,21 @@ class Kept(NamedTuple):
     when: float
 
 
+class UnderWay:
+    """How many requests have come and aren't answered."""
+
+    def __init__(self) -> None:
+        self.lock, self.count = threading.Lock(), 0
+
+    def __enter__(self) -> None:
+        with self.lock:
+            self.count += 1
+
+    def __exit__(self, *_: object) -> None:
+        with self.lock:
+            self.count -= 1
+
+
 class Unknown(Exception):
     """Too little is known to answer, and why."""
 
@@ -72,7 +87,8 @@ class Service:
         self.rejects, self.max_stale = rejects, max_stale
         self.knowing: Knowing | None = None
         self.kept: collections.OrderedDict[Row, Kept] = collections.OrderedDict()
-        self.looked, self.logged, self.stopping = time.monotonic(), 0.0, False
+        self.looked, self.logged = time.monotonic(), 0.0
+        self.under_way, self.stopping = UnderWay(), False
         self.verbs: dict[str, Callable[[bytes], Reply]] = {
             "/filter": self.filter,
             "/prioritize": self.prioritize,
