@@ -19,6 +19,9 @@ from trials.server import RESET
 from trials.site import PATIENCE, REGION, Site, wait_for
 from trials.store import Thing
 
+import cores
+from questions import Row
+
 from caller import (
     EUROPE,
     KEEP,
@@ -625,6 +628,79 @@ def by_explain(site: Site, uids: set[str]) -> dict[str, dict[str, list[str]]]:
     return found
 
 
+def dumped(own: cores.Cores) -> Iterator[tuple[str, list[int]]]:
+    """What all wsched have as used of each node: CPU, memory and pods."""
+    for it in own.shares:
+        told: list[str] = []
+        assert it.core
+        it.core.tell('{"op":"dump"}', told.append, "clock ")
+        it.core.flush()
+        for line in told[0].splitlines():
+            first, *words = line.split()
+            if first == "node":
+                yield words[0], [int(words[at].partition("/")[0]) for at in (2, 4, 6)]
+
+
+class There:
+    """What there is, written down once more: each node's zone, and where each pod is, and how
+    large."""
+
+    def __init__(self) -> None:
+        self.zones: dict[str, str] = {}
+        self.pods: dict[str, tuple[str, tuple[int, int]]] = {}
+
+    def used(self, name: str) -> list[int]:
+        """Of a node: CPU, memory and pods."""
+        sizes = [size for on, size in self.pods.values() if on == name]
+        return [sum(it[0] for it in sizes), sum(it[1] for it in sizes), len(sizes)]
+
+    def change(self, own: cores.Cores, dice: random.Random) -> None:
+        """A node or a pod comes, changes or goes."""
+        node, uid, zone = f"n{dice.randrange(14)}", f"u{dice.randrange(50)}", dice.choice("ab")
+        what = dice.choice(("node", "gone", "pod", "pod", "pod", "deleted"))
+        if what == "node":
+            room = f'"cpu":"99","mem":"1Ti","pods":30,"labels":[["{ZONE}","{zone}"]]'
+            own.set_node(node, f'"name":"{node}",{room}')
+            self.zones[node] = zone
+        elif what == "gone" and dice.random() < 0.3:
+            own.drop_node(node)
+            self.zones.pop(node, None)
+        elif what == "pod":
+            size = (dice.randrange(2, 9), dice.randrange(9))
+            own.set_pod(uid, node, size)
+            self.pods[uid] = node, size
+        elif what == "deleted":
+            own.drop_pod(uid)
+            self.pods.pop(uid, None)
+
+
+def moved(site: Site) -> str:
+    """Where few nodes and pods have room in one wsched: nodes and pods come, change and go by
+    chance, and after some each wsched has as used what there is, has no more than its room, and
+    answers by that; no line is refused."""
+    cores.NODES, cores.PLACES = 4, 9
+    own = cores.Cores(site.programs.wsched, 1, [PREFER], lambda why: None)
+    own.start(own.shares[0])
+    row = Row("asked", '"containers":[["1m","1"]],"labels":[["wished-zone","a"]]')
+    there, dice, most = There(), random.Random(7), 0
+    for _ in range(100):
+        for _ in range(8):
+            there.change(own, dice)
+        said, used = own.judge(row), {name: there.used(name) for name in there.zones}
+        assert dict(dumped(own)) == used, "others are used"
+        wanted = {it: 50 * (there.zones[it] == "a") + 50 * (29 - used[it][2]) // 30 for it in used}
+        assert {name: int(it.split()[-1]) for name, it in said.items()} == wanted, said
+        assert own.refused == 0
+        for it in own.shares:
+            assert it.places == sum(used[name][2] for name in it.names), "another count"
+            assert len(it.names) <= 4 and (it.places <= 9 or len(it.names) == 1), "no room"
+        most = max(most, sum(bool(it.names) for it in own.shares))
+    for it in own.shares:
+        own.end(it)
+    assert most >= 3, most
+    return f"100 looks, {own.changes} changes, up to {most} at once"
+
+
 def explained(site: Site) -> str:
     """What was told to wsched, told to `wsched explain` with a cycle of each pod: where its own
     filters let a node pass, the verdicts are the same."""
@@ -665,5 +741,6 @@ TRIALS: list[Callable[[Site], str]] = [
     secure,
     kept,
     shares,
+    moved,
     explained,
 ]
