@@ -7,6 +7,7 @@ too long, is ended and begun anew, and told again what is known. Whoever calls h
 """
 from __future__ import annotations
 
+import hashlib
 import itertools
 import logging
 import os
@@ -15,6 +16,7 @@ import time
 from typing import Callable, Iterator
 
 from core import Core, CoreFault, Told, command, quoted
+from tools.wasm_sections import module_of
 from translating import Size, spelled
 
 from questions import Row
@@ -57,6 +59,8 @@ class Cores:
         )
         self.patience = PATIENCE + 2 * NODES * UNIT * sum(2 * int(it.split(":")[2]) for it in specs)
         self.shares: list[Share] = [Share()]
+        # (one that is begun anew reads them again: what others say mustn't be of other rules)
+        self.specs, self.modules = specs, digests(specs)
         # each node's row and whose it is; the pods on each node, known or not; and where each pod
         # is
         self.rows: dict[str, str] = {}
@@ -227,10 +231,13 @@ class Cores:
         """Starts it, and tells it what is known of its nodes."""
         try:
             share.core, share.version = Core(self.words, None, nothing, self.patience), 0
+            self.tick(share.core)
             for name in share.names:
                 for line in self.lines_of(name):
                     self.tell(share, line)
             share.core.flush()
+            if digests(self.specs) != self.modules:
+                raise CoreFault("a rule's module isn't what it was: start the extender anew")
         except (CoreFault, OSError) as why:
             self.end(share)
             share.why = str(why).partition(", at {")[0].partition(" at {")[0]
@@ -251,13 +258,15 @@ class Cores:
         that couldn't be."""
         for it in self.shares:
             if it.core:
-                it.core.tell(
-                    f'{{"op":"tick","at":{int(1000 * (time.monotonic() - self.began))}}}',
-                    lambda answer: None,
-                )
+                self.tick(it.core)
             else:
                 self.start(it)
         self.settle()
+
+    def tick(self, core: Core) -> None:
+        """(what has an answer, and changes nothing)"""
+        now = int(1000 * (time.monotonic() - self.began))
+        core.tell(f'{{"op":"tick","at":{now}}}', lambda answer: None)
 
     def why_not(self) -> str:
         """Why not all can be asked; empty where they can."""
@@ -266,6 +275,11 @@ class Cores:
     def seconds(self) -> float:
         """How much processor time they have taken."""
         return self.spent_before + sum(spent(it.core.child.pid) for it in self.shares if it.core)
+
+
+def digests(specs: list[str]) -> list[str]:
+    """Of the rules' modules, as they are now."""
+    return [hashlib.sha256(module_of(it)).hexdigest() for it in specs]
 
 
 def bound(uid: str, name: str, size: Size) -> str:

@@ -26,7 +26,7 @@ sys.path += [str(HERE.parent / "second-scheduler"), str(HERE.parent)]
 # pylint: disable=wrong-import-position
 from kubernetes import client
 from tools import rules
-from tools.wasm_sections import has_score, reasons_by_name
+from tools.wasm_sections import has_score, is_steady, module_of, reasons_by_name
 
 import rule_labels
 import serving
@@ -39,11 +39,11 @@ from translating import words_of
 
 from answers import Words
 from asked import Asked
-from cores import Cores
+from cores import Cores, digests
 from counting import Counting
 from knowing import Knowing
 from questions import WHO, Row, Rows
-from service import Service
+from service import Service, Ways
 
 LOG = logging.getLogger("second-scheduler")
 # For how long requests under way are waited for at the end, in seconds.
@@ -149,12 +149,9 @@ def seconds(text: str) -> float:
 
 
 def words_for(specs: list[str]) -> Words:
-    """How the rules' answers are told, by what their modules say (as they are now: wsched reads
-    them once as well)."""
-    weights = {
-        name: int(weight)
-        for name, weight, *_ in (it.split(":", 3) for it in specs if has_score(it))
-    }
+    """How the rules' answers are told, by what their modules say."""
+    scoring = [it.split(":") for it in specs if has_score(module_of(it))]
+    weights = {name: int(weight) for name, weight, *_ in scoring}
     LOG.info(
         "rules with a score: %s",
         ", ".join(weights) or "none, so there is no need of prioritizeVerb",
@@ -171,14 +168,11 @@ def begin(given: argparse.Namespace, calls: Any) -> tuple[Service, Any]:
         # (a program that doesn't know the word would be begun anew at each question)
         cores.judge(Row("a-pod", '"containers":[["0m","0"]]'))
     rows = Rows(given.wsched, given.named)
-    service = Service(
-        cores,
-        rows,
-        words_for(given.spec),
-        counting,
-        given.on_error == "reject-node",
-        given.max_stale,
-    )
+    steady = all(is_steady(module_of(it)) for it in given.spec)
+    ways = Ways(given.on_error == "reject-node", given.max_stale, steady)
+    service = Service(cores, rows, words_for(given.spec), counting, ways)
+    if digests(given.spec) != cores.modules:
+        raise CoreFault("a rule's module was changed meanwhile")
     answer = type("Asked", (Asked,), {"service": service, "counting": counting})
     server = serving.serve(
         given.listen,

@@ -19,7 +19,7 @@ from knowing import Knowing
 from questions import Bad, Question, Row, Rows, Untold, read
 
 LOG = logging.getLogger("second-scheduler")
-# Of how many pods the answers are kept for the request that follows, and how often it is looked
+# Of how many pods, or kinds of pods, the answers are kept, and how often it is looked
 # whether all is well, in seconds.
 KEPT, LOOK = 64, 1.0
 # For how long a filter and a prioritize are answered by what was said before pods came or went, in
@@ -51,6 +51,15 @@ class Kept(NamedTuple):
     when: float
 
 
+class Ways(NamedTuple):
+    """`rejects`: a node of which nothing can be said is rejected alone. `max_stale`: for how many
+    seconds nothing may have been heard. `steady`: no rule reads uids and what is used."""
+
+    rejects: bool
+    max_stale: float | None
+    steady: bool
+
+
 class UnderWay:
     """How many requests have come and aren't answered."""
 
@@ -74,17 +83,10 @@ class Service:
     """Each call may come from any thread."""
 
     def __init__(
-        self,
-        cores: Cores,
-        rows: Rows,
-        words: Words,
-        counting: Counting,
-        rejects: bool,
-        max_stale: float | None,
+        self, cores: Cores, rows: Rows, words: Words, counting: Counting, ways: Ways
     ) -> None:
-        """`rejects`: a node of which nothing can be said is rejected alone."""
         self.cores, self.rows, self.words, self.counting = cores, rows, words, counting
-        self.rejects, self.max_stale = rejects, max_stale
+        self.ways = ways
         self.knowing: Knowing | None = None
         self.kept: collections.OrderedDict[Row, Kept] = collections.OrderedDict()
         self.looked, self.logged = time.monotonic(), 0.0
@@ -105,7 +107,7 @@ class Service:
             return Reply(400, fault(str(why)), "refused")
         except (Untold, Unknown, CoreFault) as why:
             return self.no_answer(200, str(why))
-        if found.faults and not self.rejects:
+        if found.faults and not self.ways.rejects:
             return self.no_answer(200, faulty(found))
         return Reply(200, filtered(found, asked.nodes), age=self.age())
 
@@ -132,22 +134,26 @@ class Service:
 
     def said(self, asked: Question, fresh: float) -> Said:
         """What the rules say of each node for this pod: as it was said before, where nothing has
-        changed since, or but for pods that came or went in so many seconds."""
-        row, now = self.rows.row(asked.pod), time.monotonic()
+        changed since that they read, or but for pods that came or went in so many seconds."""
+        row = self.rows.row(asked.pod)
+        key, now = row._replace(uid="") if self.ways.steady else row, time.monotonic()
         with self.cores.lock:
-            kept = self.kept.get(row)
-            if kept and (
-                kept.changes == self.cores.changes
-                or (kept.rows == self.cores.row_changes and now < kept.when + fresh)
-            ):
+            kept = self.kept.get(key)
+            if kept and self.is_good(kept, now < kept.when + fresh):
                 self.counting.kept.inc()
                 return kept.said
             said = self.cores.judge(row)
-            self.kept[row] = Kept(said, self.cores.changes, self.cores.row_changes, now)
-            self.kept.move_to_end(row)
+            self.kept[key] = Kept(said, self.cores.changes, self.cores.row_changes, now)
+            self.kept.move_to_end(key)
             if len(self.kept) > KEPT:
                 self.kept.popitem(last=False)
         return said
+
+    def is_good(self, kept: Kept, is_fresh: bool) -> bool:
+        """Whether what is kept is what would be said now, as far as that matters."""
+        if self.ways.steady or is_fresh:
+            return kept.rows == self.cores.row_changes
+        return kept.changes == self.cores.changes
 
     def sort(self, asked: Question, said: Said) -> Sorted:
         assert self.knowing
@@ -165,8 +171,8 @@ class Service:
         if not self.knowing or not self.knowing.is_listed():
             raise Unknown("nodes and pods aren't listed yet")
         age = self.knowing.age()
-        if self.max_stale is not None and age > self.max_stale:
-            raise Unknown(f"{self.unheard()}, and --max-stale is {self.max_stale:g}")
+        if self.ways.max_stale is not None and age > self.ways.max_stale:
+            raise Unknown(f"{self.unheard()}, and --max-stale is {self.ways.max_stale:g}")
 
     def unheard(self) -> str:
         """What isn't heard, and for how long; empty where all is."""

@@ -76,6 +76,27 @@ def custom_sections(module: bytes) -> Iterator[tuple[str, bytes]]:
         return
 
 
+def imported(module: bytes) -> Iterator[tuple[str, str]]:
+    """The modules and names of the functions that it imports (WebAssembly Core 1.0, 5.5.5), up to where it can't be read: wsched accepts no
+    imports but functions."""
+    try:
+        for kind, start, end in _sections(module):
+            if kind == 2:
+                held = module[:end]
+                count, at = _number(held, start)
+                for _ in range(count):
+                    both: list[str] = []
+                    for _ in range(2):
+                        length, at = _number(held, at)
+                        both.append(held[at:at + length].decode("utf-8", "replace"))
+                        at += length
+                    yield both[0], both[1]
+                    # (behind its kind is its type's index)
+                    _, at = _number(held, at + 1)
+    except _Ends:
+        return
+
+
 def exported(module: bytes) -> Iterator[str]:
     """The names that it exports (WebAssembly Core 1.0, 5.5.10), up to where it can't be read."""
     try:
@@ -167,13 +188,22 @@ def of_spec(spec: str) -> Said:
         return NOTHING
 
 
-def has_score(spec: str) -> bool:
-    """Whether the module of a word NAME:WEIGHT:FUEL:FILE has a score; it has none where it can't be read."""
+def module_of(spec: str) -> bytes:
+    """The module of a word NAME:WEIGHT:FUEL:FILE; nothing, where it can't be read."""
     try:
         with open(spec.split(":", 3)[3], "rb") as it:
-            return "score" in exported(it.read())
+            return it.read()
     except (OSError, IndexError):
-        return False
+        return b""
+
+
+def has_score(module: bytes) -> bool:
+    return "score" in exported(module)
+
+
+def is_steady(module: bytes) -> bool:
+    """Whether its answers are the same whatever uid the pod has, and whatever is used of the node: it reads records of version 3 alone."""
+    return bool(module) and all(of == "sched3" for of, _ in imported(module))
 
 
 def reasons_by_name(specs: Sequence[str]) -> dict[str, dict[int, str]]:

@@ -106,6 +106,25 @@ def settled(site: Site) -> str:
     return "a setting, and a rule"
 
 
+def changed(site: Site) -> str:
+    """A rule's file is another than it was when wsched has to be begun anew: it isn't, and says
+    so, since the rules would be others by half."""
+    module = site.folder / "keep.wasm"
+    module.write_bytes((PLUGINS / "keep_region.wasm").read_bytes())
+    site.node("a", labels={REGION: EUROPE})
+    running = Running(site, f"keep_region:1:100000:{module}").ready()
+    module.write_bytes((PLUGINS / "keep_off_spot.wasm").read_bytes())
+    assert running.filter(pod("one", PERSONAL), ["a"])["NodeNames"] == ["a"]
+    running.kill_core()
+    wait_for(lambda: running.caller.get("/readyz")[0] == 503, 10, "it isn't ready")
+    error = running.error(pod("two"), ["a"])
+    assert "a rule's module isn't what it was: start the extender anew" in error, error
+    module.write_bytes((PLUGINS / "keep_region.wasm").read_bytes())
+    running.ready()
+    assert running.filter(pod("three"), ["a"])["NodeNames"] == ["a"]
+    return error
+
+
 def stopped(site: Site) -> str:
     """SIGTERM while 16 callers ask: each question has a whole answer, or nobody listens any more.
     """
@@ -181,4 +200,4 @@ def ended(site: Site) -> str:
     return f"status 0; {len(bad)} bad words are told"
 
 
-TRIALS: list[Callable[[Site], str]] = [deploy, settled, stopped, ended]
+TRIALS: list[Callable[[Site], str]] = [deploy, settled, changed, stopped, ended]

@@ -497,7 +497,7 @@ def in_the_midst(site: Ours) -> str:
     One that is `ignorable` and down is passed over, and the rule isn't kept."""
     nodes = some_nodes(50)
     site.make_nodes(nodes)
-    caller = site.extend(KEEP)
+    caller = site.extend(KEEP, PREFER)
     site.schedule(caller, httpTimeout="2s")
 
     def some(first: int) -> None:
@@ -516,7 +516,7 @@ def in_the_midst(site: Ours) -> str:
     some(100)
     refused = site.said("pod-149")
     assert "connection refused" in refused and f"127.0.0.1:{caller.port}/filter" in refused, refused
-    caller = site.extend(KEEP, port=caller.port)
+    caller = site.extend(KEEP, PREFER, port=caller.port)
     began = time.monotonic()
     # (whatever moves in the cluster has all that wait tried again; else they wait for more than a
     # minute)

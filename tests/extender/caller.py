@@ -4,12 +4,14 @@ caller that asks as kube-scheduler does, and the shipped rules keep_region and p
 down once more, by which answers are judged."""
 import http.client
 import json
+import os
 import pathlib
+import signal
 import socket
 import ssl
 from typing import Any, Mapping, Optional, Sequence
 
-from trials.site import REGION, TOP, Scheduler, Site, children, command
+from trials.site import REGION, TOP, Scheduler, Site, children, command, wait_for
 from trials.store import Thing
 
 EXTENDER = TOP / "examples/extender"
@@ -149,6 +151,10 @@ class Running:
         self.it.known |= set(found)
         return found
 
+    def kill_core(self, how: int = signal.SIGKILL) -> None:
+        """Ends a wsched run, or stops it."""
+        os.kill(self.cores()[-1], how)
+
     def filter(self, one: Thing, names: Sequence[str]) -> Thing:
         """A good answer to a filter."""
         status, said = self.caller.ask("filter", one, names)
@@ -175,6 +181,15 @@ class Running:
             {*names}
         ), "other hosts than were asked about"
         return found
+
+    def wait_for_passing(self, one: Thing, names: Sequence[str], wants: "set[str]") -> None:
+        """Waits until these pass of those that are named."""
+        wait_for(lambda: {*self.filter(one, names)["NodeNames"]} == wants, 5, f"{wants} pass")
+
+    def wait_for_places(self, count: float) -> None:
+        """Waits until it knows of so many pods on nodes."""
+        places = 'wsched_places{state="bound"}'
+        wait_for(lambda: self.caller.metrics()[places] == count, 5, f"{count:.0f} are known")
 
     def begun_anew(self) -> float:
         """How often a wsched was."""

@@ -360,7 +360,7 @@ def at_once(site: Site) -> str:
     """32 callers at once, each with 20 questions of its own, while pods come to nodes: every
     answer is the right one."""
     nodes = some_nodes(site, 200)
-    running = Running(site, KEEP).ready()
+    running = Running(site, KEEP, PREFER).ready()
 
     def one_caller(number: int) -> int:
         own = Caller(running.port)
@@ -397,19 +397,19 @@ def hung(site: Site) -> str:
     time.sleep(0.5)
     taken = []
     for how, count in ((signal.SIGKILL, 1), (signal.SIGSTOP, 2)):
-        os.kill(running.cores()[-1], how)
+        running.kill_core(how)
         began = time.monotonic()
         check(running, pod(f"asked-{count}", PERSONAL), nodes, used, [*nodes])
         taken.append(time.monotonic() - began)
         assert (
             running.begun_anew() == count and taken[-1] < 10 * PATIENCE
         ), f"begun anew {running.begun_anew():.0f} times, {taken} s"
-    os.kill(running.cores()[-1], signal.SIGKILL)
+    running.kill_core(signal.SIGKILL)
     wait_for(lambda: running.begun_anew() == 3, 5, "it is noticed though nobody asks")
-    os.kill(running.cores()[-1], signal.SIGSTOP)
+    running.kill_core(signal.SIGSTOP)
     wait_for(lambda: running.begun_anew() == 4, 15, "one that hangs is noticed too")
     program.unlink()
-    os.kill(running.cores()[-1], signal.SIGKILL)
+    running.kill_core(signal.SIGKILL)
     wait_for(lambda: running.caller.get("/readyz")[0] == 503, 10, "it isn't ready")
     error = running.error(pod("asked-3"), [*nodes])
     assert "wsched isn't heard" in error and running.caller.get("/healthz")[0] == 200, error
@@ -567,11 +567,35 @@ def kept(site: Site) -> str:
     return "one question to wsched for both verbs"
 
 
+def steady(site: Site) -> str:
+    """Where no rule reads uids and what is used, equal pods are asked about once, whatever pods
+    come and go, until a node changes; where one does, each is asked about."""
+    nodes = some_nodes(site, 20)
+    europe = [name for name, it in nodes.items() if it["labels"][REGION] == EUROPE]
+    for name, words, hits in (("reads neither", [KEEP], 5), ("reads both", [KEEP, PREFER], 1)):
+        running = Running(site, *words, name=name.replace(" ", "-")).ready()
+        before = running.caller.metrics()['wsched_places{state="bound"}']
+        for i in range(5):
+            site.pod(f"on-{before + i}", on="node-0000", scheduler="other")
+            running.wait_for_places(before + i + 1)
+            said = running.filter(pod(f"asked-{i}", PERSONAL), [*nodes])
+            assert sorted(said["NodeNames"]) == europe, said
+        running.scores(pod("asked-4", PERSONAL), europe)
+        count = running.caller.metrics()["wsched_extender_kept_answers_total"]
+        assert count == hits, f"{name}: {count} were kept"
+        for region in (EUROPE, "us-east-1"):
+            change = functools.partial(merge, patch={"metadata": {"labels": {REGION: region}}})
+            site.store.change("nodes", "node-0000", change)
+            wants = {"node-0000"} if region == EUROPE else set()
+            running.wait_for_passing(pod("asked-5", PERSONAL), ["node-0000"], wants)
+    return "four of five equal pods, and a prioritize, by what was kept"
+
+
 def shares(site: Site) -> str:
     """2,300 nodes, of which one wsched has room for 1,000: three have them, each node is answered
     of; also when one of the three was killed."""
     nodes = some_nodes(site, 2300)
-    running = Running(site, KEEP).ready(120)
+    running = Running(site, KEEP, PREFER).ready(120)
     assert len(running.cores()) == 3, running.cores()
     for i in range(2):
         said = running.filter(pod(f"one-{i}", PERSONAL), [*nodes])
@@ -740,6 +764,7 @@ TRIALS: list[Callable[[Site], str]] = [
     unlisted,
     secure,
     kept,
+    steady,
     shares,
     moved,
     explained,
