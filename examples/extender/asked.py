@@ -19,7 +19,7 @@ from service import Reply, Service
 LOG = logging.getLogger("second-scheduler")
 # The largest body that is read, and how many of more than so many bytes are read and answered at
 # once.
-LARGEST, LARGE, LARGE_AT_ONCE = 2**26, 2**20, 4
+LARGEST, LARGE, LARGE_AT_ONCE = 2**26, 2**20, 2
 # How long a line and how many fields a head may have.
 LINE, FIELDS = 65536, 100
 # For how long a connection may have no request, and one that has begun to come may say nothing, in
