@@ -20,8 +20,8 @@ HIGHEST, SCORE = 10, 100
 # What is said of a node that wsched doesn't know; no reason names a node, since equal ones are
 # counted together.
 UNKNOWN = "node(s) weren't known to wsched"
-
-
+# What stands for a percent sign in a reason: an event's text is a format to kube-scheduler, and a
+# condition's isn't, so neither has one.
 PERCENT = "\N{FULLWIDTH PERCENT SIGN}"
 # How many nodes there are of a rule and its answer.
 Counts = dict[tuple[str, str], int]
@@ -54,12 +54,8 @@ def verdict(said: str) -> Verdict:
         return UNSAID
     kind, *words = said.split(" ")
     if kind == "total":
-        return Verdict(
-            parts=tuple(
-                (rule, int(weight), int(score))
-                for rule, weight, score in zip(words[1::3], words[2::3], words[3::3])
-            )
-        )
+        weights, scores = map(int, words[2::3]), map(int, words[3::3])
+        return Verdict(parts=tuple(zip(words[1::3], weights, scores)))
     if kind == "plugin":
         return Verdict(words[0], words[1])
     return Verdict(words[1], "", " ".join(words[2:]))
@@ -92,8 +88,6 @@ class Words:
     def why(self, it: Verdict) -> str:
         if not it.code:
             return f"rule {it.rule} says nothing: {it.cause}"
-        # (an event's text is a format to kube-scheduler, and a condition's isn't: so neither has a
-        # percent sign)
         reason = self.reasons.get(it.rule, {}).get(int(it.code), "").replace("%", PERCENT)
         return rejected_by(it.rule, it.code) + (f" ({reason})" if reason else "")
 
@@ -102,15 +96,8 @@ class Words:
         doesn't pass."""
         if not self.most:
             return 0
-        return (
-            sum(
-                weight * score
-                for rule, weight, score in verdict(said).parts
-                if rule in self.weights
-            )
-            * HIGHEST
-            // self.most
-        )
+        parts = [it for it in verdict(said).parts if it[0] in self.weights]
+        return sum(weight * score for _, weight, score in parts) * HIGHEST // self.most
 
     def sort(
         self, names: Sequence[str], said: Mapping[str, str], unsaid: Mapping[str, str]
@@ -127,12 +114,12 @@ class Words:
             elif not it.rule:
                 found.passed.extend(some)
             else:
-                kinds = [
-                    found.failed,
-                    *([found.final] if it.code == "3" else [] if it.code else [found.faults]),
-                ]
-                for kind in kinds:
-                    kind.setdefault(self.why(it), []).extend(some)
+                why = self.why(it)
+                found.failed.setdefault(why, []).extend(some)
+                if it.code == "3":
+                    found.final.setdefault(why, []).extend(some)
+                elif not it.code:
+                    found.faults.setdefault(why, []).extend(some)
         return found
 
     def scores(self, names: Sequence[str], said: Mapping[str, str]) -> bytes:
@@ -170,14 +157,12 @@ def by_name(groups: Groups, strange: Mapping[str, str]) -> str:
 def filtered(found: Sorted, nodes: Sequence[Json] | None) -> bytes:
     """What a filter is answered; of nodes that were handed over those that pass are handed back."""
     if nodes is None:
-        passed = (
-            '"NodeNames":[' + ('"' + '","'.join(found.passed) + '"' if found.passed else "") + "]"
-        )
+        named = '"' + '","'.join(found.passed) + '"' if found.passed else ""
+        passed = f'"NodeNames":[{named}]'
     else:
         names = {*found.passed}
-        passed = (
-            f'"Nodes":{spell({"items": [it for it in nodes if it["metadata"]["name"] in names]})}'
-        )
+        handed = [it for it in nodes if it["metadata"]["name"] in names]
+        passed = f'"Nodes":{spell({"items": handed})}'
     failed, final = by_name(found.failed, found.strange), by_name(found.final, {})
     return f'{{{passed},"FailedNodes":{failed},"FailedAndUnresolvableNodes":{final}}}'.encode()
 

@@ -133,11 +133,8 @@ class Asked(Answer):
             self.close_connection = True
             return refused(400, "the body ended too early")
         try:
-            said = (
-                answer(body)
-                if answer
-                else refused(404, f"there are {' and '.join(self.service.verbs)}")
-            )
+            nothing = refused(404, f"there are {' and '.join(self.service.verbs)}")
+            said = answer(body) if answer else nothing
         except Exception:  # pylint: disable=broad-except
             # (a pod that is held up must be told of, and the connection goes on)
             LOG.exception("a request wasn't answered by a fault of this program's own")

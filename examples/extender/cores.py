@@ -52,11 +52,8 @@ class Cores:
         self, program: str, workers: int, specs: list[str], again: Callable[[str], None]
     ) -> None:
         """`again` is told of each that is begun anew, and why."""
-        self.words, self.again, self.lock = (
-            command(program, workers, specs),
-            again,
-            threading.Lock(),
-        )
+        self.words, self.again = command(program, workers, specs), again
+        self.lock = threading.Lock()
         self.patience = PATIENCE + 2 * NODES * UNIT * sum(2 * int(it.split(":")[2]) for it in specs)
         self.shares: list[Share] = [Share()]
         # (one that is begun anew reads them again: what others say mustn't be of other rules)
@@ -294,22 +291,15 @@ def read(answer: str) -> Said:
     """Of each node what its line says."""
     lines, judged, _ = answer.rpartition("\njudged ")
     # (a thousand at each question: so this is as short as can be)
-    return (
-        {
-            name: what
-            for name, _, what in map(str.partition, lines[2:].split("\n  "), itertools.repeat(" "))
-        }
-        if judged
-        else {}
-    )
+    each = lines[2:].split("\n  ") if judged else ()
+    return {name: what for name, _, what in map(str.partition, each, itertools.repeat(" "))}
 
 
 def spent(pid: int) -> float:
     """The processor seconds of a process so far."""
     try:
         with open(f"/proc/{pid}/stat", encoding="ascii") as file:
-            return sum(map(int, file.read().rpartition(")")[2].split()[11:13])) / os.sysconf(
-                "SC_CLK_TCK"
-            )
+            ticks = sum(map(int, file.read().rpartition(")")[2].split()[11:13]))
+            return ticks / os.sysconf("SC_CLK_TCK")
     except OSError:
         return 0.0

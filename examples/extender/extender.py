@@ -133,11 +133,8 @@ def words() -> argparse.Namespace:
         )
     if not by.specs:
         said.error("no rule is named, by a SPEC or by --rules")
-    given.spec, given.settings, given.named = (
-        [*by.specs],
-        [*by.labels],
-        rule_labels.read_by(by.specs, by.keys, ""),
-    )
+    given.spec, given.settings = [*by.specs], [*by.labels]
+    given.named = rule_labels.read_by(by.specs, by.keys, "")
     return given
 
 

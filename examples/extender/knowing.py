@@ -73,6 +73,12 @@ class NodeEars:
         self.counting.breaks.labels(self.kind).inc()
 
 
+def is_on_a_node(pod: Json) -> bool:
+    """(an API server that was asked for these alone tells of one that has ended as deleted)"""
+    phase = (pod.get("status") or {}).get("phase")
+    return bool(pod["spec"].get("nodeName")) and phase not in ENDED
+
+
 class PodEars:
     """Pods that have a node, by their uids."""
 
@@ -85,15 +91,7 @@ class PodEars:
         return str(thing["metadata"]["uid"])
 
     def hear(self, event: str, things: Sequence[Json]) -> None:
-        there = (
-            []
-            if event == "DELETED"
-            else [
-                it
-                for it in things
-                if it["spec"].get("nodeName") and (it.get("status") or {}).get("phase") not in ENDED
-            ]
-        )
+        there = [] if event == "DELETED" else [*filter(is_on_a_node, things)]
         sizes = {
             self.key(it): (it["spec"]["nodeName"], size)
             for it, size in zip(there, self.rows.sizes(there))
@@ -125,9 +123,8 @@ class Knowing:
         self, api: Any, cores: Cores, rows: Rows, labels: NodeLabels, counting: Counting
     ) -> None:
         reader = Reader(rows.translator.words[0], WHO, rows.named)
-        self.nodes, self.pods = NodeEars(cores, reader, labels, counting), PodEars(
-            cores, rows, counting
-        )
+        self.nodes = NodeEars(cores, reader, labels, counting)
+        self.pods = PodEars(cores, rows, counting)
         self.watches = [
             Watched(api.list_node, self.nodes),
             Watched(api.list_pod_for_all_namespaces, self.pods, field_selector=ON_NODES),
@@ -143,10 +140,13 @@ class Knowing:
         now = time.monotonic()
         return max(it.shut_for(now) for it in self.watches)
 
-    def unheard(self) -> list[str]:
-        """The kinds of which more may have happened than was heard."""
+    def silence(self, most: float) -> str:
+        """Of which kinds nothing has been heard for more than so many seconds, and for how long;
+        empty where there is none."""
         now = time.monotonic()
-        return [it.ears.kind for it in self.watches if it.is_deaf(now)]
+        kinds = [it.ears.kind for it in self.watches if it.shut_for(now) > most]
+        what = ", of any ".join(kinds)
+        return f"nothing has been heard of any {what} for {self.age():.0f} s" if kinds else ""
 
     def look(self) -> None:
         """Before what is counted is told."""

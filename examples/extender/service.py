@@ -170,19 +170,9 @@ class Service:
         """Raises Unknown."""
         if not self.knowing or not self.knowing.is_listed():
             raise Unknown("nodes and pods aren't listed yet")
-        age = self.knowing.age()
-        if self.ways.max_stale is not None and age > self.ways.max_stale:
-            raise Unknown(f"{self.unheard()}, and --max-stale is {self.ways.max_stale:g}")
-
-    def unheard(self) -> str:
-        """What isn't heard, and for how long; empty where all is."""
-        assert self.knowing
-        kinds, age = self.knowing.unheard(), self.knowing.age()
-        return (
-            f"nothing has been heard of any {', of any '.join(kinds)} for {age:.0f} s"
-            if kinds and age > DEAF
-            else ""
-        )
+        most = self.ways.max_stale
+        if most is not None and (why := self.knowing.silence(most)):
+            raise Unknown(f"{why}, and --max-stale is {most:g}")
 
     # Whether all is well.
 
@@ -200,7 +190,7 @@ class Service:
         if not self.knowing or not self.knowing.is_listed():
             return "not listed yet"
         why = self.cores.why_not()
-        return f"wsched isn't heard: {why}" if why else self.unheard()
+        return f"wsched isn't heard: {why}" if why else self.knowing.silence(DEAF)
 
     def watch_over(self) -> None:
         """In a thread of its own: what hangs or has ended is noticed though nobody asks."""
@@ -214,7 +204,7 @@ class Service:
                 self.cores.poke()
             self.looked = time.monotonic()
             if self.knowing and self.knowing.is_listed():
-                before, unheard = unheard, self.unheard()
+                before, unheard = unheard, self.knowing.silence(DEAF)
                 if unheard and not before:
                     LOG.warning("%s: answers are of what was known before", unheard)
                 elif before and not unheard:
