@@ -556,41 +556,42 @@ def in_the_midst(site: Ours) -> str:
 
 
 def by_tls(site: Ours) -> str:
-    """kube-scheduler asks by TLS, by a certificate that is renewed under its feet by the same
-    authority: all pods are bound, and none outside."""
+    """kube-scheduler asks by TLS, by a certificate that is renewed under its feet, and by one of a
+    name that its stanza gives: all pods are bound, and none outside."""
     site.make_nodes(some_nodes(20))
-    holder: Any = type("Holder", (), {"folder": site.folder})
-    first, second = certificate(holder, "first"), certificate(holder, "second")
-    both = site.folder / "authorities.pem"
-    both.write_text(
-        "".join(pathlib.Path(it[0]).read_text(encoding="ascii") for it in (first, second)),
-        encoding="ascii",
-    )
-    own = [site.folder / f"own.{it}" for it in ("crt", "key")]
+    name = "wsched-extender.kube-system.svc"
+    every = [certificate(site.folder, it) for it in ("first", "second")]
+    every.append(certificate(site.folder, "third", f"DNS:{name}"))
+    authorities, own = site.folder / "all.pem", [site.folder / f"own.{it}" for it in ("crt", "key")]
+    authorities.write_bytes(b"".join(pathlib.Path(it[0]).read_bytes() for it in every))
 
     def put(pair: tuple[str, str]) -> None:
+        time.sleep(1)
         for there, it in zip(own, pair):
             there.write_bytes(pathlib.Path(it).read_bytes())
 
-    put(first)
-    caller = site.extend(
-        "--tls-cert", str(own[0]), "--tls-key", str(own[1]), KEEP, authority=str(both)
-    )
+    def bind(first: int) -> None:
+        site.make_all({f"pod-{i}": (PERSONAL, {}) for i in range(first, first + 20)})
+        site.wait_for_bound(first + 20)
+
+    put(every[0])
+    words = ["--tls-cert", str(own[0]), "--tls-key", str(own[1]), KEEP]
+    caller = site.extend(*words, authority=str(authorities))
     site.schedule(caller)
-    for i in range(20):
-        site.make(f"pod-{i}", PERSONAL)
-    wait_for(lambda: site.bound() == 20, 60, "all are bound")
-    time.sleep(1)
-    put(second)
+    bind(0)
+    put(every[1])
+    bind(20)
     site.stop("kube-scheduler")
     site.schedule(caller)
-    for i in range(20, 40):
-        site.make(f"pod-{i}", PERSONAL)
-    wait_for(lambda: site.bound() == 40, 60, "all are bound")
+    bind(40)
+    put(every[2])
+    site.stop("kube-scheduler")
+    site.schedule(caller, tlsConfig={"caFile": str(authorities), "serverName": name})
+    bind(60)
     assert all(on and int(on[5:]) % 2 for on in site.places().values())
     site.stop("kube-scheduler", "extender")
     site.clear()
-    return "40 pods, and a renewed certificate"
+    return "80 pods by three certificates, one of another name"
 
 
 def whole_nodes(site: Ours) -> str:

@@ -489,7 +489,7 @@ def secure(site: Site) -> str:
     """Behind TLS: asked by its certificate, and by a renewed one without a restart; whoever speaks
     none isn't answered."""
     site.node("a")
-    first, second = certificate(site, "first"), certificate(site, "second")
+    first, second = (certificate(site.folder, it) for it in ("first", "second"))
     files = [site.folder / f"own.{it}" for it in ("crt", "key")]
 
     def put(both: "tuple[str, str]") -> None:

@@ -3,6 +3,7 @@
 import http.server
 import json
 import os
+import pathlib
 import socket
 import ssl
 import subprocess
@@ -58,18 +59,18 @@ def relay(one: socket.socket, other: socket.socket) -> None:
         pass
 
 
-def certificate(site: Site, name: str) -> tuple[str, str]:
-    """A certificate of its own authority, for 127.0.0.1, and its key."""
-    files = [str(site.folder / f"{name}.{it}") for it in ("crt", "key")]
+def certificate(folder: pathlib.Path, name: str, whose: str = "IP:127.0.0.1") -> tuple[str, str]:
+    """A certificate of its own authority, for 127.0.0.1 or another, and its key."""
+    files = [str(folder / f"{name}.{it}") for it in ("crt", "key")]
     how = ["-newkey", "ec", "-pkeyopt", "ec_paramgen_curve:prime256v1", "-nodes", "-days", "2", "-subj", f"/CN={name}"]
-    words = ["openssl", "req", "-x509", *how, "-addext", "subjectAltName=IP:127.0.0.1"]
+    words = ["openssl", "req", "-x509", *how, "-addext", f"subjectAltName={whose}"]
     subprocess.run([*words, "-out", files[0], "-keyout", files[1]], check=True, stderr=subprocess.DEVNULL)
     return files[0], files[1]
 
 
 def behind_tls(site: Site) -> "dict[str, tuple[str, str]]":
     """Has the stub speak TLS, and ask for a certificate."""
-    both = {it: certificate(site, it) for it in ("server", "client")}
+    both = {it: certificate(site.folder, it) for it in ("server", "client")}
     tls = ssl.SSLContext(ssl.PROTOCOL_TLS_SERVER)
     tls.load_cert_chain(*both["server"])
     tls.load_verify_locations(both["client"][0])

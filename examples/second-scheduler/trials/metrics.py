@@ -122,7 +122,7 @@ def tls(site: Site) -> str:
     """--tls-cert, --tls-key and --token-file: probes are answered by TLS to all, /metrics to those that bear the token alone; one that says nothing keeps
     nobody waiting, and a certificate and a token that are renewed are those that count from then on. Files that are none are told at the start."""
     site.node("a")
-    (cert, key), token = certificate(site, "listen"), site.folder / "token"
+    (cert, key), token = certificate(site.folder, "listen"), site.folder / "token"
     token.write_text("secret\n", encoding="utf-8")
     words = ["--tls-cert", cert, "--tls-key", key, "--token-file", str(token)]
     it = site.start(*site.listening(), *words)
@@ -133,7 +133,7 @@ def tls(site: Site) -> str:
     assert got(site, "/livez")[0] == 0, "it is answered without TLS"
     token.write_text("new", encoding="utf-8")
     assert [asked_by_tls(site, cert, "/metrics", bears)[0] for bears in ("secret", "new")] == [401, 200]
-    other = certificate(site, "renewed")
+    other = certificate(site.folder, "renewed")
     for old, new in zip((cert, key), other):
         os.replace(new, old)
     site.wait(lambda: asked_by_tls(site, cert, "/livez")[0] == 200, 10, "it has the certificate that was renewed")
