@@ -7,6 +7,7 @@ too long, is ended and begun anew, and told again what is known. Whoever calls h
 """
 from __future__ import annotations
 
+import collections
 import hashlib
 import itertools
 import logging
@@ -15,7 +16,7 @@ import threading
 import time
 from typing import Callable, Iterator
 
-from core import Core, CoreFault, Told, command, quoted
+from core import BYTES, Core, CoreFault, Told, command, quoted
 from tools.wasm_sections import module_of
 from translating import Size, spelled
 
@@ -35,12 +36,47 @@ def nothing() -> None:
     """(whoever asks waits for the answer)"""
 
 
+class Piped(Core):
+    """A child that is told without a wait for its answers, as long as few bytes have none: those
+    that a pipe takes though nobody reads it, so that no write ever waits."""
+
+    def __init__(self, words: list[str], patience: float) -> None:
+        super().__init__(words, None, nothing, patience)
+        self.unheard: collections.deque[Told] = collections.deque()
+        self.unheard_bytes = 0
+
+    def send(self) -> None:
+        """Writes what is to be told. Raises CoreFault where answers are due and don't come."""
+        while self.waiting:
+            if self.unheard_bytes + len(self.waiting[0].line) > BYTES:
+                self.hear()
+            some: list[bytes] = []
+            while self.waiting and (
+                not some or self.unheard_bytes + len(self.waiting[0].line) <= BYTES
+            ):
+                self.unheard.append(it := self.waiting.popleft())
+                self.unheard_bytes += len(it.line)
+                some.append(it.line)
+            self.write(b"".join(some))
+
+    def hear(self) -> None:
+        """Waits for the answers that there are none of yet."""
+        while self.unheard:
+            it = self.unheard.popleft()
+            self.unheard_bytes -= len(it.line)
+            it.then(self.answer(it))
+
+    def flush(self, meanwhile: Callable[[], None] | None = None) -> None:
+        self.send()
+        self.hear()
+
+
 class Share:
     """One child, the nodes that are its own, and how many pods are on them. `core` is None while
     it can't be started, and `why` says why."""
 
     def __init__(self) -> None:
-        self.core: Core | None = None
+        self.core: Piped | None = None
         self.why, self.version, self.places = "it isn't started yet", 0, 0
         self.names: set[str] = set()
 
@@ -167,11 +203,12 @@ class Cores:
             LOG.error("wsched answers %s to %s", answer, line)
 
     def settle(self) -> None:
-        """Writes what is to be told; one that doesn't answer is begun anew."""
+        """Writes what is to be told; one that doesn't answer, where answers are due, is begun
+        anew."""
         for it in self.shares:
             try:
                 if it.core:
-                    it.core.flush()
+                    it.core.send()
             except CoreFault as why:
                 self.begin_anew(it, why)
 
@@ -205,6 +242,7 @@ class Cores:
             if not share.core:
                 break
             try:
+                share.core.hear()
                 return share.core.answer(told)
             except CoreFault as why:
                 self.begin_anew(share, why)
@@ -227,7 +265,7 @@ class Cores:
     def start(self, share: Share) -> None:
         """Starts it, and tells it what is known of its nodes."""
         try:
-            share.core, share.version = Core(self.words, None, nothing, self.patience), 0
+            share.core, share.version = Piped(self.words, self.patience), 0
             self.tick(share.core)
             for name in share.names:
                 for line in self.lines_of(name):
@@ -254,11 +292,14 @@ class Cores:
         """Notices those that hang or have ended though nobody asks, and tries again to start those
         that couldn't be."""
         for it in self.shares:
-            if it.core:
-                self.tick(it.core)
-            else:
+            if not it.core:
                 self.start(it)
-        self.settle()
+                continue
+            self.tick(it.core)
+            try:
+                it.core.flush()
+            except CoreFault as why:
+                self.begin_anew(it, why)
 
     def tick(self, core: Core) -> None:
         """(what has an answer, and changes nothing)"""

@@ -408,6 +408,15 @@ def hung(site: Site) -> str:
     wait_for(lambda: running.begun_anew() == 3, 5, "it is noticed though nobody asks")
     running.kill_core(signal.SIGSTOP)
     wait_for(lambda: running.begun_anew() == 4, 15, "one that hangs is noticed too")
+    # (more than a pipe takes, on nodes that have room for it)
+    running.kill_core(signal.SIGSTOP)
+    for i in range(1000):
+        on = f"node-{2 + 3 * (i % 10):04}"
+        site.pod(f"more-{i}", on=on, scheduler="other")
+        used[on] += 1
+    wait_for(lambda: running.begun_anew() == 5, 15, "it is though many pods come meanwhile")
+    running.wait_for_places(1001)
+    check(running, pod("asked-5", PERSONAL), nodes, used, [*nodes])
     program.unlink()
     running.kill_core(signal.SIGKILL)
     wait_for(lambda: running.caller.get("/readyz")[0] == 503, 10, "it isn't ready")
@@ -417,6 +426,7 @@ def hung(site: Site) -> str:
     running.ready(10)
     check(running, pod("asked-4", PERSONAL), nodes, used, [*nodes])
     assert "it is begun anew with 30 nodes and 1 pods" in running.it.log(), running.it.log()
+    assert running.caller.metrics()["wsched_extender_lines_refused"] == 0
     return f"answered {taken[0]:.1f} s after a kill, and {taken[1]:.1f} s after a stop; {error}"
 
 
