@@ -19,7 +19,8 @@ REQUIRED, PREFERRED = "requiredDuringSchedulingIgnoredDuringExecution", "preferr
 # What Kubernetes takes as a label's value, and what a script can say of a node's name.
 VALUE = re.compile(r"([A-Za-z0-9]([A-Za-z0-9_.-]{0,61}[A-Za-z0-9])?)?")
 NAME = re.compile(r"[A-Za-z0-9._-]{1,63}")
-# A volume that has one of these is where its value says, or in one of the places that stand there between `__`.
+# A volume that has one of these is where its value says, or in one of the places that stand there
+# between `__`.
 PLACES = ("topology.kubernetes.io/zone", "topology.kubernetes.io/region", "failure-domain.beta.kubernetes.io/zone", "failure-domain.beta.kubernetes.io/region")
 
 

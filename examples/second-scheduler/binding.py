@@ -27,8 +27,8 @@ LOG = logging.getLogger("second-scheduler")
 UNDER_WAY = 512
 # How long a bind may take at the API server, in seconds, before the pod is asked what became of it.
 PATIENCE = 30.0
-# For how long after a bind was sent it may still be done, in seconds, though nobody answers: an API server gives a request 60 seconds, and
-# whatever stands before it may have held it back.
+# For how long after a bind was sent it may still be done, in seconds, though nobody answers: an API
+# server gives a request 60 seconds, and whatever stands before it may have held it back.
 LANDS = 75.0
 # The longest pause between two looks at a pod, in seconds.
 LONGEST_PAUSE = 10.0
@@ -101,7 +101,8 @@ class Binders:
         else:
             LOG.warning("pod %s can't be bound to %s: %s", bind.pod, bind.node, message(answer.fault))
             sent = time.monotonic() - answer.seconds
-            # (what an API server answers for want of time, or one before it that gets no answer, says nothing of what is done yet)
+            # (what an API server answers for want of time, or one before it that gets no answer,
+            # says nothing of what is done yet)
             self.doubts.begin(Doubt(bind, sent, 0.0 if 400 <= answer.status < 500 else sent + LANDS, FIRST_PAUSE))
 
     def end(self, bind: Bind) -> None:
@@ -203,7 +204,8 @@ class Doubts:
         except ApiException as other:
             if other.status in (401, 403):
                 self.warn(other)
-            # (without the right to it the time that has passed has to do; one that went isn't bound any more)
+            # (without the right to it the time that has passed has to do; one that went isn't bound
+            # any more)
             return 400 <= other.status < 500 and other.status not in (401, 409, 429)
         except AWAY:
             return False

@@ -20,7 +20,8 @@ Thing = dict[str, Any]
 HOME = pathlib.Path(os.environ.get("CLUSTER_HOME") or pathlib.Path(os.environ.get("XDG_CACHE_HOME") or "~/.cache").expanduser() / "wsched-cluster")
 API, ETCD, ETCD_PEER, SCHEDULER = 26443, 22379, 22380, 20251
 ACCOUNT = "system:serviceaccount:kube-system:wsched"
-# The test's own user, which may do everything, and the account of deploy.yaml, which may do what its roles say.
+# The test's own user, which may do everything, and the account of deploy.yaml, which may do what
+# its roles say.
 TOKENS = f"""admintoken,admin,admin,"system:masters"
 wschedtoken,{ACCOUNT},wsched,"system:serviceaccounts,system:serviceaccounts:kube-system"
 """
@@ -119,7 +120,8 @@ class Cluster:
             "service-account-signing-key-file": key,
             "service-account-issuer": "https://kubernetes.default.svc",
             "service-cluster-ip-range": "10.0.0.0/24",
-            # (nobody here makes accounts' secrets, nor takes away the taint of a node that isn't ready yet)
+            # (nobody here makes accounts' secrets, nor takes away the taint of a node that isn't
+            # ready yet)
             "disable-admission-plugins": "ServiceAccount,TaintNodesByCondition",
         }
         if self.audited:

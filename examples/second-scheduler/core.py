@@ -14,8 +14,8 @@ from record import Record
 
 # Few enough lines and bytes at once that a pipe takes them all: so no write ever waits.
 LINES, BYTES = 100, 32768
-# For how long an answer may be waited for, in seconds: no cycle is so dear. And for how long before something else is done meanwhile,
-# which takes about as long.
+# For how long an answer may be waited for, in seconds: no cycle is so dear. And for how long before
+# something else is done meanwhile, which takes about as long.
 PATIENCE, MEANWHILE = 15.0, 0.02
 
 

@@ -184,8 +184,8 @@ class Desk(Nodes):
         if self.pods.get(pod.uid) is not pod or pod.ticket != ticket:
             return
         if is_bound:
-            # the API server's answer says where the pod is, as its watch will: a watch that is away for longer than a place stays
-            # doesn't make it expire
+            # the API server's answer says where the pod is, as its watch will: a watch that is away
+            # for longer than a place stays doesn't make it expire
             self.is_on(pod, sys.intern(node))
             self.tell_bound(pod, True)
             return

@@ -19,8 +19,8 @@ from telling import Telling
 from verdicts import Reasons, decisions, said_of_no_node, script
 
 LOG = logging.getLogger("second-scheduler")
-# How many pods one run explains at most, how many lines of nodes it may have, and how long it may take, in seconds: as reckoned by what
-# decisions take, and at all.
+# How many pods one run explains at most, how many lines of nodes it may have, and how long it may
+# take, in seconds: as reckoned by what decisions take, and at all.
 PODS, LINES, MEANT, PATIENCE = 100, 100_000, 1.0, 15.0
 # How much of the main loop's time may go into putting scripts together.
 SHARE = 0.05

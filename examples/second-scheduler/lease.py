@@ -22,7 +22,8 @@ from kubernetes.client.rest import ApiException
 from watch import AWAY, message
 
 LOG = logging.getLogger("second-scheduler")
-# For how long a replica has the Lease once it has renewed it, within which time it has to renew it, and how often it tries.
+# For how long a replica has the Lease once it has renewed it, within which time it has to renew it,
+# and how often it tries.
 SECONDS, DEADLINE, RETRY = 15, 10, 2
 
 

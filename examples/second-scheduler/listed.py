@@ -23,8 +23,8 @@ from telling import Telling, about_node
 from watch import AWAY, PAGE, PHASES, message
 
 LOG = logging.getLogger("second-scheduler")
-# How often all is listed, in seconds, and how long after that once more, where something differs: what was listed may be newer or older
-# than what was heard.
+# How often all is listed, in seconds, and how long after that once more, where something differs:
+# what was listed may be newer or older than what was heard.
 EVERY, AGAIN = 600.0, 15.0
 QUANTITY = re.compile(r"\+?([0-9]+\.?[0-9]*|\.[0-9]+)([numkMGTPE]|[KMGTPE]i|[eE][+-]?[0-9]+)?")
 TENS = {"n": -9, "u": -6, "m": -3, "": 0, "k": 3, "M": 6, "G": 9, "T": 12, "P": 15, "E": 18}
@@ -70,7 +70,8 @@ class Listing:
 
     def __init__(self, api: Any, newest: Newest, desk: Desk, telling: Telling, metrics: Metrics) -> None:
         self.api, self.newest, self.desk, self.telling, self.metrics = api, newest, desk, telling, metrics
-        # what differed in the list before and differs in this one, by uid, and where an event tells of it
+        # what differed in the list before and differs in this one, by uid, and where an event tells
+        # of it
         self.before, self.now, self.told = dict[str, Listed](), dict[str, Listed](), set[str]()
         self.answers: queue.SimpleQueue[int] = queue.SimpleQueue()
         threading.Thread(target=self.go, daemon=True, name="list-audit").start()

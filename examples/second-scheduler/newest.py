@@ -33,7 +33,8 @@ class Newest:
         # by namespace and name the uid and the version
         self.waiting: dict[str, tuple[str, str]] = {}
         self.nodes: dict[str, SeenNode] = {}
-        # how often a node was said to have changed or a place on one to be new or larger, and of each node the last time
+        # how often a node was said to have changed or a place on one to be new or larger, and of
+        # each node the last time
         self.count, self.last = 0, dict[str, int]()
         # the pods whose bind was sent, and has no answer
         self.sent: set[str] = set()

@@ -54,12 +54,14 @@ class Nodes:
         # nodes that no line can say, and those for which there is no room
         self.unsaid: dict[str, SeenNode] = {}
         self.aside: dict[str, SeenNode] = {}
-        # the nodes that have changed since cycles were asked for: what is decided of them knows nothing of it
+        # the nodes that have changed since cycles were asked for: what is decided of them knows
+        # nothing of it
         self.changed: set[str] = set()
         self.on: collections.defaultdict[str, On] = collections.defaultdict(On)
         self.noted: dict[str, tuple[str, ...]] = {}
         self.version, self.has_work = 0, False
-        # how many lines of new nodes and of places have no answer yet, and how many of them the desk had when it had no room for more
+        # how many lines of new nodes and of places have no answer yet, and how many of them the
+        # desk had when it had no room for more
         self.open_nodes = self.open_places = 0
         self.most_nodes = self.most_places = sys.maxsize
 

@@ -36,9 +36,11 @@ class Wait:
 
     def __init__(self, row: str, priority: int, arrival: int, created: float) -> None:
         self.row, self.priority, self.arrival = row, priority, arrival
-        # when the pod was made, by the API server's clock, and whether it is this instance's to place
+        # when the pod was made, by the API server's clock, and whether it is this instance's to
+        # place
         self.created, self.is_ours = created, True
-        # how often it was tried and when last; until when it rests, and what had moved before it was tried
+        # how often it was tried and when last; until when it rests, and what had moved before it
+        # was tried
         self.attempts = self.tried = self.moved = self.stamp = 0
         self.until = 0.0
         self.turn: Turn | None = None

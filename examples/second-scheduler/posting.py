@@ -25,9 +25,11 @@ from way import Way, answer_in
 
 LOG = logging.getLogger("second-scheduler")
 JSON, PATCH = "application/json", "application/strategic-merge-patch+json"
-# Between two tries to connect there is a pause, in seconds, each twice the one before. How many are made at once.
+# Between two tries to connect there is a pause, in seconds, each twice the one before. How many are
+# made at once.
 FIRST_PAUSE, LONGEST_PAUSE, OPENERS = 0.2, 5.0, 4
-# The statuses of an answer that never came, and of a request that was no longer wanted when it had its turn.
+# The statuses of an answer that never came, and of a request that was no longer wanted when it had
+# its turn.
 NONE, UNWANTED = 0, -1
 
 

@@ -16,9 +16,11 @@ from typing import Callable
 
 # (RFC 1952, 2.3: deflate, no flags, no time, an unknown system)
 HEADER = bytes([0x1F, 0x8B, 8, 0, 0, 0, 0, 0, 0, 255])
-# (RFC 1951, 3.2.4: a last block that stores nothing; it begins with a byte, since each flush ends with one)
+# (RFC 1951, 3.2.4: a last block that stores nothing; it begins with a byte, since each flush ends
+# with one)
 LAST_BLOCK = b"\x01\x00\x00\xff\xff"
-# How many bytes of lines are kept while they can't be written, as they are packed, and how often that is tried, in seconds.
+# How many bytes of lines are kept while they can't be written, as they are packed, and how often
+# that is tried, in seconds.
 KEPT, AGAIN = 2**26, 1.0
 LOG = logging.getLogger("second-scheduler")
 
@@ -33,7 +35,8 @@ class Record:
         self.told = told
         self.packer = zlib.compressobj(6, zlib.DEFLATED, -zlib.MAX_WBITS)
         self.checksum = self.size = self.offset = 0
-        # what couldn't be written yet, with the ending that stands in the file, since when that is so, and when it is tried again
+        # what couldn't be written yet, with the ending that stands in the file, since when that is
+        # so, and when it is tried again
         self.unwritten, self.before, self.kept = list[bytes](), b"", 0
         self.since, self.next, self.is_ended = 0.0, 0.0, False
         self.put(HEADER, b"")

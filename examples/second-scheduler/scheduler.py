@@ -31,7 +31,8 @@ from watch import QUIET
 from way import Way
 
 LOG = logging.getLogger("second-scheduler")
-# How many cycles are asked for at once at most, and for how long they are, in seconds, before the cluster is heard again.
+# How many cycles are asked for at once at most, and for how long they are, in seconds, before the
+# cluster is heard again.
 CYCLES, SLICE = 64, 0.1
 # What a unit of fuel takes on a slow machine, in seconds.
 UNIT = 5e-9
@@ -48,7 +49,8 @@ class Scheduler:
         self.inbox: Inbox = queue.SimpleQueue()
         self.stopping, self.is_audit_asked = threading.Event(), False
         self.counts: collections.Counter[str] = collections.Counter()
-        # how many are asked for at once now, how long the dearest took of late, and the fuel that a node may take
+        # how many are asked for at once now, how long the dearest took of late, and the fuel that a
+        # node may take
         self.cycles, self.dearest = 1, 0.0
         self.fuel = sum(2 * int(it.split(":")[2]) for it in given.spec)
         self.under_way, self.began, self.last = 0, time.monotonic(), 0.0
@@ -239,7 +241,8 @@ class Scheduler:
         return self.end()
 
     def end(self) -> int:
-        # binds under way are waited for, so that their events and answers are told, and then the events
+        # binds under way are waited for, so that their events and answers are told, and then the
+        # events
         end = time.monotonic() + 10
         while self.under_way and time.monotonic() < end:
             self.take(time.monotonic() + 0.1)

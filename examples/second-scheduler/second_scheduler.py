@@ -94,7 +94,8 @@ def words() -> argparse.Namespace:
         said.error("argument --tls-cert, --token-file: without --listen")
     given.share = dataclasses.replace(given.share, is_by_name=not given.nodes)
     if given.node_affinity:
-        # the rule and what is told for it come together, so that no pod is told without the rule being asked
+        # the rule and what is told for it come together, so that no pod is told without the rule
+        # being asked
         folder = pathlib.Path(given.plugins) if given.plugins else pathlib.Path(__file__).resolve().parent.parent / "plugins"
         given.spec = [f"{RULE}:{given.node_affinity}:{FUEL}:{folder / RULE}.wasm", *given.spec]
     try:
@@ -225,7 +226,8 @@ def reap() -> None:
 def main() -> None:
     given = words()
     reap()
-    # (the loop shares the interpreter with those that bind and tell, and after each answer of wsched it waits for its turn)
+    # (the loop shares the interpreter with those that bind and tell, and after each answer of
+    # wsched it waits for its turn)
     sys.setswitchinterval(0.001)
     log_to_standard_error(given.verbose)
     # (before anything depends on it: a replica that follows would find it out only once it leads)

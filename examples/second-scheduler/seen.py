@@ -19,11 +19,13 @@ from rule_labels import KEY, Named
 from translating import EVERYTHING, Answer, Json, Size, Translator, as_json, fields_of, size_of
 
 ENDED = ("Succeeded", "Failed")
-# All of a pod's own data that matters to its line, but for its name; and what is long in a container, and doesn't matter.
+# All of a pod's own data that matters to its line, but for its name; and what is long in a
+# container, and doesn't matter.
 OF_PODS = ("deletionTimestamp",)
 OF_CONTAINERS = frozenset(["env", "envFrom", "command", "args", "volumeMounts", "livenessProbe", "readinessProbe", "startupProbe", "lifecycle"])
 CONTAINERS = ("containers", "initContainers", "ephemeralContainers")
-# What the status of a pod on a node says of what it holds there, which may be more than it asks for by now; of its containers, and in all.
+# What the status of a pod on a node says of what it holds there, which may be more than it asks for
+# by now; of its containers, and in all.
 STATUSES, HELD = ("containerStatuses", "initContainerStatuses", "ephemeralContainerStatuses"), ("allocatedResources", "resources")
 
 

@@ -28,12 +28,14 @@ from way import Way
 LOG = logging.getLogger("second-scheduler")
 # Seconds between two writes of one thing, and after which the same is said again.
 BETWEEN, AGAIN = 30.0, 600.0
-# How many things are told in a second, and at once where little was told before: an API server has more to do.
+# How many things are told in a second, and at once where little was told before: an API server has
+# more to do.
 RATE, BURST = 100.0, 300.0
-# How many writes may wait, by how many threads those are made that are several requests, on how many connections, and how long a
-# request may take, in seconds.
+# How many writes may wait, by how many threads those are made that are several requests, on how
+# many connections, and how long a request may take, in seconds.
 ROOM, WRITERS, LINES, PATIENCE = 2000, 4, 8, 10.0
-# The same of what is told of pods that are bound: many may wait, and few are written at once, so that the API server has time for binds.
+# The same of what is told of pods that are bound: many may wait, and few are written at once, so
+# that the API server has time for binds.
 MANY, FEW = 20000, 2
 Json = dict[str, Any]
 Key = tuple[str, str]
@@ -45,8 +47,8 @@ class Said:
     def __init__(self, about: Json, reason: str) -> None:
         self.about, self.reason = about, reason
         self.wanted = self.said = ""
-        # whether the rules that rejected a pod are to be named before it is written, whether somebody is finding that out, and the text
-        # that names them
+        # whether the rules that rejected a pod are to be named before it is written, whether
+        # somebody is finding that out, and the text that names them
         self.is_of_rules = self.is_asked = False
         self.named: str | None = None
         # as it stands there
@@ -56,7 +58,8 @@ class Said:
         # the event that stands there, and its count
         self.event: str | None = None
         self.counted = 0
-        # the reason and message of the condition: as it is to be, as it was last asked for, and as it is
+        # the reason and message of the condition: as it is to be, as it was last asked for, and as
+        # it is
         self.condition: tuple[str, str] | None = None
         self.asked_condition: tuple[str, str] | None = None
         self.is_condition: tuple[str, str] | None = None
@@ -312,7 +315,8 @@ class Telling:
         condition = {"type": "PodScheduled", "status": "False", "reason": said[0], "message": said[1]}
         # (the moment is that at which the status changed, and not that of another message)
         condition |= {"lastTransitionTime": stamp()} if is_new else {}
-        # (with the uid and the version: another pod of that name is refused, and so is one that was bound meanwhile)
+        # (with the uid and the version: another pod of that name is refused, and so is one that was
+        # bound meanwhile)
         body = {"metadata": {"uid": about["uid"], "resourceVersion": version}, "status": {"conditions": [condition]}}
         try:
             self.patch(f"{about['namespace']}/pods/{about['name']}/status", body)

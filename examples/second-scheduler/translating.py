@@ -17,13 +17,14 @@ LOG = logging.getLogger("second-scheduler")
 Json = dict[str, Any]
 # Thousandths of a core, and bytes.
 Size = tuple[int, int]
-# The most that a line can say, which is more than any node has: as that counts what can't be known to be less.
+# The most that a line can say, which is more than any node has: as that counts what can't be known
+# to be less.
 EVERYTHING: Size = (2**30, 2**44)
-# How many objects are told at once, of how many bytes unless it is one; how much is written or read at once, and for how long an answer
-# may be waited for, in seconds.
+# How many objects are told at once, of how many bytes unless it is one; how much is written or read
+# at once, and for how long an answer may be waited for, in seconds.
 AT_ONCE, BYTES_AT_ONCE, PIECE, PATIENCE = 500, 2**22, 65536, 15.0
-# Of how many objects the answers are kept, of how many bytes in all, and of one. Most of what is heard is what was heard before but for
-# what no line tells.
+# Of how many objects the answers are kept, of how many bytes in all, and of one. Most of what is
+# heard is what was heard before but for what no line tells.
 KEPT, KEPT_BYTES, KEPT_EACH = 4096, 2**24, 2**16
 # How many reasons are kept of one object.
 REASONS = 50

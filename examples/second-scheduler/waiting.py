@@ -14,14 +14,16 @@ from typing import Any
 from pods import Pod, Turn, Wait
 from share import ALONE, Share, Turns
 
-# How many that have failed stay in the desk at most, how many it is told at once to be tried, and how many of higher priority besides.
+# How many that have failed stay in the desk at most, how many it is told at once to be tried, and
+# how many of higher priority besides.
 KEPT, AT_ONCE, MOST = 200, 1000, 5000
-# How long it may take to try all that stay, in seconds, so that fewer stay where decisions are dear: whatever moves has the desk try them
-# anew, and they are older than the new ones.
+# How long it may take to try all that stay, in seconds, so that fewer stay where decisions are
+# dear: whatever moves has the desk try them anew, and they are older than the new ones.
 ROUND = 1.0
 # For how long one turn of those outside lasts, in seconds; as long a pause is behind it.
 PORTION = 0.05
-# The desk's own times: the first and the longest rest of a pod that has failed, and after how long it is tried though nothing has changed.
+# The desk's own times: the first and the longest rest of a pod that has failed, and after how long
+# it is tried though nothing has changed.
 FIRST_REST, LONGEST_REST, FORGOTTEN = 1.0, 10.0, 300.0
 OUTSIDE = (Turn.RESTING, Turn.STILL, Turn.DUE)
 
@@ -62,7 +64,8 @@ class Waiting:
         self.cost = 0.0
         # the lowest priority that was told because it was its turn
         self.lowest_told = 0
-        # those outside that have their turn, how many more may, when that began and when the next may begin
+        # those outside that have their turn, how many more may, when that began and when the next
+        # may begin
         self.again: set[Pod] = set()
         self.portion, self.began, self.next_turn = 0, 0.0, 0.0
 

@@ -21,18 +21,22 @@ from kubernetes.config import ConfigException
 from core import CoreFault
 
 LOG = logging.getLogger("second-scheduler")
-# What a call to the API server may end with when it is away, or has another opinion, or when nobody says who this is.
+# What a call to the API server may end with when it is away, or has another opinion, or when nobody
+# says who this is.
 AWAY = (ApiException, urllib3.exceptions.HTTPError, OSError, ConfigException)
 # How many objects of a list are asked for at once. Pods that have ended take no room.
 PAGE, PHASES = 500, "status.phase!=Succeeded,status.phase!=Failed"
-# For how long a watch is asked for, in seconds, at least and at most, so that those of several clients don't end together; and how long
-# one that says nothing is waited for: an API server has a bookmark each minute. (A machine that is gone is seen sooner, by `way`.)
+# For how long a watch is asked for, in seconds, at least and at most, so that those of several
+# clients don't end together; and how long one that says nothing is waited for: an API server has a
+# bookmark each minute. (A machine that is gone is seen sooner, by `way`.)
 SHORTEST_WATCH, LONGEST_WATCH, SILENT = 300, 600, 120
-# A watch that has held so long is a good one; after any other there is a pause, each twice the one before, and each shortened at random
-# by up to a half, so that several clients don't come back together. The longest pause that an API server may ask for.
+# A watch that has held so long is a good one; after any other there is a pause, each twice the one
+# before, and each shortened at random by up to a half, so that several clients don't come back
+# together. The longest pause that an API server may ask for.
 HELD, FIRST_PAUSE, LONGEST_PAUSE, LONGEST_ASKED = 5.0, 0.5, 10.0, 60.0
-# For how long a kind may not be heard of, in seconds, before nothing more is decided. Once it is heard again it has told what happened
-# meanwhile when it has said nothing for so long, or has been open for so long.
+# For how long a kind may not be heard of, in seconds, before nothing more is decided. Once it is
+# heard again it has told what happened meanwhile when it has said nothing for so long, or has been
+# open for so long.
 DEAF, QUIET, CAUGHT_UP = 2.0, 0.5, 5.0
 GONE = 410
 
@@ -79,8 +83,8 @@ class Watched:
         self.call, self.ears, self.only = call, ears, only
         self.version: str | None = None
         self.pause = self.opened = 0.0
-        # since when it is shut, None while it is open; whether it may not have told yet what happened while it was shut, whether
-        # something is being heard just now, and when that ended
+        # since when it is shut, None while it is open; whether it may not have told yet what
+        # happened while it was shut, whether something is being heard just now, and when that ended
         self.shut: float | None = time.monotonic()
         self.is_behind = self.is_hearing = False
         self.heard, self.lock = 0.0, threading.Lock()

@@ -17,8 +17,9 @@ from typing import Any
 
 from kubernetes.config import ConfigException
 
-# For how long connecting may take, in seconds, and after how long a connection whose other end says nothing is given up: one that is
-# idle by the system's own probes, one with a request by its acknowledgements.
+# For how long connecting may take, in seconds, and after how long a connection whose other end says
+# nothing is given up: one that is idle by the system's own probes, one with a request by its
+# acknowledgements.
 CONNECT, IDLE, PROBE, PROBES, UNHEARD = 5.0, 15, 5, 3, 15_000
 # (Linux's number, which the types of some versions lack)
 TCP_USER_TIMEOUT = 18

@@ -1,6 +1,6 @@
 // SPDX-License-Identifier: Apache-2.0
-// A filter that lets every node pass, and how dear that is. It reads the pod's uid where UID is set,
-// so that what it says is kept for no other pod, and the node's record where NODE is set.
+// A filter that lets every node pass, and how dear that is. It reads the pod's uid where UID is
+// set, so that what it says is kept for no other pod, and the node's record where NODE is set.
 #include "../../examples/plugins/sched.h"
 
 FILTER

@@ -1,5 +1,6 @@
 #compdef wsched wsched-plan wsched-why wsched-what-if wsched-lint wsched-report wsched-scheduler wsched-extender
-# Completion of wsched and of the programs beside it, for zsh: /usr/share/zsh/vendor-completions/_wsched.
+# Completion of wsched and of the programs beside it, for zsh:
+# /usr/share/zsh/vendor-completions/_wsched.
 
 # A module's file as the word of a plugin, NAME:1:100000:FILE, to be changed as wanted; behind three
 # colons the file alone.

@@ -12,8 +12,8 @@ pub fn one_output<K: Rules>(_kit: &K)
     ensures fronts { FrontsAgree (K.answers _kit.now) }
 {}
 
-/// By kits that judge alike, and rule alike where it is asked what the rules alone say, a script has
-/// the same output. A run goes by its decider's first kit, which stands for all of them: so the
+/// By kits that judge alike, and rule alike where it is asked what the rules alone say, a script
+/// has the same output. A run goes by its decider's first kit, which stands for all of them: so the
 /// same script gives the same bytes by any decider, with any number of workers.
 pub fn same_output<K: Rules>(_one: &K, _other: &K)
     ensures { SameOutput K.answers _one.now _other.now }

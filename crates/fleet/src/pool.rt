@@ -228,8 +228,8 @@ impl<J: Site, K: Rules + Drop, G: Gate + Drop> Pool<J, K, G> {
     }
 
     // Notes what a decision cost, of whose nodes so many were judged here, by what had been spent
-    // before it, where a rule was asked. What is noted falls by half at most: a pod that asks little
-    // doesn't put the workers to sleep for the next one.
+    // before it, where a rule was asked. What is noted falls by half at most: a pod that asks
+    // little doesn't put the workers to sleep for the next one.
     fn note_cost(&mut self, before: Spent, nodes: usize)
         ensures { self.new ≡ self.old }
     {

@@ -61,8 +61,8 @@ impl Told {
         &self.records
     }
 
-    /// Makes them those of this pod, whose record of version 3 is `class`, and of this node on which
-    /// pods use so much. What they are already isn't written once more.
+    /// Makes them those of this pod, whose record of version 3 is `class`, and of this node on
+    /// which pods use so much. What they are already isn't written once more.
     pub fn tell(&mut self, pod: &Pod, class: &Record, node: &SharedNode, used: &Res)
         requires { class.now ≡ pod_bytes3 pod.now }
         ensures { self.new ≡ told_of pod.now node.now used.now }

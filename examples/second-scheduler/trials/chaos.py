@@ -18,7 +18,8 @@ from trials.site import Scheduler, Site
 from trials.store import Change, Thing
 from trials.watcher import quantity
 
-# For how many minutes, and how much later than something happens a bind may be sent that doesn't know of it, in seconds: a watch may be shut for two.
+# For how many minutes, and how much later than something happens a bind may be sent that doesn't
+# know of it, in seconds: a watch may be shut for two.
 MINUTES, MAY = float(os.environ.get("CHAOS_MINUTES", "2")), 3.0
 NODES, MOST = 8, 60
 
@@ -215,7 +216,8 @@ class Look:
             yield f"{it.key} was bound to {node} by nobody"
             return
         if any(sent < when < it.when for when in self.killed):
-            # (one that was killed when its bind was held back leaves nobody who knows of it: to those that follow it is another's pod)
+            # (one that was killed when its bind was held back leaves nobody who knows of it: to
+            # those that follow it is another's pod)
             return
         known = sent - MAY
         used = sum((its.cpu for pod, its in self.on[node].items() if its.when <= known or pod == uid), Fraction(0))

@@ -10,7 +10,8 @@ from trials.metrics import scraped, value
 from trials.site import Scheduler, Site, peak_of, whom
 from trials.store import Thing
 
-# Half of what a line may have, where each character has two bytes, and six as JSON may spell it in ASCII.
+# Half of what a line may have, where each character has two bytes, and six as JSON may spell it in
+# ASCII.
 LETTERS = 600_000
 # How many long pods there are, and how much more memory the client may have with them, in MiB.
 LONG, MOST = 60, 40
@@ -84,7 +85,8 @@ def counted_whole(site: Site) -> str:
     items = [{"key": f"{i:0100}", "path": f"{i:0100}"} for i in range(12_000)]
     long: Thing = {"volumes": [{"name": "v", "configMap": {"name": "x", "items": items}}]}
     said = []
-    # (of a pod that asks for this spelling of 1Mi the program in between says that no line can count it)
+    # (of a pod that asks for this spelling of 1Mi the program in between says that no line can
+    # count it)
     rows: list[tuple[str, str, Thing]] = [("long", "1Mi", {"spec": long}), ("odd", "1048576", {})]
     for name, memory, more in rows:
         site.node("one", memory="1Gi", cpu="4")

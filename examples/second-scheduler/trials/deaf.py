@@ -8,7 +8,8 @@ from trials.server import RESET, Asked
 from trials.site import Site
 from trials.store import Thing
 
-# For how long the watches are refused, and for how long a client may go on by what it has heard, in seconds: with what is under way.
+# For how long the watches are refused, and for how long a client may go on by what it has heard, in
+# seconds: with what is under way.
 SHUT, MAY = 12.0, 3.0
 WATCHES = 2
 

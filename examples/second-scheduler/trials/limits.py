@@ -26,7 +26,8 @@ def nodes_1001(site: Site) -> str:
     wait_for(lambda: len(of_nodes(site)) >= 3, 30, f"three nodes are without room, and as many have an event: {len(of_nodes(site))}")
     found = scraped(site)
     assert value(found, "wsched_nodes_without_room") == 3 and value(found, "wsched_nodes") == 1000, f"metrics: {found}"
-    # of three nodes that go, the desk has room for three others: whatever is bound there then fits beside what runs there
+    # of three nodes that go, the desk has room for three others: whatever is bound there then fits
+    # beside what runs there
     left = {whom(it)["name"] for it in of_nodes(site)}
     for i in range(3):
         site.store.delete("nodes", f"node-{i:04}")

@@ -16,7 +16,8 @@ from trials.site import REGION, RULE, TOP, Site
 
 PLACE = re.compile(r"(\S+) on (\S+) total \d+ ticket \d+")
 DATA = re.compile(r'<script id="data" type="application/json">(.*?)</script>\s*<script>(.*?)^class Run ', re.S | re.M)
-# What examples/report/report.html makes of a run, with each dump of which it says otherwise, and how much it has at the end.
+# What examples/report/report.html makes of a run, with each dump of which it says otherwise, and
+# how much it has at the end.
 DRAWN = """
 const { script, output } = JSON.parse(require("fs").readFileSync(0, "utf8")).runs[0], state = new State();
 let dumps = 0;

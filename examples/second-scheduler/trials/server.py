@@ -282,7 +282,8 @@ class Connection(http.server.BaseHTTPRequestHandler):
             self.wfile.write(b'40\r\n{"type": "MODIF')
             self.wfile.flush()
         elif how == SILENT:
-            # in this mode a socket that is closed tells its other end nothing, as a machine does that has lost its power
+            # in this mode a socket that is closed tells its other end nothing, as a machine does
+            # that has lost its power
             self.connection.setsockopt(socket.IPPROTO_TCP, TCP_REPAIR, 1)
             self.connection.close()
         elif how == RESET:

@@ -25,7 +25,8 @@ TOP = HERE.parent.parent
 RULE = f"keep_region:1:100000:{TOP}/examples/plugins/keep_region.wasm"
 REGION = "topology.kubernetes.io/region"
 MIB, GIB = 2**20, 2**30
-# How many times as long as said is waited for what is to come, on a machine that has much else to do. (What mustn't come is waited for as said.)
+# How many times as long as said is waited for what is to come, on a machine that has much else to
+# do. (What mustn't come is waited for as said.)
 PATIENCE = float(os.environ.get("PATIENCE", "1"))
 
 

@@ -16,7 +16,8 @@ from trials.fleet import Trial, some_nodes, some_pods
 from trials.site import GIB, RULE, children, spent
 
 Start = Callable[[], subprocess.Popen[bytes]]
-# The client, which writes at its end for how many seconds each of its threads has had a processor, and its main thread before it begins.
+# The client, which writes at its end for how many seconds each of its threads has had a processor,
+# and its main thread before it begins.
 BY_THREAD = """
 import json, sys, threading, time
 sys.path.insert(0, {folder!r})

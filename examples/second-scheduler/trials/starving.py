@@ -138,7 +138,8 @@ def priorities(site: Site) -> str:
     site.wait(lambda: len({whom(it)["name"] for it in site.events(reason="FailedScheduling")}) >= SMALL + BIG, tried, "each has been tried")
     order = sorted(range(SMALL), key=lambda i: -ranks[i])
     for turn in range(5):
-        # the longest backoff of a pod that has failed is 10 s, in which it isn't tried; and 1,500 are tried in a second or two
+        # the longest backoff of a pod that has failed is 10 s, in which it isn't tried; and 1,500
+        # are tried in a second or two
         time.sleep(13)
         site.delete_pod(f"runs-{turn}")
         site.wait(lambda turn=turn: len(site.watcher().binds) > turn, 20, "a pod is bound where a place is free")  # type: ignore[misc]

@@ -115,7 +115,8 @@ def watch_gone(site: Site) -> str:
 def half_open(site: Site) -> str:
     """The other end of the watches is gone without a word (as a machine that lost its power): they are opened anew within 45 s."""
     settled(site, "first")
-    # (what the client acknowledges late would be answered with a reset, as no machine without power answers)
+    # (what the client acknowledges late would be answered with a reset, as no machine without power
+    # answers)
     time.sleep(1)
     began = time.monotonic()
     site.server.break_watches(SILENT)

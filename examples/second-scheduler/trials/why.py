@@ -19,7 +19,8 @@ def asked(site: Cluster, pod: str, *more: str) -> tuple[int, str]:
     return ran.returncode, ran.stdout + ran.stderr
 
 
-# What a pod selects, its labels and the CPU that it asks for; what is said of it, and the numbers of the nodes that would take it.
+# What a pod selects, its labels and the CPU that it asks for; what is said of it, and the numbers
+# of the nodes that would take it.
 KINDS: dict[str, tuple[Thing, Thing, str, str, set[int]]] = {
     "plain": ({}, {}, "100m", "1 marked unschedulable (node-7)", {0, 1, 2, 3, 4, 5, 6}),
     "zone-a": ({"zone": "a"}, {}, "100m", "node_affinity: 3 for good (node-1, node-3, node-5)", {0, 2, 4, 6}),
