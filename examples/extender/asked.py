@@ -7,6 +7,7 @@ import contextlib
 import http
 import json
 import logging
+import ssl
 import threading
 import time
 from typing import Any, Callable, Mapping
@@ -86,6 +87,8 @@ class Asked(Answer):
         if self.fields.get("connection", "").lower() == "close" or self.service.stopping:
             self.close_connection = True
         size, said = self.size()
+        if not self.is_known():
+            said = refused(401, "who asks must show a certificate")
         if said:
             # (what follows isn't read)
             self.close_connection = True
@@ -99,6 +102,12 @@ class Asked(Answer):
             self.counting.requests.labels(verb, said.result).inc()
             self.counting.seconds.labels(verb).observe(time.perf_counter() - self.began)
         return None
+
+    def is_known(self) -> bool:
+        """Whether the other end has shown a certificate that is asked for."""
+        if not self.files.authority:
+            return True
+        return isinstance(self.connection, ssl.SSLSocket) and bool(self.connection.getpeercert())
 
     def head(self) -> bool:
         """Reads the fields."""

@@ -112,14 +112,20 @@ def words() -> argparse.Namespace:
         help="the certificate's key, where it doesn't stand in the same file",
     )
     said.add_argument(
+        "--client-ca",
+        metavar="FILE",
+        help="who asks must show a certificate of these authorities (PEM); probes and /metrics "
+        "need none",
+    )
+    said.add_argument(
         "--token-file",
         metavar="FILE",
         help="/metrics is for those alone that bear the token that stands there",
     )
     said.add_argument("--verbose", action="store_true")
     given = said.parse_args()
-    if given.tls_key and not given.tls_cert:
-        said.error("argument --tls-key: without --tls-cert")
+    if (given.tls_key or given.client_ca) and not given.tls_cert:
+        said.error("argument --tls-key, --client-ca: without --tls-cert")
     try:
         by = rules.given_by(given)
     except rules.BadRules as why:
@@ -175,7 +181,7 @@ def begin(given: argparse.Namespace, calls: Any) -> tuple[Service, Any]:
         given.listen,
         service,
         counting,
-        serving.Files(given.tls_cert, given.tls_key, given.token_file),
+        serving.Files(given.tls_cert, given.tls_key, given.token_file, given.client_ca),
         answer,
     )
     service.knowing = Knowing(

@@ -28,18 +28,19 @@ def address(text: str) -> tuple[str, int]:
 
 
 class Files(NamedTuple):
-    """A certificate and its key, and who may read the metrics: each a file, or None."""
+    """A certificate and its key, who may read the metrics, and whose certificates callers may show: each a file, or None."""
 
     cert: str | None = None
     key: str | None = None
     token: str | None = None
+    authority: str | None = None
 
 
 class Certificate:
     """What TLS says who this is. Files that have been renewed are read again."""
 
     def __init__(self, files: Files) -> None:
-        self.files, self.times = files, (0.0, 0.0)
+        self.files, self.times = files, (0.0, 0.0, 0.0)
         self.tls = self.read()
 
     def read(self) -> ssl.SSLContext:
@@ -48,12 +49,17 @@ class Certificate:
         tls = ssl.SSLContext(ssl.PROTOCOL_TLS_SERVER)
         tls.minimum_version = ssl.TLSVersion.TLSv1_2
         tls.load_cert_chain(self.files.cert, self.files.key)
+        if self.files.authority:
+            # (a kubelet's probes have none)
+            tls.load_verify_locations(self.files.authority)
+            tls.verify_mode = ssl.CERT_OPTIONAL
         self.times = self.written()
         return tls
 
-    def written(self) -> tuple[float, float]:
-        assert self.files.cert
-        return os.stat(self.files.cert).st_mtime, os.stat(self.files.key or self.files.cert).st_mtime
+    def written(self) -> tuple[float, float, float]:
+        cert, key, authority = self.files.cert, self.files.key, self.files.authority
+        assert cert
+        return os.stat(cert).st_mtime, os.stat(key or cert).st_mtime, os.stat(authority or cert).st_mtime
 
     def newest(self) -> ssl.SSLContext:
         try:

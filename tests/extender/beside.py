@@ -556,8 +556,8 @@ def in_the_midst(site: Ours) -> str:
 
 
 def by_tls(site: Ours) -> str:
-    """kube-scheduler asks by TLS, by a certificate that is renewed under its feet, and by one of a
-    name that its stanza gives: all pods are bound, and none outside."""
+    """kube-scheduler asks by TLS and shows a certificate, by one that is renewed under its feet,
+    and by one of a name that its stanza gives: all pods are bound, and none outside."""
     site.make_nodes(some_nodes(20))
     name = "wsched-extender.kube-system.svc"
     every = [certificate(site.folder, it) for it in ("first", "second")]
@@ -575,18 +575,20 @@ def by_tls(site: Ours) -> str:
         site.wait_for_bound(first + 20)
 
     put(every[0])
-    words = ["--tls-cert", str(own[0]), "--tls-key", str(own[1]), KEEP]
+    client = certificate(site.folder, "client")
+    words = ["--tls-cert", str(own[0]), "--tls-key", str(own[1]), "--client-ca", client[0], KEEP]
     caller = site.extend(*words, authority=str(authorities))
-    site.schedule(caller)
+    tls = {"caFile": str(authorities), "certFile": client[0], "keyFile": client[1]}
+    site.schedule(caller, tlsConfig=tls)
     bind(0)
     put(every[1])
     bind(20)
     site.stop("kube-scheduler")
-    site.schedule(caller)
+    site.schedule(caller, tlsConfig=tls)
     bind(40)
     put(every[2])
     site.stop("kube-scheduler")
-    site.schedule(caller, tlsConfig={"caFile": str(authorities), "serverName": name})
+    site.schedule(caller, tlsConfig=tls | {"serverName": name})
     bind(60)
     assert all(on and int(on[5:]) % 2 for on in site.places().values())
     site.stop("kube-scheduler", "extender")

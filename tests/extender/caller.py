@@ -51,8 +51,11 @@ def with_record(folder: pathlib.Path, wsched: str) -> str:
 class Caller:
     """Asks one extender, by a connection that it keeps."""
 
-    def __init__(self, port: int, authority: Optional[str] = None) -> None:
-        self.port, self.authority = port, authority
+    def __init__(
+        self, port: int, authority: Optional[str] = None, own: "Optional[tuple[str, str]]" = None
+    ) -> None:
+        """By TLS where an authority is named, with a certificate of its own where it has one."""
+        self.port, self.authority, self.own = port, authority, own
         self.line: Optional[http.client.HTTPConnection] = None
         self.headers: Mapping[str, str] = {}
 
@@ -60,11 +63,11 @@ class Caller:
         """The connection."""
         if self.line is None:
             if self.authority:
+                tls = ssl.create_default_context(cafile=self.authority)
+                if self.own:
+                    tls.load_cert_chain(*self.own)
                 self.line = http.client.HTTPSConnection(
-                    "127.0.0.1",
-                    self.port,
-                    timeout=60,
-                    context=ssl.create_default_context(cafile=self.authority),
+                    "127.0.0.1", self.port, timeout=60, context=tls
                 )
             else:
                 self.line = http.client.HTTPConnection("127.0.0.1", self.port, timeout=60)

@@ -418,6 +418,28 @@ def secure(site: Site) -> str:
     return "a certificate was renewed, and its key spoiled, without a restart"
 
 
+def mutual(site: Site) -> str:
+    """Whoever asks has to show a certificate of the authority that is named; probes and metrics
+    need none."""
+    site.node("a")
+    own, known, other = (certificate(site.folder, it) for it in ("own", "known", "other"))
+    words = ["--tls-cert", own[0], "--tls-key", own[1], "--client-ca", known[0], KEEP]
+    running = Running(site, *words, authority=own[0]).ready()
+    status, said = running.caller.ask("filter", pod("one"), ["a"])
+    assert status == 401 and "certificate" in said["Error"], f"{status} {said}"
+    running.caller.close()
+    assert running.caller.get("/healthz")[0] == running.caller.get("/metrics")[0] == 200
+    asker = Caller(running.port, own[0], known)
+    assert asker.ask("filter", pod("one"), ["a"])[1]["NodeNames"] == ["a"]
+    try:
+        Caller(running.port, own[0], other).ask("filter", pod("one"), ["a"])
+        raise AssertionError("another authority's certificate is taken")
+    except OSError:
+        pass
+    assert asker.ask("filter", pod("two"), ["a"])[1]["NodeNames"] == ["a"]
+    return "401 without, an end of TLS with another's"
+
+
 def kept(site: Site) -> str:
     """The prioritize behind a filter is answered by what the filter was told, also where a pod
     came to a node between them; after a node's change, and some time later, it asks anew; and a
@@ -656,6 +678,7 @@ TRIALS: list[Callable[[Site], str]] = [
     bodies,
     at_once,
     secure,
+    mutual,
     kept,
     steady,
     shares,

@@ -54,7 +54,7 @@ _wsched_beside() {
     COMPREPLY=()
     case $prev in
         --rules | --settings | --from | --page | --script) _wsched_files "$cur"; return ;;
-        --kubeconfig | --record | --tls-cert | --tls-key | --token-file | --plugins | --wsched) _wsched_files "$cur"; return ;;
+        --kubeconfig | --record | --tls-cert | --tls-key | --client-ca | --token-file | --plugins | --wsched) _wsched_files "$cur"; return ;;
         --scheduler | --nodes | --labels | --most | -n | --namespace) return ;;
         --workers | --binders | --share | --node-affinity | --lease | --listen | --max-stale) return ;;
         --on-error) _wsched_options "error reject-node" "$cur"; return ;;
@@ -65,7 +65,7 @@ _wsched_beside() {
             options="$options --kubeconfig --lease --listen --tls-cert --tls-key --token-file --record --dry-run --verbose --help" ;;
         wsched-extender)
             options="--listen --on-error --max-stale --rules --settings --labels --wsched --workers --kubeconfig"
-            options="$options --tls-cert --tls-key --token-file --verbose --help" ;;
+            options="$options --tls-cert --tls-key --client-ca --token-file --verbose --help" ;;
         wsched-plan) options="--json --script --page --rules --settings --labels --scheduler --from --nodes --help" ;;
         wsched-why) options="--namespace --rules --settings --labels --from --nodes --help" ;;
         wsched-what-if) options="--page --rules --" ;;

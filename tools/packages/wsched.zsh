@@ -59,7 +59,7 @@ _wsched() {
                 '--max-stale[nothing is answered by what is older]:seconds:' '--settings[the settings of the site]:file:_files' \
                 '--labels[the labels that rules read]:keys:' '--wsched[the program]:file:_files' '--workers[of each wsched]:number:' \
                 '--kubeconfig[the way to the API server]:file:_files' '--tls-cert[be asked by TLS]:file:_files' '--tls-key[its key]:file:_files' \
-                '--token-file[whom metrics are for]:file:_files' '--verbose[log more]' '--help[the words]' '*:plugin:_wsched_spec' ;;
+                '--client-ca[whose certificates are asked for]:file:_files' '--token-file[whom metrics are for]:file:_files' '--verbose[log more]' '--help[the words]' '*:plugin:_wsched_spec' ;;
         wsched)
             if (( CURRENT == 2 )); then
                 _describe command commands
