@@ -68,7 +68,8 @@ class _State:
 
 
 def followed(script: str, explained: str) -> Iterator[Asked]:
-    """Each pod and node that plugins were asked about, in the order of the answers. What the built-in filters reject isn't among them."""
+    """Each pod and node that plugins were asked about, in the order of the answers. What the built-in filters reject isn't among them,
+    nor what was asked of the rules alone."""
     state, answers = _State(), collections.deque(explained.splitlines())
     for line in script.split("\n"):
         if not line:
@@ -79,6 +80,8 @@ def followed(script: str, explained: str) -> Iterator[Asked]:
             answer = answers.popleft()
         while row["op"] == "dump" and not answer.startswith(DUMP_ENDS_WITH):
             answer = answers.popleft()
+        if row["op"] == "judge":
+            continue
         uid = answer.split(" ")[0]
         for node, *said in told:
             if said[0] in ("total", "plugin", "error"):
