@@ -471,10 +471,6 @@ const ONE_QUESTION: &[u8] = br#"{"op":"node","v":1,"name":"a","cpu":"4","mem":"8
 // What a rule alone says.
 const JUDGED: &[(Same, &str)] = &[
     (
-        NOTHING,
-        "ok\nok\n  a total 0\n  b total 0\njudged p1 2\nidle\n",
-    ),
-    (
         PASSING,
         "ok\nok\n  a total 100 rule 2 50\n  b total 100 rule 2 50\njudged p1 2\nidle\n",
     ),
@@ -527,13 +523,19 @@ fn first_other<T: Wait + Threads + Sync>(
 #[test]
 fn a_cycle_is_told_on_a_line(rt: HostRuntime) {
     let keys = RandomState::new(&rt).ok();
-    assert_eq!(rt; first_other(&rt, rt.alloc(), keys, TWO_CYCLES, told()), None);
+    assert_eq!(rt;
+        first_other(&rt, rt.alloc(), keys, TWO_CYCLES, told()),
+        None
+    );
 }
 
 #[test]
 fn what_the_rules_alone_say_is_told_of_each_node(rt: HostRuntime) {
     let keys = RandomState::new(&rt).ok();
-    assert_eq!(rt; first_other(&rt, rt.alloc(), keys, ONE_QUESTION, judged()), None);
+    assert_eq!(rt;
+        first_other(&rt, rt.alloc(), keys, ONE_QUESTION, judged()),
+        None
+    );
 }
 
 // So many kits of such rules.
