@@ -12,7 +12,7 @@ use Rattle.choose.specs.declared.decision.Reason.{Reason}
 use Rattle.choose.specs.declared.decision.Verdict.{Verdict}
 use Rattle.choose.specs.declared.decision.Verdict.TheVariants.{Rejected}
 use Rattle.choose.specs.declared.decision.Decision.{Decision}
-use Rattle.choose.specs.Verdict.{built_in, weighted, Filtered, Scored, ByScores, ByRules, HasVerdict}
+use Rattle.choose.specs.Verdict.{built_in, told_of, weighted, Filtered, Scored, passing, passing_alone, ByScores, ByRules, HasVerdict, HasRuling}
 use Rattle.choose.specs.Choice.{AreVerdicts, Choice}
 
 -- what the one says the other says
@@ -53,23 +53,27 @@ module _ (one other : RuleSet) (agree : Agree one other) where
     makes = errs.makes;
   }
 
-  by_scores : (pod : Pod) (shown : Shown) (verdict : Verdict) → ByScores one pod shown verdict → ByScores other pod shown verdict
-  by_scores pod shown verdict by = record { scored = by.scored; are = scored _ by.scored by.are; is = by.is }
+  by_scores : (told : Told) (made : Added → Verdict) (verdict : Verdict) → ByScores one told made verdict → ByScores other told made verdict
+  by_scores told made verdict by = record { scored = by.scored; are = scored told by.scored by.are; is = by.is }
 
-  or_by_scores : (f : Option Verdict) (pod : Pod) (shown : Shown) (verdict : Verdict) → MatchOption f (ByScores one pod shown verdict) (λ stopped. verdict ≡ stopped)
-      → MatchOption f (ByScores other pod shown verdict) (λ stopped. verdict ≡ stopped)
-  or_by_scores None pod shown verdict by = by_scores pod shown verdict by
-  or_by_scores (Some stopped) pod shown verdict is = is
+  or_by_scores : (f : Option Verdict) (told : Told) (made : Added → Verdict) (verdict : Verdict) → MatchOption f (ByScores one told made verdict) (λ stopped. verdict ≡ stopped)
+      → MatchOption f (ByScores other told made verdict) (λ stopped. verdict ≡ stopped)
+  or_by_scores None told made verdict by = by_scores told made verdict by
+  or_by_scores (Some stopped) told made verdict is = is
 
-  by_rules : (pod : Pod) (shown : Shown) (verdict : Verdict) → ByRules one pod shown verdict → ByRules other pod shown verdict
-  by_rules pod shown verdict by = record { filtered = by.filtered; are = filtered _ by.filtered by.are; is = or_by_scores by.filtered pod shown verdict by.is }
+  by_rules : (told : Told) (made : Added → Verdict) (verdict : Verdict) → ByRules one told made verdict → ByRules other told made verdict
+  by_rules told made verdict by = record { filtered = by.filtered; are = filtered told by.filtered by.are; is = or_by_scores by.filtered told made verdict by.is }
+
+  -- give the same rulings
+  pub ruling_by : (pod : Pod) (shown : Shown) (ruling : Verdict) → HasRuling one pod shown ruling → HasRuling other pod shown ruling
+  ruling_by pod shown ruling has = by_rules (told_of pod shown) passing_alone ruling has
 
   -- have the same verdicts
   pub verdict_by : (pod : Pod) (shown : Shown) (verdict : Verdict) → HasVerdict one pod shown verdict → HasVerdict other pod shown verdict
   verdict_by pod shown verdict has = by (built_in shown pod) has
     where
-      by : (b : Option Reason) → MatchOption b (ByRules one pod shown verdict) (λ reason. verdict ≡ Rejected reason) → MatchOption b (ByRules other pod shown verdict) (λ reason. verdict ≡ Rejected reason)
-      by None rules = by_rules pod shown verdict rules
+      by : (b : Option Reason) → MatchOption b (ByRules one (told_of pod shown) (passing shown pod) verdict) (λ reason. verdict ≡ Rejected reason) → MatchOption b (ByRules other (told_of pod shown) (passing shown pod) verdict) (λ reason. verdict ≡ Rejected reason)
+      by None rules = by_rules (told_of pod shown) (passing shown pod) verdict rules
       by (Some reason) is = is
 
   -- on all nodes

@@ -1,9 +1,9 @@
 -- What is decided by a kit's rules is decided by its plugins' calls.
-use Rattle.std.proofs.Common.{◌≡◌, List, refl}
+use Rattle.std.proofs.Common.{List, refl}
 use Rattle.plugin.specs.Kit.{Ready, rules_of}
 use Rattle.plugin.specs.Laws.{RulesAreCalls}
 use Rattle.serving.specs.Decision.{calls_of, DecidedByCalls}
-use Rattle.serving.proofs.Agreeing.{Agree, verdict_by, choice_by}
+use Rattle.serving.proofs.Agreeing.{Agree, verdict_by, ruling_by, choice_by}
 
 -- what the rules say the calls give
 as_calls : RulesAreCalls → (kit : List Ready) → Agree (rules_of kit) (calls_of kit)
@@ -26,6 +26,10 @@ decided_by_calls laws = record {
   verdict = λ kit pod shown verdict. (
     verdict_by (rules_of kit) (calls_of kit) (as_calls laws kit) pod shown verdict,
     verdict_by (calls_of kit) (rules_of kit) (as_rules laws kit) pod shown verdict,
+  );
+  ruling = λ kit pod shown ruling. (
+    ruling_by (rules_of kit) (calls_of kit) (as_calls laws kit) pod shown ruling,
+    ruling_by (calls_of kit) (rules_of kit) (as_rules laws kit) pod shown ruling,
   );
   choice = λ kit nodes pod decision. (
     choice_by (rules_of kit) (calls_of kit) (as_calls laws kit) nodes pod decision,

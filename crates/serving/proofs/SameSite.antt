@@ -1,6 +1,6 @@
 -- A site's script has one output: what its plugins say depends on the modules that their bytes
 -- spell, their images and their fuels.
-use Rattle.std.proofs.Common.{◌≡◌, ◌∙◌, ℕ, zero, suc, Bool, List, [], ◌∷◌, map, Option, Some, None, IfSome, slice_get, inl, inr, refl, sym, subst, ap, arith}
+use Rattle.std.proofs.Common.{◌≡◌, ◌∙◌, ℕ, zero, suc, Bool, true, List, [], ◌∷◌, map, Option, Some, None, IfSome, slice_get, inl, inr, refl, sym, subst, ap, arith}
 use Rattle.wbin.specs.Syntax.{ModuleSyntax, module_of}
 use Rattle.wbin.specs.Grammar.{Spells}
 use Rattle.wmach.specs.declared.export.Export.{Export}
@@ -22,16 +22,18 @@ use Rattle.plugin.specs.inside.OneAnswer.{one_answer}
 use Rattle.engine.specs.Script.{asked_in}
 use Rattle.engine.specs.Output.{taken, IsOutput, BeginsOutput}
 use Rattle.engine.specs.Lines.{lines_of}
-use Rattle.engine.specs.Answers.{opening}
+use Rattle.engine.specs.Answers.{State, opening, AllAnswered}
+use Rattle.engine.specs.Telling.{Telling}
+use Rattle.manifest.specs.declared.command.Command.{Command}
 use Rattle.engine.proofs.OneOutput.{one_output}
 use Rattle.engine.proofs.Fronts.{fronts_agree, fronts_begin_output}
 use Rattle.engine.proofs.SameOutput.{all_answered}
 use Rattle.command.specs.Words.{SpecSyntax}
-use Rattle.engine.proofs.Explained.{explained_output, plain_output}
-use Rattle.serving.specs.Laws.{FilesGiveModules, OneSiteOutput, SiteExplainedOutput, SiteFrontsAgree, SiteFrontsBeginOutput, SitePlainOutput}
+use Rattle.engine.proofs.Explained.{asking_changes_nothing, explained_output, plain_output}
+use Rattle.serving.specs.Laws.{FilesGiveModules, OneSiteOutput, SiteAskingChangesNothing, SiteExplainedOutput, SiteFrontsAgree, SiteFrontsBeginOutput, SitePlainOutput}
 use Rattle.serving.specs.Site.{ArePlugins, IsPlugin, IsSiteKit, named_of, told_by}
 use Rattle.serving.specs.Verdict.{front_of}
-use Rattle.serving.proofs.Agreeing.{Agree, verdict_by}
+use Rattle.serving.proofs.Agreeing.{Agree, verdict_by, ruling_by}
 
 -- bytes spell one module
 abbrev pub OneModule : Type 0
@@ -136,11 +138,17 @@ module _ (one_module : OneModule) (one_image : OneImage) where
 
   -- ---- what is written
 
+  all_alike : (specs : List SpecSyntax) (modules : List (List ℕ)) (one other : List Ready) → IsSiteKit specs modules one → IsSiteKit specs modules other
+      → (told : Telling) (s : State) (l : List Command) (s' : State) (text : List ℕ) → AllAnswered (rules_of one) told s l s' text → AllAnswered (rules_of other) told s l s' text
+  all_alike specs modules one other a b told s l s' text answered =
+      let agree = site_alike specs modules one other a b in
+      all_answered (rules_of one) (rules_of other) (verdict_by (rules_of one) (rules_of other) agree) told s l s' text (inl (ruling_by (rules_of one) (rules_of other) agree)) answered
+
   output_alike : (explains : Bool) (specs : List SpecSyntax) (modules : List (List ℕ)) (script text : List ℕ) (one other : List Ready) → IsSiteKit specs modules one → IsSiteKit specs modules other
       → IsOutput (rules_of one) (told_by explains specs) script text → IsOutput (rules_of other) (told_by explains specs) script text
   output_alike explains specs modules script text one other a b output = record {
     end = output.end;
-    answered = all_answered (rules_of one) (rules_of other) (verdict_by (rules_of one) (rules_of other) (site_alike specs modules one other a b)) (told_by explains specs) opening (asked_in taken (lines_of script)) output.end text output.answered;
+    answered = all_alike specs modules one other a b (told_by explains specs) opening (asked_in taken (lines_of script)) output.end text output.answered;
   }
 
   front_alike : (explains : Bool) (specs : List SpecSyntax) (modules : List (List ℕ)) (script front : List ℕ) (one other : List Ready) → IsSiteKit specs modules one → IsSiteKit specs modules other
@@ -151,7 +159,7 @@ module _ (one_module : OneModule) (one_image : OneImage) where
     cut = begins.cut;
     end = begins.end;
     text = begins.text;
-    answered = all_answered (rules_of one) (rules_of other) (verdict_by (rules_of one) (rules_of other) (site_alike specs modules one other a b)) (told_by explains specs) opening begins.asked begins.end begins.text begins.answered;
+    answered = all_alike specs modules one other a b (told_by explains specs) opening begins.asked begins.end begins.text begins.answered;
     rest = begins.rest;
     begins = begins.begins;
   }
@@ -168,6 +176,15 @@ module _ (one_module : OneModule) (one_image : OneImage) where
   site_fronts_agree explains specs modules script one other (kit, is, begins) (kit', is', begins') =
       fronts_agree (rules_of kit') (one_answer kit') (told_by explains specs) script one other (front_alike explains specs modules script one kit kit' is is' begins) begins'
 
+  -- without the lines that are put in
+  pub site_plain : SitePlainOutput
+  site_plain = record {
+    both = λ specs modules script text plain (kit, is, output) (kit', is', output').
+        (plain_output (rules_of kit') (one_answer kit')).both (named_of specs) script text plain (output_alike true specs modules script text kit kit' is is' output) output';
+    unasked = λ specs modules script text none (kit, is, output).
+        (kit, is, (plain_output (rules_of kit) (one_answer kit)).unasked (named_of specs) script text none output);
+  }
+
 -- ---- an explained output
 
 pub site_explained : SiteExplainedOutput
@@ -175,9 +192,11 @@ site_explained specs modules script text (kit, is, output) =
     let explained = explained_output (rules_of kit) (named_of specs) script text output in
     (explained.0, (kit, is, explained.1), explained.2)
 
--- and without the lines that are put in
-pub site_plain : SitePlainOutput
-site_plain specs modules script text (kit, is, output) = (kit, is, plain_output (rules_of kit) (named_of specs) script text output)
+-- to ask changes nothing
+pub site_asking : SiteAskingChangesNothing
+site_asking explains specs modules script bare text same (kit, is, output) =
+    let found = asking_changes_nothing (rules_of kit) (told_by explains specs) script bare text same output in
+    (found.0, (kit, is, found.1), found.2)
 
 -- ---- files
 

@@ -1,8 +1,8 @@
 -- What holds of every script of a site.
-use Rattle.std.specs.Prelude.{◌≡◌, ◌⊎◌, ℕ, Bool, true, false, List, Option, Some}
+use Rattle.std.specs.Prelude.{◌≡◌, ◌⊎◌, ℕ, Bool, true, false, List, [], Option, Some}
 use Rattle.std.specs.List.{All}
 use Rattle.engine.specs.Indented.{without_indented}
-use Rattle.engine.specs.Laws.{Begins, IsWithLines}
+use Rattle.engine.specs.Laws.{AsksNothing, Begins, IsAnswer, IsWith, IsWithLines, asked_of_all, without_questions}
 use Rattle.command.specs.Words.{SpecSyntax}
 use Rattle.serving.specs.Site.{AreFromFiles, BeginsSiteOutput, IsSiteOutput}
 
@@ -35,8 +35,17 @@ SiteExplainedOutput =
     (specs : List SpecSyntax) (modules : List (List ℕ)) (script text : List ℕ) → IsSiteOutput true specs modules script text
     → (plain : List ℕ) × IsSiteOutput false specs modules script plain × IsWithLines plain text
 
--- Without its lines that begin with two spaces it is the output.
-abbrev pub SitePlainOutput : Type 0
-SitePlainOutput =
-    (specs : List SpecSyntax) (modules : List (List ℕ)) (script text : List ℕ) → IsSiteOutput true specs modules script text
-    → IsSiteOutput false specs modules script (without_indented text)
+-- Without its lines that begin with two spaces it is the output without these, and where nothing is
+-- asked of the rules alone it is the output.
+pub record SitePlainOutput : Type 0 where
+  pub both : (specs : List SpecSyntax) (modules : List (List ℕ)) (script text plain : List ℕ) → IsSiteOutput true specs modules script text → IsSiteOutput false specs modules script plain
+      → without_indented text ≡ without_indented plain
+  pub unasked : (specs : List SpecSyntax) (modules : List (List ℕ)) (script text : List ℕ) → AsksNothing script → IsSiteOutput true specs modules script text
+      → IsSiteOutput false specs modules script (without_indented text)
+
+-- To ask what the rules alone say changes nothing: the output of a site's script is that of each
+-- that asks for the same without the questions, with their answers put in.
+abbrev pub SiteAskingChangesNothing : Type 0
+SiteAskingChangesNothing =
+    (explains : Bool) (specs : List SpecSyntax) (modules : List (List ℕ)) (script bare text : List ℕ) → asked_of_all bare ≡ without_questions (asked_of_all script) → IsSiteOutput explains specs modules script text
+    → (plain : List ℕ) × IsSiteOutput explains specs modules bare plain × IsWith (λ part. (part ≡ []) ⊎ IsAnswer part) plain text

@@ -1,13 +1,15 @@
 //! What holds of every script of a site, and of every decision. The functions do nothing: their
 //! contracts are the laws.
 ghost use Rattle.serving.specs.Decision.{DecidedByCalls};
-ghost use Rattle.serving.specs.Laws.{FilesGiveModules, OneSiteOutput, SiteExplainedOutput, SiteFrontsAgree, SiteFrontsBeginOutput, SitePlainOutput};
+ghost use Rattle.serving.specs.Laws.{FilesGiveModules, OneSiteOutput, SiteAskingChangesNothing, SiteExplainedOutput, SiteFrontsAgree, SiteFrontsBeginOutput, SitePlainOutput};
 
 /// A site's script has one output: it depends on the script, on the plugins' names, weights and
 /// fuels, and on the bytes of their modules alone, so that it is the same with any number of
 /// workers. What a run writes that is cut short begins it. Where it is known what the plugins'
 /// files have, their modules are the same in each run. What explains it is the same output, with
-/// lines put in that begin with two spaces; without these lines it is that output, byte for byte.
+/// lines put in that begin with two spaces; without all lines that begin so both are the same, and
+/// where nothing is asked of the rules alone that is the output, byte for byte. To ask changes
+/// nothing: the output is the one without the questions, with their answers put in.
 pub fn one_site_output()
     ensures whole { OneSiteOutput }
     ensures front { SiteFrontsBeginOutput }
@@ -15,6 +17,7 @@ pub fn one_site_output()
     ensures files { FilesGiveModules }
     ensures explained { SiteExplainedOutput }
     ensures plain { SitePlainOutput }
+    ensures asking { SiteAskingChangesNothing }
 {
     wbin::one_module();
     whost::one_image();

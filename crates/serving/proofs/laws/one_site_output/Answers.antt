@@ -1,4 +1,4 @@
-use Rattle.serving.proofs.SameSite.{files_give_modules, one_site_output, site_explained, site_fronts_agree, site_fronts_begin, site_plain}
+use Rattle.serving.proofs.SameSite.{files_give_modules, one_site_output, site_asking, site_explained, site_fronts_agree, site_fronts_begin, site_plain}
 use Rattle.serving.proofs.laws.one_site_output.Goals as goal
 
 pub returns-clause-whole : goal.returns-clause-whole
@@ -17,4 +17,7 @@ pub returns-clause-explained : goal.returns-clause-explained
 returns-clause-explained c = site_explained
 
 pub returns-clause-plain : goal.returns-clause-plain
-returns-clause-plain c = site_plain
+returns-clause-plain c = site_plain c.one_module.ensures c.one_image.ensures
+
+pub returns-clause-asking : goal.returns-clause-asking
+returns-clause-asking c = site_asking
