@@ -13,7 +13,8 @@ SCORE
     const struct pod *pod = read_pod3();
     if (pod_cpu(pod) || pod_memory(pod)) return 0;
     const struct node *node = read_node();
-    // A cycle asks of nodes with room for this pod; whoever asks what rules alone say, of full ones.
+    // A cycle asks of nodes with room for this pod; whoever asks what rules alone say, of full
+    // ones.
     u32 pods = node_pods(node), used = node_used_pods(node);
     return used < pods ? 100 * (pods - used - 1) / pods : 0;
 }

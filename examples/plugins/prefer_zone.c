@@ -14,7 +14,8 @@ SCORE
     const u8 *wish = pod_label(read_pod3(), "wished-zone");
     const struct node *node = read_node();
     int there = wish && same(wish, node_label(node, "topology.kubernetes.io/zone"));
-    // A cycle asks of nodes with room for this pod; whoever asks what rules alone say, of full ones.
+    // A cycle asks of nodes with room for this pod; whoever asks what rules alone say, of full
+    // ones.
     u32 pods = node_pods(node), used = node_used_pods(node);
     return (there ? 50 : 0) + (used < pods ? 50 * (pods - used - 1) / pods : 0);
 }
