@@ -541,9 +541,15 @@ def shares(site: Site) -> str:
 
 def by_explain(site: Site, uids: set[str]) -> dict[str, dict[str, list[str]]]:
     """What `wsched explain` says of each node for each of these pods, behind what was told."""
-    lines = [
-        json.loads(line) for line in (site.folder / "told").read_text(encoding="utf-8").splitlines()
-    ]
+    record = site.folder / "told"
+
+    def is_whole() -> bool:
+        """(what writes the record hands a line on before it writes it)"""
+        text = record.read_text(encoding="utf-8")
+        return text.endswith("\n") and all(f'"{uid}"' in text for uid in uids)
+
+    wait_for(is_whole, 10, "the record of all questions")
+    lines = [json.loads(line) for line in record.read_text(encoding="utf-8").splitlines()]
     script, version = [it for it in lines if it["op"] in ("node", "bound", "gone", "deleted")], max(
         it.get("v", 0) for it in lines
     )
