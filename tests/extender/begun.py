@@ -149,8 +149,11 @@ def stopped(site: Site) -> str:
 
     with concurrent.futures.ThreadPoolExecutor(16) as some:
         asking = [some.submit(one_caller, i) for i in range(16)]
-        wait_for(lambda: min(answered) >= 3, 30, "all have answers")
-        running.it.child.send_signal(signal.SIGTERM)
+        try:
+            wait_for(lambda: min(answered) >= 3, 30, "all have answers")
+        finally:
+            # (they ask until nobody listens)
+            running.it.child.send_signal(signal.SIGTERM)
         for it in asking:
             it.result(20)
     status = running.it.wait(10)
