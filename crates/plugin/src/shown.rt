@@ -50,7 +50,8 @@ impl Shown {
     /// Shows a node on which pods use so much: looks up what is known of it. The pod stays.
     pub fn show_node(&mut self, kept: &mut Kept, node: &SharedNode, used: &Res)
         ensures pod { self.new.class ≡ self.old.class }
-        ensures node { (plugins : List Ready) → KeptHolds plugins kept.old → IsOfNode plugins self.new node.now used.now }
+        ensures node { (plugins : List Ready) → KeptHolds plugins kept.old →
+            IsOfNode plugins self.new node.now used.now }
         ensures kept { (plugins : List Ready) → KeptHolds plugins kept.old → KeptHolds plugins kept.new }
     {
         let sighted = kept.show(self.spot, &self.class, node, used);

@@ -70,7 +70,8 @@ impl NotedPages {
     // Whether one of the sixteen pages of a large one is noted.
     fn has_noted(&self, large: usize) -> bool
         requires { large * 16 < length self.now.flags }
-        ensures { result ≡ false → (page : ℕ) → page / 16 ≡ large → slice_index_or self.now.flags page false ≡ false }
+        ensures { result ≡ false → (page : ℕ) → page / 16 ≡ large →
+            slice_index_or self.now.flags page false ≡ false }
     {
         let len = self.is_noted.len();
         let first = large * IN_A_LARGE;
