@@ -1,0 +1,6 @@
+pub mod State
+pub mod Telling
+pub mod Lists
+pub mod Hearing
+pub mod Told
+pub mod inside

@@ -1,0 +1,73 @@
+//! What is known of a pod, of a node, and of what is heard.
+use quant::{Request, Ticket, Version};
+
+/// How sure it is what became of a bind that was asked for.
+#[derive(Clone, Copy, Debug, PartialEq, Eq)]
+pub enum Asking {
+    /// No answer is known.
+    Sent,
+    /// The server said that it bound the pod.
+    Created,
+    /// The server refused, or can do nothing any more: a read tells whether it bound the pod.
+    InDoubt,
+}
+
+/// Where a pod stands.
+#[derive(Clone, Copy, Debug, PartialEq, Eq)]
+pub enum Stage {
+    /// It has no node, and asks for this.
+    Waits(Request),
+    /// It had no node, and a bind of it was asked for.
+    Asked {
+        /// What it asks for.
+        request: Request,
+        /// What names the bind.
+        ticket: Ticket,
+        /// What is known of the bind.
+        asking: Asking,
+    },
+    /// It has a node.
+    Stands,
+}
+
+/// What was last told of a pod.
+#[derive(Clone, Copy, Debug, PartialEq, Eq)]
+pub struct Known {
+    /// The pod's version.
+    pub version: Version,
+    /// How many lists of pods had begun when it was last told.
+    pub list: u64,
+    /// Where it stands.
+    pub stage: Stage,
+}
+
+/// When a node's row was told.
+#[derive(Clone, Copy, Debug, PartialEq, Eq)]
+pub struct Seen {
+    /// The node's version.
+    pub version: Version,
+    /// How many lists of nodes had begun when it was last told.
+    pub list: u64,
+}
+
+/// What is heard of a kind of objects.
+#[derive(Clone, Copy, Debug, PartialEq, Eq)]
+pub struct Heard {
+    /// How many lists have begun.
+    pub lists: u64,
+    /// Whether the last of them hasn't ended.
+    pub listing: bool,
+    /// Whether one has ended.
+    pub listed: bool,
+    /// Whether a watch is open that goes on where a list ended.
+    pub hears: bool,
+}
+
+/// Whether pods on nodes were left out, for want of room.
+#[derive(Clone, Copy, Debug, PartialEq, Eq)]
+pub struct LeftOut {
+    /// Whether one was, and no list has ended since that had room for each.
+    pub any: bool,
+    /// How many lists of pods had begun when the last was left out.
+    pub list: u64,
+}

@@ -1,0 +1,24 @@
+//! What the API server tells of nodes and pods, and which binds may be asked for.
+//!
+//! Whatever a scheduler chooses, a bind is asked for only where everything that was told, and every
+//! bind whose end isn't known, leaves room for it on its node.
+//!
+//! - `event` is what a ledger is told and asked, and what it answers.
+//! - `known` is what it knows of a pod, of a node and of what is heard of each kind.
+//! - `ledger` takes the events, over the `book`, which counts; `pods`, `nodes`, `lists` and `binds`
+//!   take those of their kinds.
+#![tactic(auto)]
+
+mod binds;
+mod event;
+mod known;
+mod ledger;
+mod lists;
+mod nodes;
+mod pods;
+mod swept;
+mod tables;
+
+pub use event::{Answer, Event, Kind, Outcome, Said};
+pub use known::{Asking, Heard, Known, Seen, Stage};
+pub use ledger::Ledger;
