@@ -1,6 +1,5 @@
 -- What is heard of each kind, and what ends with a list.
-use Rattle.std.specs.Prelude.{◌≡◌, ◌≤◌, ◌+◌, ℕ, Bool, true, false, ◌&&◌, ◌==◌, nat_le, if◌then◌else◌}
-use Rattle.book.specs.Cluster.{Cluster}
+use Rattle.std.specs.Prelude.{◌≡◌, ◌≤◌, ◌+◌, Bool, true, false, not, ◌&&◌, ◌||◌, ◌==◌, if◌then◌else◌}
 use Rattle.ledger.specs.declared.event.Answer.{Answer}
 use Rattle.ledger.specs.declared.event.Answer.TheVariants.{Told, Old, Full}
 use Rattle.ledger.specs.declared.event.Kind.{Kind}
@@ -23,24 +22,30 @@ with_heard s Pods h = record s { of_pods = h }
 abbrev pub is_last : Heard → Bool
 is_last h = h.lists == 18446744073709551615
 
+-- a list that begins now shows all that was asked of the server before the ledger was made: nobody
+-- who binds pods changes nodes
+abbrev pub is_at_rest : State → Kind → Bool
+is_at_rest s Nodes = true
+is_at_rest s Pods = s.rested
+
 -- a list begins
 abbrev pub list_begins : State → Kind → Became
 list_begins s kind =
     if is_last (heard s kind)
     then became Full s
-    else became Told (with_heard s kind (record (heard s kind) { lists = (heard s kind).lists + 1; listing = true }))
+    else became Told (with_heard s kind (record (heard s kind) { lists = (heard s kind).lists + 1; listing = true; fresh = is_at_rest s kind }))
 
 -- no watch is open
 abbrev pub deaf : State → Kind → Became
 deaf s kind = became Told (with_heard s kind (record (heard s kind) { hears = false }))
 
--- a watch is open, where a list has ended
+-- a watch is open
 abbrev pub hears : State → Kind → Became
-hears s kind = became Told (with_heard s kind (record (heard s kind) { hears = (heard s kind).listed }))
+hears s kind = became Told (with_heard s kind (record (heard s kind) { hears = true }))
 
 -- a list ended
 abbrev pub ended : Heard → Heard
-ended h = record { lists = h.lists; listing = false; listed = true; hears = true }
+ended h = record { lists = h.lists; listing = false; fresh = h.fresh; listed = h.listed || h.fresh; hears = true }
 
 -- what the end of a list of nodes makes of what is known
 pub record NodesEnd (old new : State) : Type 0 where
@@ -52,6 +57,11 @@ pub record NodesEnd (old new : State) : Type 0 where
   pub rested : new.rested ≡ old.rested
   pub left_out : new.left_out ≡ old.left_out
 
+-- some pod on a node is left out still, once a list of pods ended: one was since it began, or it
+-- doesn't show all
+abbrev pub are_left_out : State → Bool
+are_left_out s = s.left_out.any && (not s.of_pods.fresh || (s.left_out.list == s.of_pods.lists))
+
 -- and of pods: one that was left out before the list began has been told again, or is gone
 pub record PodsEnd (old new : State) : Type 0 where
   pub swept : IsSwept pods_side old.of_pods.lists old.pods new.pods old.cluster new.cluster
@@ -60,7 +70,7 @@ pub record PodsEnd (old new : State) : Type 0 where
   pub room : new.room ≡ old.room
   pub of_nodes : new.of_nodes ≡ old.of_nodes
   pub rested : new.rested ≡ old.rested
-  pub left_out : new.left_out ≡ record { any = old.left_out.any && (old.left_out.list == old.of_pods.lists); list = old.left_out.list }
+  pub left_out : new.left_out ≡ record { any = are_left_out old; list = old.left_out.list }
 
 -- a list ended, and what it left: nothing else says what became of a version of the book
 abbrev pub HasEnded : Kind → State → State → Type 0

@@ -3,4 +3,5 @@ pub mod Telling
 pub mod Lists
 pub mod Hearing
 pub mod Told
+pub mod World
 pub mod inside

@@ -21,7 +21,7 @@ pub record State : Type 0 where
 
 -- nothing was heard
 abbrev pub unheard : Heard
-unheard = record { lists = 0; listing = false; listed = false; hears = false }
+unheard = record { lists = 0; listing = false; fresh = false; listed = false; hears = false }
 
 -- the state before anything is told
 abbrev pub opening : Limits → ℕ → State
@@ -37,7 +37,10 @@ opening limits room =
       left_out = record { any = false; list = 0 };
     }
 
--- a bind may be asked for: nodes and pods are heard, nothing is on its way from before, and each
--- pod on a node has its room
+-- a kind is heard: a watch is open that goes on where a list ended
+abbrev pub is_heard : Heard → Bool
+is_heard h = h.hears && h.listed
+
+-- a bind may be asked for: nodes and pods are heard, and each pod on a node has its room
 abbrev pub is_open : State → Bool
-is_open s = s.of_nodes.hears && s.of_pods.hears && s.rested && not s.left_out.any
+is_open s = is_heard s.of_nodes && is_heard s.of_pods && not s.left_out.any

@@ -1,13 +1,12 @@
 -- What each event makes of what is known, and histories.
-use Rattle.std.specs.Prelude.{◌≡◌, ℕ, true, List, [], ◌∷◌}
-use Rattle.book.specs.declared.limits.Limits.{Limits}
+use Rattle.std.specs.Prelude.{◌≡◌, true}
 use Rattle.ledger.specs.declared.event.Answer.{Answer}
 use Rattle.ledger.specs.declared.event.Answer.TheVariants.{Told}
 use Rattle.ledger.specs.declared.event.Event.{Event}
 use Rattle.ledger.specs.declared.event.Event.TheVariants.{ListBegins, ListEnds, Deaf, Hears, Node, NodeGone, Waits, Stands, Gone, Rested, Bind, Answered, Read}
 use Rattle.ledger.specs.Hearing.{list_begins, deaf, hears, IsListEnd}
-use Rattle.ledger.specs.State.{State, opening}
-use Rattle.ledger.specs.Telling.{Became, became, node_told, node_gone, waits, stands, gone, bind, answered, read}
+use Rattle.ledger.specs.State.{State}
+use Rattle.ledger.specs.Telling.{became, node_told, node_gone, waits, stands, gone, bind, answered, read}
 
 -- an event was answered, and this is what is known after it
 abbrev pub IsTold : State → Event → Answer → State → Type 0

@@ -2,11 +2,11 @@
 ghost use Rattle.std.specs.Prelude.{◌≡◌, true};
 ghost use Rattle.std.specs.FinMap as fin;
 ghost use Rattle.std.specs.FinMap.{contains_key};
-ghost use Rattle.ledger.specs.State.{is_open};
+ghost use Rattle.ledger.specs.State.{is_heard, is_open};
 ghost use Rattle.ledger.specs.Telling.{became, bind, bind_waiting, asking_after, answer_for, answered, read, given_up, read_in_doubt};
 
 use crate::event::{Answer, Outcome, Said};
-use crate::known::{Asking, Known, Stage};
+use crate::known::{Asking, Heard, Known, Stage};
 use crate::ledger::Ledger;
 use crate::tables::assume;
 use book::{ClusterStep, Reply};
@@ -17,7 +17,7 @@ impl Ledger {
     pub fn is_open(&self) -> bool
         ensures { result ≡ is_open self.now }
     {
-        self.of_nodes.hears && self.of_pods.hears && self.rested && !self.left_out.any
+        self.of_nodes.is_heard() && self.of_pods.is_heard() && !self.left_out.any
     }
 
     /// May this pod be bound to this node?
@@ -138,6 +138,15 @@ impl Ledger {
             return Answer::Full;
         }
         self.keep(uid, known.version, known.list, Stage::Waits(request))
+    }
+}
+
+impl Heard {
+    // Whether a watch is open that goes on where a list ended.
+    fn is_heard(self) -> bool
+        ensures { result ≡ is_heard self }
+    {
+        self.hears && self.listed
     }
 }
 

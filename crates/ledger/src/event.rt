@@ -87,6 +87,7 @@ pub enum Event {
         uid: Name,
     },
     /// The time is over in which the server may still do what was asked before the ledger was made.
+    /// No bind is asked for until a list of pods has ended that began after this.
     Rested,
     /// May this pod be bound to this node?
     Bind {

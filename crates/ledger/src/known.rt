@@ -57,9 +57,12 @@ pub struct Heard {
     pub lists: u64,
     /// Whether the last of them hasn't ended.
     pub listing: bool,
-    /// Whether one has ended.
+    /// Whether it shows all that was asked of the server before the ledger was made, as a list of
+    /// pods does that began once the server could do nothing of that any more.
+    pub fresh: bool,
+    /// Whether one that shows this has ended.
     pub listed: bool,
-    /// Whether a watch is open that goes on where a list ended.
+    /// Whether a watch is open.
     pub hears: bool,
 }
 

@@ -19,6 +19,7 @@ use std::marker::Model;
 const UNHEARD: Heard = Heard {
     lists: 0,
     listing: false,
+    fresh: false,
     listed: false,
     hears: false,
 };

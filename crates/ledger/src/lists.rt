@@ -1,7 +1,7 @@
 //! What is heard of nodes and pods, and what ends with a list.
 ghost use Rattle.std.specs.Prelude.{◌≡◌};
 ghost use Rattle.ledger.specs.declared.event.Kind.TheVariants as kind;
-ghost use Rattle.ledger.specs.Hearing.{heard, with_heard, list_begins, deaf, hears, ended, IsListEnd};
+ghost use Rattle.ledger.specs.Hearing.{heard, with_heard, is_at_rest, list_begins, deaf, hears, ended, IsListEnd};
 ghost use Rattle.ledger.specs.Telling.{became};
 
 use crate::event::{Answer, Kind};
@@ -19,7 +19,7 @@ impl Heard {
         ensures { self.new ≡ ended self.old }
     {
         self.listing = false;
-        self.listed = true;
+        self.listed = self.listed || self.fresh;
         self.hears = true;
     }
 }
@@ -56,10 +56,22 @@ impl Ledger {
         let begun = Heard {
             lists: heard.lists + 1,
             listing: true,
+            fresh: self.is_at_rest(kind),
             ..heard
         };
         self.set_heard(kind, begun);
         Answer::Told
+    }
+
+    // Whether a list of this kind that begins now shows all that was asked before the ledger was
+    // made: nobody who binds pods changes nodes.
+    fn is_at_rest(&self, kind: Kind) -> bool
+        ensures { result ≡ is_at_rest self.now kind }
+    {
+        match kind {
+            Kind::Nodes => true,
+            Kind::Pods => self.rested,
+        }
     }
 
     /// No watch of a kind is open.
@@ -77,7 +89,7 @@ impl Ledger {
         Answer::Told
     }
 
-    /// A watch of a kind is open, where a list has ended.
+    /// A watch of a kind is open.
     pub(crate) fn hears(&mut self, kind: Kind) -> Answer
         ensures { became result self.new ≡ hears self.old kind }
     {
@@ -85,7 +97,7 @@ impl Ledger {
         self.set_heard(
             kind,
             Heard {
-                hears: heard.listed,
+                hears: true,
                 ..heard
             },
         );
@@ -129,7 +141,8 @@ impl Ledger {
         }
         sweep_pods(&mut self.book, &mut self.pods, self.of_pods.lists);
         self.of_pods.end();
-        self.left_out.any = self.left_out.any && self.left_out.list == self.of_pods.lists;
+        let again = !self.of_pods.fresh || self.left_out.list == self.of_pods.lists;
+        self.left_out.any = self.left_out.any && again;
         Answer::Told
     }
 }

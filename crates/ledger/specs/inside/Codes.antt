@@ -1,5 +1,5 @@
 -- How a ledger's state is stored, by which a proof tells states apart.
-use Rattle.std.specs.Prelude.{ℕ, List, Bool, refl}
+use Rattle.std.specs.Prelude.{ℕ, Bool, refl}
 use Rattle.std.specs.Coded.{Coded, code_by, coded×, coded_ℕ, coded_bool, coded_list}
 use Rattle.std.specs.FinMap.{FinMap, code}
 use Rattle.book.specs.Cluster.{name_cmp, Cluster}

@@ -21,8 +21,8 @@ returns c = λ i. record {
   room = as_long _ c.in_ok-pods.pods _ c.in_ok-pods.ensures i;
   pods = free _ c.in_ok-pods.pods _ c.in_ok-pods.ensures i;
   nodes = free _ c.in_ok-nodes.nodes _ c.in_ok-nodes.ensures i;
-  of_nodes = record { lists = 0; listing = false; listed = false; hears = false };
-  of_pods = record { lists = 0; listing = false; listed = false; hears = false };
+  of_nodes = record { lists = 0; listing = false; fresh = false; listed = false; hears = false };
+  of_pods = record { lists = 0; listing = false; fresh = false; listed = false; hears = false };
   rested = false;
   left_out = record { any = false; list = 0 };
 }
