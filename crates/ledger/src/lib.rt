@@ -12,6 +12,7 @@
 mod binds;
 mod event;
 mod known;
+mod laws;
 mod ledger;
 mod lists;
 mod nodes;
@@ -21,4 +22,5 @@ mod tables;
 
 pub use event::{Answer, Event, Kind, Outcome, Said};
 pub use known::{Asking, Heard, Known, Seen, Stage};
+pub use laws::never_overfull;
 pub use ledger::Ledger;
