@@ -5,3 +5,5 @@ pub mod Holding
 pub mod Events
 pub mod Ends
 pub mod Worlds
+pub mod Counting
+pub mod Grants

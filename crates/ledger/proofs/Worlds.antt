@@ -66,7 +66,7 @@ module _ (c : Cluster) (uid node : Name) (request : Request) (taken : refusal c 
   no_place (Some p) is = absurd (grind (arith, is, taken))
 
   -- and fits on a node that is there
-  row_with : (o : Option Row) → get c.nodes node ≡ o → (row : Row) × (o ≡ Some row) × (is_ok (fit_of row.allocatable (used c.places node) request) ≡ true)
+  pub row_with : (o : Option Row) → get c.nodes node ≡ o → (row : Row) × (o ≡ Some row) × (is_ok (fit_of row.allocatable (used c.places node) request) ≡ true)
   row_with None is = absurd (grind (arith, is, taken))
   row_with (Some row) is = (row, refl, grind (arith, is, taken))
 

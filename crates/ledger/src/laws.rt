@@ -1,5 +1,18 @@
 //! What holds of every history. The functions do nothing: their contracts are the laws.
+ghost use Rattle.ledger.specs.Laws.{AlwaysCountsOnce, GrantsAreRight};
 ghost use Rattle.ledger.specs.World.{NeverOverfull};
+
+/// Whatever was told, in whatever order: each pod counts on the one node that was told last, or that
+/// a bind of it was asked for, with what it takes; and nothing else counts.
+pub fn each_pod_counts_once()
+    ensures { AlwaysCountsOnce }
+{}
+
+/// A bind is granted where the pod was last told to wait, no bind of it is open, both kinds are
+/// heard, and the node is there and has room beside all that counts on it; and nowhere else.
+pub fn grants_are_right()
+    ensures { GrantsAreRight }
+{}
 
 /// However late the server's changes are told, whichever binds land or don't, and however often the
 /// ledger is made anew: where all is told that is owed, the pods that stand on a node never take
