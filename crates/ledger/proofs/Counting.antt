@@ -1,20 +1,16 @@
 -- Each pod counts as it is known, and grants are right.
-use Rattle.std.proofs.Common.{◌≡◌, ◌≢◌, inl, inr, ℕ, Bool, true, false, not, ◌&&◌, ◌||◌, List, [], ◌∷◌, Option, None, Some, is_some, refl, sym, ap, subst, ◌∙◌, arith}
-use Rattle.std.specs.Prelude.{if◌then◌else◌, ◌==◌, nat_le, is_ok}
-use Rattle.std.specs.Str.{bytes_eq}
-use Rattle.std.specs.FinMap.{FinMap, get, insert, remove, contains_key, get-empty}
-use Rattle.std.proofs.lemmas.Bool.Decides.{nat_tests}
+use Rattle.std.proofs.Common.{◌≡◌, inl, inr, ℕ, Bool, true, false, not, ◌||◌, List, [], ◌∷◌, Option, None, Some, is_some, refl, sym, ap, subst, ◌∙◌}
+use Rattle.std.specs.Prelude.{if◌then◌else◌, ◌==◌, nat_le}
+use Rattle.std.specs.FinMap.{get, insert, remove, contains_key, get-empty}
 use Rattle.quant.specs.declared.amount.Request.{Request}
 use Rattle.quant.specs.declared.event.Event.TheVariants.{NodeSet, NodeGone as RowGone, PodBound, PodGone as PodLeft}
 use Rattle.quant.specs.declared.name.Name.{Name}
 use Rattle.quant.specs.declared.objects.Node.{Node as Row}
 use Rattle.quant.specs.declared.version.Ticket.{Ticket}
 use Rattle.quant.specs.declared.version.Version.{Version}
-use Rattle.fit.specs.Fit.{fit_of}
-use Rattle.book.specs.Cluster.{name_cmp, Cluster, Places}
-use Rattle.book.specs.Step.{refusal, effect, next_ticket, are_tickets_gone}
+use Rattle.book.specs.Cluster.{name_cmp}
+use Rattle.book.specs.Step.{refusal, effect, next_ticket}
 use Rattle.book.specs.Tables.{is_full_for}
-use Rattle.book.specs.Used.{used}
 use Rattle.book.specs.declared.limits.Limits.{Limits}
 use Rattle.book.specs.declared.place.Place.{Place}
 use Rattle.book.specs.declared.place.Status.TheVariants.{Assumed, Bound}
@@ -31,17 +27,16 @@ use Rattle.ledger.specs.declared.event.Kind.TheVariants.{Nodes, Pods}
 use Rattle.ledger.specs.declared.event.Outcome.{Outcome}
 use Rattle.ledger.specs.declared.event.Said.{Said}
 use Rattle.ledger.specs.declared.event.Said.TheVariants.{Waits as SaidWaits, Stands as SaidStands, Gone as SaidGone}
-use Rattle.ledger.specs.declared.known.Asking.{Asking}
 use Rattle.ledger.specs.declared.known.Asking.TheVariants.{Sent, Created as IsCreated, InDoubt}
 use Rattle.ledger.specs.declared.known.Known.{Known}
 use Rattle.ledger.specs.declared.known.Seen.{Seen}
 use Rattle.ledger.specs.declared.known.Stage.{Stage}
 use Rattle.ledger.specs.declared.known.Stage.TheVariants.{Waits, Asked, Stands}
-use Rattle.ledger.specs.Hearing.{is_last, list_begins, deaf, hears, IsListEnd, NodesEnd, PodsEnd}
+use Rattle.ledger.specs.Hearing.{is_last, list_begins, deaf, hears, IsListEnd, PodsEnd}
 use Rattle.ledger.specs.Lists.{of_pods, is_named, is_left}
-use Rattle.ledger.specs.Laws.{Line, Follows, IsPlacedAt, IsPlacedAs, EachCountsOnce, MayBind, IsGrantRight}
+use Rattle.ledger.specs.Laws.{Line, Follows, IsPlacedAt, IsPlacedAs, EachCountsOnce}
 use Rattle.ledger.specs.State.{State, opening, is_open}
-use Rattle.ledger.specs.Telling.{Became, became, next_version, is_too_much, changed, named, with_pod, at_stage, fallen_short, stands_new, stands_of, stands, leaves, waits_at, waits_first, waits_of, waits, without_pod, without_place, gone_at, gone_of, gone, bind_waiting, bind_at, bind_of, bind, asking_after, answered_at, answered_of, answered, given_up, read_in_doubt, read_at, read_of, read, node_new, node_of, node_told, node_gone_new, node_gone}
+use Rattle.ledger.specs.Telling.{Became, became, next_version, is_too_much, changed, named, with_pod, at_stage, stands_new, stands_of, waits_at, waits_first, waits_of, waits, without_pod, without_place, gone_at, gone_of, bind_at, bind_of, bind, asking_after, answered_at, answered_of, given_up, read_in_doubt, read_at, read_of, node_new, node_of, node_gone}
 use Rattle.ledger.specs.Told.{IsTold}
 use Rattle.ledger.proofs.Included.{cases_name, put_here, put_away, out_away}
 use Rattle.ledger.proofs.Events.{by_test}
@@ -112,16 +107,10 @@ module _ (s : State) (each : EachCountsOnce s) where
       (λ _. marked (with_pod s uid (named s known)) uid (named s known) refl refl (of_known uid known is))
       (λ _. stood s.of_pods.lists version uid node request)
 
-  gone_left : (version : Version) (uid : Name) (request : Request) → EachCountsOnce (leaves s version uid request).state
-  gone_left version uid request =
-      by_test EachCountsOnce (is_too_much s.cluster (PodLeft (next_version s.cluster) uid)) _ _
-      (λ _. each)
-      (λ _. unplaced (with_pod (record s { cluster = changed s.cluster (PodLeft (next_version s.cluster) uid) }) uid (at_stage s.of_pods.lists version (Waits request))) uid (at_stage s.of_pods.lists version (Waits request)) request refl refl refl)
-
   waited_at : (version : Version) (uid : Name) (request : Request) (known : Known) (stage : Stage) → get s.pods uid ≡ Some known → known.stage ≡ stage → EachCountsOnce (waits_at s version uid request stage).state
   waited_at version uid request known (Waits before) is at = marked (with_pod s uid (at_stage s.of_pods.lists version (Waits request))) uid (at_stage s.of_pods.lists version (Waits request)) refl refl (at_stage_of uid known (Waits before) is at)
   waited_at version uid request known (Asked before ticket asking) is at = marked (with_pod s uid (at_stage s.of_pods.lists version (Asked before ticket asking))) uid (at_stage s.of_pods.lists version (Asked before ticket asking)) refl refl (at_stage_of uid known (Asked before ticket asking) is at)
-  waited_at version uid request known Stands is at = gone_left version uid request
+  waited_at version uid request known Stands is at = marked (with_pod s uid (at_stage s.of_pods.lists version Stands)) uid (at_stage s.of_pods.lists version Stands) refl refl (at_stage_of uid known Stands is at)
 
   waited_first : (version : Version) (uid : Name) (request : Request) → get s.pods uid ≡ None → EachCountsOnce (waits_first s version uid request).state
   waited_first version uid request new =

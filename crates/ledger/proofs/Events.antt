@@ -1,5 +1,5 @@
 -- What a ledger has of a world stays so by each event.
-use Rattle.std.proofs.Common.{◌≡◌, inl, inr, ℕ, ◌<◌, Bool, true, false, ◌||◌, List, Option, None, Some, is_some, refl, sym, ap, subst, ◌∙◌, arith}
+use Rattle.std.proofs.Common.{◌≡◌, inl, inr, ℕ, Bool, true, false, ◌||◌, List, Option, None, Some, is_some, refl, sym, ap, subst, ◌∙◌, arith}
 use Rattle.std.specs.Prelude.{if◌then◌else◌, ◌==◌, nat_le}
 use Rattle.std.specs.FinMap.{get, insert, remove, contains_key}
 use Rattle.std.proofs.lemmas.Bool.Decides.{nat_tests}
@@ -29,7 +29,7 @@ use Rattle.ledger.specs.declared.known.Stage.{Stage}
 use Rattle.ledger.specs.declared.known.Stage.TheVariants.{Waits, Asked, Stands}
 use Rattle.ledger.specs.Lists.{has_place}
 use Rattle.ledger.specs.State.{State}
-use Rattle.ledger.specs.Telling.{Became, next_version, is_too_much, changed, named, with_pod, at_stage, fallen_short, stands_new, stands_of, stands, leaves, waits_at, waits_first, waits_of, waits, without_pod, without_place, gone_at, gone_of, gone, asking_after, answered_at, answered_of, answered, given_up, read_in_doubt, read_at, read_of, read, with_node, node_new, node_of, node_told, node_gone}
+use Rattle.ledger.specs.Telling.{Became, next_version, is_too_much, changed, named, with_pod, at_stage, fallen_short, stands_new, stands_of, stands, waits_at, waits_first, waits_of, waits, without_pod, without_place, gone_at, gone_of, gone, asking_after, answered_at, answered_of, answered, given_up, read_in_doubt, read_at, read_of, read, with_node, node_new, node_of, node_told, node_gone}
 use Rattle.ledger.proofs.Included.{cases_name, put_here, put_away, out_away}
 use Rattle.ledger.proofs.Holding.{Counts, Holds, IsNoSurer, kept, put, out}
 
@@ -87,19 +87,10 @@ module _ (expected : Places) (room : List ℕ → Res) where
 
     -- ---- a pod has none
 
-    left : (version : Version) (uid : Name) (request : Request) → get expected uid ≡ None → Hold (leaves s version uid request).state
-    left version uid request off =
-        by_test Hold (is_too_much s.cluster (PodLeft (next_version s.cluster) uid)) _ _
-        (λ _. short)
-        (λ _. out s (with_pod (record s { cluster = changed s.cluster (PodLeft (next_version s.cluster) uid) }) uid (at_stage s.of_pods.lists version (Waits request))) expected room h refl same_flags uid refl
-        (λ v other. put_away s.pods uid (at_stage s.of_pods.lists version (Waits request)) v other)
-        (λ k is has. let k_is : at_stage s.of_pods.lists version (Waits request) ≡ k = let both : Some (at_stage s.of_pods.lists version (Waits request)) ≡ Some k = sym (put_here s.pods uid (at_stage s.of_pods.lists version (Waits request))) ∙ is in cc in waiting request (ap (λ k. has_place k.stage) k_is ∙ has))
-        off)
-
-    waited_at : (version : Version) (uid : Name) (request : Request) (known : Known) (stage : Stage) → get s.pods uid ≡ Some known → known.stage ≡ stage → (stage ≡ Stands → get expected uid ≡ None) → Hold (waits_at s version uid request stage).state
-    waited_at version uid request known (Waits before) is at off = mark uid (at_stage s.of_pods.lists version (Waits request)) (λ has. absurd (waiting request has))
-    waited_at version uid request known (Asked before ticket asking) is at off = mark_same uid known (at_stage s.of_pods.lists version (Asked before ticket asking)) is (sym at)
-    waited_at version uid request known Stands is at off = left version uid request (off refl)
+    waited_at : (version : Version) (uid : Name) (request : Request) (known : Known) (stage : Stage) → get s.pods uid ≡ Some known → known.stage ≡ stage → Hold (waits_at s version uid request stage).state
+    waited_at version uid request known (Waits before) is at = mark uid (at_stage s.of_pods.lists version (Waits request)) (λ has. absurd (waiting request has))
+    waited_at version uid request known (Asked before ticket asking) is at = mark_same uid known (at_stage s.of_pods.lists version (Asked before ticket asking)) is (sym at)
+    waited_at version uid request known Stands is at = mark_same uid known (at_stage s.of_pods.lists version Stands) is (sym at)
 
     waited_first : (version : Version) (uid : Name) (request : Request) → Hold (waits_first s version uid request).state
     waited_first version uid request =
@@ -107,18 +98,15 @@ module _ (expected : Places) (room : List ℕ → Res) where
         (λ _. h)
         (λ _. mark uid (at_stage s.of_pods.lists version (Waits request)) (λ has. absurd (waiting request has)))
 
-    newer : (a b : ℕ) → nat_le a b ≡ false → b < a
-    newer a b e = grind (arith, nat_tests, e)
-
-    waited_of : (version : Version) (uid : Name) (request : Request) (o : Option Known) → get s.pods uid ≡ o → ((k : Known) → o ≡ Some k → k.stage ≡ Stands → k.version.0 < version.0 → get expected uid ≡ None) → Hold (waits_of s version uid request o).state
-    waited_of version uid request None is off = waited_first version uid request
-    waited_of version uid request (Some known) is off =
+    waited_of : (version : Version) (uid : Name) (request : Request) (o : Option Known) → get s.pods uid ≡ o → Hold (waits_of s version uid request o).state
+    waited_of version uid request None is = waited_first version uid request
+    waited_of version uid request (Some known) is =
         by_test Hold (nat_le version.0 known.version.0) _ _
         (λ _. mark_same uid known (named s known) is refl)
-        (λ late. waited_at version uid request known known.stage is refl (λ stands. off known refl stands (newer version.0 known.version.0 late)))
+        (λ late. waited_at version uid request known known.stage is refl)
 
-    pub by_waits : (version : Version) (uid : Name) (request : Request) → ((k : Known) → get s.pods uid ≡ Some k → k.stage ≡ Stands → k.version.0 < version.0 → get expected uid ≡ None) → Hold (waits s version uid request).state
-    by_waits version uid request off = waited_of version uid request (get s.pods uid) refl off
+    pub by_waits : (version : Version) (uid : Name) (request : Request) → Hold (waits s version uid request).state
+    by_waits version uid request = waited_of version uid request (get s.pods uid) refl
 
     -- ---- a pod is gone
 

@@ -1,7 +1,7 @@
 -- A bind is granted where it may be asked for, and nowhere else.
-use Rattle.std.proofs.Common.{◌≡◌, ◌≢◌, ℕ, Bool, true, false, not, ◌&&◌, ◌||◌, List, Option, None, Some, is_some, refl, sym, ap, subst, ◌∙◌, arith}
-use Rattle.std.specs.Prelude.{if◌then◌else◌, nat_le, is_ok}
-use Rattle.std.specs.FinMap.{FinMap, get, contains_key}
+use Rattle.std.proofs.Common.{◌≡◌, Bool, true, false, Option, None, Some, refl, sym, ap, subst, ◌∙◌, arith}
+use Rattle.std.specs.Prelude.{if◌then◌else◌, is_ok}
+use Rattle.std.specs.FinMap.{get}
 use Rattle.quant.specs.declared.amount.Request.{Request}
 use Rattle.quant.specs.declared.name.Name.{Name}
 use Rattle.quant.specs.declared.objects.Node.{Node as Row}
@@ -11,7 +11,6 @@ use Rattle.book.specs.Cluster.{Cluster}
 use Rattle.book.specs.Step.{refusal, effect, next_ticket, are_tickets_gone}
 use Rattle.book.specs.Tables.{is_full_for}
 use Rattle.book.specs.Used.{used}
-use Rattle.book.specs.declared.place.Place.{Place}
 use Rattle.book.specs.declared.refusal.Refusal.{Refusal}
 use Rattle.book.specs.declared.step.ClusterStep.TheVariants.{Assume}
 use Rattle.book.specs.declared.step.Entry.TheVariants.{Held}
@@ -22,9 +21,9 @@ use Rattle.ledger.specs.declared.known.Asking.TheVariants.{Sent}
 use Rattle.ledger.specs.declared.known.Known.{Known}
 use Rattle.ledger.specs.declared.known.Stage.{Stage}
 use Rattle.ledger.specs.declared.known.Stage.TheVariants.{Waits, Asked, Stands}
-use Rattle.ledger.specs.Laws.{EachCountsOnce, MayBind, IsGrantRight, IsPlacedAs}
+use Rattle.ledger.specs.Laws.{EachCountsOnce, MayBind, IsGrantRight}
 use Rattle.ledger.specs.State.{State, is_open}
-use Rattle.ledger.specs.Telling.{Became, became, bind_at, bind_of, bind, with_pod}
+use Rattle.ledger.specs.Telling.{Became, became, bind_at, bind_of, with_pod}
 use Rattle.ledger.specs.Told.{IsTold}
 use Rattle.ledger.proofs.Counting.{at_stage_of}
 use Rattle.ledger.proofs.Worlds.{row_with}
@@ -56,13 +55,16 @@ module _ (s : State) (each : EachCountsOnce s) (uid node : Name) (answer : Answe
   right_if opened known there request at None none is =
       let rooms = has_room s.cluster uid node request none in
       record {
-        only = λ ticket granted. (request, record {
-          opened = opened;
-          waits = (known, there, at);
-          fits = row_with s.cluster uid node request none (get s.cluster.nodes node) refl;
-          room = rooms.0;
-          tickets = rooms.1;
-        });
+        only = λ ticket granted. (
+          request,
+          record {
+            opened = opened;
+            waits = (known, there, at);
+            fits = row_with s.cluster uid node request none (get s.cluster.nodes node) refl;
+            room = rooms.0;
+            tickets = rooms.1;
+          },
+        );
         where_it_may = λ request may. (next_ticket s.cluster, is);
       }
   right_if opened known there request at (Some why) refused is = record {

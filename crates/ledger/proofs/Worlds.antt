@@ -248,7 +248,7 @@ module _ (w w' : World) (good : IsGood w) where
   by_told (Hears kind) answer t = carried t.standing t.room t.expected (after_told _ answer (by_hears kind) t.told)
   by_told (Node version node) answer t = carried t.standing t.room t.expected (after_told _ answer (by_node w.expected w.room w.known good.holds version node t.owed) t.told)
   by_told (NodeGone name) answer t = carried t.standing t.room t.expected (after_told _ answer (by_node_gone w.expected w.room w.known good.holds name) t.told)
-  by_told (PodWaits version uid request) answer t = carried t.standing t.room t.expected (after_told _ answer (by_waits w.expected w.room w.known good.holds version uid request t.owed) t.told)
+  by_told (PodWaits version uid request) answer t = carried t.standing t.room t.expected (after_told _ answer (by_waits w.expected w.room w.known good.holds version uid request) t.told)
   by_told (PodStands version uid node request) answer t = carried t.standing t.room t.expected (after_told _ answer (by_stands w.expected w.room w.known good.holds version uid node request t.owed) t.told)
   by_told (PodGone uid) answer t = carried t.standing t.room t.expected (after_told _ answer (by_gone w.expected w.room w.known good.holds uid t.owed) t.told)
   by_told Rested answer t = carried t.standing t.room t.expected (after_told _ answer by_rested t.told)

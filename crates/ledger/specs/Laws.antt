@@ -1,5 +1,5 @@
 -- What holds whatever is told, in whatever order.
-use Rattle.std.specs.Prelude.{◌≡◌, ℕ, Bool, true, false, List, [], ◌∷◌, Option, None, Some, is_ok}
+use Rattle.std.specs.Prelude.{◌≡◌, ℕ, true, false, List, [], ◌∷◌, Option, None, Some, is_ok}
 use Rattle.std.specs.FinMap.{get}
 use Rattle.quant.specs.declared.amount.Request.{Request}
 use Rattle.quant.specs.declared.name.Name.{Name}

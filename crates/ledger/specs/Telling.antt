@@ -89,20 +89,12 @@ stands_of s version uid node request (Some known) =
 abbrev pub stands : State → Version → Name → Name → Request → Became
 stands s version uid node request = stands_of s version uid node request (get s.pods uid)
 
--- the pod has no node any more
-abbrev pub leaves : State → Version → Name → Request → Became
-leaves s version uid request =
-    let change : Change = PodGone (next_version s.cluster) uid in
-    if is_too_much s.cluster change
-    then became Full (fallen_short s)
-    else became Told (with_pod (record s { cluster = changed s.cluster change }) uid (at_stage s.of_pods.lists version (Waits request)))
-
 -- the pod has no node. A bind of it stays open: the server may bind it yet, or has, and nothing was
--- heard of that
+-- heard of that. And nothing takes its node from a pod but its end
 abbrev pub waits_at : State → Version → Name → Request → Stage → Became
 waits_at s version uid request (Waits before) = became Told (with_pod s uid (at_stage s.of_pods.lists version (Waits request)))
 waits_at s version uid request (Asked before ticket asking) = became Told (with_pod s uid (at_stage s.of_pods.lists version (Asked before ticket asking)))
-waits_at s version uid request Stands = leaves s version uid request
+waits_at s version uid request Stands = became Told (with_pod s uid (at_stage s.of_pods.lists version Stands))
 
 -- a pod that wasn't known has no node
 abbrev pub waits_first : State → Version → Name → Request → Became

@@ -1,12 +1,11 @@
 -- The API server, and the ledger of the one who binds pods to its nodes: what may happen there, what
 -- may be told of it, and when, and that no node is ever overfull.
-use Rattle.std.specs.Prelude.{◌≡◌, ◌<◌, ℕ, true, false, ◌&&◌, ◌==◌, List, [], ◌∷◌, None, Some}
+use Rattle.std.specs.Prelude.{◌≡◌, ℕ, true, false, ◌&&◌, ◌==◌, List, [], ◌∷◌, None, Some}
 use Rattle.std.specs.FinMap.{get, insert, remove}
 use Rattle.quant.specs.declared.amount.Request.{Request}
 use Rattle.quant.specs.declared.amount.Res.{Res}
 use Rattle.quant.specs.declared.name.Name.{Name}
 use Rattle.quant.specs.declared.version.Ticket.{Ticket}
-use Rattle.quant.specs.declared.version.Version.{Version}
 use Rattle.book.specs.Cluster.{Places}
 use Rattle.book.specs.Totals.{IsWithin}
 use Rattle.book.specs.Used.{used}
@@ -15,13 +14,13 @@ use Rattle.book.specs.declared.place.Place.{Place}
 use Rattle.ledger.specs.declared.event.Answer.{Answer}
 use Rattle.ledger.specs.declared.event.Answer.TheVariants.{Granted}
 use Rattle.ledger.specs.declared.event.Event.{Event}
-use Rattle.ledger.specs.declared.event.Event.TheVariants.{ListEnds, Node, Waits as PodWaits, Stands as PodStands, Gone as PodGone, Bind, Read}
+use Rattle.ledger.specs.declared.event.Event.TheVariants.{ListEnds, Node, Stands as PodStands, Gone as PodGone, Bind, Read}
 use Rattle.ledger.specs.declared.event.Kind.TheVariants.{Pods}
 use Rattle.ledger.specs.declared.event.Said.{Said}
 use Rattle.ledger.specs.declared.event.Said.TheVariants.{Waits as SaidWaits, Stands as SaidStands, Gone as SaidGone}
 use Rattle.ledger.specs.declared.known.Asking.TheVariants.{InDoubt}
 use Rattle.ledger.specs.declared.known.Known.{Known}
-use Rattle.ledger.specs.declared.known.Stage.TheVariants.{Asked, Stands}
+use Rattle.ledger.specs.declared.known.Stage.TheVariants.{Asked}
 use Rattle.ledger.specs.Lists.{has_place}
 use Rattle.ledger.specs.State.{State, opening}
 use Rattle.ledger.specs.Told.{IsTold}
@@ -58,10 +57,6 @@ IsWhere w uid node request = (p : Place) → get w.expected uid ≡ Some p → (
 abbrev pub IsOff : World → Name → Type 0
 IsOff w uid = get w.expected uid ≡ None
 
--- what was told of a pod is at this stage, and older than this
-abbrev pub IsNewOf : World → Name → Version → Type 0
-IsNewOf w uid version = (k : Known) → get w.known.pods uid ≡ Some k → k.stage ≡ Stands → k.version.0 < version.0 → IsOff w uid
-
 -- a bind of a pod is in doubt
 abbrev pub IsInDoubt : World → Name → Ticket → Type 0
 IsInDoubt w uid ticket = (k : Known) × (request : Request) × (get w.known.pods uid ≡ Some k) × (k.stage ≡ Asked request ticket InDoubt)
@@ -93,7 +88,6 @@ pub record IsWholeList (w : World) : Type 0 where
 -- what is told is so
 abbrev pub IsOwed : World → Event → Type 0
 IsOwed w (PodStands version uid node request) = IsWhere w uid node request
-IsOwed w (PodWaits version uid request) = IsNewOf w uid version
 IsOwed w (PodGone uid) = IsOff w uid
 IsOwed w (Read uid ticket said) = IsInDoubt w uid ticket → IsReadRight w uid said
 IsOwed w (ListEnds Pods) = IsWholeList w

@@ -4,7 +4,7 @@ ghost use Rattle.std.specs.FinMap as fin;
 ghost use Rattle.std.specs.FinMap.{contains_key};
 ghost use Rattle.book.specs.Tables.{is_full_for};
 ghost use Rattle.ledger.specs.declared.event.Answer.TheVariants as answer;
-ghost use Rattle.ledger.specs.Telling.{became, named, at_stage, with_pod, fallen_short, stands, stands_new, waits, waits_at, waits_first, leaves, gone, gone_at};
+ghost use Rattle.ledger.specs.Telling.{became, named, at_stage, with_pod, fallen_short, stands, stands_new, waits, waits_at, waits_first, gone, gone_at};
 
 use crate::event::Answer;
 use crate::known::{Known, LeftOut, Stage};
@@ -81,32 +81,17 @@ impl Ledger {
         self.keep(uid, version, self.of_pods.lists, Stage::Waits(request))
     }
 
-    // A pod that is known at a stage has no node.
+    // A pod that is known at a stage is told to have no node. Nothing takes its node from a pod but
+    // its end.
     fn waits_at(&mut self, version: Version, uid: Name, request: Request, stage: Stage) -> Answer
         requires { contains_key self.old.pods uid ≡ true }
         ensures { became result self.new ≡ waits_at self.old version uid request stage }
     {
         let stage = match stage {
             Stage::Waits(_) => Stage::Waits(request),
-            Stage::Asked { .. } => stage,
-            Stage::Stands => return self.leaves(version, uid, request),
+            Stage::Asked { .. } | Stage::Stands => stage,
         };
         self.keep(uid, version, self.of_pods.lists, stage)
-    }
-
-    // A pod that stood on a node has none.
-    fn leaves(&mut self, version: Version, uid: Name, request: Request) -> Answer
-        requires { contains_key self.old.pods uid ≡ true }
-        ensures { became result self.new ≡ leaves self.old version uid request }
-    {
-        let change = Change::PodGone {
-            version: next_version(&self.book),
-            uid: uid.copied(),
-        };
-        if !take(&mut self.book, change) {
-            return self.fall_short();
-        }
-        self.keep(uid, version, self.of_pods.lists, Stage::Waits(request))
     }
 
     /// A pod is gone.

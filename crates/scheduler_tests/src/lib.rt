@@ -14,6 +14,7 @@
 //! - `name_table`: `names`
 //! - `queue`: `waiting`
 //! - `book`: `expiry`
+//! - `ledger`: `ledgers`
 //! - `desk`: `steps` by one pass, `sharing` by several, `at_once` in threads, `looks`
 //! - `choose`: `decisions` on one or two nodes, `choices` by a look; `cases` has their nodes and
 //!   pods in short
@@ -37,6 +38,8 @@ mod choices;
 mod decisions;
 #[cfg(test)]
 mod expiry;
+#[cfg(test)]
+mod ledgers;
 #[cfg(test)]
 mod looks;
 #[cfg(test)]
