@@ -30,6 +30,7 @@ use Rattle.ledger.specs.declared.known.Stage.TheVariants.{Waits, Asked, Stands}
 use Rattle.ledger.specs.Lists.{has_place}
 use Rattle.ledger.specs.State.{State}
 use Rattle.ledger.specs.Telling.{Became, next_version, is_too_much, changed, named, with_pod, at_stage, fallen_short, stands_new, stands_of, stands, waits_at, waits_first, waits_of, waits, without_pod, without_place, gone_at, gone_of, gone, asking_after, answered_at, answered_of, answered, given_up, read_in_doubt, read_at, read_of, read, with_node, node_new, node_of, node_told, node_gone}
+use Rattle.ledger.specs.World.{IsNoMore}
 use Rattle.ledger.proofs.Included.{cases_name, put_here, put_away, out_away}
 use Rattle.ledger.proofs.Holding.{Counts, Holds, IsNoSurer, kept, put, out}
 
@@ -69,20 +70,20 @@ module _ (expected : Places) (room : List ℕ → Res) where
 
     -- ---- a pod has a node
 
-    stood : (list : ℕ) (version : Version) (uid node : Name) (request : Request) → ((p : Place) → get expected uid ≡ Some p → (p.node ≡ node) × (p.request ≡ request)) → Hold (stands_new s list version uid node request).state
+    stood : (list : ℕ) (version : Version) (uid node : Name) (request : Request) → ((p : Place) → get expected uid ≡ Some p → (p.node ≡ node) × IsNoMore p.request request) → Hold (stands_new s list version uid node request).state
     stood list version uid node request right =
         by_test Hold (is_full_for s.pods s.room uid || is_too_much s.cluster (PodBound (next_version s.cluster) uid node request)) _ _
         (λ _. short)
         (λ _. put s (with_pod (record s { cluster = changed s.cluster (PodBound (next_version s.cluster) uid node request) }) uid (at_stage list version Stands)) expected room h refl same_flags uid (record { node = node; request = request; status = Bound }) (at_stage list version Stands) refl refl right)
 
-    stood_of : (version : Version) (uid node : Name) (request : Request) (o : Option Known) → get s.pods uid ≡ o → ((p : Place) → get expected uid ≡ Some p → (p.node ≡ node) × (p.request ≡ request)) → Hold (stands_of s version uid node request o).state
+    stood_of : (version : Version) (uid node : Name) (request : Request) (o : Option Known) → get s.pods uid ≡ o → ((p : Place) → get expected uid ≡ Some p → (p.node ≡ node) × IsNoMore p.request request) → Hold (stands_of s version uid node request o).state
     stood_of version uid node request None is right = stood s.of_pods.lists version uid node request right
     stood_of version uid node request (Some known) is right =
         by_test Hold (nat_le version.0 known.version.0) _ _
         (λ _. mark_same uid known (named s known) is refl)
         (λ _. stood s.of_pods.lists version uid node request right)
 
-    pub by_stands : (version : Version) (uid node : Name) (request : Request) → ((p : Place) → get expected uid ≡ Some p → (p.node ≡ node) × (p.request ≡ request)) → Hold (stands s version uid node request).state
+    pub by_stands : (version : Version) (uid node : Name) (request : Request) → ((p : Place) → get expected uid ≡ Some p → (p.node ≡ node) × IsNoMore p.request request) → Hold (stands s version uid node request).state
     by_stands version uid node request right = stood_of version uid node request (get s.pods uid) refl right
 
     -- ---- a pod has none
@@ -161,7 +162,7 @@ module _ (expected : Places) (room : List ℕ → Res) where
     -- what is owed of a read
     abbrev IsRight : Name → Said → Type 0
     IsRight uid SaidWaits = get expected uid ≡ None
-    IsRight uid (SaidStands version node request) = (p : Place) → get expected uid ≡ Some p → (p.node ≡ node) × (p.request ≡ request)
+    IsRight uid (SaidStands version node request) = (p : Place) → get expected uid ≡ Some p → (p.node ≡ node) × IsNoMore p.request request
     IsRight uid SaidGone = get expected uid ≡ None
 
     gives_up : (uid : Name) (ticket : Ticket) (known : Known) (request : Request) → get expected uid ≡ None → Hold (given_up s uid ticket known request).state

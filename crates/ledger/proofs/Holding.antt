@@ -10,7 +10,7 @@ use Rattle.book.specs.declared.place.Place.{Place}
 use Rattle.ledger.specs.declared.known.Known.{Known}
 use Rattle.ledger.specs.Lists.{has_place}
 use Rattle.ledger.specs.State.{State}
-use Rattle.ledger.proofs.Included.{cases_name, put_here, put_away, out_away, IsSamePlace}
+use Rattle.ledger.proofs.Included.{cases_name, put_here, put_away, out_away, IsSamePlace, same_itself}
 
 -- a pod counts somewhere
 abbrev pub Counts : State → List ℕ → Type 0
@@ -83,7 +83,7 @@ module _ (s s' : State) (expected : Places) (room : List ℕ → Res) (h : Holds
             | inl here ↦
                 let q_is : place ≡ q = let both : Some place ≡ Some q = sym place_here ∙ ap (get s'.cluster.places) (sym here) ∙ is in cc in
                 let p_is : place ≡ p = let both : Some place ≡ Some p = sym (put_here expected uid place) ∙ ap (get (insert expected uid place)) (sym here) ∙ there in cc in
-                (ap (λ r. r.node) (sym p_is ∙ q_is), ap (λ r. r.request) (sym p_is ∙ q_is))
+                subst (IsSamePlace p) (sym p_is ∙ q_is) (same_itself p)
             | inr other ↦ h.same v p q (sym (put_away expected uid place v other.1) ∙ there) (sym (place_away v other.1) ∙ is)
           ];
       covered = λ listed whole v p there.

@@ -10,6 +10,7 @@ use Rattle.book.specs.Cluster.{name_cmp, Places}
 use Rattle.book.specs.Totals.{IsWithin}
 use Rattle.book.specs.Used.{share, used}
 use Rattle.book.specs.declared.place.Place.{Place}
+use Rattle.ledger.specs.World.{IsNoMore}
 use Rattle.book.proofs.SumLemmas.{of_option, sum_remove, entries_empty, get_removed}
 use Rattle.book.proofs.TableLemmas.{same_test}
 
@@ -85,16 +86,20 @@ module _ {X : Type 0} (number : X → ℕ) where
       omega (arith, ap total empty, ap (λ es. sum_by number (values_of es)) (entries_empty X))
   sum_within (suc left) m n some less = by_entries left m n some less (sum_within left) (fin.entries m) refl
 
--- one place is where another is, and takes as much
+-- one place is where another is, and takes no more
 abbrev pub IsSamePlace : Place → Place → Type 0
-IsSamePlace p q = (p.node ≡ q.node) × (p.request ≡ q.request)
+IsSamePlace p q = (p.node ≡ q.node) × IsNoMore p.request q.request
+
+-- as a place is itself
+pub same_itself : (p : Place) → IsSamePlace p p
+same_itself p = (refl, record { cpu = omega arith; mem = omega arith })
 
 -- each place of the one map is in the other
 abbrev pub IsIn : Places → Places → Type 0
 IsIn m n = (uid : List ℕ) (p : Place) → fin.get m uid ≡ Some p → (q : Place) × (fin.get n uid ≡ Some q) × IsSamePlace p q
 
 module _ (m n : Places) (inside : IsIn m n) where
-  less_at : (number : Place → ℕ) → ((p q : Place) → IsSamePlace p q → number p ≡ number q) → (uid : List ℕ) → of_option number (fin.get m uid) ≤ of_option number (fin.get n uid)
+  less_at : (number : Place → ℕ) → ((p q : Place) → IsSamePlace p q → number p ≤ number q) → (uid : List ℕ) → of_option number (fin.get m uid) ≤ of_option number (fin.get n uid)
   less_at number alike uid = by (fin.get m uid) refl
     where
       by : (o : Option Place) → fin.get m uid ≡ o → of_option number (fin.get m uid) ≤ of_option number (fin.get n uid)
@@ -103,13 +108,13 @@ module _ (m n : Places) (inside : IsIn m n) where
           let there = inside uid p is in
           omega (arith, ap (of_option number) is, ap (of_option number) there.1, alike p there.0 there.2)
 
-  share_alike : (node : List ℕ) (p q : Place) → IsSamePlace p q → share node p ≡ share node q
-  share_alike node p q same = grind (arith, same.0, same.1)
+  share_less : (node : List ℕ) (p q : Place) → IsSamePlace p q → IsWithin (share node p) (share node q)
+  share_less node p q same = record { cpu = grind (arith, same.0, same.1.cpu); mem = grind (arith, same.0, same.1.mem); pods = grind (arith, same.0) }
 
   -- what is used by places is within what is used by more
   pub used_within : (node : List ℕ) → IsWithin (used m node) (used n node)
   used_within node = record {
-    cpu = sum_within (λ p. (share node p).cpu.0) (fin.len m) m n refl (less_at (λ p. (share node p).cpu.0) (λ p q same. ap (λ r. r.cpu.0) (share_alike node p q same)));
-    mem = sum_within (λ p. (share node p).mem.0) (fin.len m) m n refl (less_at (λ p. (share node p).mem.0) (λ p q same. ap (λ r. r.mem.0) (share_alike node p q same)));
-    pods = sum_within (λ p. (share node p).pods) (fin.len m) m n refl (less_at (λ p. (share node p).pods) (λ p q same. ap (λ r. r.pods) (share_alike node p q same)));
+    cpu = sum_within (λ p. (share node p).cpu.0) (fin.len m) m n refl (less_at (λ p. (share node p).cpu.0) (λ p q same. (share_less node p q same).cpu));
+    mem = sum_within (λ p. (share node p).mem.0) (fin.len m) m n refl (less_at (λ p. (share node p).mem.0) (λ p q same. (share_less node p q same).mem));
+    pods = sum_within (λ p. (share node p).pods) (fin.len m) m n refl (less_at (λ p. (share node p).pods) (λ p q same. (share_less node p q same).pods));
   }

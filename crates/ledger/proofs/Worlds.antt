@@ -39,7 +39,7 @@ use Rattle.ledger.specs.Hearing.{heard, with_heard, is_last, list_begins, deaf, 
 use Rattle.ledger.specs.State.{State, opening, is_open}
 use Rattle.ledger.specs.Telling.{Became, became, bind_waiting, bind_at, bind_of, bind, with_pod}
 use Rattle.ledger.specs.World.{World, Move, Tells, Lands, Ends, Lapses, Grows, Restarts, IsOwed, IsExpected, IsToldIn, IsMove, IsRoomy, IsBegin, Leads}
-use Rattle.ledger.proofs.Included.{cases_name, put_here, put_away, out_away, IsIn, used_within}
+use Rattle.ledger.proofs.Included.{cases_name, put_here, put_away, out_away, same_itself, IsIn, used_within}
 use Rattle.ledger.proofs.Holding.{Holds, IsNoSurer, kept, grant}
 use Rattle.ledger.proofs.Events.{by_test, by_stands, by_waits, by_gone, by_answer, by_read, by_node, by_node_gone}
 use Rattle.ledger.proofs.Ends.{by_nodes_end, by_pods_end}
@@ -275,7 +275,7 @@ module _ (s : State) (expected fewer : Places) (room : List ℕ → Res) (less :
   }
 
   fewer_used : HasRoom expected room → HasRoom fewer room
-  fewer_used roomy node = within_all _ _ _ (used_within fewer expected (λ uid p there. (p, less uid p there, (refl, refl))) node) (roomy node)
+  fewer_used roomy node = within_all _ _ _ (used_within fewer expected (λ uid p there. (p, less uid p there, same_itself p)) node) (roomy node)
 
 -- what is left once a name is taken out was there
 left_of : (m : Places) (uid v : Name) (p : Place) → get (remove m uid) v ≡ Some p → (get m v ≡ Some p) × (bytes_eq v uid ≡ false)
@@ -357,4 +357,4 @@ all_good w (move ∷ moves) w' good next = all_good next.0 moves w' (moved w goo
 pub never_over : (w : World) (moves : List Move) (w' : World) → IsBegin w → Leads w moves w' → (node : Name) → IsWithin (used w'.standing node) (w'.room node)
 never_over w moves w' b leads node =
     let good = all_good w moves w' (begun w b) leads in
-    within_all _ _ _ (used_within w'.standing w'.expected (λ uid p there. (p, good.within uid p there, (refl, refl))) node) (good.roomy node)
+    within_all _ _ _ (used_within w'.standing w'.expected (λ uid p there. (p, good.within uid p there, same_itself p)) node) (good.roomy node)

@@ -1,6 +1,6 @@
--- The API server, and the ledger of the one who binds pods to its nodes: what may happen there, what
--- may be told of it, and when, and that no node is ever overfull.
-use Rattle.std.specs.Prelude.{◌≡◌, ℕ, true, false, ◌&&◌, ◌==◌, List, [], ◌∷◌, None, Some}
+-- The API server, and the ledger of the only one who binds pods to some of its nodes: what may happen
+-- there, what may be told of it, and when, and that none of these nodes is ever overfull.
+use Rattle.std.specs.Prelude.{◌≡◌, ◌≤◌, ℕ, true, false, ◌&&◌, ◌==◌, List, [], ◌∷◌, None, Some}
 use Rattle.std.specs.FinMap.{get, insert, remove}
 use Rattle.quant.specs.declared.amount.Request.{Request}
 use Rattle.quant.specs.declared.amount.Res.{Res}
@@ -25,10 +25,10 @@ use Rattle.ledger.specs.Lists.{has_place}
 use Rattle.ledger.specs.State.{State, opening}
 use Rattle.ledger.specs.Told.{IsTold}
 
--- the server and the ledger, at a moment
+-- the server and the ledger, at a moment. Pods on other nodes are none of its business
 pub record World : Type 0 where
   pub known : State  -- what the ledger knows
-  pub standing : Places  -- the pods that have a node at the server, and what each takes there
+  pub standing : Places  -- the pods that stand on these nodes at the server, and what each takes there
   pub expected : Places  -- these, and the pods that a bind which was asked for may still put on a node
   pub room : List ℕ → Res  -- what each node has
 
@@ -49,9 +49,15 @@ pub data Move : Type 0 where
 
 -- ---- what is owed to the ledger, by who tells it
 
--- a pod that is told to stand on a node stands or comes to stand there and nowhere else, or has ended
+-- a request asks for no more than another
+pub record IsNoMore (a b : Request) : Type 0 where
+  pub cpu : a.cpu.0 ≤ b.cpu.0
+  pub mem : a.mem.0 ≤ b.mem.0
+
+-- a pod that is told to stand on a node, and to take so much there, stands or comes to stand there
+-- and nowhere else, and takes no more, or has ended
 abbrev pub IsWhere : World → Name → Name → Request → Type 0
-IsWhere w uid node request = (p : Place) → get w.expected uid ≡ Some p → (p.node ≡ node) × (p.request ≡ request)
+IsWhere w uid node request = (p : Place) → get w.expected uid ≡ Some p → (p.node ≡ node) × IsNoMore p.request request
 
 -- a pod neither stands nor can come to stand
 abbrev pub IsOff : World → Name → Type 0
