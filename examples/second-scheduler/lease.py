@@ -58,6 +58,8 @@ class Lease:
         self.since, self.holder = 0.0, ""
         # when it was renewed last, and what was said last of a failure
         self.renewed, self.fault = float("-inf"), ""
+        # who had it before, where that one didn't give it back
+        self.before = ""
 
     def follow(self) -> None:
         """Returns once this one has it."""
@@ -117,6 +119,8 @@ class Lease:
         """With the version that was read: of two that take it at once, one is refused."""
         is_new = not there or there.spec.holder_identity != self.identity
         had = there.spec if there else client.V1LeaseSpec()
+        if is_new:
+            self.before = had.holder_identity or ""
         spec = client.V1LeaseSpec(
             holder_identity=self.identity,
             lease_duration_seconds=SECONDS,
@@ -138,7 +142,7 @@ class Lease:
         self.fault = why
 
     def release(self) -> None:
-        """Gives it back at a clean end, so that another needn't wait until it has run out."""
+        """Gives it back at a clean end: so another needn't wait until it has run out, and knows that no bind is under way."""
         try:
             there = self.leases.read_namespaced_lease(self.name, self.namespace, _request_timeout=(2, 2))
             if there.spec.holder_identity == self.identity:

@@ -32,6 +32,7 @@ import rule_labels
 import serving
 import share
 import site_settings
+from binding import LANDS
 from core import CoreFault, command, try_on_nothing
 from health import Health
 from metrics import Metrics
@@ -79,6 +80,13 @@ def words() -> argparse.Namespace:
         help="the labels that rules read, of which none gives way where a pod or a node has more than a row has room for; others than modules name",
     )
     said.add_argument("--lease", type=lease.name_of, metavar="NAMESPACE/NAME", help="a Lease that replicas share: only the one that holds it schedules")
+    said.add_argument(
+        "--rest",
+        type=float,
+        default=LANDS,
+        metavar="SECONDS",
+        help="for how long nothing is listed and bound once another had the Lease and didn't give it back: a bind of its may still be done",
+    )
     said.add_argument("--listen", type=serving.address, metavar="[HOST]:PORT", help="serve /metrics, /healthz, /livez and /readyz there")
     said.add_argument("--tls-cert", metavar="FILE", help="serve them by TLS with this certificate, and what it is signed by behind it (PEM)")
     said.add_argument("--tls-key", metavar="FILE", help="the certificate's key, where it doesn't stand in the same file")
@@ -170,7 +178,7 @@ class Replica:
             if self.stop.is_set():
                 self.running.stopping.set()
             status = self.running.run()
-            if self.lease:
+            if self.lease and not self.running.under_way:
                 self.lease.release()
         except (CoreFault, OSError) as why:
             LOG.error("%s", why)
@@ -211,6 +219,11 @@ class Replica:
         self.lease.follow()
         for keeps in (self.lease.keep, self.lease.guard):
             threading.Thread(target=keeps, args=(self.lost,), daemon=True).start()
+        if self.lease.before and not self.given.dry_run:
+            # (what is listed after this has all that the other had asked for: a watch may be late)
+            rest = self.given.rest
+            LOG.warning("%s didn't give the lease back: nothing is listed for %g s, in which a bind of its may still be done", self.lease.before, rest)
+            self.stop.wait(rest)
         self.lead()
 
 

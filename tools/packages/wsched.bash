@@ -56,13 +56,13 @@ _wsched_beside() {
         --rules | --settings | --from | --page | --script) _wsched_files "$cur"; return ;;
         --kubeconfig | --record | --tls-cert | --tls-key | --client-ca | --token-file | --plugins | --wsched) _wsched_files "$cur"; return ;;
         --scheduler | --nodes | --labels | --most | -n | --namespace) return ;;
-        --workers | --binders | --share | --node-affinity | --lease | --listen | --max-stale) return ;;
+        --workers | --binders | --share | --node-affinity | --lease | --rest | --listen | --max-stale) return ;;
         --on-error) _wsched_options "error reject-node" "$cur"; return ;;
     esac
     case $name in
         wsched-scheduler)
             options="--scheduler --nodes --share --rules --settings --labels --node-affinity --plugins --wsched --workers --binders"
-            options="$options --kubeconfig --lease --listen --tls-cert --tls-key --token-file --record --dry-run --verbose --help" ;;
+            options="$options --kubeconfig --lease --rest --listen --tls-cert --tls-key --token-file --record --dry-run --verbose --help" ;;
         wsched-extender)
             options="--listen --on-error --max-stale --rules --settings --labels --wsched --workers --kubeconfig"
             options="$options --tls-cert --tls-key --client-ca --token-file --verbose --help" ;;

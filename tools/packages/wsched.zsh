@@ -51,6 +51,7 @@ _wsched() {
                 '--node-affinity[tell selectors and affinity, by this weight]:weight:' '--plugins[where node_affinity.wasm is]:folder:_files -/' \
                 '--wsched[the program]:file:_files' '--workers[how many share a decision]:number:' '--binders[binds at once]:number:' \
                 '--kubeconfig[the way to the API server]:file:_files' '--lease[that replicas share]:NAMESPACE/NAME:' \
+                '--rest[behind one that was killed]:seconds:' \
                 '--listen[serve metrics and health]:[HOST]\:PORT:' '--tls-cert[by TLS]:file:_files' '--tls-key[its key]:file:_files' \
                 '--token-file[whom metrics are for]:file:_files' '--record[what was told and answered]:file:_files' \
                 '--dry-run[write nothing to the cluster]' '--verbose[log more]' '--help[the words]' '*:plugin:_wsched_spec' ;;

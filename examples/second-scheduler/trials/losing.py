@@ -5,6 +5,7 @@ import re
 import signal
 import time
 
+from trials.held import Held
 from trials.site import Scheduler, Site
 from trials.store import Thing
 
@@ -104,4 +105,34 @@ def lease_quiet(site: Site) -> str:
     return f"{' and '.join(str(len(it)) for it in quiet)} lines in 20 s; {site.check()}"
 
 
-TRIALS = [lease_taken, lease_unrenewed, lease_asleep, lease_quiet]
+def lease_late(site: Site) -> str:
+    """A leader is killed while a bind of its is held back for 25 s, which is done all the same. The next has the Lease after 15 s and lists nothing for
+    20 more: so it counts that pod, and none of higher priority has its room. One that ends in good order is followed at once."""
+    site.node("a", cpu="1")
+    one = site.start("--lease", LEASE, "--rest", "20", name="one")
+    site.pod("before", cpu="10m")
+    site.wait(lambda: site.place("before"), 30, "it binds")
+    site.server.tests_version = False
+    hold = Held(25, "first")
+    site.server.refuse = hold
+    site.pod("first", cpu="600m")
+    site.wait(lambda: hold.when, 20, "the bind is under way")
+    one.end(signal.SIGKILL)
+    site.schedulers.remove(one)
+    site.pod("second", cpu="600m", priority=10)
+    other = site.start("--lease", LEASE, "--rest", "20", name="other")
+    site.wait(lambda: site.place("first"), 40, "the bind that was held is done")
+    assert site.place("second") is None, "the other gave its room to another pod"
+    site.pod("third", cpu="10m")
+    rested = site.wait(lambda: site.place("third"), 60, "the other leads")
+    assert "didn't give the lease back" in other.log(), "the log says nothing of it"
+    assert site.place("second") is None, f"both are on the node: {site.watcher().wrong}"
+    assert other.end() == 0
+    site.schedulers.remove(other)
+    site.pod("fourth", cpu="10m")
+    site.start("--lease", LEASE, name="last")
+    took = site.wait(lambda: site.place("fourth"), 20, "one that follows in good order binds at once")
+    return f"led {rested:.0f} s after the bind was done, and {took:.1f} s after a good end; {site.check()}"
+
+
+TRIALS = [lease_taken, lease_unrenewed, lease_asleep, lease_quiet, lease_late]

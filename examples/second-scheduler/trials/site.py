@@ -131,11 +131,16 @@ class Site:
     def start(self, *more: str, name: str = "scheduler", words: Sequence[str] = (), **other: Optional[str]) -> Scheduler:
         """Starts a scheduler with these words besides. Others may be: its `rule`, program `wsched`, kubeconfig `config`, its own `words`."""
         words = [*(words or [str(self.programs.client / "second_scheduler.py")]), "--kubeconfig", other.get("config") or str(self.kubeconfig)]
-        words += ["--wsched", other.get("wsched") or self.programs.wsched, *more, *filter(None, [other.get("rule")])]
+        words += ["--wsched", other.get("wsched") or self.programs.wsched, *more, *self.hurry(more), *filter(None, [other.get("rule")])]
         env = {key: value for key, value in os.environ.items() if not key.startswith("KUBERNETES_")} | {"PYTHONDONTWRITEBYTECODE": "1"}
         it = Scheduler(self.folder, name, words, env)
         self.schedulers.append(it)
         return it
+
+    def hurry(self, more: Sequence[str]) -> list[str]:
+        """The words by which one that follows another that was killed doesn't wait for that one's binds, where a trial isn't about that."""
+        knows = "--rest" in (self.programs.client / "second_scheduler.py").read_text(encoding="utf-8")
+        return ["--rest", "1"] if knows and "--lease" in more and "--rest" not in more else []
 
     def listening(self) -> list[str]:
         """The words by which the next one serves its metrics, on a port that is free just now; none for a client that has no such word."""
