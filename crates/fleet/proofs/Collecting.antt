@@ -1,6 +1,5 @@
 -- What is said of pieces, put together, and what that makes of the verdicts of one kit.
-use Rattle.std.proofs.Common.{◌≡◌, ℕ, zero, suc, ◌+◌, ◌-◌, ◌<◌, ◌≤◌, List, [], ◌∷◌, ◌++◌, length, map, take, drop, refl, ap, sym, ◌∙◌, subst}
-use Rattle.std.proofs.lemmas.List.{length-map}
+use Rattle.std.proofs.Common.{◌≡◌, ℕ, ◌+◌, ◌-◌, ◌<◌, ◌≤◌, List, [], ◌∷◌, ◌++◌, map, subst}
 use Rattle.quant.specs.declared.objects.Pod.{Pod}
 use Rattle.desk.specs.Shown.{Shown, shown}
 use Rattle.desk.specs.declared.snapshot.Row.{Row}
@@ -9,26 +8,10 @@ use Rattle.choose.specs.declared.decision.Verdict.{Verdict}
 use Rattle.choose.specs.declared.decision.Decision.{Decision}
 use Rattle.choose.specs.Choice.{judged, IsChoice, Choice, AreVerdicts}
 use Rattle.choose.proofs.Verdicts.{all_zip_append}
-use Rattle.fleet.specs.Pieces.{begins, places_of, nodes_of}
+use Rattle.pieces.specs.Pieces.{nodes_of}
 use Rattle.fleet.specs.Speaking.{SpeaksFor}
 use Rattle.fleet.specs.inside.Speaking.{AreSaid}
-use Rattle.fleet.proofs.Cutting.{nodes_of_both, nodes_of_all}
-
-map_take : {A B : Type 0} (f : A → B) (n : ℕ) (xs : List A) → map f (take n xs) ≡ take n (map f xs)
-map_take f zero xs = refl
-map_take f (suc n) [] = refl
-map_take f (suc n) (x ∷ xs) = ap (λ ys. f x ∷ ys) (map_take f n xs)
-
-map_drop : {A B : Type 0} (f : A → B) (n : ℕ) (xs : List A) → map f (drop n xs) ≡ drop n (map f xs)
-map_drop f zero xs = refl
-map_drop f (suc n) [] = refl
-map_drop f (suc n) (x ∷ xs) = map_drop f n xs
-
--- the nodes of some pieces, seen through something
-pub nodes_of_map : {A B : Type 0} (f : A → B) (xs : List A) (pieces first many : ℕ) → map f (nodes_of xs pieces first many) ≡ nodes_of (map f xs) pieces first many
-nodes_of_map f xs pieces first many =
-    subst (λ n. map f (nodes_of xs pieces first many) ≡ take (places_of n pieces first many) (drop (begins n pieces first) (map f xs))) (sym (length-map xs f))
-    (map_take f (places_of (length xs) pieces first many) (drop (begins (length xs) pieces first) xs) ∙ ap (take (places_of (length xs) pieces first many)) (map_drop f (begins (length xs) pieces first) xs))
+use Rattle.pieces.proofs.Cutting.{nodes_of_both, nodes_of_all}
 
 -- a kit's verdicts are said
 pub are_said : (Says : Pod → Shown → Verdict → Type 0) (rules : RuleSet) (pod : Pod) → SpeaksFor Says rules → (nodes : List Shown) (verdicts : List Verdict) → AreVerdicts rules pod nodes verdicts → AreSaid Says pod nodes verdicts
@@ -55,10 +38,6 @@ said_of_both Says pod nodes pieces first many vs ws some within here there =
 pub said_of_all : (Says : Pod → Shown → Verdict → Type 0) (pod : Pod) (nodes : List Shown) (pieces : ℕ) (vs : List Verdict) → 0 < pieces →
     AreSaid Says pod (nodes_of nodes pieces 0 pieces) vs → AreSaid Says pod nodes vs
 said_of_all Says pod nodes pieces vs some are = subst (λ ns. AreSaid Says pod ns vs) (nodes_of_all nodes pieces some) are
-
--- as many rows as are shown
-pub as_many : (rows : List Row) (nodes : List Shown) → map shown rows ≡ nodes → length rows ≡ length nodes
-as_many rows nodes is = sym (length-map rows shown) ∙ ap length is
 
 -- the verdicts on the rows decide
 pub choice_is : (rules : RuleSet) (rows : List Row) (nodes : List Shown) (pod : Pod) (verdicts : List Verdict) (decision : Decision) → map shown rows ≡ nodes →

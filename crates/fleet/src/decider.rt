@@ -5,11 +5,10 @@ ghost use Rattle.choose.specs.Choice.{AreRulings, AreVerdicts, Choice};
 ghost use Rattle.choose.specs.declared.decision.Verdict.{Verdict};
 ghost use Rattle.choose.specs.Kits.{rules_of};
 
-use crate::asked::Site;
-use crate::gate::Gate;
 use crate::pool::Pool;
 use choose::{Decider, Decision, NoMemory, Verdict};
 use desk::Snapshot;
+use pieces::{Gate, Site};
 use quant::SharedPod;
 use rules::Rules;
 use std::sync::Wait;

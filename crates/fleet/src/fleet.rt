@@ -5,10 +5,9 @@ ghost use Rattle.desk.specs.Shown.{shown};
 ghost use Rattle.choose.specs.Choice.{AreRulings, AreVerdicts, Choice};
 ghost use Rattle.choose.specs.Kits.{JudgeAlike, rules_of};
 
-use crate::gate::Gate;
-use crate::pieces::{Work, judge_pieces};
 use choose::{Decision, NoMemory, UNJUDGED, Verdict, decide, rule_on};
 use desk::{Row, Snapshot};
+use pieces::{Gate, Work, judge_pieces};
 use quant::Pod;
 use rules::Rules;
 use std::alloc::Global;

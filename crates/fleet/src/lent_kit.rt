@@ -3,17 +3,13 @@ ghost use Rattle.std.specs.Prelude.{◌≡◌, ◌+◌, ◌≤◌, length};
 ghost use Rattle.std.specs.Bool.{IsTrue};
 ghost use Rattle.std.specs.Arc.{arc_value};
 ghost use Rattle.choose.specs.Choice.{AreVerdicts};
-ghost use Rattle.fleet.specs.Pieces.{nodes_of};
-ghost use Rattle.fleet.specs.inside.Pieces.{ArePieces};
+ghost use Rattle.pieces.specs.Pieces.{nodes_of, ArePieces};
 ghost use Rattle.fleet.specs.Speaking.{SpeaksFor};
 ghost use Rattle.fleet.specs.inside.Speaking.{AreSaid};
 
-use crate::asked::{Order, Site};
-use crate::gate::Gate;
-use crate::message::{Done, Job};
-use crate::pieces::judge_asked;
 use crate::worker::Hand;
 use choose::{UNJUDGED, Verdict};
+use pieces::{Done, Gate, Job, Order, Site, judge_asked, take_verdicts};
 use rules::Rules;
 use std::alloc::Global;
 use std::marker::Model;
@@ -142,7 +138,7 @@ impl<J: Site, K: Rules + Drop> Helper<J, K> {
             self.hand = None;
             return false;
         };
-        let is_this = take(&done, order, piece, verdicts);
+        let is_this = take_verdicts(&done, order, piece, verdicts);
         let Done {
             kit,
             order: _,
@@ -194,30 +190,6 @@ impl<J: Site, K: Rules + Drop> Helper<J, K> {
     }
 }
 
-// Takes the verdicts of a result, if it is of this piece of what is asked, and says whether it is.
-fn take<J: Site, K: Rules + Drop>(
-    done: &Done<J, K>,
-    order: &Order<J>,
-    piece: usize,
-    verdicts: &mut [Verdict],
-) -> bool
-    ensures are { IsTrue result → AreVerdicts (K.answers done.now.kit) order.now.pod
-        (nodes_of order.now.snapshot order.now.pieces piece 1) verdicts.new }
-    ensures length { length verdicts.new ≡ length verdicts.old }
-{
-    if done.piece != piece {
-        return false;
-    }
-    if !order.is(&done.order) {
-        return false;
-    }
-    if done.verdicts.len() != verdicts.len() {
-        return false;
-    }
-    verdicts.copy_from_slice(done.verdicts.as_slice());
-    true
-}
-
 /// Judges a piece here, with one of the pool's kits.
 pub fn judge_said<J: Site, K: Rules, G: Gate>(
     order: &Order<J>,
@@ -235,7 +207,7 @@ pub fn judge_said<J: Site, K: Rules, G: Gate>(
 }
 
 /// Sends each helper its piece, from the second piece on.
-#[tactic(auto, using(crate::proofs::Cutting::begins_rise))]
+#[tactic(auto, using(pieces::proofs::Cutting::begins_rise))]
 pub fn send_all<J: Site, K: Rules + Drop, R: Wait>(
     rt: &R,
     alloc: Global,

@@ -6,12 +6,11 @@ ghost use Rattle.choose.specs.Choice.{Choice, AreRulings, AreVerdicts};
 ghost use Rattle.choose.specs.Kits.{rules_of};
 ghost use Rattle.fleet.specs.Speaking.{SpeaksFor};
 
-use crate::asked::{Asked, Blank, History, Order, Site};
 use crate::fleet::MAX_KITS;
-use crate::gate::Gate;
 use crate::lent_kit::{Helper, collect, judge_said, send_all};
 use choose::{Decision, NoMemory, UNJUDGED, Verdict, choose_alone, decide, judge, rule_on};
 use desk::Snapshot;
+use pieces::{Asked, Blank, Gate, History, Order, Site};
 use quant::SharedPod;
 use rules::Rules;
 use std::alloc::Global;

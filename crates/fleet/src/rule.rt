@@ -1,7 +1,6 @@
 //! The rule of a pool's channels: each kit in them is one of the pool's.
-use crate::asked::Site;
-use crate::message::{Done, Job};
 use crossbeam_channel::protocol::{Lesson, Outcome, Protocol, Split};
+use pieces::{Done, Job, Site};
 use rules::Rules;
 use std::marker::PhantomData;
 

@@ -4,11 +4,9 @@ ghost use Rattle.crossbeam_channel.specs.Claims.{IsSeatAt};
 ghost use Rattle.crossbeam_channel.specs.Ends.{sends_on, receives_on};
 ghost use Rattle.fleet.specs.Speaking.{SpeaksFor};
 
-use crate::asked::Site;
-use crate::gate::Gate;
-use crate::message::{Done, Job, judge_job};
 use crate::rule::{OfPool, Twin};
 use crossbeam_channel::{Pass, RuledReceiver, RuledSender, bounded_with};
+use pieces::{Done, Gate, Job, Site, judge_job};
 use rules::Rules;
 use std::alloc::{AllocError, Global};
 use std::sync::{Arc, Wait};

@@ -1,8 +1,8 @@
 use Rattle.std.proofs.Common.{◌≡◌, ℕ, ◌+◌, ◌-◌, length, arith, sym, subst}
-use Rattle.fleet.specs.Pieces.{places_of, nodes_of}
+use Rattle.pieces.specs.Pieces.{places_of, nodes_of}
 use Rattle.fleet.specs.Speaking.{SpeaksFor}
 use Rattle.fleet.specs.inside.Speaking.{AreSaid}
-use Rattle.fleet.proofs.Cutting.{back_pieces, front_within}
+use Rattle.pieces.proofs.Cutting.{back_pieces, front_within}
 use Rattle.fleet.proofs.Collecting.{said_of_both}
 use Rattle.fleet.proofs.lent_kit.+collect.Goals as goal
 

@@ -1,6 +1,6 @@
 use Rattle.std.proofs.Common.{subst}
 use Rattle.choose.specs.Choice.{AreVerdicts}
-use Rattle.fleet.specs.Pieces.{nodes_of}
+use Rattle.pieces.specs.Pieces.{nodes_of}
 use Rattle.fleet.proofs.Collecting.{are_said}
 use Rattle.fleet.proofs.lent_kit.judge_said.Goals as goal
 

@@ -1,7 +1,7 @@
 use Rattle.std.proofs.Common.{◌≡◌, ℕ, ◌-◌, ◌<◌, ◌++◌, length, subst, arith}
-use Rattle.fleet.specs.Pieces.{places_of, nodes_of}
+use Rattle.pieces.specs.Pieces.{places_of, nodes_of}
 use Rattle.fleet.specs.inside.Speaking.{AreSaid}
-use Rattle.fleet.proofs.Cutting.{all_pieces, back_pieces, begins_first}
+use Rattle.pieces.proofs.Cutting.{all_pieces, back_pieces, begins_first}
 use Rattle.fleet.proofs.Collecting.{said_of_both, said_of_all, said_are}
 use Rattle.fleet.proofs.pool.judge_and_collect.Goals as goal
 

@@ -3,8 +3,8 @@ use Rattle.std.proofs.lemmas.List.{with_items_is, length-map}
 use Rattle.desk.specs.Shown.{shown}
 use Rattle.choose.specs.Choice.{AreVerdicts}
 use Rattle.choose.proofs.Verdicts.{all_zip_length}
-use Rattle.fleet.specs.Pieces.{nodes_of}
-use Rattle.fleet.proofs.Cutting.{nodes_of_all}
+use Rattle.pieces.specs.Pieces.{nodes_of}
+use Rattle.pieces.proofs.Cutting.{nodes_of_all}
 use Rattle.fleet.proofs.fleet.Fleet.judge_among.Goals as goal
 
 pub returns-clause-judged : goal.returns-clause-judged

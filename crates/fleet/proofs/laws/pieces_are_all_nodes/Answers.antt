@@ -1,5 +1,0 @@
-use Rattle.fleet.proofs.Cutting.{pieces_are_all}
-use Rattle.fleet.proofs.laws.pieces_are_all_nodes.Goals as goal
-
-pub returns : goal.returns
-returns c = λ nodes pieces some. pieces_are_all nodes pieces some

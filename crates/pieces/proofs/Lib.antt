@@ -1,0 +1,4 @@
+pub mod Cutting
+pub mod Seen
+pub mod Together
+pub mod Asking

@@ -1,0 +1,19 @@
+use Rattle.std.proofs.Common.{◌≡◌, sym, ◌∙◌, ap, length}
+use Rattle.pieces.proofs.Asking.{adds_moves}
+use Rattle.pieces.proofs.asked.History.add.Goals as goal
+
+-- the exchange keeps the rule
+pub compare_exchange-found-requires : goal.compare_exchange-found-requires
+compare_exchange-found-requires g c =
+    let h = c.args.self.now.head_is in
+    let offer = c.plain-offer.ensures in
+    let pen = c.no_pen-pen.ensures in
+    let seen = c.again-seen.ensures in
+    let book : c.again-seen.result.book ≡ c.args.self.now.head.book = ap (λ s. s.book) seen ∙ (c.args.self.now.seen_is ∙ sym (ap (λ w. w.book) h)) in
+    let len : length c.again-seen.result.log ≡ c.args.self.now.count = ap (λ s. length s.log) seen ∙ sym c.args.self.now.counted in (
+      ap (λ w. w.tracked) h,
+      book,
+      pen.0 ∙ book,
+      offer.0,
+      rw (ap (λ w. w.key) h, pen.1, offer.1, offer.3) (adds_moves c.again-seen.result.log _ c.args.self.now.count len),
+    )
