@@ -3,9 +3,8 @@ use Rattle.std.proofs.Common.{◌≡◌, suc, ◌<◌, ◌+◌, List, [], ◌∷
 use Rattle.std.proofs.lemmas.List.Elements.{All-contains_itself}
 use Rattle.rules.specs.RuleSet.{RuleSet}
 use Rattle.choose.specs.Verdict.{HasVerdict}
-use Rattle.choose.specs.Kits.{JudgeAlike}
+use Rattle.choose.specs.Kits.{JudgeAlike, rules_of}
 use Rattle.fleet.specs.Speaking.{SpeaksFor}
-use Rattle.choose.specs.Kits.{rules_of}
 
 -- the rules of kits are those of the first
 pub first_rules : {Kit : Type 0} (answers : Kit → RuleSet) (kits : List Kit) (first : Kit) → 0 < length kits → first ≡ slice_index_or kits 0 first → answers first ≡ rules_of answers kits

@@ -10,7 +10,7 @@ use Rattle.choose.specs.Kits as choosing
 use Rattle.engine.specs.Device.{DeviceUse, AppendsFront}
 use Rattle.engine.specs.declared.fault.RunFault.{RunFault}
 use Rattle.engine.specs.declared.fault.RunFault.TheVariants as run_fault
-use Rattle.storm.specs.Cycles.{OneCycle, Cycles}
+use Rattle.crew.specs.Cycles.{OneCycle, Cycles}
 use Rattle.std.specs.Io.KnownBytes.{Appends}
 use Rattle.storm.specs.Storm.{IsAudit, IsStormRun, Storms, StormsScript, cycler, desk_for}
 use Rattle.command.specs.Words.{SpecSyntax}

@@ -5,7 +5,7 @@ use Rattle.plugin.specs.Kit.{Ready, rules_of}
 use Rattle.manifest.specs.declared.fault.LineFault.{LineFault}
 use Rattle.engine.specs.Device.{DeviceUse, AppendsFront}
 use Rattle.engine.specs.declared.fault.RunFault.TheVariants as run_fault
-use Rattle.storm.specs.Script.{first_storm_fault}
+use Rattle.watch_script.specs.Script.{first_storm_fault}
 use Rattle.storm.specs.Storm.{StormsScript}
 use Rattle.command.specs.Words.{SpecSyntax}
 use Rattle.fault_line.specs.declared.fault.Fault.{Fault}

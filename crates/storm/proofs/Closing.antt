@@ -11,29 +11,15 @@ use Rattle.desk.specs.Shared.{Pass, Desk}
 use Rattle.desk.specs.Shown.{Shown}
 use Rattle.rules.specs.RuleSet.{RuleSet}
 use Rattle.choose.specs.Kits.{rules_of}
-use Rattle.storm.specs.declared.worker.Worker.{Worker}
-use Rattle.storm.specs.Made.{BeginsWith, IsReportOrCount, steps_of, newcomer}
-use Rattle.storm.specs.inside.Made.{IsReport}
-use Rattle.storm.specs.Cycles.{OneCycle, Cycles}
-use Rattle.storm.specs.inside.Cycles.{HasCycled}
-use Rattle.storm.specs.inside.Crew.{Each, HasFed, IsDumped, enlisted}
-use Rattle.storm.specs.inside.Stages.{HasReported, HasScheduled, IsIdle}
+use Rattle.crew.specs.declared.worker.Worker.{Worker}
+use Rattle.crew.specs.Made.{BeginsWith, IsReportOrCount, steps_of, newcomer, IsReport}
+use Rattle.crew.specs.Cycles.{OneCycle, Cycles, HasCycled}
+use Rattle.crew.specs.Crew.{Each, IsDumped, enlisted}
+use Rattle.storm.specs.inside.Stages.{HasFed, HasReported, HasScheduled, IsIdle}
 use Rattle.storm.specs.Storm.{IsStorm, desk_for}
-use Rattle.storm.proofs.Going.{begins_trans, goes_begins, sandwich, same_steps}
-use Rattle.storm.proofs.Cycling.{cycles_in, last_seen}
-
--- ---- who was enlisted
-
-module _ {J T : Type 0} where
-  -- the worker at a place has a pass that has made no call, with the number of that place
-  pub enlisted_at : (n : ℕ) (tools : List T) (i : ℕ) (d : Worker J T) (t : T) → i < length tools → slice_index_or (enlisted n tools) i d ≡ record { pass = newcomer (n + i); tool = slice_index_or tools i t; failed = false }
-  enlisted_at n [] i d t lt = absurd (omega arith)
-  enlisted_at n (x ∷ tools) zero d t lt = ap (λ (k : ℕ). record { pass = newcomer k; tool = x; failed = false }) (omega arith)
-  enlisted_at n (x ∷ tools) (suc i) d t lt = enlisted_at (n + 1) tools i d t (omega arith) ∙ ap (λ (k : ℕ). record { pass = newcomer k; tool = slice_index_or tools i t; failed = false }) (omega arith)
-
-pub enlisted_length : (J : Type 0) {T : Type 0} (n : ℕ) (tools : List T) → length (enlisted {J = J} n tools) ≡ length tools
-enlisted_length J n [] = refl
-enlisted_length J n (x ∷ tools) = ap suc (enlisted_length J (n + 1) tools)
+use Rattle.crew.proofs.Going.{begins_trans, goes_begins, sandwich, same_steps}
+use Rattle.crew.proofs.Cycling.{cycles_in, last_seen}
+use Rattle.crew.proofs.Enlisting.{enlisted_at, enlisted_length}
 
 -- ---- passes that no desk handed out
 

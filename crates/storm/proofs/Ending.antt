@@ -16,15 +16,16 @@ use Rattle.audit.specs.Audit.{ShowsSums}
 use Rattle.engine.specs.declared.fault.RunFault.{RunFault}
 use Rattle.engine.specs.declared.fault.RunFault.TheVariants.{Line, NoMemory, Read, Write, NoPlace}
 use Rattle.engine.specs.Device.{DeviceUse, AppendsFront}
-use Rattle.storm.specs.declared.worker.Worker.{Worker}
-use Rattle.storm.specs.Made.{BeginsWith, newcomer}
-use Rattle.storm.specs.inside.Crew.{Each, HasFed, IsDumped, enlisted}
-use Rattle.storm.specs.inside.Stages.{HasReported, HasScheduled, IsIdle}
-use Rattle.storm.specs.Script.{first_storm_fault}
+use Rattle.crew.specs.declared.worker.Worker.{Worker}
+use Rattle.crew.specs.Made.{BeginsWith, newcomer}
+use Rattle.crew.specs.Crew.{Each, IsDumped, enlisted}
+use Rattle.storm.specs.inside.Stages.{HasFed, HasReported, HasScheduled, IsIdle}
+use Rattle.watch_script.specs.Script.{first_storm_fault}
 use Rattle.storm.specs.Storm.{IsStorm, IsAudit, Storms, AreOfScript, IsStormRun, desk_for, storm_text}
 use Rattle.storm.specs.inside.Ending.{IsWorked, HasEnded}
-use Rattle.storm.proofs.Going.{begins_trans, goes_begins}
-use Rattle.storm.proofs.Closing.{closing, closing_looked, enlisted_length}
+use Rattle.crew.proofs.Going.{begins_trans, goes_begins}
+use Rattle.storm.proofs.Closing.{closing, closing_looked}
+use Rattle.crew.proofs.Enlisting.{enlisted_length}
 
 -- ---- the dump
 

@@ -1,11 +1,3 @@
-pub mod Going
-pub mod Cycling
-pub mod Batches
-pub mod Reading
-pub mod Answering
-pub mod Meeting
 pub mod Closing
-pub mod Enlisting
 pub mod Staging
 pub mod Ending
-pub mod Waking

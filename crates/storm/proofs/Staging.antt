@@ -6,14 +6,13 @@ use Rattle.desk.specs.declared.step.Step.{Step}
 use Rattle.desk.specs.Shared.{Pass, Desk}
 use Rattle.rules.specs.RuleSet.{RuleSet}
 use Rattle.choose.specs.Kits.{rules_of}
-use Rattle.storm.specs.declared.worker.Worker.{Worker}
-use Rattle.storm.specs.Made.{BeginsWith, IsInformed}
-use Rattle.storm.specs.Cycles.{OneCycle}
-use Rattle.storm.specs.inside.Cycles.{HasCycled, EndsIdle}
-use Rattle.storm.specs.inside.Crew.{ArePassesOf, Each, HasFed, HasMet, HaveMet}
-use Rattle.storm.specs.inside.Stages.{HasScheduled, HasFinished, IsIdle}
-use Rattle.storm.proofs.Going.{begins_trans, makes_told, informed_later, later_trans}
-use Rattle.storm.proofs.Cycling.{cycle_later, cycled_told, cycled_both}
+use Rattle.crew.specs.declared.worker.Worker.{Worker}
+use Rattle.crew.specs.Made.{BeginsWith, IsInformed}
+use Rattle.crew.specs.Cycles.{OneCycle, HasCycled, EndsIdle}
+use Rattle.crew.specs.Crew.{ArePassesOf, Each, HasMet, HaveMet}
+use Rattle.storm.specs.inside.Stages.{HasFed, HasScheduled, HasFinished, IsIdle}
+use Rattle.crew.proofs.Going.{begins_trans, makes_told, informed_later, later_trans}
+use Rattle.crew.proofs.Cycling.{cycle_later, cycled_told, cycled_both}
 
 -- ---- passes stay passes of their desk
 

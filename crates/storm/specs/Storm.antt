@@ -19,9 +19,9 @@ use Rattle.engine.specs.declared.fault.RunFault.TheVariants.{Line, Read, Write}
 use Rattle.engine.specs.Answers.{limits, snapshot_lines, reply_lines}
 use Rattle.engine.specs.Device.{DeviceUse, AppendsFront}
 use Rattle.engine.specs.Text.{line_of}
-use Rattle.storm.specs.Script.{script_steps, first_storm_fault}
-use Rattle.storm.specs.Made.{BeginsWith, steps_of, IsReportOrCount}
-use Rattle.storm.specs.Cycles.{OneCycle, Cycles, IsIdleAfter}
+use Rattle.watch_script.specs.Script.{script_steps, first_storm_fault}
+use Rattle.crew.specs.Made.{BeginsWith, steps_of, IsReportOrCount}
+use Rattle.crew.specs.Cycles.{OneCycle, Cycles, IsIdleAfter}
 
 -- ---- the histories
 

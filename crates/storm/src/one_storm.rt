@@ -7,19 +7,16 @@ ghost use Rattle.desk.specs.Shared.{IsPassOf};
 ghost use Rattle.choose.specs.Kits.{rules_of};
 ghost use Rattle.engine.specs.Answers.{limits};
 ghost use Rattle.engine.specs.Device.{use_of, AppendsFront};
-ghost use Rattle.storm.specs.Made.{newcomer};
-ghost use Rattle.storm.specs.inside.Crew.{ArePassesOf, enlisted};
+ghost use Rattle.crew.specs.Made.{newcomer};
+ghost use Rattle.crew.specs.Crew.{ArePassesOf, enlisted};
 ghost use Rattle.storm.specs.inside.Ending.{IsWorked, HasEnded, IsStormOf};
 ghost use Rattle.storm.specs.Storm.{IsStormRun, storm_text};
 
-use crate::bell::{Bell, FEEDERS};
-use crate::clerk::take_dump;
-use crate::script::read_script;
 use crate::stages::{Stage, work};
-use crate::worker::{Worker, all_done, enlist};
 use audit::audit;
 use binder::Binder;
 use choose::Decider;
+use crew::{Bell, FEEDERS, Worker, all_done, enlist, take_dump};
 use crossbeam_channel::unbounded;
 use desk::{Blank, Counts, Desk, Limits, Naming, Pass, Snapshot, Step};
 use engine::{RunFault, Sink, Source, push_dump, write_all};
@@ -29,6 +26,7 @@ use std::hash::RandomState;
 use std::marker::Brand;
 use std::sync::Wait;
 use std::thread::Threads;
+use watch_script::read_script;
 
 // All passes of a desk: the feeders', one for each decider, one for each binder, and the last that
 // counts.

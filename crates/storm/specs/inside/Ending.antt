@@ -10,10 +10,10 @@ use Rattle.desk.specs.declared.step.Counts.{Counts}
 use Rattle.desk.specs.Shared.{Pass, Desk, IsPassOf}
 use Rattle.desk.specs.Shown.{Shown}
 use Rattle.rules.specs.RuleSet.{RuleSet}
-use Rattle.storm.specs.declared.worker.Worker.{Worker}
-use Rattle.storm.specs.Made.{BeginsWith}
-use Rattle.storm.specs.inside.Crew.{Each, HasFed, IsDumped}
-use Rattle.storm.specs.inside.Stages.{HasReported, HasScheduled, IsIdle}
+use Rattle.crew.specs.declared.worker.Worker.{Worker}
+use Rattle.crew.specs.Made.{BeginsWith}
+use Rattle.crew.specs.Crew.{Each, IsDumped}
+use Rattle.storm.specs.inside.Stages.{HasFed, HasReported, HasScheduled, IsIdle}
 use Rattle.storm.specs.Storm.{IsStorm, Storms, desk_for}
 
 -- Workers that were so did what they are to do, memory was wanting to none of them, and a pass met

@@ -6,12 +6,15 @@ use Rattle.desk.specs.declared.step.Step.{Step}
 use Rattle.desk.specs.Shared.{Pass, Desk}
 use Rattle.rules.specs.RuleSet.{RuleSet}
 use Rattle.choose.specs.Kits.{rules_of}
-use Rattle.storm.specs.declared.worker.Worker.{Worker}
-use Rattle.storm.specs.Made.{BeginsWith}
-use Rattle.storm.specs.inside.Made.{Makes, IsReport}
-use Rattle.storm.specs.inside.Crew.{HaveMet}
-use Rattle.storm.specs.Cycles.{OneCycle}
-use Rattle.storm.specs.inside.Cycles.{HasCycled, EndsIdle}
+use Rattle.crew.specs.declared.worker.Worker.{Worker}
+use Rattle.crew.specs.Made.{BeginsWith, Makes, IsReport}
+use Rattle.crew.specs.Crew.{HaveMet}
+use Rattle.crew.specs.Cycles.{OneCycle, HasCycled, EndsIdle}
+
+-- a feeder told these steps, if memory was not wanting
+pub record HasFed {J : Type 0} (fed : List Step) (w w' : Worker J (Unit {0})) : Type 0 where
+  pub number : w'.pass.caller.number ≡ w.pass.caller.number
+  pub told : w'.failed ≡ false → Makes w.pass fed w'.pass
 
 -- a worker reported binds, and did nothing else
 pub record HasReported {J B : Type 0} (w w' : Worker J B) : Type 0 where

@@ -1,6 +1,6 @@
 use Rattle.std.proofs.Common.{◌+◌, length, ap, ◌∙◌, arith}
 use Rattle.desk.specs.Shared.{Desk}
-use Rattle.storm.proofs.Enlisting.{enlisted_passes, some_enlisted}
+use Rattle.crew.proofs.Enlisting.{enlisted_passes, some_enlisted}
 use Rattle.storm.proofs.Ending.{ended}
 use Rattle.storm.proofs.one_storm.storm_to_dump.Goals as goal
 

@@ -1,0 +1,4 @@
+pub mod Made
+pub mod Cycles
+pub mod Crew
+pub mod inside
