@@ -139,15 +139,22 @@ impl<J: Site, K: Rules + Drop> Helper<J, K> {
             return false;
         };
         let is_this = take_verdicts(&done, order, piece, verdicts);
+        self.put_back(done);
+        is_this
+    }
+
+    // The kit and the room for its verdicts come back.
+    fn put_back(&mut self, done: Done<J, K>)
+        requires { SpeaksFor J.Says (K.answers done.kit) }
+    {
         let Done {
             kit,
             order: _,
             piece: _,
-            verdicts: room,
+            verdicts,
         } = done;
         self.kit = Some(kit);
-        self.room = room;
-        is_this
+        self.room = verdicts;
     }
 
     // The verdicts on a piece: those that come back, or else those that are found here, with its

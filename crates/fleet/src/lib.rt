@@ -6,9 +6,9 @@
 //!   answers.
 //! - `pool`: a `Pool` keeps its workers from one decision to the next; `decider` makes it a
 //!   `Decider`.
-//! - `lent_kit` is a kit of a pool beside the first, with the way to its worker, `worker`. `rule`
-//!   is the rule of the channels between both: each kit that comes through them is one of the
-//!   pool's.
+//! - `lent_kit` is a kit of a pool beside the first, with the way to its worker, `worker`. `way` is
+//!   the channel to it, and that back: what holds of each message that goes in holds of each that
+//!   comes out.
 //! - `laws`: what holds of every fleet.
 #![tactic(auto)]
 
@@ -17,7 +17,7 @@ mod fleet;
 mod laws;
 mod lent_kit;
 mod pool;
-mod rule;
+mod way;
 mod worker;
 
 pub use choose::{Decider, Decision, NoMemory};

@@ -95,16 +95,7 @@ impl<J: Site, K: Rules + Drop, G: Gate + Drop> Pool<J, K, G> {
         requires others { All (λ kit. SpeaksFor J.Says (K.answers kit)) others.items }
         ensures { IfOk result (λ pool. pool.kits ≡ first ∷ []) }
     {
-        let mut others = others;
-        let mut helpers = Vec::new(alloc);
-        helpers.reserve(others.len())?;
-        for _ in 0..others.len() {
-            if let Some(kit) = others.pop() {
-                if helpers.push(Helper::start(rt, alloc, kit, &gate)).is_err() {
-                    return Err(NoMemory);
-                }
-            }
-        }
+        let helpers = start_helpers(rt, alloc, others, &gate)?;
         Ok(Pool {
             alloc,
             gate,
@@ -308,6 +299,31 @@ impl<J: Site, K: Rules + Drop, G: Gate + Drop> Pool<J, K, G> {
             helper.end(rt);
         }
     }
+}
+
+// A kit with a worker for each of these kits.
+fn start_helpers<
+    J: Site + Send + Sync + 'static,
+    K: Rules + Drop + Send + 'static,
+    G: Gate + Drop + Send + Sync + 'static,
+    R: Threads + Wait + Copy + Send + 'static,
+>(rt: R, alloc: Global, kits: Vec<K>, gate: &Arc<G>) -> Result<Vec<Helper<J, K>>, NoMemory>
+where
+    K::Notes: Send + 'static,
+    requires { All (λ kit. SpeaksFor J.Says (K.answers kit)) kits.items }
+    ensures { IfOk result (λ helpers. vec_len helpers ≤ vec_len kits) }
+{
+    let mut kits = kits;
+    let mut helpers = Vec::new(alloc);
+    helpers.reserve(kits.len())?;
+    for _ in 0..kits.len() {
+        if let Some(kit) = kits.pop() {
+            if helpers.push(Helper::start(rt, alloc, kit, gate)).is_err() {
+                return Err(NoMemory);
+            }
+        }
+    }
+    Ok(helpers)
 }
 
 // The choice with the first kit alone.

@@ -1,50 +1,54 @@
 //! A worker that stays: it judges the pieces that come, until no more can come.
-ghost use Rattle.std.specs.Prelude.{◌≡◌, IfErr, IfOk, IfSome};
-ghost use Rattle.crossbeam_channel.specs.Claims.{IsSeatAt};
-ghost use Rattle.crossbeam_channel.specs.Ends.{sends_on, receives_on};
+ghost use Rattle.std.specs.Prelude.{◌≡◌, IfErr, IfSome};
 ghost use Rattle.fleet.specs.Speaking.{SpeaksFor};
 
-use crate::rule::{OfPool, Twin};
-use crossbeam_channel::{Pass, RuledReceiver, RuledSender, bounded_with};
+use crate::way::{Holds, Inbox, Outbox, way};
 use pieces::{Done, Gate, Job, Site, judge_job};
 use rules::Rules;
 use std::alloc::{AllocError, Global};
+use std::marker::PhantomData;
 use std::sync::{Arc, Wait};
 use std::thread;
 use std::thread::Threads;
 
-/// A pool's ends of the channels to a worker and back. Each has room for one message, which it
-/// keeps.
+/// Each kit on the way to a worker and back is one of the pool's: it says what they say.
+pub struct OfPool<J> {
+    of: PhantomData<J>,
+}
+
+impl<J: Site, K: Rules + Drop> Holds<Job<J, K>> for OfPool<J> {
+    ghost use Rattle.fleet.specs.Speaking.{SpeaksFor};
+
+    ghost of = { λ m. SpeaksFor J.Says (K.answers m.kit) };
+}
+
+impl<J: Site, K: Rules + Drop> Holds<Done<J, K>> for OfPool<J> {
+    ghost use Rattle.fleet.specs.Speaking.{SpeaksFor};
+
+    ghost of = { λ m. SpeaksFor J.Says (K.answers m.kit) };
+}
+
+/// A pool's ends of the ways to a worker and back.
 #[derive(Drop)]
 pub struct Hand<J: Site, K: Rules + Drop> {
-    jobs: RuledSender<Job<J, K>, (), OfPool<J>>,
-    send: Pass<Job<J, K>, ()>,
-    results: RuledReceiver<Done<J, K>, (), OfPool<J>>,
-    receive: Pass<Done<J, K>, ()>,
-    ghost sends: { IsSeatAt (sends_on jobs) send },
-    ghost receives: { IsSeatAt (receives_on results) receive },
+    jobs: Outbox<Job<J, K>, OfPool<J>>,
+    results: Inbox<Done<J, K>, OfPool<J>>,
 }
 
 // Judges the pieces that come.
 fn work<J: Site, K: Rules + Drop, G: Gate, R: Wait>(
     rt: &R,
     gate: &G,
-    inbox: &RuledReceiver<Job<J, K>, (), OfPool<J>>,
-    receive: Pass<Job<J, K>, ()>,
-    outbox: &RuledSender<Done<J, K>, (), OfPool<J>>,
-    send: Pass<Done<J, K>, ()>,
-)
-    requires receives { IsSeatAt (receives_on inbox.now) receive }
-    requires sends { IsSeatAt (sends_on outbox.now) send }
-{
-    let mut receive = receive;
-    let mut send = send;
+    jobs: Inbox<Job<J, K>, OfPool<J>>,
+    results: Outbox<Done<J, K>, OfPool<J>>,
+) {
+    let mut jobs = jobs;
+    let mut results = results;
     for _ in rt.forever() {
-        let Ok(job) = inbox.recv_as::<OfPool<J>, R>(rt, &mut receive) else {
+        let Some(job) = jobs.receive(rt) else {
             return;
         };
-        let done = judge_job(gate, job);
-        if outbox.send_as::<OfPool<J>, R>(rt, &mut send, done).is_err() {
+        if results.send(rt, judge_job(gate, job)).is_err() {
             return;
         }
     }
@@ -64,25 +68,13 @@ impl<J: Site, K: Rules + Drop> Hand<J, K> {
         K: Send + 'static,
         K::Notes: Send + 'static,
     {
-        let (jobs, inbox, mut send) = bounded_with::<Job<J, K>, (), OfPool<J>, Global>(alloc, 1)?;
-        let theirs = jobs.another::<Twin>(&mut send);
-        let (outbox, results, mut receive) = bounded_with::<Done<J, K>, (), OfPool<J>, Global>(
-            alloc, 1,
-        )?;
-        let back = outbox.another::<Twin>(&mut receive);
+        let (jobs, inbox) = way::<Job<J, K>, OfPool<J>>(alloc)?;
+        let (outbox, results) = way::<Done<J, K>, OfPool<J>>(alloc)?;
         // It isn't joined: that it is gone shows by its end of the results.
-        let _detached = thread::spawn(
-            &rt,
-            move ||
-                requires { IsSeatAt (receives_on inbox) theirs × IsSeatAt (sends_on outbox) back }
-            { work::<J, K, G, R>(&rt, &*gate, &inbox, theirs, &outbox, back) },
-        )?;
-        Ok(Hand {
-            jobs,
-            send,
-            results,
-            receive,
-        })
+        let _detached = thread::spawn(&rt, move || {
+            work::<J, K, G, R>(&rt, &*gate, inbox, outbox)
+        })?;
+        Ok(Hand { jobs, results })
     }
 
     /// Sends a piece to the worker.
@@ -92,32 +84,22 @@ impl<J: Site, K: Rules + Drop> Hand<J, K> {
         requires { SpeaksFor J.Says (K.answers job.kit) }
         ensures { IfErr result (λ back. back ≡ job) }
     {
-        match self.jobs.send_as::<OfPool<J>, R>(rt, &mut self.send, job) {
-            Ok(()) => Ok(()),
-            Err(error) => Err(error.into_inner()),
-        }
+        self.jobs.send(rt, job)
     }
 
     /// Waits for a piece that the worker has judged. There is none where the worker is gone.
     pub fn receive<R: Wait>(&mut self, rt: &R) -> Option<Done<J, K>>
         ensures { IfSome result (λ done. SpeaksFor J.Says (K.answers done.kit)) }
     {
-        self.results
-            .recv_as::<OfPool<J>, R>(rt, &mut self.receive)
-            .ok()
+        self.results.receive(rt)
     }
 
     /// Sends no more, and waits until the worker is gone.
     pub fn end<R: Wait>(self, rt: &R) {
-        let Hand {
-            jobs,
-            send: _,
-            results,
-            mut receive,
-        } = self;
+        let Hand { jobs, mut results } = self;
         drop(jobs);
         for _ in rt.forever() {
-            if results.recv_as::<OfPool<J>, R>(rt, &mut receive).is_err() {
+            if results.receive(rt).is_none() {
                 return;
             }
         }

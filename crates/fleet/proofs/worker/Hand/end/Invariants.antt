@@ -1,7 +1,0 @@
-use Rattle.crossbeam_channel.specs.Claims.{IsSeatAt}
-use Rattle.crossbeam_channel.specs.Ends.{receives_on}
-use Rattle.fleet.proofs.worker.Hand.end.Given as goal
-
-abbrev pub invariant-loop : goal.invariant-loop
-invariant-loop g l =
-    (goal.iterator-loop g).can_next l.iterator' × (goal.iterator-loop g).is_finite l.iterator' × IsSeatAt (receives_on l.results) l.receive
