@@ -8,9 +8,13 @@ from __future__ import annotations
 
 from typing import Iterator, NamedTuple, Protocol
 
-from lines import (KINDS, NODES, NOTHING, PODS, Amounts, Answer, Aside, Bind, Cycle, Deaf, Fails, Gone, Hears, Idle, Line, Listed, Lists, Node, Offered, Output,
-                   Past, Pod, Read, Shut, Told, WasRead, fits, plus)
+from lines import (KINDS, NODES, NOTHING, PODS, Amounts, Answer, Aside, Bind, Cycle, Deaf, Fails, Full, Gone, Hears, Idle, Line, Listed, Lists, Node,
+                   Offered, Output, Past, Pod, Read, Shut, Tick, Told, WasRead, fits, plus)
 from server import Server
+
+
+# The lines that say nothing of any pod, node or bind.
+SILENT = (Lists, Deaf, Hears, Past, Cycle, Tick)
 
 
 class Broken(Exception):
@@ -42,7 +46,9 @@ class Ticket(NamedTuple):
 class History:
     """What a list of lines with their answers says, to whoever reads it from the first to the last."""
 
-    def __init__(self) -> None:
+    def __init__(self, most: int) -> None:
+        self.most = most
+        self.is_short = self.began_short = False
         self.words: dict[str, Word | None] = {}
         self.nodes: dict[str, Node | None] = {}
         self.tickets: dict[int, Ticket] = {}
@@ -54,13 +60,15 @@ class History:
 
     def add(self, line: Line, outputs: list[Output]) -> None:
         """One line more, and its answer."""
-        names = {*self.words}
-        nodes = {*self.nodes}
-        if isinstance(line, Told):
-            (names if isinstance(line.thing, Pod) else nodes).add(line.thing.name)
-        self.words, words = {it: self.word_after(self.words.get(it), it, line) for it in names}, self.words
-        self.nodes = {it: self.node_after(self.nodes.get(it), it, line) for it in nodes}
-        self.tickets = {ticket: after for ticket, it in self.tickets.items() if (after := self.ticket_after(it, line, words))}
+        if isinstance(line, Told) and isinstance(line.thing, Pod) and line.thing.node and self.is_full(line):
+            self.is_short = self.began_short = True
+        if not isinstance(line, SILENT):
+            names, nodes = {*self.words}, {*self.nodes}
+            if isinstance(line, Told):
+                (names if isinstance(line.thing, Pod) else nodes).add(line.thing.name)
+            self.words = {it: self.word_after(self.words.get(it), it, line) for it in names}
+            self.nodes = {it: self.node_after(self.nodes.get(it), it, line) for it in nodes}
+            self.tickets = {ticket: after for ticket, it in self.tickets.items() if (after := self.ticket_after(it, line))}
         self.hear(line)
         if isinstance(line, WasRead):
             self.reads.pop(line.ask, None)
@@ -69,36 +77,49 @@ class History:
                 self.tickets[it.ticket] = Ticket(it)
             elif isinstance(it, Read) and it.ticket in self.tickets:
                 ticket = self.tickets[it.ticket]
-                self.reads[it.ask] = it.ticket, ticket.is_past
+                self.reads[it.ask] = it.ticket, ticket.is_past or it.fences
                 self.tickets[it.ticket] = ticket._replace(is_asked=ticket.is_past)
+
+    def is_full(self, line: Line) -> bool:
+        """Whether the line is of a pod that there is no room to know."""
+        if not isinstance(line, Told) or not isinstance(line.thing, Pod) or self.words.get(line.thing.name):
+            return False
+        return len(self.words) - [*self.words.values()].count(None) >= self.most
 
     # Of one name.
 
     def word_after(self, word: Word | None, name: str, line: Line) -> Word | None:
+        if isinstance(line, Told):
+            is_said = isinstance(line.thing, Pod) and line.thing.name == name and not self.is_full(line)
+            return told_word(word, line.thing) if is_said and isinstance(line.thing, Pod) else word
+        if not word or isinstance(line, (Gone, Listed)) and self.takes(line, PODS, name, word.pod.version):
+            return None
+        return self.word_by_answer(word, name, line)
+
+    def word_by_answer(self, word: Word, name: str, line: Line) -> Word:
         match line:
-            case Told(Pod() as pod) if pod.name == name:
-                return told_word(word, pod)
-            case Gone(kind, gone, version) if kind == PODS and gone == name:
-                return word if word and version <= word.pod.version else None
-            case Listed(kind) if kind == PODS and not self.is_named(PODS, name):
-                return None
             case Answer(number, "created"):
-                return self.on_by(word, name, number, None)
-            case WasRead(ask, "on", node):
-                return self.on_by(word, name, self.reads.get(ask, (0, False))[0], node)
-            case WasRead(ask, "gone"):
-                ticket = self.tickets.get(self.reads.get(ask, (0, False))[0])
-                return word._replace(is_aside=True) if word and ticket and ticket.bind.name == name else word
-            case Aside(aside, uid) | Offered(aside, uid) if word and aside == name and uid == word.pod.uid:
+                return self.on_by(word, number, None)
+            case WasRead(ask, what, node) if what != "waits" and ask in self.reads:
+                return self.on_by(word, self.reads[ask][0], node if what == "on" else "")
+            case Aside(aside, uid) | Offered(aside, uid) if aside == name and uid == word.pod.uid:
                 return word._replace(is_aside=isinstance(line, Aside))
         return word
 
-    def on_by(self, word: Word | None, name: str, number: int, node: str | None) -> Word | None:
-        """By an answer that says where it is."""
+    def on_by(self, word: Word, number: int, node: str | None) -> Word:
+        """By an answer of its bind: it is on the node that was asked for, or on this one, or nowhere."""
         ticket = self.tickets.get(number)
-        if not word or not ticket or ticket.bind.name != name:
+        if not ticket or ticket.bind.name != word.pod.name:
             return word
+        if node == "":
+            return word._replace(is_aside=True)
         return word._replace(pod=word.pod._replace(node=node or ticket.bind.node, asks=ticket.bind.asks))
+
+    def takes(self, line: Gone | Listed, kind: str, name: str, version: int) -> bool:
+        """Whether the line says that what was told at this version is gone."""
+        if isinstance(line, Listed):
+            return line.kind == kind and not self.is_named(kind, name)
+        return line.kind == kind and line.name == name and line.version > version
 
     def is_named(self, kind: str, name: str) -> bool:
         """By the list that ends, or where none does."""
@@ -106,18 +127,13 @@ class History:
         return named is None or name in named
 
     def node_after(self, node: Node | None, name: str, line: Line) -> Node | None:
-        match line:
-            case Told(Node() as told) if told.name == name:
-                return node if node and told.version <= node.version else told
-            case Gone(kind, gone, version) if kind == NODES and gone == name:
-                return node if node and version <= node.version else None
-            case Listed(kind) if kind == NODES and not self.is_named(NODES, name):
-                return None
-        return node
+        if isinstance(line, Told) and isinstance(line.thing, Node) and line.thing.name == name:
+            return node if node and line.thing.version <= node.version else line.thing
+        return None if node and isinstance(line, (Gone, Listed)) and self.takes(line, NODES, name, node.version) else node
 
     # Of one bind.
 
-    def ticket_after(self, it: Ticket, line: Line, before: dict[str, Word | None]) -> Ticket | None:
+    def ticket_after(self, it: Ticket, line: Line) -> Ticket | None:
         word = self.words[it.bind.name]
         if not word or word.pod.uid != it.bind.uid or word.pod.node:
             return None
@@ -127,7 +143,6 @@ class History:
             case WasRead(ask, what) if ask in self.reads and self.reads[ask][0] == it.bind.ticket:
                 if what == "gone" or self.reads[ask][1]:
                     return None
-        assert before[it.bind.name]
         return it
 
     # Of a kind.
@@ -144,11 +159,12 @@ class History:
             case Lists(kind):
                 self.named[kind], self.heard[kind] = set(), False
                 if kind == PODS:
-                    self.began_past = self.is_past
+                    self.began_past, self.began_short = self.is_past, False
             case Listed(kind):
                 if self.named[kind] is not None:
                     self.named[kind], self.heard[kind], self.was_listed[kind] = None, True, True
                     self.is_clear = self.is_clear or kind == PODS and self.began_past
+                    self.is_short = self.began_short if kind == PODS else self.is_short
             case Deaf(kind):
                 self.heard[kind] = False
             case Hears(kind):
@@ -159,33 +175,27 @@ class History:
     # What follows.
 
     def is_open(self) -> bool:
-        return self.is_clear and all(self.heard[it] for it in KINDS)
+        return self.is_clear and not self.is_short and all(self.heard[it] for it in KINDS)
 
-    def counts(self, node: str) -> Amounts:
-        """What was told to stand there, and the open binds to it."""
-        total = NOTHING
-        for word in self.words.values():
-            if word and word.pod.node == node:
-                total = plus(total, word.pod.counts)
-        for it in self.tickets.values():
-            if it.bind.node == node:
-                total = plus(total, it.bind.asks)
-        return total
+    def counts(self) -> dict[str, Amounts]:
+        """Of each node what was told to stand there, and the open binds to it."""
+        some = [(it.pod.node, it.pod.counts) for it in self.words.values() if it and it.pod.node]
+        some += [(it.bind.node, it.bind.asks) for it in self.tickets.values()]
+        counts: dict[str, Amounts] = {}
+        for node, more in some:
+            counts[node] = plus(counts.get(node, NOTHING), more)
+        return counts
 
     def waiting(self) -> Iterator[Pod]:
         """The pods that are to be tried."""
         bound = {it.bind.uid for it in self.tickets.values()}
         for word in self.words.values():
-            if word and word.pod.is_ours and not word.pod.node and word.pod.asks and not word.is_aside and word.pod.uid not in bound:
+            waits = word and word.pod.is_ours and not word.pod.node and word.pod.asks
+            if word and waits and not word.is_aside and word.pod.uid not in bound:
                 yield word.pod
 
     def has_room(self, node: Node | None, pod: Pod) -> bool:
-        return bool(node and node.room and pod.asks and fits(pod.asks, self.counts(node.name), node.room))
-
-    def room(self, node: str) -> Amounts:
-        known = self.nodes[node]
-        assert known and known.room
-        return known.room
+        return bool(node and node.room and pod.asks and fits(pod.asks, self.counts().get(node.name, NOTHING), node.room))
 
 
 def told_word(word: Word | None, pod: Pod) -> Word | None:
@@ -200,35 +210,32 @@ def check(history: History, line: Line, outputs: list[Output], machine: Counts) 
     """Laws 1 to 4, of a line and its answer, and of the history up to it."""
     check_answer(history, line, outputs)
     history.add(line, outputs)
-    for node in {*history.nodes, *machine.used} | {it.pod.node for it in history.words.values() if it and it.pod.node}:
-        counts, used = history.counts(node), machine.used.get(node, NOTHING)
-        law(counts == used, f"1: {node} is thought to have {used} used, and was told {counts}")
+    counts, used = history.counts(), {node: it for node, it in machine.used.items() if it != NOTHING}
+    if counts != used:
+        raise Broken(f"1: {used} is thought to be used, and was told {counts}")
     uids = [it.bind.uid for it in history.tickets.values()]
     law(len(uids) == len({*uids}), "3: a pod has two open binds")
-    for it in history.waiting():
-        law(it.uid in machine.queue, f"4: {it.name} {it.uid} waits, and isn't to be tried")
-    for ticket in history.tickets.values():
-        law(not ticket.is_past or ticket.is_asked, f"4: what became of bind {ticket.bind.ticket} isn't asked")
+    law({it.uid for it in history.waiting()} <= machine.queue, "4: a pod waits, and isn't to be tried")
+    law(all(it.is_asked for it in history.tickets.values() if it.is_past), "4: what became of a bind isn't asked")
 
 
 def check_answer(history: History, line: Line, outputs: list[Output]) -> None:
     """Law 2, both ways: what is bound may be, and what isn't can't."""
-    said = [it for it in outputs if not isinstance(it, Read)]
-    law(len(said) == isinstance(line, Cycle), f"2: {line} is answered by {said}")
+    law(any(isinstance(it, Full) for it in outputs) == history.is_full(line), "4: it isn't said whether there is room to know the pod")
+    said = [it for it in outputs if not isinstance(it, (Read, Full))]
+    law(len(said) == isinstance(line, Cycle), "2: a cycle has one answer, and nothing else has one")
     for it in said:
-        waiting = {pod.uid: pod for pod in history.waiting()}
+        waiting, is_open = {pod.uid: pod for pod in history.waiting()}, history.is_open()
+        law(is_open != isinstance(it, Shut), "2: it is shut though all is heard, or not though it isn't")
         match it:
-            case Shut():
-                law(not history.is_open(), "2: it is shut, though all is heard")
             case Idle():
-                law(history.is_open() and not waiting, f"2: nothing is tried, and {[*waiting]} wait")
+                law(not waiting, "2: nothing is tried, and some wait")
             case Fails(_, uid):
-                law(history.is_open() and uid in waiting, f"2: {uid} is tried, and may not be")
-                law(not any(history.has_room(node, waiting[uid]) for node in history.nodes.values()), f"2: {uid} has room, and gets none")
+                law(uid in waiting, "2: what is tried may not be")
+                law(not any(history.has_room(node, waiting[uid]) for node in history.nodes.values()), "2: there is room, and it isn't given")
             case Bind():
-                law(history.is_open(), f"2: {it.uid} is bound, and the cluster isn't heard")
-                law(it.uid in waiting and waiting[it.uid].asks == it.asks and waiting[it.uid].version == it.version, f"2: {it.uid} is bound, and may not be")
-                law(history.has_room(history.nodes.get(it.node), waiting[it.uid]), f"2: {it.uid} is bound to {it.node}, which has no room")
+                law(it.uid in waiting and waiting[it.uid].asks == it.asks and waiting[it.uid].version == it.version, "2: what is bound may not be")
+                law(history.has_room(history.nodes.get(it.node), waiting[it.uid]), "2: a pod is bound where there is no room")
 
 
 def check_cluster(server: Server) -> None:
@@ -240,7 +247,8 @@ def check_cluster(server: Server) -> None:
             if node not in server.filled:
                 continue
             room = server.filled[node][1]
-        law(fits(NOTHING, used, room), f"5: on {node} stand {used}, and it has {room}")
+        if not fits(NOTHING, used, room):
+            raise Broken(f"5: on {node} stand {used}, and it has {room}")
 
 
 def law(holds: bool, why: str) -> None:

@@ -126,11 +126,15 @@ class Aside(NamedTuple):
 
 
 class Offered(NamedTuple):
+    """It is."""
+
     name: str
     uid: str
 
 
 class Tick(NamedTuple):
+    """(for the desk alone)"""
+
     at: int
 
 
@@ -159,12 +163,14 @@ class Bind(NamedTuple):
 
 
 class Read(NamedTuple):
-    """To be asked of the server after this line: the answer names `ask`."""
+    """To be asked of the server after this line: the answer names `ask`. One that fences is a write that moves the pod's version, and its
+    answer what the pod is then: where versions are tested, no bind that was asked for before is done after it."""
 
     ask: int
     ticket: int
     name: str
     uid: str
+    fences: bool = False
 
 
 class Fails(NamedTuple):
@@ -182,4 +188,10 @@ class Shut(NamedTuple):
     """Nothing may be bound now."""
 
 
-Output = Union[Bind, Read, Fails, Idle, Shut]
+class Full(NamedTuple):
+    """There is no room to know one pod more: this one has to be told again."""
+
+    name: str
+
+
+Output = Union[Bind, Read, Fails, Idle, Shut, Full]

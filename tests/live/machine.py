@@ -5,8 +5,8 @@ from __future__ import annotations
 
 import dataclasses
 
-from lines import (KINDS, NODES, NOTHING, PODS, Amounts, Answer, Aside, Bind, Cycle, Deaf, Fails, Gone, Hears, Idle, Line, Listed, Lists, Node, Offered, Output,
-                   Past, Pod, Read, Shut, Thing, Tick, Told, WasRead, fits, minus, plus)
+from lines import (KINDS, NODES, NOTHING, PODS, Amounts, Answer, Aside, Bind, Cycle, Deaf, Fails, Full, Gone, Hears, Idle, Line, Listed, Lists, Node,
+                   Offered, Output, Past, Pod, Read, Shut, Thing, Tick, Told, WasRead, fits, minus, plus)
 
 
 @dataclasses.dataclass
@@ -19,9 +19,10 @@ class Open:
 
 class Machine:
     """`pods` and `nodes` by name: a name belongs to one object at a time. A pod that waits has an open bind, or is in `queue`, or is none
-    that can be tried."""
+    that can be tried. `most` pods can be known, and `fences` says that the server tests the versions of binds."""
 
-    def __init__(self) -> None:
+    def __init__(self, most: int = 100, fences: bool = False) -> None:
+        self.most, self.fences = most, fences
         self.pods: dict[str, Pod] = {}
         self.nodes: dict[str, Node] = {}
         self.used: dict[str, Amounts] = {}
@@ -36,12 +37,17 @@ class Machine:
         self.heard: set[str] = set()
         self.ever: set[str] = set()
         self.is_past = self.is_clear = self.lists_past = False
+        # whether a pod on a node isn't known, for want of room; and whether that came since the list
+        # began
+        self.is_short = self.lists_short = False
         self.tickets = self.asks = 0
 
     def take(self, line: Line) -> list[Output]:
         """The answer to one line."""
         match line:
-            case Told() | Gone() | Lists() | Listed() | Deaf() | Hears():
+            case Told():
+                return self.told(line)
+            case Gone() | Lists() | Listed() | Deaf() | Hears():
                 self.hear(line)
             case Answer():
                 return self.answer(line)
@@ -59,10 +65,8 @@ class Machine:
                 return self.cycle(line)
         return []
 
-    def hear(self, line: Told | Gone | Lists | Listed | Deaf | Hears) -> None:
+    def hear(self, line: Gone | Lists | Listed | Deaf | Hears) -> None:
         match line:
-            case Told():
-                self.told(line)
             case Gone():
                 self.gone(line)
             case Lists():
@@ -76,13 +80,18 @@ class Machine:
 
     # Objects.
 
-    def told(self, line: Told) -> None:
+    def told(self, line: Told) -> list[Output]:
         thing = line.thing
         kind = PODS if isinstance(thing, Pod) else NODES
         if kind in self.named:
             self.named[kind].add(thing.name)
+        if isinstance(thing, Pod) and thing.name not in self.pods and len(self.pods) >= self.most:
+            self.is_short = self.is_short or thing.node is not None
+            self.lists_short = self.lists_short or thing.node is not None
+            return [Full(thing.name)]
         if not self.is_old(kind, thing.name, thing.version):
             self.told_new(thing)
+        return []
 
     def told_new(self, thing: Thing) -> None:
         if isinstance(thing, Node):
@@ -138,18 +147,21 @@ class Machine:
         self.named[line.kind] = set()
         self.heard.discard(line.kind)
         if line.kind == PODS:
-            self.lists_past = self.is_past
+            self.lists_past, self.lists_short = self.is_past, False
 
     def listed(self, line: Listed) -> None:
         named = self.named.pop(line.kind, None)
         if named is None:
             return
-        for name in [it for it in (self.pods if line.kind == PODS else self.nodes) if it not in named]:
-            self.gone_by_name(line.kind, name)
+        known = [*self.pods] if line.kind == PODS else [*self.nodes]
+        for name in known:
+            if name not in named:
+                self.gone_by_name(line.kind, name)
         self.heard.add(line.kind)
         self.ever.add(line.kind)
-        if line.kind == PODS and self.lists_past:
-            self.is_clear = True
+        if line.kind == PODS:
+            self.is_clear = self.is_clear or self.lists_past
+            self.is_short = self.lists_short
 
     def hears(self, line: Hears) -> None:
         """(a list that was begun has to end first, or another)"""
@@ -173,9 +185,10 @@ class Machine:
         return [self.ask(it)]
 
     def ask(self, it: Open) -> Read:
+        fences = self.fences and not it.is_past
         self.asks += 1
-        self.reads[self.asks] = it.bind.ticket, it.is_past
-        return Read(self.asks, it.bind.ticket, it.bind.name, it.bind.uid)
+        self.reads[self.asks] = it.bind.ticket, it.is_past or fences
+        return Read(self.asks, it.bind.ticket, it.bind.name, it.bind.uid, fences)
 
     def was_read(self, line: WasRead) -> None:
         ticket, was_past = self.reads.pop(line.ask, (0, False))
@@ -227,7 +240,7 @@ class Machine:
         (self.queue.add if waits else self.queue.discard)(pod.uid)
 
     def is_shut(self) -> bool:
-        return not self.is_clear or any(it not in self.heard for it in KINDS)
+        return not self.is_clear or self.is_short or any(it not in self.heard for it in KINDS)
 
     def cycle(self, line: Cycle) -> list[Output]:
         if self.is_shut():

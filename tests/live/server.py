@@ -3,7 +3,7 @@
 from __future__ import annotations
 
 import dataclasses
-from typing import Iterable, NamedTuple
+from typing import NamedTuple
 
 from lines import NODES, NOTHING, PODS, Amounts, Bind, Node, Pod, Thing, total
 
@@ -47,6 +47,10 @@ class Rules(NamedTuple):
     asks_grow: bool = False
     # an answer `refused` may be of a second post of a bind that was done
     posts_twice: bool = True
+    # a watch may begin before what was told, and a list be given up for the watch before it
+    retells: bool = True
+    # how many pods an instance can know
+    most: int = 100
 
 
 class Server:
@@ -135,7 +139,7 @@ class Server:
     # What is asked of it.
 
     def listed(self, kind: str) -> list[Thing]:
-        things: Iterable[Thing] = self.pods.values() if kind == PODS else self.nodes.values()
+        things: list[Thing] = [*self.pods.values()] if kind == PODS else [*self.nodes.values()]
         return sorted(things, key=lambda it: it.name)
 
     def events_after(self, kind: str, version: int) -> list[Event]:

@@ -2,8 +2,9 @@
 """Machines that are wrong in one thing each. Every one has to be found."""
 from __future__ import annotations
 
-from lines import (KINDS, NODES, NOTHING, PODS, Answer, Bind, Gone, Hears, Listed, Lists, Node, Offered, Output, Pod, Read, Thing, Tick, Told, WasRead, Aside, fits)
-from machine import Machine, Open
+from lines import (KINDS, NODES, NOTHING, PODS, Answer, Aside, Bind, Gone, Hears, Listed, Lists, Node, Offered, Output, Pod, Thing, Tick, Told, WasRead, fits,
+                   minus)
+from machine import Machine
 
 
 class ListKeeps(Machine):
@@ -24,10 +25,9 @@ class ListKeeps(Machine):
 class LateNames(Machine):
     """What a list names that hasn't changed is gone with its end."""
 
-    def told(self, line: Told) -> None:
+    def told(self, line: Told) -> list[Output]:
         kind = PODS if isinstance(line.thing, Pod) else NODES
-        if not self.is_old(kind, line.thing.name, line.thing.version):
-            super().told(line)
+        return [] if self.is_old(kind, line.thing.name, line.thing.version) else super().told(line)
 
 
 class CutNames(Machine):
@@ -136,7 +136,7 @@ class OpenUncounted(Machine):
         used = self.used.get(node.name, NOTHING)
         for it in self.opens.values():
             if it.bind.node == node.name:
-                used = used[0] - it.bind.asks[0], used[1] - it.bind.asks[1], used[2] - it.bind.asks[2]
+                used = minus(used, it.bind.asks)
         return bool(node.room and pod.asks and fits(pod.asks, used, node.room))
 
 
@@ -185,8 +185,8 @@ class NoVersions(Machine):
 class DoneExpires(Machine):
     """A bind that was done, and that nothing tells of for 30 seconds, counts no more."""
 
-    def __init__(self) -> None:
-        super().__init__()
+    def __init__(self, most: int = 100, fences: bool = False) -> None:
+        super().__init__(most, fences)
         self.now = 0
         self.done: dict[int, int] = {}
 
@@ -313,6 +313,27 @@ class Twice(Machine):
         return it
 
 
-WRONG = (ListKeeps, LateNames, CutNames, LostForgotten, OverForgotten, RefusedForgotten, RefusedByWatch, EarlyRead, AnyRead, BindsDeaf, HearsListing, OldNode,
-         OpenUncounted, Namesake, UnreadNothing, LateWaits, NoVersions, DoneExpires, AtOnce, PastAlone, PastAtEnd, AsideFrees, ChangeFrees, AsideForgotten,
-         SettledForgotten, GoneByRead, GoneCounts, NodeFrees, Elsewhere, Twice)
+class FencesAlways(Machine):
+    """A server that doesn't test versions is asked to fence."""
+
+    def __init__(self, most: int = 100, fences: bool = False) -> None:
+        super().__init__(most, True)
+
+
+class FullForgotten(Machine):
+    """A pod on a node that there is no room to know is none."""
+
+    def is_shut(self) -> bool:
+        self.is_short = False
+        return super().is_shut()
+
+
+class ShortForgotten(Machine):
+    """A list's end makes room, though it had pods that there was no room to know."""
+
+    def listed(self, line: Listed) -> None:
+        self.lists_short = False
+        super().listed(line)
+
+
+WRONG = tuple(it for it in globals().values() if isinstance(it, type) and issubclass(it, Machine) and it is not Machine)
