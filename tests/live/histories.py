@@ -28,6 +28,9 @@ def history(dice: random.Random) -> list[Step]:
     for it in ("make", "next", "try"):
         weights[NAMES.index(it)] += 4
     steps = [Step("node", it, 4 + dice.randrange(4)) for it in range(dice.randrange(1, 3))]
+    if dice.random() < 0.3:
+        # one node, with room for one pod
+        steps, weights[NAMES.index("node")] = [Step("node", 0, 4)], 0
     steps += [Step("born", dice.randrange(64), dice.randrange(1024)) for _ in range(dice.randrange(3))]
     if dice.random() < 0.9:
         steps += AWAKE
@@ -49,6 +52,8 @@ def broken(
         world.settle()
     except Broken as why:
         return str(why), world
+    except LookupError as why:
+        return f"0: a line has no answer: {why!r}", world
     if counted is not None:
         counted += [len(world.lines), len(world.server.posts)]
     return None

@@ -112,12 +112,13 @@ class World(Transport):
         self.tell(Cycle(one, two))
 
     def do_try(self, one: int, two: int) -> None:
-        """What makes a bind likely: a pod is made, the cluster is heard, unless it may be that nothing is, and one is tried."""
-        if not any(it.is_ours and not it.node for it in self.server.pods.values()):
-            self.do_make(one, two)
-        for kind in range(2):
-            if self.streams[KINDS[kind]].is_open or two % 8:
-                self.do_hear(kind, 0)
+        """What makes a bind likely: where no pod is known that waits, some are made, and all is heard; and then one is tried."""
+        if not any(True for _ in self.history.waiting()):
+            for it in range(1 + two % 3):
+                self.do_make(one + it, two // 3)
+            self.do_hear(0, 0)
+        if two % 2:
+            self.do_hear(1, 0)
         self.do_cycle(one, two)
 
     def do_aside(self, one: int, _: int) -> None:

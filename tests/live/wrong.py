@@ -2,7 +2,7 @@
 """Machines that are wrong in one thing each. Every one has to be found."""
 from __future__ import annotations
 
-from lines import (KINDS, NODES, NOTHING, PODS, Answer, Aside, Bind, Gone, Hears, Listed, Lists, Node, Offered, Output, Pod, Thing, Tick, Told, WasRead, fits,
+from lines import (NODES, NOTHING, PODS, Answer, Aside, Bind, Gone, Hears, Listed, Lists, Node, Offered, Output, Pod, Thing, Tick, Told, WasRead, fits,
                    minus)
 from machine import Machine
 
@@ -109,7 +109,8 @@ class BindsDeaf(Machine):
     """A kind of which a list was heard is heard."""
 
     def is_shut(self) -> bool:
-        return not self.is_clear or any(it not in self.ever for it in KINDS)
+        self.heard = {*self.ever}
+        return super().is_shut()
 
 
 class HearsListing(Machine):
