@@ -5,7 +5,7 @@ use std::sync::{Condvar, Mutex, Wait};
 pub const FEEDERS: usize = 2;
 
 /// What a feeder's step brought.
-#[derive(Clone, Copy, Debug, PartialEq, Eq)]
+#[derive(Clone, Copy)]
 pub enum News {
     /// A pod that waits.
     Pod,
@@ -14,7 +14,7 @@ pub enum News {
 }
 
 /// How often the bell was rung, whether a pod has come, and how many feeders have ended.
-#[derive(Clone, Copy, Debug, PartialEq, Eq)]
+#[derive(Clone, Copy, PartialEq, Eq)]
 pub struct Heard {
     rings: u64,
     any_pod: bool,

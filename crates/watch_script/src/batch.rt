@@ -22,7 +22,7 @@ const BATCH_BYTES: usize = 1_048_576;
 const FEW: usize = 32;
 
 /// The first faulty one of several lines.
-#[derive(Clone, Copy, Debug, PartialEq, Eq)]
+#[derive(Clone, Copy)]
 pub(crate) struct Faulty {
     /// How many lines stand before it.
     pub(crate) before: usize,
