@@ -5,7 +5,7 @@ from __future__ import annotations
 from typing import NamedTuple
 
 from laws import check_cluster, law
-from lines import KINDS, NOTHING, Amounts, Aside, Cycle, Offered, Tick, fits
+from lines import NOTHING, Amounts, Aside, Cycle, Offered, Tick, fits
 from server import FAR
 from transport import Transport, pick
 
@@ -122,11 +122,11 @@ class World(Transport):
         self.do_cycle(one, two)
 
     def do_aside(self, one: int, _: int) -> None:
-        if word := pick([it for it in self.history.words.values() if it and not it.pod.node], one):
+        if word := pick([it for _, it in sorted(self.history.words.items()) if it and not it.pod.node], one):
             self.tell(Aside(word.pod.name, word.pod.uid))
 
     def do_offer(self, one: int, _: int) -> None:
-        if word := pick([it for it in self.history.words.values() if it and it.is_aside], one):
+        if word := pick([it for _, it in sorted(self.history.words.items()) if it and it.is_aside], one):
             self.tell(Offered(word.pod.name, word.pod.uid))
 
     def do_restart(self, _: int, __: int) -> None:
