@@ -1,7 +1,7 @@
 -- What is known of the rules that were asked, one after the other.
-use Rattle.std.proofs.Common.{◌≡◌, ℕ, suc, ◌+◌, ◌*◌, ◌<◌, ◌≤◌, List, [], ◌∷◌, ◌++◌, length, drop, set, Option, Some, None, Ok, MatchOption, slice_get, get_or, refl, ap, sym, ◌∙◌, subst, arith, length-append}
+use Rattle.std.proofs.Common.{◌≡◌, ℕ, zero, suc, ◌+◌, ◌*◌, ◌<◌, ◌≤◌, List, [], ◌∷◌, ◌++◌, length, drop, replicate, set, Option, Some, None, Ok, MatchOption, slice_get, get_or, refl, ap, sym, ◌∙◌, subst, arith, length-append}
 use Rattle.std.specs.List.{AllZip}
-use Rattle.std.proofs.lemmas.List.{get_or_append_left, get_or_push}
+use Rattle.std.proofs.lemmas.List.{get_or_append_left, get_or_push, length-replicate}
 use Rattle.std.proofs.lemmas.Nat.{mul-le}
 use borrow.Author.Count.{below_more}
 use Rattle.rules.specs.RuleSet.{RuleSet, Told}
@@ -11,7 +11,7 @@ use Rattle.desk.specs.Shown.{Shown}
 use Rattle.choose.specs.declared.decision.Reason.{Reason}
 use Rattle.choose.specs.declared.decision.Verdict.{Verdict}
 use Rattle.choose.specs.declared.decision.Verdict.TheVariants.{Rejected}
-use Rattle.choose.specs.Verdict.{AreScores, weighted, no_scores, in_places, built_in, told_of, passing, ByRules, HasVerdict}
+use Rattle.choose.specs.Verdict.{AreScores, ScoresAdd, Filtered, weighted, no_scores, in_places, built_in, told_of, passing, passing_alone, without_scores, ByRules, HasVerdict}
 use Rattle.choose.specs.inside.Verdict.{nothing_added}
 use Rattle.choose.specs.Choice.{AreVerdicts}
 use Rattle.choose.specs.inside.Finding.{IsBuiltIn}
@@ -116,3 +116,45 @@ all_without_rules rules pod [] (v ∷ verdicts) none are = absurd are
 all_without_rules rules pod (x ∷ nodes) [] none are = absurd are
 all_without_rules rules pod (x ∷ nodes) (v ∷ verdicts) none are =
     (without_rules rules pod x v none are.0, all_without_rules rules pod nodes verdicts none are.1)
+
+-- ---- filters alone
+
+-- so many scores of 0
+abbrev nones : ℕ → List ℕ
+nones n = replicate n 0
+
+weighted_none : (weights : List ℕ) (n : ℕ) → 0 ≡ weighted weights (nones n)
+weighted_none [] n = refl
+weighted_none (w ∷ ws) zero = refl
+weighted_none (w ∷ ws) (suc n) = omega (arith, weighted_none ws n)
+
+none_at : (n k : ℕ) → get_or (nones n) k 0 ≡ zero
+none_at zero k = refl
+none_at (suc n) zero = refl
+none_at (suc n) (suc k) = none_at n k
+
+none_in_places : (n m : ℕ) → n ≤ m → nones m ≡ nones n ++ drop n (nones m)
+none_in_places zero m few = refl
+none_in_places (suc n) zero few = absurd (omega (arith, few))
+none_in_places (suc n) (suc m) few = ap (λ t. 0 ∷ t) (none_in_places n m (omega (arith, few)))
+
+-- and where no rule has a score, nothing is added
+scores_add_none : (rules : RuleSet) (told : Told) → length rules.weights ≤ 16 → ScoresAdd (without_scores rules) told nothing_added
+scores_add_none rules told few =
+    let n = length rules.weights in
+    let many : length (nones n) ≡ n = length-replicate n 0 in
+    record {
+      scores = nones n;
+      all = many;
+      are = λ k below. ap (λ s. score.Good s) (none_at n k);
+      adds = weighted_none rules.weights n;
+      shows = none_in_places n 16 few ∙ ap (λ m. nones n ++ drop m no_scores) (sym many);
+    }
+
+-- so a node that all filters pass is told so
+pub passes_by_filters : (rules : RuleSet) (told : Told) → length rules.weights ≤ 16 → Filtered rules told None → ByRules (without_scores rules) told passing_alone (passing_alone nothing_added)
+passes_by_filters rules told few pass = record {
+  filtered = None;
+  are = pass;
+  is = record { scored = Ok nothing_added; are = scores_add_none rules told few; is = refl };
+}

@@ -12,7 +12,7 @@ use Rattle.choose.specs.declared.asking.Added.{Added}
 use Rattle.choose.specs.declared.decision.Reason.{Reason}
 use Rattle.choose.specs.declared.decision.Verdict.{Verdict}
 use Rattle.choose.specs.declared.decision.Verdict.TheVariants.{Rejected, Errs}
-use Rattle.choose.specs.Verdict.{built_in, told_of, stopped_by, StopsAt, Filtered, AreScores, weighted, in_places, ScoreErrs, Scored, made_by, passing, passing_alone, ByScores, ByRules, HasVerdict, HasRuling}
+use Rattle.choose.specs.Verdict.{built_in, told_of, stopped_by, StopsAt, Filtered, AreScores, weighted, in_places, ScoreErrs, Scored, made_by, passing, passing_alone, ByScores, ByRules, HasVerdict, HasRuling, asked}
 use Rattle.choose.specs.Choice.{AreVerdicts, AreRulings}
 
 by_less : (m n : ℕ) (a : Bool) → nat_lt m n ≡ a → (b : Bool) → nat_lt n m ≡ b → (m < n) ⊎ ((m ≡ n) ⊎ (n < m))
@@ -110,9 +110,15 @@ one_by_built_in rules pod shown v w (Some reason) once a b = a ∙ sym b
 pub one_verdict : (rules : RuleSet) (pod : Pod) (shown : Shown) (v w : Verdict) → SayOneThing rules → HasVerdict rules pod shown v → HasVerdict rules pod shown w → v ≡ w
 one_verdict rules pod shown v w once a b = one_by_built_in rules pod shown v w (built_in shown pod) once a b
 
--- and one ruling
-pub one_ruling : (rules : RuleSet) (pod : Pod) (shown : Shown) (v w : Verdict) → SayOneThing rules → HasRuling rules pod shown v → HasRuling rules pod shown w → v ≡ w
-one_ruling rules pod shown v w once a b = one_by_rules rules (told_of pod shown) passing_alone once v w a b
+-- where rules say one thing, so do those that are asked
+pub once_asked : (filters_alone : Bool) (rules : RuleSet) → SayOneThing rules → SayOneThing (asked filters_alone rules)
+once_asked false rules once = once
+once_asked true rules once = record { filter = once.filter; score = λ place told one other a b. a ∙ sym b }
+
+-- and there is one ruling
+pub one_ruling : (filters_alone : Bool) (rules : RuleSet) (pod : Pod) (shown : Shown) (v w : Verdict) → SayOneThing rules → HasRuling (asked filters_alone rules) pod shown v
+    → HasRuling (asked filters_alone rules) pod shown w → v ≡ w
+one_ruling filters_alone rules pod shown v w once a b = one_by_rules (asked filters_alone rules) (told_of pod shown) passing_alone (once_asked filters_alone rules once) v w a b
 
 -- where there is one for each node, there is one list of them
 one_of_each : (R : Shown → Verdict → Type 0) (nodes : List Shown) (vs ws : List Verdict) → ((node : Shown) (v w : Verdict) → R node v → R node w → v ≡ w) → AllZip R nodes vs → AllZip R nodes ws → vs ≡ ws
@@ -128,5 +134,7 @@ pub one_list : (rules : RuleSet) (pod : Pod) (nodes : List Shown) (vs ws : List 
 one_list rules pod nodes vs ws once a b = one_of_each (HasVerdict rules pod) nodes vs ws (λ node v w. one_verdict rules pod node v w once) a b
 
 -- and one of rulings
-pub one_ruled : (rules : RuleSet) (pod : Pod) (nodes : List Shown) (vs ws : List Verdict) → SayOneThing rules → AreRulings rules pod nodes vs → AreRulings rules pod nodes ws → vs ≡ ws
-one_ruled rules pod nodes vs ws once a b = one_of_each (HasRuling rules pod) nodes vs ws (λ node v w. one_ruling rules pod node v w once) a b
+pub one_ruled : (filters_alone : Bool) (rules : RuleSet) (pod : Pod) (nodes : List Shown) (vs ws : List Verdict) → SayOneThing rules → AreRulings (asked filters_alone rules) pod nodes vs
+    → AreRulings (asked filters_alone rules) pod nodes ws → vs ≡ ws
+one_ruled filters_alone rules pod nodes vs ws once a b =
+    one_of_each (HasRuling (asked filters_alone rules) pod) nodes vs ws (λ node v w. one_ruling filters_alone rules pod node v w once) a b

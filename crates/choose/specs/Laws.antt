@@ -1,5 +1,5 @@
 -- What holds of every choice.
-use Rattle.std.specs.Prelude.{◌≡◌, ℕ, ◌-◌, ◌<◌, if◌then◌else◌, List, [], ◌∷◌, ◌++◌, length, Option, Some, None}
+use Rattle.std.specs.Prelude.{◌≡◌, ℕ, ◌-◌, ◌<◌, Bool, if◌then◌else◌, List, [], ◌∷◌, ◌++◌, length, Option, Some, None}
 use Rattle.quant.specs.declared.objects.Pod.{Pod}
 use Rattle.desk.specs.Shown.{Shown}
 use Rattle.rules.specs.RuleSet.{RuleSet}
@@ -9,7 +9,7 @@ use Rattle.choose.specs.declared.decision.Verdict.{Verdict}
 use Rattle.choose.specs.declared.decision.Verdict.TheVariants.{Rejected, RejectedBy, Errs, Passes}
 use Rattle.choose.specs.declared.decision.Decision.{Decision}
 use Rattle.choose.specs.declared.decision.Decision.TheVariants as decision
-use Rattle.choose.specs.Verdict.{HasVerdict, HasRuling, reason_of}
+use Rattle.choose.specs.Verdict.{HasVerdict, HasRuling, asked, reason_of}
 use Rattle.choose.specs.Choice.{Judged, judged, same_reason, IsChoice, AreVerdicts, Choice}
 use Rattle.desk.specs.Order.{name_at}
 
@@ -17,9 +17,11 @@ use Rattle.desk.specs.Order.{name_at}
 abbrev pub OneVerdict : RuleSet → Type 0
 OneVerdict rules = (pod : Pod) (shown : Shown) (one other : Verdict) → HasVerdict rules pod shown one → HasVerdict rules pod shown other → one ≡ other
 
--- There is one ruling on a node.
+-- There is one ruling on a node, by all rules and by their filters alone.
 abbrev pub OneRuling : RuleSet → Type 0
-OneRuling rules = (pod : Pod) (shown : Shown) (one other : Verdict) → HasRuling rules pod shown one → HasRuling rules pod shown other → one ≡ other
+OneRuling rules =
+    (filters_alone : Bool) (pod : Pod) (shown : Shown) (one other : Verdict) → HasRuling (asked filters_alone rules) pod shown one → HasRuling (asked filters_alone rules) pod shown other
+    → one ≡ other
 
 -- no two of the nodes have one name
 abbrev pub HaveOwnNames : List Shown → Type 0

@@ -1,5 +1,5 @@
 -- What is decided of one node. It depends on that node, the pod and the rules alone.
-use Rattle.std.specs.Prelude.{◌≡◌, ℕ, ◌+◌, ◌*◌, ◌<◌, List, [], ◌∷◌, ◌++◌, length, drop, replicate, Option, Some, None, Result, Ok, Err, MatchOption, slice_index}
+use Rattle.std.specs.Prelude.{◌≡◌, ℕ, ◌+◌, ◌*◌, ◌<◌, Bool, true, false, List, [], ◌∷◌, ◌++◌, length, drop, replicate, Option, Some, None, Result, Ok, Err, MatchOption, slice_index}
 use Rattle.quant.specs.declared.objects.Pod.{Pod}
 use Rattle.fit.specs.declared.room.Shortage.{Shortage}
 use Rattle.fit.specs.declared.room.Shortage.TheVariants as shortage
@@ -146,6 +146,15 @@ HasVerdict rules pod shown verdict =
 -- a node that the rules alone pass: nothing of its own counts
 abbrev pub passing_alone : Added → Verdict
 passing_alone added = Passes 0 added.sum added.scores
+
+-- the same rules, of which none has a score
+abbrev pub without_scores : RuleSet → RuleSet
+without_scores rules = record { weights = rules.weights; Filters = rules.Filters; Scores = λ place told said. said ≡ score.Good 0 }
+
+-- the rules that are asked: these, or their filters alone
+abbrev pub asked : (filters_alone : Bool) → RuleSet → RuleSet
+asked false rules = rules
+asked true rules = without_scores rules
 
 -- the ruling on a node: what the rules alone say of it, whatever the built-in filters do
 abbrev pub HasRuling : RuleSet → Pod → Shown → Verdict → Type 0

@@ -1,5 +1,5 @@
 //! What the rules make of a node.
-ghost use Rattle.std.specs.Prelude.{◌≡◌, ◌≤◌, IfOk};
+ghost use Rattle.std.specs.Prelude.{◌≡◌, ◌≤◌, length, IfOk};
 ghost use Rattle.desk.specs.Shown.{shown};
 ghost use Rattle.choose.specs.Verdict.{Filtered, Scored, told_of};
 
@@ -24,6 +24,7 @@ pub fn filtered<R: Rules>(row: &Row, pod: &Pod, notes: &R::Notes, rules: &mut R)
     requires node { R.OfNode rules.old notes.now row.now.node row.now.used }
     ensures is { Filtered (R.answers rules.old) (told_of pod.now (shown row.now)) result }
     ensures stays { rules.new ≡ rules.old }
+    ensures few { length (R.answers rules.old).weights ≤ 16 }
 {
     for place in 0..rules.count() {
         match rules.filter(place, notes, pod, &row.node, &row.used) {

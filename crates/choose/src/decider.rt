@@ -4,6 +4,7 @@ ghost use denote.Param.Send.{IsSync};
 ghost use Rattle.choose.specs.Choice.{AreRulings, AreVerdicts, Choice};
 ghost use Rattle.choose.specs.declared.decision.Verdict.{Verdict};
 ghost use Rattle.choose.specs.Kits.{rules_of};
+ghost use Rattle.choose.specs.Verdict.{asked};
 
 use crate::decision::{Decision, Verdict};
 use desk::{NoMemory, Snapshot};
@@ -54,13 +55,18 @@ pub trait Decider {
         self.decide(rt, snapshot, pod)
     }
 
-    /// What the rules of the first kit alone say of each node, for a pod: the verdicts are these
-    /// rulings then.
+    /// What the rules of the first kit alone say of each node, for a pod, or what their filters
+    /// alone say: the verdicts are these rulings then.
     ///
     /// Errors: `NoMemory`. Nothing was asked then, and it can be used again.
-    fn judge(&mut self, snapshot: &Snapshot, pod: &SharedPod) -> Result<(), NoMemory>
-        ensures judged { OnOk result (AreRulings (rules_of Self.Kit.answers (kits self.old)) pod.now snapshot.now
-            (last self.new)) }
+    fn judge(
+        &mut self,
+        snapshot: &Snapshot,
+        pod: &SharedPod,
+        filters_alone: bool,
+    ) -> Result<(), NoMemory>
+        ensures judged { OnOk result (AreRulings (asked filters_alone (rules_of Self.Kit.answers (kits self.old)))
+            pod.now snapshot.now (last self.new)) }
         ensures kits { kits self.new ≡ kits self.old };
 
     /// The verdicts of its last decision, or its last rulings, in the order of the nodes.

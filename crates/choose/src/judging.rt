@@ -3,7 +3,7 @@ ghost use Rattle.std.specs.Prelude.{◌≡◌, ◌≤◌, length, IfOk, map};
 ghost use Rattle.std.specs.List.{AllZip};
 ghost use Rattle.taints.specs.Tolerance.{prefer_not};
 ghost use Rattle.desk.specs.Shown.{shown};
-ghost use Rattle.choose.specs.Verdict.{HasRuling, HasVerdict, built_in, passing};
+ghost use Rattle.choose.specs.Verdict.{HasRuling, HasVerdict, asked, built_in, passing};
 ghost use Rattle.choose.specs.Choice.{AreRulings, AreVerdicts};
 ghost use Rattle.choose.specs.inside.Finding.{IsBuiltIn};
 
@@ -136,15 +136,24 @@ fn judge_by_rules<R: Rules>(rows: &[Row], pod: &Pod, rules: &mut R, verdicts: &m
 }
 
 // The ruling on a node, which the rules are shown; the pod was shown to them already.
-fn ruling_of<R: Rules>(row: &Row, pod: &Pod, notes: &mut R::Notes, rules: &mut R) -> Verdict
+fn ruling_of<R: Rules>(
+    row: &Row,
+    pod: &Pod,
+    filters_alone: bool,
+    notes: &mut R::Notes,
+    rules: &mut R,
+) -> Verdict
     requires { R.OfPod notes.old pod.now }
-    ensures is { HasRuling (R.answers rules.old) pod.now (shown row.now) result }
+    ensures is { HasRuling (asked filters_alone (R.answers rules.old)) pod.now (shown row.now) result }
     ensures stays { rules.new ≡ rules.old }
     ensures pod { R.OfPod notes.new pod.now }
 {
     rules.show_node(notes, &row.node, &row.used);
     if let Some(stopped) = filtered(row, pod, notes, rules) {
         return stopped;
+    }
+    if filters_alone {
+        return Verdict::Passes(0, 0, [0; 16]);
     }
     match scored(row, pod, notes, rules) {
         Ok(added) => Verdict::Passes(0, added.sum, added.scores),
@@ -153,16 +162,23 @@ fn ruling_of<R: Rules>(row: &Row, pod: &Pod, notes: &mut R::Notes, rules: &mut R
 }
 
 /// Writes what the rules alone say of nodes into the places for verdicts, in the nodes' order: no
-/// built-in filter is asked, and no score but the rules' counts. Where there is no rule each node
-/// passes with 0. The pod is shown to the rules once. No memory is taken.
-pub fn rule_on<R: Rules>(rows: &[Row], pod: &Pod, rules: &mut R, verdicts: &mut [Verdict])
+/// built-in filter is asked, and no score but the rules' counts. Where their filters alone are to
+/// be asked no score is, as if no rule had one; where there is no rule each node passes with 0. The
+/// pod is shown to the rules once. No memory is taken.
+pub fn rule_on<R: Rules>(
+    rows: &[Row],
+    pod: &Pod,
+    filters_alone: bool,
+    rules: &mut R,
+    verdicts: &mut [Verdict],
+)
     requires { length verdicts.old ≡ length rows.now }
-    ensures are { AreRulings (R.answers rules.old) pod.now (map shown rows.now) verdicts.new }
+    ensures are { AreRulings (asked filters_alone (R.answers rules.old)) pod.now (map shown rows.now) verdicts.new }
     ensures stays { rules.new ≡ rules.old }
 {
     let mut notes = rules.show_pod(pod);
     for at in 0..rows.len() {
-        verdicts[at] = ruling_of(&rows[at], pod, &mut notes, rules);
+        verdicts[at] = ruling_of(&rows[at], pod, filters_alone, &mut notes, rules);
     }
 }
 

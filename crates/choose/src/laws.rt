@@ -3,7 +3,8 @@ ghost use Rattle.choose.specs.Laws.{OneVerdict, OneRuling, OneDecision, Verdicts
 
 use rules::Rules;
 
-/// There is one verdict on a node, and one ruling, by the node, the pod and the rules alone.
+/// There is one verdict on a node, and one ruling, by the node, the pod and the rules alone, or
+/// their filters alone.
 pub fn one_verdict<R: Rules>(_rules: &R)
     ensures verdict { OneVerdict (R.answers _rules.now) }
     ensures ruling { OneRuling (R.answers _rules.now) }

@@ -48,10 +48,15 @@ impl<A: Decider + Drop, B: Decider<Kit = A::Kit> + Drop> Decider for OneOf<A, B>
         }
     }
 
-    fn judge(&mut self, snapshot: &Snapshot, pod: &SharedPod) -> Result<(), NoMemory> {
+    fn judge(
+        &mut self,
+        snapshot: &Snapshot,
+        pod: &SharedPod,
+        filters_alone: bool,
+    ) -> Result<(), NoMemory> {
         match self {
-            OneOf::First(one) => one.judge(snapshot, pod),
-            OneOf::Second(one) => one.judge(snapshot, pod),
+            OneOf::First(one) => one.judge(snapshot, pod, filters_alone),
+            OneOf::Second(one) => one.judge(snapshot, pod, filters_alone),
         }
     }
 

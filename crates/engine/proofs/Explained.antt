@@ -2,12 +2,12 @@
 use Rattle.std.proofs.Common.{◌≡◌, ◌⊎◌, inl, inr, ℕ, true, false, List, [], ◌∷◌, ◌++◌, length, Option, Some, None, refl, sym, ap, subst, ◌∙◌, append-nil, append_assoc}
 use Rattle.std.specs.List.{All}
 use Rattle.std.proofs.lemmas.List.Elements.{All-nil, All-cons, All-head, All-tail}
-use Rattle.quant.specs.declared.objects.Pod.{Pod}
 use Rattle.rules.specs.RuleSet.{RuleSet, SayOneThing}
 use Rattle.desk.specs.declared.step.Step.{Step}
 use Rattle.desk.specs.Machine.{State, snapshot}
 use Rattle.engine.specs.declared.named_rule.NamedRule.{NamedRule}
 use Rattle.manifest.specs.declared.command.Command.{Command}
+use Rattle.manifest.specs.declared.command.Question.{Question}
 use Rattle.manifest.specs.declared.command.Command.TheVariants as commands
 use Rattle.engine.specs.Answers.{opening, step_of, asked_of, Answered, AnsweredBy, AllAnswered}
 use Rattle.engine.specs.Indented.{AreLines, without_indented}
@@ -24,17 +24,17 @@ use Rattle.engine.proofs.OneOutput.{one_output}
 
 -- The answer to what is asked, and what is put in before it. Nothing of what is put in stays where
 -- indented lines are left out, whatever stands behind it.
-pub record Part (rules : RuleSet) (named : List NamedRule) (s : State) (a : Option Step) (asked : Option Pod) (s' : State) (text : List ℕ) : Type 0 where
+pub record Part (rules : RuleSet) (named : List NamedRule) (s : State) (a : Option Step) (asking : Option Question) (s' : State) (text : List ℕ) : Type 0 where
   pub told : List ℕ
   pub plain : List ℕ
   pub is : text ≡ told ++ plain
-  pub answered : AnsweredBy rules (telling named false) s a asked s' plain
+  pub answered : AnsweredBy rules (telling named false) s a asking s' plain
   pub indented : AreLines true told
 
-part_of : (rules : RuleSet) (named : List NamedRule) (s : State) (a : Option Step) (asked : Option Pod) (s' : State) (text : List ℕ)
-    → AnsweredBy rules (telling named true) s a asked s' text → Part rules named s a asked s' text
-part_of rules named s (Some step) asked s' text answered = record { told = []; plain = text; is = refl; answered = answered; indented = no_lines true }
-part_of rules named s None (Some pod) s' text answered = record { told = []; plain = text; is = refl; answered = answered; indented = no_lines true }
+part_of : (rules : RuleSet) (named : List NamedRule) (s : State) (a : Option Step) (asking : Option Question) (s' : State) (text : List ℕ)
+    → AnsweredBy rules (telling named true) s a asking s' text → Part rules named s a asking s' text
+part_of rules named s (Some step) asking s' text answered = record { told = []; plain = text; is = refl; answered = answered; indented = no_lines true }
+part_of rules named s None (Some question) s' text answered = record { told = []; plain = text; is = refl; answered = answered; indented = no_lines true }
 part_of rules named s None None s' text (came, cycle, (told, are, indented, others, is)) = record {
   told = told;
   plain = cycle_line named came;
@@ -44,11 +44,11 @@ part_of rules named s None None s' text (came, cycle, (told, are, indented, othe
 }
 
 -- an answer is whole lines: those that begin with two spaces, and the others
-lines_answered : (rules : RuleSet) (named : List NamedRule) (s : State) (a : Option Step) (asked : Option Pod) (s' : State) (text : List ℕ)
-    → AnsweredBy rules (telling named false) s a asked s' text → (told others : List ℕ) × AreLines true told × AreLines false others × (text ≡ told ++ others) × (asked ≡ None → told ≡ [])
-lines_answered rules named s (Some step) asked s' text answered = ([], text, no_lines true, answered.2, refl, λ e. refl)
-lines_answered rules named s None (Some pod) s' text (stays, judges) =
-    (ruling_lines named pod (snapshot s.cluster) judges.rulings, judged_line pod.uid (length (snapshot s.cluster)), judges.indented, judges.last, judges.is, λ e. absurd (cc))
+lines_answered : (rules : RuleSet) (named : List NamedRule) (s : State) (a : Option Step) (asking : Option Question) (s' : State) (text : List ℕ)
+    → AnsweredBy rules (telling named false) s a asking s' text → (told others : List ℕ) × AreLines true told × AreLines false others × (text ≡ told ++ others) × (asking ≡ None → told ≡ [])
+lines_answered rules named s (Some step) asking s' text answered = ([], text, no_lines true, answered.2, refl, λ e. refl)
+lines_answered rules named s None (Some question) s' text (stays, judges) =
+    (ruling_lines named question.pod (snapshot s.cluster) judges.rulings, judged_line question.pod.uid (length (snapshot s.cluster)), judges.indented, judges.last, judges.is, λ e. absurd (cc))
 lines_answered rules named s None None s' text (came, cycle, (told, are, indented, others, is)) = (told, cycle_line named came, indented, others, is, λ e. are)
 
 -- what is left of an answer, and of what stands behind it, is what is left of each
@@ -151,13 +151,13 @@ bare_next rules telling s between commands.Cycle later s' answer rest now bare =
 bare_next rules telling s between (commands.BindDone uid ticket) later s' answer rest now bare = asked_still rules telling s between (commands.BindDone uid ticket) later s' answer rest refl now bare
 bare_next rules telling s between (commands.Forget uid ticket) later s' answer rest now bare = asked_still rules telling s between (commands.Forget uid ticket) later s' answer rest refl now bare
 bare_next rules telling s between commands.Dump later s' answer rest now bare = asked_still rules telling s between commands.Dump later s' answer rest refl now bare
-bare_next rules telling s between (commands.Judge pod) later s' answer rest (stays, judges) bare = record {
+bare_next rules telling s between (commands.Judge question) later s' answer rest (stays, judges) bare = record {
   plain = bare.plain;
   answered = subst (λ t. AllAnswered rules telling t (without_questions later) s' bare.plain) stays bare.answered;
   with_answers =
       subst (λ t. IsWith (λ part. (part ≡ []) ⊎ IsAnswer part) bare.plain (t ++ rest)) (append-nil answer)
       (put_before (λ part. (part ≡ []) ⊎ IsAnswer part) answer [] bare.plain rest
-      (inr (ruling_lines telling.named pod (snapshot s.cluster) judges.rulings, pod.uid, length (snapshot s.cluster), judges.indented, judges.is)) bare.with_answers);
+      (inr (ruling_lines telling.named question.pod (snapshot s.cluster) judges.rulings, question.pod.uid, length (snapshot s.cluster), judges.indented, judges.is)) bare.with_answers);
 }
 
 bare_of : (rules : RuleSet) (telling : Telling) (s : State) (l : List Command) (s' : State) (text : List ℕ) → AllAnswered rules telling s l s' text → Bare rules telling s l s' text

@@ -7,7 +7,9 @@ use Rattle.desk.specs.Machine.{State, reply, snapshot}
 use Rattle.desk.specs.Shown.{Shown}
 use Rattle.rules.specs.RuleSet.{RuleSet}
 use Rattle.choose.specs.declared.decision.Verdict.{Verdict}
+use Rattle.choose.specs.Verdict.{asked}
 use Rattle.choose.specs.Choice.{AreVerdicts, AreRulings}
+use Rattle.manifest.specs.declared.command.Question.{Question}
 use Rattle.engine.specs.declared.named_rule.NamedRule.{NamedRule}
 use Rattle.engine.specs.declared.one_cycle.Cycled.{Cycled}
 use Rattle.engine.specs.declared.one_cycle.Cycled.TheVariants.{Idle}
@@ -43,15 +45,15 @@ image_at f (u ∷ xs) (suc i) x below at = image_at f xs i x (omega (arith, belo
 -- ---- a question
 
 -- what is told where the rules were asked of the nodes as they are
-pub judged_by : (rules : RuleSet) (named : List NamedRule) (s : State) (pod : Pod) (nodes : List Shown) (rulings : List Verdict) (many : ℕ) → nodes ≡ snapshot s.cluster → many ≡ length nodes
-    → AreRulings rules pod nodes rulings → AreLines true (ruling_lines named pod nodes rulings) → AreLines false (judged_line pod.uid many)
-    → Judges rules named s pod (ruling_lines named pod nodes rulings ++ judged_line pod.uid many)
-judged_by rules named s pod nodes rulings many seen all are indented last =
-    subst (λ n. Judges rules named s pod (ruling_lines named pod nodes rulings ++ judged_line pod.uid n)) (sym all)
-    (subst (λ (rows : List Shown). AreRulings rules pod rows rulings → AreLines true (ruling_lines named pod rows rulings) → AreLines false (judged_line pod.uid (length rows))
-    → Judges rules named s pod (ruling_lines named pod rows rulings ++ judged_line pod.uid (length rows))) (sym seen)
+pub judged_by : (rules : RuleSet) (named : List NamedRule) (s : State) (question : Question) (nodes : List Shown) (rulings : List Verdict) (many : ℕ) → nodes ≡ snapshot s.cluster
+    → many ≡ length nodes → AreRulings (asked question.filters_alone rules) question.pod nodes rulings → AreLines true (ruling_lines named question.pod nodes rulings)
+    → AreLines false (judged_line question.pod.uid many) → Judges rules named s question (ruling_lines named question.pod nodes rulings ++ judged_line question.pod.uid many)
+judged_by rules named s question nodes rulings many seen all are indented last =
+    subst (λ n. Judges rules named s question (ruling_lines named question.pod nodes rulings ++ judged_line question.pod.uid n)) (sym all)
+    (subst (λ (rows : List Shown). AreRulings (asked question.filters_alone rules) question.pod rows rulings → AreLines true (ruling_lines named question.pod rows rulings)
+    → AreLines false (judged_line question.pod.uid (length rows)) → Judges rules named s question (ruling_lines named question.pod rows rulings ++ judged_line question.pod.uid (length rows))) (sym seen)
     (λ are indented last. record { rulings = rulings; are = are; indented = indented; last = last; is = refl })
-    are indented (subst (λ n. AreLines false (judged_line pod.uid n)) all last))
+    are indented (subst (λ n. AreLines false (judged_line question.pod.uid n)) all last))
 
 -- ---- a cycle that popped no pod
 

@@ -17,6 +17,7 @@ use Rattle.choose.specs.Laws.{HaveOwnNames}
 use Rattle.choose.proofs.OneDecision.{one_decision}
 use Rattle.choose.proofs.OneVerdict.{one_list, one_ruled}
 use Rattle.manifest.specs.declared.command.Command.{Command}
+use Rattle.manifest.specs.declared.command.Question.{Question}
 use Rattle.engine.specs.declared.named_rule.NamedRule.{NamedRule}
 use Rattle.engine.specs.declared.one_cycle.Cycled.{Cycled}
 use Rattle.engine.specs.CycleAlone.{AfterAssumeAlone, EndsAlone, IsDecidedAlone, AfterPopAlone}
@@ -117,19 +118,22 @@ one_told rules named false s text text' once a b = a ∙ sym b
 -- ---- what is asked
 
 -- all that can be asked keeps it
-answered_own : (rules : RuleSet) (telling : Telling) (s : State) (a : Option Step) (asked : Option Pod) (s' : State) (text : List ℕ) → Own s → AnsweredBy rules telling s a asked s' text → Own s'
+answered_own : (rules : RuleSet) (telling : Telling) (s : State) (a : Option Step) (asking : Option Question) (s' : State) (text : List ℕ) → Own s → AnsweredBy rules telling s a asking s' text → Own s'
 unfolding after
-answered_own rules telling s (Some step) asked s' text own told = kept_to s s' step told.0 own
-answered_own rules telling s None (Some pod) s' text own told = subst Own (sym told.0) own
+answered_own rules telling s (Some step) asking s' text own told = kept_to s s' step told.0 own
+answered_own rules telling s None (Some question) s' text own told = subst Own (sym told.0) own
 answered_own rules telling s None None s' text own told = after_pop_own rules (machine.after s 0 Pop) (reply s 0 Pop) told.0 s' (kept s 0 Pop own) told.1.is
 
 -- what is asked has one answer
-one_answer : (rules : RuleSet) (telling : Telling) (s : State) (a : Option Step) (asked : Option Pod) (one other : State) (text text' : List ℕ) → SayOneThing rules → Own s
-    → AnsweredBy rules telling s a asked one text → AnsweredBy rules telling s a asked other text' → Agree one other text text'
-one_answer rules telling s (Some step) asked one other text text' once own a b = (a.0 ∙ sym b.0, a.1 ∙ sym b.1)
-one_answer rules telling s None (Some pod) one other text text' once own a b =
-    let same : a.1.rulings ≡ b.1.rulings = one_ruled rules pod (snapshot s.cluster) a.1.rulings b.1.rulings once a.1.are b.1.are in
-    (a.0 ∙ sym b.0, a.1.is ∙ (ap (λ rulings. ruling_lines telling.named pod (snapshot s.cluster) rulings ++ judged_line pod.uid (length (snapshot s.cluster))) same ∙ sym b.1.is))
+one_answer : (rules : RuleSet) (telling : Telling) (s : State) (a : Option Step) (asking : Option Question) (one other : State) (text text' : List ℕ) → SayOneThing rules → Own s
+    → AnsweredBy rules telling s a asking one text → AnsweredBy rules telling s a asking other text' → Agree one other text text'
+one_answer rules telling s (Some step) asking one other text text' once own a b = (a.0 ∙ sym b.0, a.1 ∙ sym b.1)
+one_answer rules telling s None (Some question) one other text text' once own a b =
+    let same : a.1.rulings ≡ b.1.rulings = one_ruled question.filters_alone rules question.pod (snapshot s.cluster) a.1.rulings b.1.rulings once a.1.are b.1.are in
+    (
+      a.0 ∙ sym b.0,
+      a.1.is ∙ (ap (λ rulings. ruling_lines telling.named question.pod (snapshot s.cluster) rulings ++ judged_line question.pod.uid (length (snapshot s.cluster))) same ∙ sym b.1.is),
+    )
 one_answer rules telling s None None one other text text' once own a b =
     let popped : State = machine.after s 0 Pop in
     let same : Agree one other a.0 b.0 = after_pop rules popped (reply s 0 Pop) a.0 b.0 one other once (shown_apart popped.cluster (kept s 0 Pop own)) a.1.is b.1.is in

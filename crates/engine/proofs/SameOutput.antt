@@ -14,9 +14,10 @@ use Rattle.desk.specs.Shown.{Shown}
 use Rattle.rules.specs.RuleSet.{RuleSet}
 use Rattle.choose.specs.declared.decision.Decision.{Decision}
 use Rattle.choose.specs.declared.decision.Verdict.{Verdict}
-use Rattle.choose.specs.Verdict.{HasVerdict, HasRuling}
+use Rattle.choose.specs.Verdict.{HasVerdict, HasRuling, asked}
 use Rattle.choose.specs.Choice.{AreVerdicts, Choice}
 use Rattle.manifest.specs.declared.command.Command.{Command}
+use Rattle.manifest.specs.declared.command.Question.{Question}
 use Rattle.engine.specs.declared.named_rule.NamedRule.{NamedRule}
 use Rattle.engine.specs.declared.one_cycle.Cycled.{Cycled}
 use Rattle.engine.specs.CycleAlone.{AfterPopAlone}
@@ -36,7 +37,8 @@ on_each R S each (node ∷ nodes) (v ∷ vs) are = (each node v are.0, on_each R
 
 -- others give all rulings of some rules
 abbrev pub GiveAll : (rules other : RuleSet) → Type 0
-GiveAll rules other = (pod : Pod) (shown : Shown) (ruling : Verdict) → HasRuling rules pod shown ruling → HasRuling other pod shown ruling
+GiveAll rules other =
+    (filters_alone : Bool) (pod : Pod) (shown : Shown) (ruling : Verdict) → HasRuling (asked filters_alone rules) pod shown ruling → HasRuling (asked filters_alone other) pod shown ruling
 
 -- Each of these that is so by some rules is so by others that have all their verdicts.
 module _ (rules other : RuleSet) (alike : (pod : Pod) (shown : Shown) (verdict : Verdict) → HasVerdict rules pod shown verdict → HasVerdict other pod shown verdict) where
@@ -71,15 +73,15 @@ module _ (rules other : RuleSet) (alike : (pod : Pod) (shown : Shown) (verdict :
   tells named false s text told = told
 
   -- the answer to what is asked, where they give all rulings or none is asked for
-  answered : (telling : Telling) (s : State) (a : Option Step) (asked : Option Pod) (s' : State) (text : List ℕ) → GiveAll rules other ⊎ (asked ≡ None)
-      → AnsweredBy rules telling s a asked s' text → AnsweredBy other telling s a asked s' text
-  answered telling s (Some step) asked s' text gives told = told
-  answered telling s None (Some pod) s' text (inr none) told = absurd (cc)
-  answered telling s None (Some pod) s' text (inl gives) (stays, judges) = (
+  answered : (telling : Telling) (s : State) (a : Option Step) (asking : Option Question) (s' : State) (text : List ℕ) → GiveAll rules other ⊎ (asking ≡ None)
+      → AnsweredBy rules telling s a asking s' text → AnsweredBy other telling s a asking s' text
+  answered telling s (Some step) asking s' text gives told = told
+  answered telling s None (Some question) s' text (inr none) told = absurd (cc)
+  answered telling s None (Some question) s' text (inl gives) (stays, judges) = (
     stays,
     record {
       rulings = judges.rulings;
-      are = on_each (HasRuling rules pod) (HasRuling other pod) (gives pod) (machine.snapshot s.cluster) judges.rulings judges.are;
+      are = on_each (HasRuling (asked question.filters_alone rules) question.pod) (HasRuling (asked question.filters_alone other) question.pod) (gives question.filters_alone question.pod) (machine.snapshot s.cluster) judges.rulings judges.are;
       indented = judges.indented;
       last = judges.last;
       is = judges.is;
@@ -105,7 +107,7 @@ module _ (rules other : RuleSet) (alike : (pod : Pod) (shown : Shown) (verdict :
 
 -- of two kits that rule alike the other gives all rulings of the one
 gives_all : {Kit : Type 0} (answers : Kit → RuleSet) (one other : Kit) (script : List ℕ) → RuleAlike answers (one ∷ other ∷ []) ⊎ AsksNothing script → GiveAll (answers one) (answers other) ⊎ AsksNothing script
-gives_all answers one other script (inl alike) = inl (λ pod shown ruling. alike one other pod shown ruling (0, omega arith, refl) (1, omega arith, refl))
+gives_all answers one other script (inl alike) = inl (λ filters_alone pod shown ruling. alike filters_alone one other pod shown ruling (0, omega arith, refl) (1, omega arith, refl))
 gives_all answers one other script (inr none) = inr none
 
 -- the output by a kit is the output by one that judges alike

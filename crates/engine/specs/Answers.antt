@@ -4,7 +4,6 @@ use Rattle.std.specs.List.{flat_map}
 use Rattle.std.proofs.Common.{lit≤}
 use Rattle.quant.specs.declared.limits.TheConstants.{MAX_NODES, MAX_PLACED, MAX_QUEUED}
 use Rattle.book.specs.declared.limits.Limits.{Limits}
-use Rattle.quant.specs.declared.objects.Pod.{Pod}
 use Rattle.desk.specs.declared.step.Step.{Step}
 use Rattle.desk.specs.declared.step.Step.TheVariants as steps
 use Rattle.desk.specs.declared.step.Reply.{Reply}
@@ -12,6 +11,7 @@ use Rattle.desk.specs.declared.step.Reply.TheVariants.{Done, Idle, Popped, Ticke
 use Rattle.desk.specs.Machine as machine
 use Rattle.desk.specs.Shown.{Shown}
 use Rattle.manifest.specs.declared.command.Command.{Command}
+use Rattle.manifest.specs.declared.command.Question.{Question}
 use Rattle.manifest.specs.declared.command.Command.TheVariants as commands
 use Rattle.rules.specs.RuleSet.{RuleSet}
 use Rattle.engine.specs.declared.one_cycle.Cycled.{Cycled}
@@ -41,17 +41,17 @@ step_of commands.Cycle = None
 step_of (commands.BindDone uid ticket) = Some (steps.BindDone uid ticket)
 step_of (commands.Forget uid ticket) = Some (steps.Forget uid ticket)
 step_of commands.Dump = Some steps.Count
-step_of (commands.Judge pod) = None
+step_of (commands.Judge question) = None
 
--- the pod for which a command asks what the rules alone say
-abbrev pub asked_of : Command → Option Pod
+-- what a command asks of the rules alone
+abbrev pub asked_of : Command → Option Question
 asked_of (commands.Event event) = None
 asked_of (commands.Tick now) = None
 asked_of commands.Cycle = None
 asked_of (commands.BindDone uid ticket) = None
 asked_of (commands.Forget uid ticket) = None
 asked_of commands.Dump = None
-asked_of (commands.Judge pod) = Some pod
+asked_of (commands.Judge question) = Some question
 
 -- the state after a step, which is by pass 0; a look changes nothing
 unfoldable pub after : State → Step → State
@@ -79,13 +79,13 @@ look_lines state _ = []
 unfoldable pub text_of : State → Step → List ℕ
 text_of state step = look_lines state step ++ reply_lines (machine.reply state 0 step)
 
--- This step is done and answered; or, where there is none, what is asked for a pod, and nothing
+-- This step is done and answered; or, where there is none, what is asked of the rules, and nothing
 -- changes; or, where nothing is, a cycle, with what is told of the nodes, and with what it came to.
 -- What is told of nodes is whole lines that begin with two spaces, and the rest is whole lines of
 -- which none does.
-abbrev pub AnsweredBy : RuleSet → (telling : Telling) → State → Option Step → Option Pod → State → List ℕ → Type 0
-AnsweredBy rules telling s (Some step) asked s' text = (s' ≡ after s step) × (text ≡ text_of s step) × AreLines false text
-AnsweredBy rules telling s None (Some pod) s' text = (s' ≡ s) × Judges rules telling.named s pod text
+abbrev pub AnsweredBy : RuleSet → (telling : Telling) → State → Option Step → Option Question → State → List ℕ → Type 0
+AnsweredBy rules telling s (Some step) asking s' text = (s' ≡ after s step) × (text ≡ text_of s step) × AreLines false text
+AnsweredBy rules telling s None (Some question) s' text = (s' ≡ s) × Judges rules telling.named s question text
 AnsweredBy rules telling s None None s' text =
     (came : Cycled) × IsCycleAlone rules s came s'
     × ((told : List ℕ) × TellsNodes rules telling.named telling.explains s told × AreLines true told × AreLines false (cycle_line telling.named came)

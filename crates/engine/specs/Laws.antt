@@ -7,8 +7,8 @@ use Rattle.engine.specs.Indented.{AreLines, without_indented}
 use Rattle.rules.specs.RuleSet.{RuleSet}
 use Rattle.choose.specs.Kits.{JudgeAlike, RuleAlike}
 use Rattle.quant.specs.declared.name.Name.{Name}
-use Rattle.quant.specs.declared.objects.Pod.{Pod}
 use Rattle.manifest.specs.declared.command.Command.{Command}
+use Rattle.manifest.specs.declared.command.Question.{Question}
 use Rattle.engine.specs.Answers.{asked_of}
 use Rattle.engine.specs.Lines.{lines_of}
 use Rattle.engine.specs.Script.{asked_in}
@@ -79,9 +79,9 @@ abbrev pub IsAnswer : List ℕ → Type 0
 IsAnswer text = (told : List ℕ) × (uid : Name) × (nodes : ℕ) × AreLines true told × (text ≡ told ++ judged_line uid nodes)
 
 -- what is asked for without the questions
-abbrev pub unless_asked : Option Pod → Command → List Command → List Command
+abbrev pub unless_asked : Option Question → Command → List Command → List Command
 unless_asked None command later = command ∷ later
-unless_asked (Some pod) command later = later
+unless_asked (Some question) command later = later
 
 abbrev pub without_questions : List Command → List Command
 without_questions [] = []

@@ -20,7 +20,9 @@ use Rattle.choose.specs.declared.decision.Reason.{Reason}
 use Rattle.choose.specs.declared.decision.Reason.TheVariants as reason
 use Rattle.choose.specs.declared.decision.Verdict.{Verdict}
 use Rattle.choose.specs.declared.decision.Verdict.TheVariants.{Rejected, RejectedBy, Errs, Passes}
+use Rattle.choose.specs.Verdict.{asked}
 use Rattle.choose.specs.Choice.{judged, most_of, total, AreVerdicts, AreRulings}
+use Rattle.manifest.specs.declared.command.Question.{Question}
 use Rattle.engine.specs.declared.named_rule.NamedRule.{NamedRule}
 use Rattle.engine.specs.Indented.{AreLines}
 use Rattle.engine.specs.Text.{line_of, cause_text, judged_line, name_at}
@@ -129,14 +131,14 @@ ruling_lines named pod nodes rulings = lines_by named None pod nodes rulings
 -- ---- a question
 
 -- The answer to a question for a pod: what the rules alone say of each node as it now is, with what
--- is used of it, and how many nodes these are. The lines of the nodes begin with two spaces, and
--- the last line doesn't.
-pub record Judges (rules : RuleSet) (named : List NamedRule) (s : State) (pod : Pod) (text : List ℕ) : Type 0 where
+-- is used of it, or their filters alone, and how many nodes these are. The lines of the nodes begin
+-- with two spaces, and the last line doesn't.
+pub record Judges (rules : RuleSet) (named : List NamedRule) (s : State) (question : Question) (text : List ℕ) : Type 0 where
   pub rulings : List Verdict
-  pub are : AreRulings rules pod (snapshot s.cluster) rulings
-  pub indented : AreLines true (ruling_lines named pod (snapshot s.cluster) rulings)
-  pub last : AreLines false (judged_line pod.uid (length (snapshot s.cluster)))
-  pub is : text ≡ ruling_lines named pod (snapshot s.cluster) rulings ++ judged_line pod.uid (length (snapshot s.cluster))
+  pub are : AreRulings (asked question.filters_alone rules) question.pod (snapshot s.cluster) rulings
+  pub indented : AreLines true (ruling_lines named question.pod (snapshot s.cluster) rulings)
+  pub last : AreLines false (judged_line question.pod.uid (length (snapshot s.cluster)))
+  pub is : text ≡ ruling_lines named question.pod (snapshot s.cluster) rulings ++ judged_line question.pod.uid (length (snapshot s.cluster))
 
 -- ---- a cycle
 

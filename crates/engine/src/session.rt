@@ -20,8 +20,7 @@ use crate::text::{
 use crate::verdicts::{push_rulings, push_verdicts};
 use choose::Decider;
 use desk::{Blank, Counts, Limits, Naming, Reply, Snapshot, Step};
-use manifest::Command;
-use quant::SharedPod;
+use manifest::{Command, Question};
 use std::alloc::{AllocError, Global};
 use std::hash::RandomState;
 use std::sync::Wait;
@@ -103,7 +102,7 @@ impl<J: Naming> Session<J> {
             Command::BindDone { uid, ticket } => self.step(rt, Step::BindDone { uid, ticket }),
             Command::Forget { uid, ticket } => self.step(rt, Step::Forget { uid, ticket }),
             Command::Dump => self.dump(rt),
-            Command::Judge(pod) => self.judge(named, decider, &pod),
+            Command::Judge(question) => self.judge(named, decider, &question),
         }
     }
 
@@ -193,22 +192,23 @@ impl<J: Naming> Session<J> {
         Ok(came)
     }
 
-    // Adds what the rules alone say of each node for a pod to the text, and how many these are.
+    // Adds what the rules alone say of each node to the text, and how many these are.
     fn judge<D: Decider>(
         &mut self,
         named: &[NamedRule],
         decider: &mut D,
-        pod: &SharedPod,
+        question: &Question,
     ) -> Result<(), RunFault>
         ensures state { self.new.desk ≡ self.old.desk }
         ensures judged { OnOk result ((text : List ℕ) ×
-            Judges (rules_of D.Kit.answers (D.kits decider.old)) named.now self.old.desk pod.now text
+            Judges (rules_of D.Kit.answers (D.kits decider.old)) named.now self.old.desk question.now text
             × (self.new.text.items ≡ self.old.text.items ++ text)) }
         ensures kits { D.kits decider.new ≡ D.kits decider.old }
         ensures faults { IfErr result (λ e. e ≡ RunFault.NoMemory) }
     {
         let snapshot = self.desk.look()?;
-        decider.judge(&snapshot, pod)?;
+        let pod = &question.pod;
+        decider.judge(&snapshot, pod, question.filters_alone)?;
         push_rulings(
             &mut self.text,
             named,

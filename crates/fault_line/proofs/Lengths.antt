@@ -11,7 +11,7 @@ use Rattle.wbody.specs.declared.fault.TypeFault.TheVariants as type_fault
 use Rattle.manifest.specs.Field.{key}
 use Rattle.manifest.specs.Fault as line
 use Rattle.manifest.specs.declared.field.Field.{Field}
-use Rattle.manifest.specs.declared.field.Field.TheVariants.{Op, Version, Name, Cpu, Memory, Pods, Labels, Taints, Unschedulable, Uid, Priority, Containers, Init, Tolerations, Node, At, Ticket}
+use Rattle.manifest.specs.declared.field.Field.TheVariants.{Op, Version, Name, Cpu, Memory, Pods, Labels, Taints, Unschedulable, Uid, Priority, Containers, Init, Tolerations, Node, At, Ticket, Filters}
 use Rattle.manifest.specs.declared.fault.LineFault.{LineFault}
 use Rattle.manifest.specs.declared.fault.LineFault.TheVariants as line_fault
 use Rattle.engine.specs.Fault as run
@@ -55,6 +55,7 @@ key_short Tolerations = lit≤ tt
 key_short Node = lit≤ tt
 key_short At = lit≤ tt
 key_short Ticket = lit≤ tt
+key_short Filters = lit≤ tt
 
 -- the name of a run's fault
 pub run_name_short : (fault : RunFault) → length (run.name_of fault) ≤ 10

@@ -39,8 +39,13 @@ impl<J: Site, K: Rules + Drop, G: Gate + Drop> Decider for Pool<J, K, G> {
         self.choose(rt, snapshot, pod)
     }
 
-    fn judge(&mut self, snapshot: &Snapshot, pod: &SharedPod) -> Result<(), NoMemory> {
-        self.judge(snapshot, pod)
+    fn judge(
+        &mut self,
+        snapshot: &Snapshot,
+        pod: &SharedPod,
+        filters_alone: bool,
+    ) -> Result<(), NoMemory> {
+        self.judge(snapshot, pod, filters_alone)
     }
 
     fn verdicts(&self) -> &[Verdict] {

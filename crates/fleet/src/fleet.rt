@@ -4,6 +4,7 @@ ghost use Rattle.std.specs.List.{All};
 ghost use Rattle.desk.specs.Shown.{shown};
 ghost use Rattle.choose.specs.Choice.{AreRulings, AreVerdicts, Choice};
 ghost use Rattle.choose.specs.Kits.{JudgeAlike, rules_of};
+ghost use Rattle.choose.specs.Verdict.{asked};
 
 use choose::{Decision, NoMemory, UNJUDGED, Verdict, decide, rule_on};
 use desk::{Row, Snapshot};
@@ -108,13 +109,19 @@ where
         self.decide_among(rt, snapshot.rows(), pod, gate)
     }
 
-    /// What the rules alone say of each node, for a pod. The first kit says it here.
+    /// What the rules alone say of each node, for a pod, or their filters alone. The first kit says
+    /// it here.
     ///
     /// Errors: `NoMemory` where the look has more nodes than any before and there is no memory for
     /// a verdict each. Nothing was asked then, and the fleet can be used again.
-    pub fn judge(&mut self, snapshot: &Snapshot, pod: &Pod) -> Result<(), NoMemory>
-        ensures judged { OnOk result (AreRulings (rules_of K.answers self.old.kits) pod.now snapshot.now
-            self.new.verdicts) }
+    pub fn judge(
+        &mut self,
+        snapshot: &Snapshot,
+        pod: &Pod,
+        filters_alone: bool,
+    ) -> Result<(), NoMemory>
+        ensures judged { OnOk result (AreRulings (asked filters_alone (rules_of K.answers self.old.kits)) pod.now
+            snapshot.now self.new.verdicts) }
         ensures kits { self.new.kits ≡ self.old.kits }
     {
         let rows = snapshot.rows();
@@ -122,6 +129,7 @@ where
         rule_by_first(
             rows,
             pod,
+            filters_alone,
             self.kits.as_mut_slice(),
             self.verdicts.as_mut_slice(),
         );
@@ -185,12 +193,19 @@ where
     }
 }
 
-// Writes what the rules alone say of nodes, by the first of these kits.
-fn rule_by_first<K: Rules>(rows: &[Row], pod: &Pod, kits: &mut [K], verdicts: &mut [Verdict])
+// Writes what the rules alone say of nodes, or their filters alone, by the first of these kits.
+fn rule_by_first<K: Rules>(
+    rows: &[Row],
+    pod: &Pod,
+    filters_alone: bool,
+    kits: &mut [K],
+    verdicts: &mut [Verdict],
+)
     requires some { 0 < length kits.old }
     requires places { length verdicts.old ≡ length rows.now }
-    ensures are { AreRulings (rules_of K.answers kits.old) pod.now (map shown rows.now) verdicts.new }
+    ensures are { AreRulings (asked filters_alone (rules_of K.answers kits.old)) pod.now (map shown rows.now)
+        verdicts.new }
     ensures stay { kits.new ≡ kits.old }
 {
-    rule_on(rows, pod, &mut kits[0], verdicts);
+    rule_on(rows, pod, filters_alone, &mut kits[0], verdicts);
 }

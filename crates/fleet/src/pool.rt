@@ -4,6 +4,7 @@ ghost use Rattle.std.specs.List.{All};
 ghost use Rattle.std.specs.Arc.{arc_value};
 ghost use Rattle.choose.specs.Choice.{Choice, AreRulings, AreVerdicts};
 ghost use Rattle.choose.specs.Kits.{rules_of};
+ghost use Rattle.choose.specs.Verdict.{asked};
 ghost use Rattle.fleet.specs.Speaking.{SpeaksFor};
 
 use crate::fleet::MAX_KITS;
@@ -261,19 +262,25 @@ impl<J: Site, K: Rules + Drop, G: Gate + Drop> Pool<J, K, G> {
         Ok(choose_alone(&snapshot, pod, &self.home))
     }
 
-    /// What the rules alone say of each node, for a pod. The first kit says it here: the workers
-    /// are left where they are.
+    /// What the rules alone say of each node, for a pod, or their filters alone. The first kit says
+    /// it here: the workers are left where they are.
     ///
     /// Errors: `NoMemory` where the look has more nodes than any before and there is none for a
     /// verdict each. Nothing was asked then, and the pool can be used again.
-    pub fn judge(&mut self, snapshot: &Snapshot, pod: &SharedPod) -> Result<(), NoMemory>
-        ensures judged { OnOk result (AreRulings (rules_of K.answers self.old.kits) pod.now snapshot.now
-            self.new.verdicts) }
+    pub fn judge(
+        &mut self,
+        snapshot: &Snapshot,
+        pod: &SharedPod,
+        filters_alone: bool,
+    ) -> Result<(), NoMemory>
+        ensures judged { OnOk result (AreRulings (asked filters_alone (rules_of K.answers self.old.kits)) pod.now
+            snapshot.now self.new.verdicts) }
         ensures kits { self.new.kits ≡ self.old.kits }
     {
         let rows = snapshot.rows();
         self.verdicts.resize(rows.len(), UNJUDGED)?;
-        rule_on(rows, pod, &mut self.home, self.verdicts.as_mut_slice());
+        let verdicts = self.verdicts.as_mut_slice();
+        rule_on(rows, pod, filters_alone, &mut self.home, verdicts);
         Ok(())
     }
 

@@ -1,7 +1,7 @@
 -- How a script spells the names of its fields.
 use Rattle.std.specs.Prelude.{ℕ, List, codes}
 use Rattle.manifest.specs.declared.field.Field.{Field}
-use Rattle.manifest.specs.declared.field.Field.TheVariants.{Op, Version, Name, Cpu, Memory, Pods, Labels, Taints, Unschedulable, Uid, Priority, Containers, Init, Tolerations, Node, At, Ticket}
+use Rattle.manifest.specs.declared.field.Field.TheVariants.{Op, Version, Name, Cpu, Memory, Pods, Labels, Taints, Unschedulable, Uid, Priority, Containers, Init, Tolerations, Node, At, Ticket, Filters}
 
 -- the key of a field in the line's object
 unfoldable pub key : Field → List ℕ
@@ -22,3 +22,4 @@ key Tolerations = codes "tolerations"
 key Node = codes "node"
 key At = codes "at"
 key Ticket = codes "ticket"
+key Filters = codes "filters"

@@ -88,11 +88,12 @@ pod_in json = do
   row ← row_in json
   Ok (commands.Event (PodPending row.0 row.1))
 
--- the row of `judge`, whose version says nothing
+-- the row of `judge`, whose version says nothing, and then whether filters alone are asked
 unfoldable pub judge_in : Data → Result Command LineFault
 judge_in json = do
   row ← row_in json
-  Ok (commands.Judge row.1)
+  filters_alone ← at_or fields.Filters false flag json
+  Ok (commands.Judge (record { pod = row.1; filters_alone = filters_alone }))
 
 -- the fields of `bound`, in their order
 unfoldable pub bound_in : Data → Result Command LineFault

@@ -26,6 +26,15 @@ pub enum Command {
     },
     /// A look at the nodes, the places and the queue.
     Dump,
-    /// What the rules alone say of each node, for a pod with this row.
-    Judge(SharedPod),
+    /// What the rules alone say of each node.
+    Judge(Question),
+}
+
+/// What is asked of the rules.
+#[derive(Debug, Drop)]
+pub struct Question {
+    /// The pod for which they are asked.
+    pub pod: SharedPod,
+    /// Whether their filters alone are asked, and no score.
+    pub filters_alone: bool,
 }

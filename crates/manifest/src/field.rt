@@ -39,6 +39,8 @@ pub enum Field {
     At,
     /// The ticket of an assumed place.
     Ticket,
+    /// Whether filters alone are asked.
+    Filters,
 }
 
 impl Field {
@@ -65,6 +67,7 @@ impl Field {
             Field::Node => "node",
             Field::At => "at",
             Field::Ticket => "ticket",
+            Field::Filters => "filters",
         }
     }
 }

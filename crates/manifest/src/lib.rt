@@ -20,7 +20,7 @@ mod reading;
 mod taint;
 mod toleration;
 
-pub use command::Command;
+pub use command::{Command, Question};
 pub use fault::LineFault;
 pub use field::Field;
 pub use laws::longest_line_is_this;

@@ -4,7 +4,7 @@ ghost use Rattle.serde_json.specs.View.{view};
 ghost use Rattle.manifest.specs.Reading.{Answers};
 ghost use Rattle.manifest.specs.Line.{version_in, ticket_in, node_in, gone_in, row_in, pod_in, bound_in, deleted_in, tick_in, done_in, forget_in, judge_in, command_in, meaning, IsTimely};
 
-use crate::command::Command;
+use crate::command::{Command, Question};
 use crate::container::request_within;
 use crate::fault::LineFault;
 use crate::field::Field;
@@ -40,7 +40,7 @@ pub const MAX_LINE: usize = 65_536;
 /// | `done` | `uid`, `ticket` | the pod was bound |
 /// | `forget` | `uid`, `ticket` | the pod could not be bound |
 /// | `dump` | | the state is printed |
-/// | `judge` | those of `pod` | what the rules alone say of each node is printed |
+/// | `judge` | those of `pod`, [`filters`] | what the rules alone say of each node is printed |
 ///
 /// Errors: `OverLimit` of `op` for a line that is too long, which is not read as JSON; `NotJson`
 /// where the line is not JSON or nests deeper than 127; `BadField` of `op` for a line that is no
@@ -48,7 +48,7 @@ pub const MAX_LINE: usize = 65_536;
 /// an integer of 64 bits, or has a text that is no name, text, effect or operator; `OverLimit` of
 /// an integer out of its range and of an array with too many items or too few; `Quantity` of an
 /// amount that `quant` refuses, and of `containers` where the pod's whole request is too large,
-/// which is told last; `NoMemory`, which may come in place of any other answer.
+/// which is told last of a pod's row; `NoMemory`, which may come in place of any other answer.
 #[tactic(auto, unfolding(crate::specs::Line::meaning))]
 pub fn read_line(alloc: Global, line: &[u8]) -> Result<Command, LineFault>
     ensures value { Answers result (meaning line.now) }
@@ -134,14 +134,15 @@ fn pod_of(alloc: Global, object: &Value) -> Result<Command, LineFault>
     Ok(Command::Event(Event::PodPending { version, pod }))
 }
 
-// The pod for which an object asks what the rules say.
+// What an object asks of the rules.
 #[tactic(auto, unfolding(crate::specs::Line::judge_in))]
 fn judge_of(alloc: Global, object: &Value) -> Result<Command, LineFault>
     ensures value { Answers result (judge_in (view object.now)) }
     ensures timely { IfOk result IsTimely }
 {
     let (_version, pod) = row_of(alloc, object)?;
-    Ok(Command::Judge(pod))
+    let filters_alone = flag_at(object, Field::Filters)?;
+    Ok(Command::Judge(Question { pod, filters_alone }))
 }
 
 // The version and the pod's row of an object.

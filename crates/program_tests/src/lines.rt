@@ -37,6 +37,10 @@ const FIRST_FAULTS: &str = r#"1 |{"op":"dump"
 4 containers|{"op":"judge","v":1,"uid":"a","containers":[]}
 3 containers|{"op":"judge","v":1,"uid":"a","containers":[["1","much"]]}
 0 |{"op":"judge","v":1,"uid":"a","containers":[["1","1"]]}
+0 |{"op":"judge","v":1,"uid":"a","containers":[["1","1"]],"filters":true}
+2 filters|{"op":"judge","v":1,"uid":"a","containers":[["1","1"]],"filters":"true"}
+2 filters|{"op":"judge","v":1,"uid":"a","containers":[["1","1"]],"filters":null}
+3 containers|{"op":"judge","v":1,"uid":"a","containers":[["1","9Ti"],["1","9Ti"]],"filters":1}
 0 |{"op":"gone","v":1,"name":"a"}
 0 |{"op":"gone","v":1000000000000000000,"name":"a"}
 4 v|{"op":"gone","v":1000000000000000001,"name":"a"}

@@ -190,8 +190,13 @@ impl Decider for Crew {
         self.fleet.decide(rt, &snapshot, pod, &NoGate)
     }
 
-    fn judge(&mut self, snapshot: &Snapshot, pod: &SharedPod) -> Result<(), NoMemory> {
-        self.fleet.judge(snapshot, pod)
+    fn judge(
+        &mut self,
+        snapshot: &Snapshot,
+        pod: &SharedPod,
+        filters_alone: bool,
+    ) -> Result<(), NoMemory> {
+        self.fleet.judge(snapshot, pod, filters_alone)
     }
 
     fn verdicts(&self) -> &[Verdict] {
@@ -468,6 +473,13 @@ const ONE_QUESTION: &[u8] = br#"{"op":"node","v":1,"name":"a","cpu":"4","mem":"8
 {"op":"cycle"}
 "#;
 
+// The same question of filters alone.
+const FILTERS_ALONE: &[u8] = br#"{"op":"node","v":1,"name":"a","cpu":"4","mem":"8Gi","pods":110}
+{"op":"node","v":2,"name":"b","cpu":"0","mem":"0","pods":0,"unschedulable":true}
+{"op":"judge","v":1,"uid":"p1","containers":[["100m","64Mi"]],"filters":true}
+{"op":"cycle"}
+"#;
+
 // What a rule alone says.
 const JUDGED: &[(Same, &str)] = &[
     (
@@ -492,6 +504,28 @@ const JUDGED: &[(Same, &str)] = &[
 
 fn judged() -> &'static [(Same, &'static str)] {
     JUDGED
+}
+
+// What its filter alone says: its score makes no error.
+const FILTERED: &[(Same, &str)] = &[
+    (
+        Same {
+            errs: Some(Cause::Score(101)),
+            ..PASSING
+        },
+        "ok\nok\n  a total 0 rule 2 0\n  b total 0 rule 2 0\njudged p1 2\nidle\n",
+    ),
+    (
+        Same {
+            filter: FilterVerdict::Rejects(Rejection::UnschedulableAndUnresolvable),
+            ..PASSING
+        },
+        "ok\nok\n  a plugin rule 3\n  b plugin rule 3\njudged p1 2\nidle\n",
+    ),
+];
+
+fn filtered() -> &'static [(Same, &'static str)] {
+    FILTERED
 }
 
 // The first rule by which a script comes to something else.
@@ -534,6 +568,10 @@ fn what_the_rules_alone_say_is_told_of_each_node(rt: HostRuntime) {
     let keys = RandomState::new(&rt).ok();
     assert_eq!(rt;
         first_other(&rt, rt.alloc(), keys, ONE_QUESTION, judged()),
+        None
+    );
+    assert_eq!(rt;
+        first_other(&rt, rt.alloc(), keys, FILTERS_ALONE, filtered()),
         None
     );
 }

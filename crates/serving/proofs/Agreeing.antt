@@ -1,5 +1,5 @@
 -- Rules that say the same come to the same verdicts and choices.
-use Rattle.std.proofs.Common.{◌≡◌, ◌∙◌, ℕ, List, [], ◌∷◌, length, Option, Some, None, Result, Ok, Err, MatchOption, slice_index, sym, subst, ap, arith}
+use Rattle.std.proofs.Common.{◌≡◌, ◌∙◌, ℕ, Bool, true, false, List, [], ◌∷◌, length, Option, Some, None, Result, Ok, Err, MatchOption, slice_index, sym, subst, ap, arith}
 use Rattle.quant.specs.declared.objects.Pod.{Pod}
 use Rattle.desk.specs.Shown.{Shown}
 use Rattle.rules.specs.declared.verdict.FilterVerdict.{FilterVerdict}
@@ -12,7 +12,7 @@ use Rattle.choose.specs.declared.decision.Reason.{Reason}
 use Rattle.choose.specs.declared.decision.Verdict.{Verdict}
 use Rattle.choose.specs.declared.decision.Verdict.TheVariants.{Rejected}
 use Rattle.choose.specs.declared.decision.Decision.{Decision}
-use Rattle.choose.specs.Verdict.{built_in, told_of, weighted, Filtered, Scored, passing, passing_alone, ByScores, ByRules, HasVerdict, HasRuling}
+use Rattle.choose.specs.Verdict.{built_in, told_of, weighted, Filtered, Scored, passing, passing_alone, ByScores, ByRules, HasVerdict, HasRuling, asked}
 use Rattle.choose.specs.Choice.{AreVerdicts, Choice}
 
 -- what the one says the other says
@@ -64,10 +64,6 @@ module _ (one other : RuleSet) (agree : Agree one other) where
   by_rules : (told : Told) (made : Added → Verdict) (verdict : Verdict) → ByRules one told made verdict → ByRules other told made verdict
   by_rules told made verdict by = record { filtered = by.filtered; are = filtered told by.filtered by.are; is = or_by_scores by.filtered told made verdict by.is }
 
-  -- give the same rulings
-  pub ruling_by : (pod : Pod) (shown : Shown) (ruling : Verdict) → HasRuling one pod shown ruling → HasRuling other pod shown ruling
-  ruling_by pod shown ruling has = by_rules (told_of pod shown) passing_alone ruling has
-
   -- have the same verdicts
   pub verdict_by : (pod : Pod) (shown : Shown) (verdict : Verdict) → HasVerdict one pod shown verdict → HasVerdict other pod shown verdict
   verdict_by pod shown verdict has = by (built_in shown pod) has
@@ -86,3 +82,14 @@ module _ (one other : RuleSet) (agree : Agree one other) where
   -- and the same choice
   pub choice_by : (nodes : List Shown) (pod : Pod) (decision : Decision) → Choice one nodes pod decision → Choice other nodes pod decision
   choice_by nodes pod decision choice = record { verdicts = choice.verdicts; are = verdicts_by pod nodes choice.verdicts choice.are; is = choice.is }
+
+-- where rules agree, so do those that are asked
+agree_asked : (filters_alone : Bool) (one other : RuleSet) → Agree one other → Agree (asked filters_alone one) (asked filters_alone other)
+agree_asked false one other agree = agree
+agree_asked true one other agree = record { weights = agree.weights; filters = agree.filters; scores = λ place told verdict said. said }
+
+-- and they give the same rulings
+pub ruling_by : (one other : RuleSet) (agree : Agree one other) (filters_alone : Bool) (pod : Pod) (shown : Shown) (ruling : Verdict) → HasRuling (asked filters_alone one) pod shown ruling
+    → HasRuling (asked filters_alone other) pod shown ruling
+ruling_by one other agree filters_alone pod shown ruling has =
+    by_rules (asked filters_alone one) (asked filters_alone other) (agree_asked filters_alone one other agree) (told_of pod shown) passing_alone ruling has

@@ -27,9 +27,9 @@ decided_by_calls laws = record {
     verdict_by (rules_of kit) (calls_of kit) (as_calls laws kit) pod shown verdict,
     verdict_by (calls_of kit) (rules_of kit) (as_rules laws kit) pod shown verdict,
   );
-  ruling = λ kit pod shown ruling. (
-    ruling_by (rules_of kit) (calls_of kit) (as_calls laws kit) pod shown ruling,
-    ruling_by (calls_of kit) (rules_of kit) (as_rules laws kit) pod shown ruling,
+  ruling = λ filters_alone kit pod shown ruling. (
+    ruling_by (rules_of kit) (calls_of kit) (as_calls laws kit) filters_alone pod shown ruling,
+    ruling_by (calls_of kit) (rules_of kit) (as_rules laws kit) filters_alone pod shown ruling,
   );
   choice = λ kit nodes pod decision. (
     choice_by (rules_of kit) (calls_of kit) (as_calls laws kit) nodes pod decision,

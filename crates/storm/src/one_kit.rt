@@ -64,10 +64,21 @@ impl<K: Rules + Drop> Decider for OneKit<K> {
         Ok(choose_alone(&snapshot, pod, &self.kit))
     }
 
-    fn judge(&mut self, snapshot: &Snapshot, pod: &SharedPod) -> Result<(), NoMemory> {
+    fn judge(
+        &mut self,
+        snapshot: &Snapshot,
+        pod: &SharedPod,
+        filters_alone: bool,
+    ) -> Result<(), NoMemory> {
         let rows = snapshot.rows();
         self.verdicts.resize(rows.len(), UNJUDGED)?;
-        rule_on(rows, pod, &mut self.kit, self.verdicts.as_mut_slice());
+        rule_on(
+            rows,
+            pod,
+            filters_alone,
+            &mut self.kit,
+            self.verdicts.as_mut_slice(),
+        );
         Ok(())
     }
 

@@ -1,6 +1,6 @@
 use Rattle.std.proofs.Common.{◌<◌, length, rules, arith, subst}
 use Rattle.desk.specs.Shown.{shown}
-use Rattle.choose.specs.Verdict.{HasRuling}
+use Rattle.choose.specs.Verdict.{HasRuling, asked}
 use Rattle.choose.proofs.Verdicts.{all_zip_set}
 use Rattle.choose.proofs.judging.rule_on.Goals as goal
 
@@ -8,8 +8,8 @@ pub loop-at-preserved : goal.loop-at-preserved
 loop-at-preserved g c =
     let below : c.loop-at.at < length c.args.rows.now = c.loop-at-test.true in
     let room : c.loop-at.at < length c.loop-at.verdicts = omega (arith, below, c.loop-at.invariant.places) in
-    let is : HasRuling (g.R.Rules.answers c.args.rules.now) c.args.pod.now (shown c.index-rows-at.result) c.ruling_of.result =
-    subst (λ r. HasRuling (g.R.Rules.answers r) c.args.pod.now (shown c.index-rows-at.result) c.ruling_of.result) c.loop-at.invariant.stays c.ruling_of.ensures.is in
+    let is : HasRuling (asked c.args.filters_alone (g.R.Rules.answers c.args.rules.now)) c.args.pod.now (shown c.index-rows-at.result) c.ruling_of.result =
+    subst (λ r. HasRuling (asked c.args.filters_alone (g.R.Rules.answers r)) c.args.pod.now (shown c.index-rows-at.result) c.ruling_of.result) c.loop-at.invariant.stays c.ruling_of.ensures.is in
     record {
       last = search rules;
       places = search rules;

@@ -4,6 +4,7 @@ use Rattle.quant.specs.declared.objects.Pod.{Pod}
 use Rattle.desk.specs.Machine.{snapshot}
 use Rattle.desk.specs.Shown.{shown}
 use Rattle.choose.specs.Kits.{rules_of}
+use Rattle.choose.specs.Verdict.{asked}
 use Rattle.choose.specs.Choice.{AreRulings}
 use Rattle.choose.proofs.Verdicts.{all_zip_length}
 use Rattle.engine.specs.Indented.{AreLines}
@@ -22,18 +23,19 @@ returns-clause-judged g c =
     let rules = rules_of g.D.Kit.Rules.answers (g.D.Decider.kits c.args.decider.now) in
     let named = c.args.named.now in
     let s = c.args.self.now.desk in
-    let pod = c.args.pod.now in
+    let question = c.args.question.now in
+    let pod = question.pod in
     let was = c.args.self.now.text.items in
     let nodes = map shown c.rows.result.now in
     let rulings = c.verdicts.result.now in
     let many = length c.rows-2.result.now in
     let seen : nodes ≡ snapshot s.cluster = c.rows.ensures ∙ c.in_ok-snapshot.ensures.shown in
     let all : many ≡ length nodes = sym (length-map c.rows-2.result.now shown) ∙ ap length (c.rows-2.ensures ∙ sym c.rows.ensures) in
-    let are : AreRulings rules pod nodes rulings = subst (λ vs. AreRulings rules pod nodes vs) (sym c.verdicts.ensures) (subst (λ rows. AreRulings rules pod rows (g.D.Decider.last c.judge.new.self)) (sym c.rows.ensures) c.in_ok-judge.ensures.judged) in
+    let are : AreRulings (asked question.filters_alone rules) pod nodes rulings = subst (λ vs. AreRulings (asked question.filters_alone rules) pod nodes vs) (sym c.verdicts.ensures) (subst (λ rows. AreRulings (asked question.filters_alone rules) pod rows (g.D.Decider.last c.judge.new.self)) (sym c.rows.ensures) c.in_ok-judge.ensures.judged) in
     let indented = subst (λ (p : Pod). AreLines true (ruling_lines named p nodes rulings)) c.deref.ensures c.in_ok-push_rulings.ensures.lines in
     let last = subst (λ (p : Pod). AreLines false (judged_line p.uid many)) c.deref-2.ensures c.in_ok-push_judged.ensures.lines in (
       ruling_lines named pod nodes rulings ++ judged_line pod.uid many,
-      judged_by rules named s pod nodes rulings many seen all are indented last,
+      judged_by rules named s question nodes rulings many seen all are indented last,
       c.in_ok-push_judged.ensures.text
           ∙ ap (λ (p : Pod). c.push_rulings.new.out.items ++ judged_line p.uid many) c.deref-2.ensures
           ∙ ap (λ t. t ++ judged_line pod.uid many) (c.in_ok-push_rulings.ensures.text ∙ ap (λ (p : Pod). was ++ ruling_lines named p nodes rulings) c.deref.ensures)
