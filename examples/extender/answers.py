@@ -10,10 +10,12 @@ from __future__ import annotations
 import collections
 import functools
 import itertools
-from typing import Callable, Mapping, NamedTuple, Sequence
+from typing import Iterable, Mapping, NamedTuple, Sequence
 
 from translating import Json, spell
 from verdicts import Reasons, rejected_by
+
+from cores import NODES, Said
 
 # What kube-scheduler takes at most ("MaxExtenderPriority"), and what a rule's score is at most.
 HIGHEST, SCORE = 10, 100
@@ -43,7 +45,7 @@ class Verdict(NamedTuple):
         return self.rule, (self.code or "error") if self.rule else self.cause or "pass"
 
 
-UNSAID = Verdict(cause="unknown")
+PASSES, UNSAID = Verdict(), Verdict(cause="unknown")
 
 
 @functools.lru_cache(maxsize=65536)
@@ -77,6 +79,13 @@ class Sorted(NamedTuple):
     counts: Counts
 
 
+class Scored(NamedTuple):
+    """What a prioritize is answered, and of how many nodes which rule says nothing."""
+
+    body: bytes
+    faults: Counts
+
+
 class Words:
     """How rules' answers are told, with what they say of themselves; and how their scores count."""
 
@@ -99,20 +108,21 @@ class Words:
         parts = [it for it in verdict(said).parts if it[0] in self.weights]
         return sum(weight * score for _, weight, score in parts) * HIGHEST // self.most
 
-    def sort(
-        self, names: Sequence[str], said: Mapping[str, str], unsaid: Mapping[str, str]
-    ) -> Sorted:
+    def sort(self, names: Sequence[str], said: Said, unsaid: Mapping[str, str]) -> Sorted:
         """`unsaid` are the nodes that no row says as they are, and why."""
-        found = Sorted([], {}, {}, {}, {}, {})
-        for what, some in grouped(names, said).items():
+        is_passing = said.passing.__contains__
+        found = Sorted([*filter(is_passing, names)], {}, {}, {}, {}, {})
+        if found.passed:
+            found.counts[PASSES.key] = len(found.passed)
+        if len(found.passed) == len(names):
+            return found
+        for what, some in grouped(itertools.filterfalse(is_passing, names), said).items():
             it = verdict(what)
             found.counts[it.key] = found.counts.get(it.key, 0) + len(some)
             if not what:
                 found.strange.update((name, unsaid.get(name, UNKNOWN)) for name in some)
                 for name in [it for it in some if it in unsaid]:
                     found.faults.setdefault(unsaid[name], []).append(name)
-            elif not it.rule:
-                found.passed.extend(some)
             else:
                 why = self.why(it)
                 found.failed.setdefault(why, []).extend(some)
@@ -122,25 +132,40 @@ class Words:
                     found.faults.setdefault(why, []).extend(some)
         return found
 
-    def scores(self, names: Sequence[str], said: Mapping[str, str]) -> bytes:
-        parts = []
-        for what, some in grouped(names, said).items():
+    def host(self, name: str, what: str) -> str:
+        return f'{{"Host":"{name}","Score":{self.score(what)}}}'
+
+    def hosts(self, said: Said) -> dict[str, str]:
+        """Of each node its part of a prioritize's answer, which is kept where it isn't large.
+        (Several threads may make it.)"""
+        hosts, like = said.hosts, said.like
+        if hosts is None:
+            known = (like.hosts if like else None) or {}
+            new = said.new if known else said
+            hosts = known | {name: self.host(name, said[name]) for name in new}
+            if len(hosts) <= NODES:
+                said.hosts, said.like = hosts, None
+        return hosts
+
+    def scores(self, names: Sequence[str], said: Said) -> Scored:
+        hosts = self.hosts(said)
+        faults: Counts = {}
+        if not hosts.keys() >= {*names}:
             # (what isn't known may have any name)
-            some = some if what else [spell(it)[1:-1] for it in some]
-            score = self.score(what) if what else 0
-            parts.append(
-                '{"Host":"' + f'","Score":{score}}},{{"Host":"'.join(some) + f'","Score":{score}}}'
-            )
-        return f"[{','.join(parts)}]".encode()
+            strange = [it for it in names if it not in hosts]
+            hosts = hosts | {it: self.host(spell(it)[1:-1], "") for it in strange}
+        for name in names if said.has_faults else ():
+            it = verdict(said.get(name, ""))
+            if it.rule and not it.code:
+                faults[it.rule, it.cause] = faults.get((it.rule, it.cause), 0) + 1
+        return Scored(f"[{','.join(map(hosts.__getitem__, names))}]".encode(), faults)
 
 
-def grouped(names: Sequence[str], said: Mapping[str, str]) -> Groups:
+def grouped(names: Iterable[str], said: Mapping[str, str]) -> Groups:
     """The names by what is said of them; by nothing those of which nothing is said."""
     groups: collections.defaultdict[str, list[str]] = collections.defaultdict(list)
-    get: Callable[[str, str], str] = said.get
-    # (a thousand at each question: so this is kept short)
-    for what, name in zip(map(get, names, itertools.repeat("")), names):
-        groups[what].append(name)
+    for name in names:
+        groups[said.get(name, "")].append(name)
     return groups
 
 

@@ -7,6 +7,7 @@ import contextlib
 import http
 import json
 import logging
+import socket
 import ssl
 import threading
 import time
@@ -23,6 +24,8 @@ LOG = logging.getLogger("second-scheduler")
 LARGEST, LARGE, LARGE_AT_ONCE = 2**26, 2**20, 2
 # How long a line and how many fields a head may have.
 LINE, FIELDS = 65536, 100
+# How much of an answer the kernel takes without waiting for who reads it.
+AT_ONCE = 2**20
 # For how long a connection may have no request, and one that has begun to come may say nothing, in
 # seconds.
 IDLE, SILENT = 600.0, 30
@@ -38,14 +41,18 @@ class Asked(Answer):
 
     timeout = SILENT
     disable_nagle_algorithm = True
-    # (an answer is one write)
-    wbufsize = 2**16
+    # (a request of 1,000 names is few reads)
+    rbufsize = 2**18
     service: Service
     counting: Counting
     fields: Mapping[str, str]
     began, close_connection = 0.0, False
     requestline = request_version = command = ""
     raw_requestline = b""
+
+    def setup(self) -> None:
+        self.request.setsockopt(socket.SOL_SOCKET, socket.SO_SNDBUF, AT_ONCE)
+        super().setup()
 
     def handle_one_request(self) -> None:
         self.connection.settimeout(IDLE)
@@ -101,7 +108,7 @@ class Asked(Answer):
             verb = words[1][1:]
             self.counting.requests.labels(verb, said.result).inc()
             self.counting.seconds.labels(verb).observe(time.perf_counter() - self.began)
-        return None
+        return said.then()
 
     def is_known(self) -> bool:
         """Whether the other end has shown a certificate that is asked for."""
@@ -135,8 +142,7 @@ class Asked(Answer):
 
     def answered(self, answer: Verb | None, size: int) -> Reply:
         if self.fields.get("expect", "").lower() == "100-continue":
-            self.wfile.write(b"HTTP/1.1 100 Continue\r\n\r\n")
-            self.wfile.flush()
+            self.connection.sendall(b"HTTP/1.1 100 Continue\r\n\r\n")
         body = self.rfile.read(size)
         if len(body) < size:
             self.close_connection = True
@@ -156,8 +162,7 @@ class Asked(Answer):
         more += "Connection: close\r\n" if self.close_connection else ""
         head = f"HTTP/1.1 {said.status} {http.HTTPStatus(said.status).phrase}\r\n"
         head += f"Content-Type: application/json\r\nContent-Length: {len(said.body)}\r\n{more}\r\n"
-        self.wfile.write(head.encode("latin-1") + said.body)
-        self.wfile.flush()
+        self.connection.sendall(head.encode("latin-1") + said.body)
 
 
 def refused(status: int, why: str) -> Reply:

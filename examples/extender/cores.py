@@ -8,13 +8,15 @@ too long, is ended and begun anew, and told again what is known. Whoever calls h
 from __future__ import annotations
 
 import collections
+import functools
 import hashlib
 import itertools
 import logging
+import operator
 import os
 import threading
 import time
-from typing import Callable, Iterator
+from typing import Any, Callable, Iterable, Iterator
 
 from core import BYTES, Core, CoreFault, Told, command, quoted
 from tools.wasm_sections import module_of
@@ -25,11 +27,37 @@ from questions import Row
 LOG = logging.getLogger("second-scheduler")
 # How many nodes one has room for, and how many pods on them.
 NODES, PLACES = 1000, 150_000
+# Of how many kinds of pods it is kept what was said last.
+KINDS = 16
 # For how long an answer may be waited for, in seconds, beside what the fuel of all calls can take;
 # and what a unit of fuel takes on a slow machine.
 PATIENCE, UNIT = 4.0, 5e-9
-# Of each node what its line says behind its name.
-Said = dict[str, str]
+
+
+class Said(dict[str, str]):
+    """Of each node what its line says behind its name. `hosts` are its parts of a prioritize's
+    answer, where somebody has made them; those of `like`, another answer, are the same but for the
+    nodes that are `new`."""
+
+    has_faults = False
+    # a filter's last answer by it: to which nodes, how they were sorted, and its text
+    last: tuple[frozenset[str], Any, bytes] | None = None
+    hosts: dict[str, str] | None = None
+    like: Said | None = None
+    new: Iterable[str] = ()
+
+    @functools.cached_property
+    def passing(self) -> frozenset[str]:
+        """The nodes that pass."""
+        return frozenset(name for name, what in self.items() if what.startswith("total "))
+
+    def changed(self, new: Said) -> Said:
+        """With what is new of some nodes of these."""
+        said = Said(self)
+        said.update(new)
+        if self.hosts is not None:
+            said.like, said.new = self, new
+        return said
 
 
 def nothing() -> None:
@@ -71,6 +99,22 @@ class Piped(Core):
         self.hear()
 
 
+class Asking:
+    """A question, and what each child that has answered by now says."""
+
+    def __init__(self, row: Row, filters_alone: bool) -> None:
+        self.line, self.kind = row.line(filters_alone), (filters_alone, row.fields)
+        self.answers: dict[Share, str] = {}
+        self.said: Said | None = None
+
+    def put(self, share: Share) -> None:
+        """Has a child asked at its next `send`."""
+        if share.core:
+            share.core.tell(
+                self.line, functools.partial(self.answers.__setitem__, share), "judged "
+            )
+
+
 class Share:
     """One child, the nodes that are its own, and how many pods are on them. `core` is None while
     it can't be started, and `why` says why."""
@@ -79,6 +123,26 @@ class Share:
         self.core: Piped | None = None
         self.why, self.version, self.places = "it isn't started yet", 0, 0
         self.names: set[str] = set()
+        # what was said last of some kinds of pods, line by line and in all
+        self.last: collections.OrderedDict[tuple[bool, str], tuple[list[str], Said]]
+        self.last = collections.OrderedDict()
+
+    def read(self, asking: Asking) -> Said:
+        """Of each node what its line says. (A thousand at each question, of which most say of such
+        a pod what they said before: so this is as short as can be.)"""
+        lines, judged, _ = asking.answers[self].rpartition("\njudged ")
+        each = lines[2:].split("\n  ") if judged else []
+        before, said = self.last.get(asking.kind, ([], Said()))
+        if each != before:
+            new = said_by(itertools.compress(each, map(operator.ne, each, before)))
+            is_like = len(each) == len(before) and new.keys() < said.keys()
+            said = said.changed(new) if is_like else said_by(each)
+            said.has_faults = " error plugin " in lines
+        self.last[asking.kind] = each, said
+        self.last.move_to_end(asking.kind)
+        if len(self.last) > KINDS:
+            self.last.popitem(last=False)
+        return said
 
 
 class Cores:
@@ -214,40 +278,41 @@ class Cores:
 
     # What is asked.
 
-    def judge(self, row: Row) -> Said:
-        """What the rules say of each node, all children at once. Raises CoreFault where one can't
-        be asked, and not when it is begun anew either."""
+    def ask(self, row: Row, filters_alone: bool) -> Asking:
+        """Asks all children at once what the rules say of each node, or what their filters alone
+        do, and waits for none."""
+        asking = Asking(row, filters_alone)
+        for it in self.shares:
+            asking.put(it)
         self.settle()
-        line = row.line.encode() + b"\n"
-        told = Told(line, lambda answer: None, "judged ")
-        for it in self.shares:
-            if it.core:
-                it.core.write(line)
-        said: Said = {}
-        fault: CoreFault | None = None
-        for it in self.shares:
-            try:
-                said.update(read(self.answer(it, told)))
-            except CoreFault as why:
-                # (the others are heard all the same: what they say is of this question)
-                fault = why
-        if fault:
-            raise fault
-        return said
+        return asking
 
-    def answer(self, share: Share, told: Told) -> str:
-        """One child's answer to what it was told; where there is none it is begun anew, and asked
-        again."""
-        for is_last in (False, True):
+    def heard(self, asking: Asking) -> Said:
+        """What they say. Raises CoreFault where one can't be asked, and not when it is begun anew
+        either."""
+        if asking.said is None:
+            for it in self.shares:
+                self.wait_for(it, asking)
+            asking.said = together([it.read(asking) for it in self.shares])
+        return asking.said
+
+    def judge(self, row: Row, filters_alone: bool = False) -> Said:
+        return self.heard(self.ask(row, filters_alone))
+
+    def wait_for(self, share: Share, asking: Asking) -> None:
+        """Waits for one child's answer; where there is none it is begun anew, and asked again."""
+        for _ in range(2):
             if not share.core:
                 break
             try:
                 share.core.hear()
-                return share.core.answer(told)
+                if share not in asking.answers:
+                    # (it was begun anew since it was asked)
+                    asking.put(share)
+                    share.core.flush()
+                return
             except CoreFault as why:
                 self.begin_anew(share, why)
-                if share.core and not is_last:
-                    share.core.write(told.line)
         raise CoreFault(f"wsched isn't heard: {share.why}")
 
     # Beginning, ending.
@@ -328,12 +393,18 @@ def gone(uid: str) -> str:
     return f'"op":"deleted",{{v}},"uid":{quoted(uid)}'
 
 
-def read(answer: str) -> Said:
-    """Of each node what its line says."""
-    lines, judged, _ = answer.rpartition("\njudged ")
-    # (a thousand at each question: so this is as short as can be)
-    each = lines[2:].split("\n  ") if judged else ()
-    return {name: what for name, _, what in map(str.partition, each, itertools.repeat(" "))}
+def together(parts: list[Said]) -> Said:
+    if len(parts) == 1:
+        return parts[0]
+    said = Said(itertools.chain.from_iterable(it.items() for it in parts))
+    said.has_faults = any(it.has_faults for it in parts)
+    return said
+
+
+def said_by(lines: Iterable[str]) -> Said:
+    return Said(
+        (name, what) for name, _, what in map(str.partition, lines, itertools.repeat(" "))
+    )
 
 
 def spent(pid: int) -> float:

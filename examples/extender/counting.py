@@ -32,6 +32,12 @@ class Counting:
         self.verdicts = Counter(
             "wsched_extender_verdicts_total", VERDICTS, ["rule", "answer"], registry=it
         )
+        self.score_faults = Counter(
+            "wsched_extender_score_faults_total",
+            "Nodes that a prioritize gave 0 since a rule said nothing of them.",
+            ["rule"],
+            registry=it,
+        )
         self.kept = Counter(
             "wsched_extender_kept_answers_total",
             "Requests that were answered by what was kept of the one before.",

@@ -26,7 +26,7 @@ sys.path += [str(HERE.parent / "second-scheduler"), str(HERE.parent)]
 # pylint: disable=wrong-import-position
 from kubernetes import client
 from tools import rules
-from tools.wasm_sections import has_score, is_steady, module_of, reasons_by_name
+from tools.wasm_sections import has_filter, has_score, is_steady, module_of, reasons_by_name
 
 import rule_labels
 import serving
@@ -169,10 +169,12 @@ def begin(given: argparse.Namespace, calls: Any) -> tuple[Service, Any]:
     with cores.lock:
         cores.start(cores.shares[0])
         # (a program that doesn't know the word would be begun anew at each question)
-        cores.judge(Row("a-pod", '"containers":[["0m","0"]]'))
+        cores.judge(Row("a-pod", '"containers":[["0m","0"]]'), filters_alone=True)
     rows = Rows(given.wsched, given.named)
-    steady = all(is_steady(module_of(it)) for it in given.spec)
-    ways = Ways(given.on_error == "reject-node", given.max_stale, steady)
+    modules = [module_of(it) for it in given.spec]
+    filters = [it for it in modules if not it or has_filter(it)]
+    steady, all_steady = all(map(is_steady, filters)), all(map(is_steady, modules))
+    ways = Ways(given.on_error == "reject-node", given.max_stale, steady, all_steady)
     service = Service(cores, rows, words_for(given.spec), counting, ways)
     if digests(given.spec) != cores.modules:
         raise CoreFault("a rule's module was changed meanwhile")
@@ -208,7 +210,7 @@ def end(service: Service, server: Any) -> None:
 
 def main() -> None:
     given = words()
-    sys.setswitchinterval(0.001)
+    sys.setswitchinterval(0.0002)
     log_to_standard_error(given.verbose)
     for it in (command(given.wsched, given.workers, given.spec), words_of(given.wsched, WHO)):
         if wrong := try_on_nothing(it):

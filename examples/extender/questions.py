@@ -45,9 +45,10 @@ class Row(NamedTuple):
     uid: str
     fields: str
 
-    @property
-    def line(self) -> str:
-        return f'{{"op":"judge","v":1,"uid":"{self.uid}",{self.fields}}}'
+    def line(self, filters_alone: bool) -> str:
+        """By which it is asked what the rules say, or what their filters alone do."""
+        more = ',"filters":true' if filters_alone else ""
+        return f'{{"op":"judge","v":1,"uid":"{self.uid}",{self.fields}{more}}}'
 
 
 def read(body: bytes) -> Question:
@@ -65,7 +66,7 @@ def read(body: bytes) -> Question:
         raise Bad("Pod.metadata.labels has a value that is no text")
     names = asked.get("NodeNames")
     if names is not None:
-        if not isinstance(names, list) or not {*map(type, names)} <= {str}:
+        if not is_texts(names):
             raise Bad("NodeNames is no array of texts")
         return Question(pod, names, None)
     if asked.get("Nodes") is None:
@@ -77,6 +78,15 @@ def read(body: bytes) -> Question:
         )
     except (TypeError, LookupError) as why:
         raise Bad("Nodes.items has what is no node with a name") from why
+
+
+def is_texts(what: Any) -> bool:
+    """(by what tells it soonest)"""
+    try:
+        "".join(what)
+    except TypeError:
+        return False
+    return isinstance(what, list)
 
 
 def of_type(what: Any, kind: type, called: str) -> Any:

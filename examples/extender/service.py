@@ -4,6 +4,7 @@ it is."""
 from __future__ import annotations
 
 import collections
+import functools
 import logging
 import threading
 import time
@@ -12,20 +13,23 @@ from typing import Callable, NamedTuple
 from core import CoreFault
 from watch import DEAF
 
-from answers import Sorted, Words, fault, faulty, filtered
-from cores import Cores, Said
+from answers import Counts, Sorted, Words, fault, faulty, filtered
+from cores import Asking, Cores, Said, nothing
 from counting import Counting
 from knowing import Knowing
 from questions import Bad, Question, Row, Rows, Untold, read
 
 LOG = logging.getLogger("second-scheduler")
-# Of how many pods, or kinds of pods, the answers are kept, and how often it is looked
-# whether all is well, in seconds.
+# Of how many questions of pods, or of kinds of pods, the answers are kept, and how often it is
+# looked whether all is well, in seconds.
 KEPT, LOOK = 64, 1.0
 # For how long a filter and a prioritize are answered by what was said before pods came or went, in
 # seconds: kube-scheduler itself has one picture of the cluster for both, and where pods are bound
-# quickly the one before is told of between the two.
-FILTER, PRIORITIZE = 0.0, 1.0
+# quickly the one before is told of between the two. And for how long behind a prioritize a filter
+# asks for the next one's scores too.
+FILTER, PRIORITIZE, AHEAD = 0.0, 1.0, 60.0
+# Up to how many bytes a filter's answer is kept as it is sent.
+LARGE = 2**18
 # For how long nobody may have looked, in seconds, before this process is held to do nothing.
 SILENCE = 60.0
 # The least seconds between two lines of the log that say the same kind of thing.
@@ -33,19 +37,21 @@ SELDOM = 10.0
 
 
 class Reply(NamedTuple):
-    """A status and a body; `result` is how it is counted, and `age` for how many seconds nothing
-    has been heard."""
+    """A status and a body; `result` is how it is counted, `age` for how many seconds nothing has
+    been heard, and `then` what is done once it is sent."""
 
     status: int
     body: bytes
     result: str = "answered"
     age: float = 0.0
+    then: Callable[[], None] = nothing
 
 
 class Kept(NamedTuple):
-    """An answer, what had changed by then, of all and of nodes' rows alone, and when it was."""
+    """What was asked, what had changed by then, of all and of nodes' rows alone, and when it was.
+    """
 
-    said: Said
+    asking: Asking
     changes: int
     rows: int
     when: float
@@ -53,10 +59,12 @@ class Kept(NamedTuple):
 
 class Ways(NamedTuple):
     """`rejects`: a node of which nothing can be said is rejected alone. `max_stale`: for how many
-    seconds nothing may have been heard. `steady`: no rule reads uids and what is used."""
+    seconds nothing may have been heard. No rule that has a filter reads uids and what is used where
+    `steady_filters` is set, and no rule at all where `steady` is."""
 
     rejects: bool
     max_stale: float | None
+    steady_filters: bool
     steady: bool
 
 
@@ -88,8 +96,10 @@ class Service:
         self.cores, self.rows, self.words, self.counting = cores, rows, words, counting
         self.ways = ways
         self.knowing: Knowing | None = None
-        self.kept: collections.OrderedDict[Row, Kept] = collections.OrderedDict()
-        self.looked, self.logged = time.monotonic(), 0.0
+        self.kept: collections.OrderedDict[tuple[bool, Row], Kept] = collections.OrderedDict()
+        self.looked, self.logged = time.monotonic(), dict[str, float]()
+        # until when a filter asks ahead
+        self.ahead = 0.0
         self.under_way, self.stopping = UnderWay(), False
         self.verbs: dict[str, Callable[[bytes], Reply]] = {
             "/filter": self.filter,
@@ -102,14 +112,19 @@ class Service:
         try:
             asked = read(body)
             self.look_at_age()
-            found = self.sort(asked, self.said(asked, FILTER))
+            row = self.rows.row(asked.pod)
+            said = self.said(row, True, FILTER)
+            found, body = self.answered(asked, said)
         except Bad as why:
             return Reply(400, fault(str(why)), "refused")
         except (Untold, Unknown, CoreFault) as why:
             return self.no_answer(200, str(why))
         if found.faults and not self.ways.rejects:
             return self.no_answer(200, faulty(found))
-        return Reply(200, filtered(found, asked.nodes), age=self.age())
+        # (wsched works while kube-scheduler does, which asks about one node no more)
+        is_next = len(found.passed) > 1 and time.monotonic() < self.ahead
+        reply = Reply(200, body, age=self.age())
+        return reply._replace(then=functools.partial(self.ask_ahead, row)) if is_next else reply
 
     def prioritize(self, body: bytes) -> Reply:
         """(it has no field for an error, and a status that is none of success has all nodes alike)
@@ -117,49 +132,93 @@ class Service:
         try:
             asked = read(body)
             self.look_at_age()
-            return Reply(
-                200, self.words.scores(asked.names, self.said(asked, PRIORITIZE)), age=self.age()
-            )
+            self.ahead = time.monotonic() + AHEAD
+            row = self.rows.row(asked.pod)
+            found = self.words.scores(asked.names, self.said(row, False, PRIORITIZE))
+            self.tell_faults(found.faults)
+            return Reply(200, found.body, age=self.age())
         except Bad as why:
             return Reply(400, fault(str(why)), "refused")
         except (Untold, Unknown, CoreFault) as why:
             return self.no_answer(503, str(why))
 
-    def no_answer(self, status: int, why: str) -> Reply:
+    def seldom(self, form: str, *what: object) -> None:
+        """Logs."""
         now = time.monotonic()
-        if now >= self.logged + SELDOM:
-            self.logged = now
-            LOG.warning("no answer: %s", why)
+        if now >= self.logged.get(form, -SELDOM) + SELDOM:
+            self.logged[form] = now
+            LOG.warning(form, *what)
+
+    def no_answer(self, status: int, why: str) -> Reply:
+        self.seldom("no answer: %s", why)
         return Reply(status, fault(f"wsched: {why}"), "error", self.age())
 
-    def said(self, asked: Question, fresh: float) -> Said:
-        """What the rules say of each node for this pod: as it was said before, where nothing has
-        changed since that they read, or but for pods that came or went in so many seconds."""
-        row = self.rows.row(asked.pod)
-        key, now = row._replace(uid="") if self.ways.steady else row, time.monotonic()
+    def tell_faults(self, faults: Counts) -> None:
+        """(a prioritize has no field for them)"""
+        for (rule, cause), count in faults.items():
+            self.counting.score_faults.labels(rule).inc(count)
+            self.seldom("scores: rule %s says nothing of %d nodes: %s", rule, count, cause)
+
+    def said(self, row: Row, filters_alone: bool, fresh: float) -> Said:
+        """What the rules, or their filters alone, say of each node for this pod: as it was said
+        before, where nothing has changed since that they read, or but for pods that came or went in
+        so many seconds. Raises CoreFault."""
         with self.cores.lock:
-            kept = self.kept.get(key)
-            if kept and self.is_good(kept, now < kept.when + fresh):
+            key = self.key(row, filters_alone)
+            kept = self.good(key, fresh)
+            if kept:
+                self.kept.move_to_end(key)
                 self.counting.kept.inc()
-                return kept.said
-            said = self.cores.judge(row)
-            self.kept[key] = Kept(said, self.cores.changes, self.cores.row_changes, now)
-            self.kept.move_to_end(key)
-            if len(self.kept) > KEPT:
-                self.kept.popitem(last=False)
-        return said
+            else:
+                kept = self.ask(key, row)
+            try:
+                return self.cores.heard(kept.asking)
+            except CoreFault:
+                del self.kept[key]
+                raise
 
-    def is_good(self, kept: Kept, is_fresh: bool) -> bool:
-        """Whether what is kept is what would be said now, as far as that matters."""
-        if self.ways.steady or is_fresh:
-            return kept.rows == self.cores.row_changes
-        return kept.changes == self.cores.changes
+    def ask_ahead(self, row: Row) -> None:
+        """Has wsched asked for the scores, which are heard when a prioritize asks for them."""
+        with self.cores.lock:
+            key = self.key(row, False)
+            if not self.good(key, FILTER):
+                self.ask(key, row)
 
-    def sort(self, asked: Question, said: Said) -> Sorted:
+    def is_steady(self, filters_alone: bool) -> bool:
+        return self.ways.steady_filters if filters_alone else self.ways.steady
+
+    def key(self, row: Row, filters_alone: bool) -> tuple[bool, Row]:
+        """Under which an answer is kept."""
+        return filters_alone, row._replace(uid="") if self.is_steady(filters_alone) else row
+
+    def good(self, key: tuple[bool, Row], fresh: float) -> Kept | None:
+        """What is kept, where that is what would be said now, as far as that matters."""
+        kept = self.kept.get(key)
+        if not kept or kept.rows != self.cores.row_changes:
+            return None
+        is_same = self.is_steady(key[0]) or kept.changes == self.cores.changes
+        return kept if is_same or time.monotonic() < kept.when + fresh else None
+
+    def ask(self, key: tuple[bool, Row], row: Row) -> Kept:
+        asking, now = self.cores.ask(row, key[0]), time.monotonic()
+        self.kept[key] = kept = Kept(asking, self.cores.changes, self.cores.row_changes, now)
+        self.kept.move_to_end(key)
+        if len(self.kept) > KEPT:
+            self.kept.popitem(last=False)
+        return kept
+
+    def answered(self, asked: Question, said: Said) -> tuple[Sorted, bytes]:
+        """What a filter is answered; as it was answered last where the same nodes were asked about,
+        in whatever order, and all of them are said."""
         assert self.knowing
-        found = self.words.sort(asked.names, said, self.knowing.nodes.unsaid)
-        self.counting.count(found.counts)
-        return found
+        names, last = frozenset(asked.names), said.last
+        if not last or last[0] != names or asked.nodes is not None:
+            found = self.words.sort(asked.names, said, self.knowing.nodes.unsaid)
+            last = names, found, filtered(found, asked.nodes)
+            if asked.nodes is None and not found.strange and len(last[2]) <= LARGE:
+                said.last = last
+        self.counting.count(last[1].counts)
+        return last[1], last[2]
 
     # How old what is known is.
 

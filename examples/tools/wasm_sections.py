@@ -197,6 +197,10 @@ def module_of(spec: str) -> bytes:
         return b""
 
 
+def has_filter(module: bytes) -> bool:
+    return "filter" in exported(module)
+
+
 def has_score(module: bytes) -> bool:
     return "score" in exported(module)
 

@@ -343,8 +343,8 @@ def answers(
 
 def as_explained(site: Ours, *specs: str) -> int:
     """The record of what was told, told to `explain`, with a cycle of each pod that was asked
-    about: where wsched's own filters let a node pass, it says what was answered. Gives how many
-    verdicts were compared."""
+    about: where wsched's own filters let a node pass, it says what was answered, but for scores
+    where filters alone were asked. Gives how many verdicts were compared."""
     lines = [
         json.loads(line) for line in (site.folder / "told").read_text(encoding="utf-8").splitlines()
     ]
@@ -354,7 +354,8 @@ def as_explained(site: Ours, *specs: str) -> int:
         0,
     )
     assert len(judged) == len(explained) >= 1, (len(judged), len(explained))
-    for one, other in zip(judged, explained):
+    alone = [it.get("filters", False) for it in lines if it["op"] == "judge"]
+    for is_alone, one, other in zip(alone, judged, explained, strict=True):
         assert one.keys() == other.keys()
         for node, words in one.items():
             # (behind a total stand wsched's own scores, and the rules')
@@ -362,6 +363,8 @@ def as_explained(site: Ours, *specs: str) -> int:
                 words[2:] if words[0] == "total" else words,
                 other[node][6:] if other[node][0] == "total" else other[node],
             )
+            if is_alone and words[0] == "total":
+                told[2::3] = ["0"] * len(told[2::3])
             if other[node][0] in ("total", "plugin", "error"):
                 assert mine == told, f"{node}: {words}, and explain says {other[node]}"
                 compared += 1

@@ -17,9 +17,8 @@ from trials.store import Thing
 EXTENDER = TOP / "examples/extender"
 PLUGINS = TOP / "examples/plugins"
 ZONE, EUROPE = "topology.kubernetes.io/zone", "eu-central-1"
-KEEP, PREFER = (
-    f"keep_region:1:100000:{PLUGINS}/keep_region.wasm",
-    f"prefer_zone:1:100000:{PLUGINS}/prefer_zone.wasm",
+KEEP, PREFER, SPARE = (
+    f"{it}:1:100000:{PLUGINS}/{it}.wasm" for it in ("keep_region", "prefer_zone", "spare_memory")
 )
 PERSONAL = {"data-class": "personal"}
 REASON = (

@@ -4,6 +4,7 @@ import concurrent.futures
 import functools
 import json
 import os
+import pathlib
 import random
 import signal
 import socket
@@ -27,6 +28,7 @@ from caller import (
     PERSONAL,
     PLUGINS,
     PREFER,
+    SPARE,
     REASON,
     UNKNOWN,
     ZONE,
@@ -36,7 +38,7 @@ from caller import (
     pod,
     with_record,
 )
-from modules import FOREVER, UNREACHABLE, answering, rule
+from modules import FOREVER, UNREACHABLE, answering, rule, score
 
 # Labels that sort before those that rules read.
 MANY = {f"a{i:02}": "x" for i in range(40)}
@@ -441,9 +443,9 @@ def mutual(site: Site) -> str:
 
 
 def kept(site: Site) -> str:
-    """The prioritize behind a filter is answered by what the filter was told, also where a pod
-    came to a node between them; after a node's change, and some time later, it asks anew; and a
-    filter does after each change."""
+    """Once a prioritize has come a filter asks for scores too, and the prioritize behind it is
+    answered by these, also where a pod came to a node between them; after a node's change, and some
+    time later, it asks anew; and so does a filter after each change."""
     nodes = some_nodes(site, 20)
     running, used, one = (
         Running(site, PREFER).ready(),
@@ -464,10 +466,10 @@ def kept(site: Site) -> str:
         )
 
     check(running, one, nodes, used, [*nodes])
-    assert count() == 1
+    assert count() == 0
     come("on-0")
     check(running, one, nodes, used, [*nodes])
-    assert count() == 2, "a filter was answered by what is no more"
+    assert count() == 2, "a filter was asked again, or a prioritize was"
     come("on-1")
     before, began = running.scores(one, [*nodes]), time.monotonic()
     if began + 0.5 > time.monotonic():
@@ -482,15 +484,19 @@ def kept(site: Site) -> str:
         "a node's change counts at once",
     )
     check(running, pod("two", {"wished-zone": "a"}), nodes, used, [*nodes])
-    return "one question to wsched for both verbs"
+    return "scores are asked at the filter"
 
 
 def steady(site: Site) -> str:
-    """Where no rule reads uids and what is used, equal pods are asked about once, whatever pods
-    come and go, until a node changes; where one does, each is asked about."""
+    """Where no rule that has a filter reads uids and what is used, a filter asks about equal pods
+    once, whatever pods come and go, until a node changes; where one does, it asks about each."""
     nodes = some_nodes(site, 20)
     europe = [name for name, it in nodes.items() if it["labels"][REGION] == EUROPE]
-    for name, words, hits in (("reads neither", [KEEP], 5), ("reads both", [KEEP, PREFER], 1)):
+    for name, words, hits in (
+        ("no rule", [KEEP], 4),
+        ("a score", [KEEP, PREFER], 4),
+        ("a filter", [KEEP, SPARE], 0),
+    ):
         running = Running(site, *words, name=name.replace(" ", "-")).ready()
         before = running.caller.metrics()['wsched_places{state="bound"}']
         for i in range(5):
@@ -500,13 +506,64 @@ def steady(site: Site) -> str:
             assert sorted(said["NodeNames"]) == europe, said
         running.scores(pod("asked-4", PERSONAL), europe)
         count = running.caller.metrics()["wsched_extender_kept_answers_total"]
-        assert count == hits, f"{name}: {count} were kept"
+        assert count == hits, f"where {name} reads what is used {count} were kept"
         for region in (EUROPE, "us-east-1"):
             change = functools.partial(merge, patch={"metadata": {"labels": {REGION: region}}})
             site.store.change("nodes", "node-0000", change)
             wants = {"node-0000"} if region == EUROPE else set()
             running.wait_for_passing(pod("asked-5", PERSONAL), ["node-0000"], wants)
-    return "four of five equal pods, and a prioritize, by what was kept"
+    return "four of five equal pods by what was kept"
+
+
+def questions(folder: pathlib.Path) -> list[tuple[str, bool]]:
+    """Of each question that wsched was asked the pod's uid, and whether it was of filters alone;
+    that by which the extender tries it is none."""
+    lines = (folder / "told").read_text(encoding="utf-8").split("\n")[:-1]
+    told = [it for it in map(json.loads, lines) if it["op"] == "judge" and it["uid"] != "a-pod"]
+    return [(it["uid"], it.get("filters", False)) for it in told]
+
+
+def alone(site: Site) -> str:
+    """A filter asks filters alone: a score that traps holds no pod up, and its nodes get 0, which
+    the metrics tell. Scores are asked ahead once a prioritize has come, of a pod for which several
+    nodes pass; a wsched that ends between both verbs is asked again."""
+    some_nodes(site, 4)
+    one, other = site.folder / "one", site.folder / "other"
+    one.mkdir()
+    other.mkdir()
+    bad = score(site.folder, "bad", UNREACHABLE)
+    running = Running(site, KEEP, bad, wsched=with_record(one, site.programs.wsched)).ready()
+    names, asked = [f"node-{i:04}" for i in range(4)], [pod(f"pod-{i}") for i in range(4)]
+    uids = [it["metadata"]["uid"] for it in asked]
+
+    def wait_for_questions(folder: pathlib.Path, wanted: list[tuple[str, bool]]) -> None:
+        """(what writes the record hands a line on before it writes it)"""
+        wait_for(lambda: questions(folder) == wanted, 5, f"{wanted} and no others")
+
+    assert running.passes(asked[0], names)
+    told = [(uids[0], True)]
+    wait_for_questions(one, told)
+    assert running.scores(asked[0], names) == dict.fromkeys(names, 0)
+    told.append((uids[0], False))
+    wait_for_questions(one, told)
+    assert running.caller.metrics()['wsched_extender_score_faults_total{rule="bad"}'] == 4
+    # (all of these are equal)
+    assert running.passes(asked[1], names) and (uids[1], True) not in questions(one)
+    wsched = with_record(other, site.programs.wsched)
+    running = Running(site, KEEP, PREFER, name="prefers", wsched=wsched).ready()
+    running.scores(asked[0], names)
+    told = [(uids[0], False), (uids[1], True), (uids[1], False)]
+    assert running.passes(asked[1], names)
+    wait_for_questions(other, told)
+    running.scores(asked[1], names)
+    assert running.passes(asked[2], names[:1])
+    running.kill_core(signal.SIGSTOP)
+    assert running.passes(asked[3], names)
+    running.kill_core()
+    assert [*running.scores(asked[3], names).values()] == [4, 4, 4, 4]
+    assert running.begun_anew() == 1
+    assert uids[2] not in {uid for uid, _ in questions(other)}
+    return f"{len(told)} questions, as they were to be"
 
 
 def shares(site: Site) -> str:
@@ -687,6 +744,7 @@ TRIALS: list[Callable[[Site], str]] = [
     mutual,
     kept,
     steady,
+    alone,
     shares,
     moved,
     explained,
