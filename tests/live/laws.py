@@ -188,10 +188,10 @@ class History:
 
     def waiting(self) -> Iterator[Pod]:
         """The pods that are to be tried."""
-        bound = {it.bind.uid for it in self.tickets.values()}
+        bound = {it.bind.name for it in self.tickets.values()}
         for word in self.words.values():
             waits = word and word.pod.is_ours and not word.pod.node and word.pod.asks
-            if word and waits and not word.is_aside and word.pod.uid not in bound:
+            if word and waits and not word.is_aside and word.pod.name not in bound:
                 yield word.pod
 
     def has_room(self, node: Node | None, pod: Pod) -> bool:
@@ -213,9 +213,9 @@ def check(history: History, line: Line, outputs: list[Output], machine: Counts) 
     counts, used = history.counts(), {node: it for node, it in machine.used.items() if it != NOTHING}
     if counts != used:
         raise Broken(f"1: {used} is thought to be used, and was told {counts}")
-    uids = [it.bind.uid for it in history.tickets.values()]
-    law(len(uids) == len({*uids}), "3: a pod has two open binds")
-    law({it.uid for it in history.waiting()} <= machine.queue, "4: a pod waits, and isn't to be tried")
+    bound = [it.bind.name for it in history.tickets.values()]
+    law(len(bound) == len({*bound}), "3: a pod has two open binds")
+    law({it.name for it in history.waiting()} <= machine.queue, "4: a pod waits, and isn't to be tried")
     law(all(it.is_asked for it in history.tickets.values() if it.is_past), "4: what became of a bind isn't asked")
 
 
@@ -225,17 +225,18 @@ def check_answer(history: History, line: Line, outputs: list[Output]) -> None:
     said = [it for it in outputs if not isinstance(it, (Read, Full))]
     law(len(said) == isinstance(line, Cycle), "2: a cycle has one answer, and nothing else has one")
     for it in said:
-        waiting, is_open = {pod.uid: pod for pod in history.waiting()}, history.is_open()
+        waiting, is_open = {pod.name: pod for pod in history.waiting()}, history.is_open()
         law(is_open != isinstance(it, Shut), "2: it is shut though all is heard, or not though it isn't")
         match it:
             case Idle():
                 law(not waiting, "2: nothing is tried, and some wait")
-            case Fails(_, uid):
-                law(uid in waiting, "2: what is tried may not be")
-                law(not any(history.has_room(node, waiting[uid]) for node in history.nodes.values()), "2: there is room, and it isn't given")
+            case Fails(name, uid):
+                law(name in waiting and waiting[name].uid == uid, "2: what is tried may not be")
+                law(not any(history.has_room(node, waiting[name]) for node in history.nodes.values()), "2: there is room, and it isn't given")
             case Bind():
-                law(it.uid in waiting and waiting[it.uid].asks == it.asks and waiting[it.uid].version == it.version, "2: what is bound may not be")
-                law(history.has_room(history.nodes.get(it.node), waiting[it.uid]), "2: a pod is bound where there is no room")
+                pod = waiting.get(it.name)
+                law(pod is not None and pod[1:4] == (it.uid, it.version, it.asks), "2: what is bound may not be")
+                law(pod is not None and history.has_room(history.nodes.get(it.node), pod), "2: a pod is bound where there is no room")
 
 
 def check_cluster(server: Server) -> None:

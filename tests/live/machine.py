@@ -18,7 +18,7 @@ class Open:
 
 
 class Machine:
-    """`pods` and `nodes` by name: a name belongs to one object at a time. A pod that waits has an open bind, or is in `queue`, or is none
+    """All by name, since that belongs to one object at a time; of a pod the uid says which. A pod that waits has an open bind, or is in `queue`, or is none
     that can be tried. `most` pods can be known, and `fences` says that the server tests the versions of binds."""
 
     def __init__(self, most: int = 100, fences: bool = False) -> None:
@@ -125,8 +125,8 @@ class Machine:
         if pod.node:
             self.uncount(pod.node, pod.counts)
         del self.pods[pod.name]
-        self.queue.discard(pod.uid)
-        self.aside.discard(pod.uid)
+        self.queue.discard(pod.name)
+        self.aside.discard(pod.name)
 
     def gone(self, line: Gone) -> None:
         if line.kind in self.named:
@@ -200,7 +200,7 @@ class Machine:
         elif line.what == "gone":
             # the watch will say so; until then nothing more is asked of it
             self.settle(it)
-            self.aside.add(it.bind.uid)
+            self.aside.add(it.bind.name)
         elif was_past:
             self.settle(it)
             self.requeue(self.pods[it.bind.name])
@@ -214,30 +214,30 @@ class Machine:
         self.uncount(it.bind.node, it.bind.asks)
 
     def settle_all(self, pod: Pod) -> None:
-        for it in self.open_of(pod.uid):
+        for it in self.open_of(pod.name):
             self.settle(it)
 
-    def open_of(self, uid: str) -> list[Open]:
-        return [it for it in self.opens.values() if it.bind.uid == uid]
+    def open_of(self, name: str) -> list[Open]:
+        return [it for it in self.opens.values() if it.bind.name == name]
 
     # What waits.
 
     def set_aside(self, line: Aside) -> None:
         pod = self.pods.get(line.name)
         if pod and pod.uid == line.uid:
-            self.aside.add(pod.uid)
+            self.aside.add(pod.name)
             self.requeue(pod)
 
     def offered(self, line: Offered) -> None:
         pod = self.pods.get(line.name)
         if pod and pod.uid == line.uid:
-            self.aside.discard(pod.uid)
+            self.aside.discard(pod.name)
             self.requeue(pod)
 
     def requeue(self, pod: Pod) -> None:
         """Whether it is to be tried. Of a pod with an open bind nothing is told to the desk until that is settled."""
-        waits = pod.is_ours and not pod.node and pod.asks is not None and pod.uid not in self.aside and not self.open_of(pod.uid)
-        (self.queue.add if waits else self.queue.discard)(pod.uid)
+        waits = pod.is_ours and not pod.node and pod.asks is not None and pod.name not in self.aside and not self.open_of(pod.name)
+        (self.queue.add if waits else self.queue.discard)(pod.name)
 
     def is_shut(self) -> bool:
         return not self.is_clear or self.is_short or any(it not in self.heard for it in KINDS)
@@ -245,7 +245,7 @@ class Machine:
     def cycle(self, line: Cycle) -> list[Output]:
         if self.is_shut():
             return [Shut()]
-        pods = sorted(it for it in self.pods.values() if it.uid in self.queue)
+        pods = sorted(it for it in self.pods.values() if it.name in self.queue)
         if not pods:
             return [Idle()]
         pod = pods[line.which % len(pods)]
@@ -263,7 +263,7 @@ class Machine:
         bind = Bind(self.tickets, pod.name, pod.uid, pod.version, node, pod.asks)
         self.opens[bind.ticket] = Open(bind)
         self.count(node, pod.asks)
-        self.queue.discard(pod.uid)
+        self.queue.discard(pod.name)
         return bind
 
     # What counts on a node.

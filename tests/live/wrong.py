@@ -81,7 +81,7 @@ class RefusedByWatch(Machine):
     def told_new(self, thing: Thing) -> None:
         super().told_new(thing)
         if isinstance(thing, Pod) and not thing.node:
-            for it in self.open_of(thing.uid):
+            for it in self.open_of(thing.name):
                 if it.is_past:
                     self.settle(it)
             self.requeue(self.pods[thing.name])
@@ -234,7 +234,7 @@ class AsideFrees(Machine):
     """A pod that is taken aside under bind counts no more."""
 
     def set_aside(self, line: Aside) -> None:
-        for it in self.open_of(line.uid):
+        for it in self.open_of(line.name):
             self.settle(it)
         super().set_aside(line)
 
@@ -243,7 +243,7 @@ class ChangeFrees(Machine):
     """A pod that changes under bind is told anew, and its bind counts no more."""
 
     def becomes(self, pod: Pod) -> None:
-        for it in self.open_of(pod.uid):
+        for it in self.open_of(pod.name):
             self.settle(it)
         super().becomes(pod)
 
@@ -252,7 +252,7 @@ class AsideForgotten(Machine):
     """A pod that is offered again isn't tried."""
 
     def offered(self, line: Offered) -> None:
-        self.aside.discard(line.uid)
+        self.aside.discard(line.name)
 
 
 class SettledForgotten(Machine):
@@ -263,7 +263,7 @@ class SettledForgotten(Machine):
         it = self.opens.get(ticket)
         super().was_read(line)
         if it and ticket not in self.opens:
-            self.queue.discard(it.bind.uid)
+            self.queue.discard(it.bind.name)
 
 
 class GoneByRead(Machine):
@@ -310,7 +310,7 @@ class Twice(Machine):
 
     def bind(self, pod: Pod, node: str) -> Bind:
         it = super().bind(pod, node)
-        self.queue.add(pod.uid)
+        self.queue.add(pod.name)
         return it
 
 
