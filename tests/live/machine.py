@@ -18,8 +18,8 @@ class Open:
 
 
 class Machine:
-    """All by name, since that belongs to one object at a time; of a pod the uid says which. A pod that waits has an open bind, or is in `queue`, or is none
-    that can be tried. `most` pods can be known, and `fences` says that the server tests the versions of binds."""
+    """All by name, since that belongs to one object at a time; of a pod the uid says which. A pod that waits has an open bind, or is in
+    `queue`, or is none that can be tried. `most` pods can be known, and `fences` says that the server tests the versions of binds."""
 
     def __init__(self, most: int = 100, fences: bool = False) -> None:
         self.most, self.fences = most, fences
@@ -37,8 +37,8 @@ class Machine:
         self.heard: set[str] = set()
         self.ever: set[str] = set()
         self.is_past = self.is_clear = self.lists_past = False
-        # whether a pod on a node isn't known, for want of room; and whether that came since the list
-        # began
+        # whether a pod on a node isn't known, for want of room; and whether that came since the
+        # list began
         self.is_short = self.lists_short = False
         self.tickets = self.asks = 0
 
