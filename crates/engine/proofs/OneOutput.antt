@@ -129,8 +129,7 @@ one_answer : (rules : RuleSet) (telling : Telling) (s : State) (a : Option Step)
     → AnsweredBy rules telling s a asking one text → AnsweredBy rules telling s a asking other text' → Agree one other text text'
 one_answer rules telling s (Some step) asking one other text text' once own a b = (a.0 ∙ sym b.0, a.1 ∙ sym b.1)
 one_answer rules telling s None (Some question) one other text text' once own a b =
-    let same : a.1.rulings ≡ b.1.rulings = one_ruled question.filters_alone rules question.pod (snapshot s.cluster) a.1.rulings b.1.rulings once a.1.are b.1.are in
-    (
+    let same : a.1.rulings ≡ b.1.rulings = one_ruled question.filters_alone rules question.pod (snapshot s.cluster) a.1.rulings b.1.rulings once a.1.are b.1.are in (
       a.0 ∙ sym b.0,
       a.1.is ∙ (ap (λ rulings. ruling_lines telling.named question.pod (snapshot s.cluster) rulings ++ judged_line question.pod.uid (length (snapshot s.cluster))) same ∙ sym b.1.is),
     )
