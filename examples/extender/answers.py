@@ -1,9 +1,7 @@
 # SPDX-License-Identifier: Apache-2.0
 """What kube-scheduler is answered, of what wsched says of each node.
 
-Of a filter: which nodes pass, and of each other why. A rule's code 3, which no eviction changes,
-stands both in FailedNodes, which every version reads, and in FailedAndUnresolvableNodes, which
-older ones pass over and newer ones prefer. Of a prioritize: 0 to 10 for each node.
+Of a filter: which nodes pass, and of each other why. Of a prioritize: 0 to 10 for each node.
 """
 from __future__ import annotations
 
@@ -25,6 +23,9 @@ UNKNOWN = "node(s) weren't known to wsched"
 # What stands for a percent sign in a reason: an event's text is a format to kube-scheduler, and a
 # condition's isn't, so neither has one.
 PERCENT = "\N{FULLWIDTH PERCENT SIGN}"
+# The first version whose kube-scheduler knows FailedAndUnresolvableNodes, and one beside whose API
+# server each does.
+FIRST, KNOWN = 21, 24
 # How many nodes there are of a rule and its answer.
 Counts = dict[tuple[str, str], int]
 
@@ -84,6 +85,21 @@ class Scored(NamedTuple):
 
     body: bytes
     faults: Counts
+
+
+class Maps(NamedTuple):
+    """Where a rule's code 3 stands, which no eviction changes: in FailedNodes, which every
+    kube-scheduler reads, and in FailedAndUnresolvableNodes, which those before 1.21 pass over and
+    others prefer. (A thousand reasons are some 100 kB that it has to read.)"""
+
+    failed: bool = True
+    unresolvable: bool = True
+
+
+def maps_beside(minor: int) -> Maps:
+    """Beside an API server of version 1.MINOR, than which no kube-scheduler is newer, nor more than
+    a version older."""
+    return Maps(minor < KNOWN, minor >= FIRST)
 
 
 class Words:
@@ -179,7 +195,7 @@ def by_name(groups: Groups, strange: Mapping[str, str]) -> str:
     return f"{{{','.join(parts)}}}"
 
 
-def filtered(found: Sorted, nodes: Sequence[Json] | None) -> bytes:
+def filtered(found: Sorted, nodes: Sequence[Json] | None, maps: Maps) -> bytes:
     """What a filter is answered; of nodes that were handed over those that pass are handed back."""
     if nodes is None:
         named = '"' + '","'.join(found.passed) + '"' if found.passed else ""
@@ -188,7 +204,9 @@ def filtered(found: Sorted, nodes: Sequence[Json] | None) -> bytes:
         names = {*found.passed}
         handed = [it for it in nodes if it["metadata"]["name"] in names]
         passed = f'"Nodes":{spell({"items": handed})}'
-    failed, final = by_name(found.failed, found.strange), by_name(found.final, {})
+    others = {why: names for why, names in found.failed.items() if why not in found.final}
+    failed = by_name(found.failed if maps.failed else others, found.strange)
+    final = by_name(found.final if maps.unresolvable else {}, {})
     return f'{{{passed},"FailedNodes":{failed},"FailedAndUnresolvableNodes":{final}}}'.encode()
 
 

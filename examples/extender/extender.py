@@ -10,6 +10,8 @@ NAME:WEIGHT:FUEL:FILE. The README.md beside this says how to use it.
 from __future__ import annotations
 
 import argparse
+import itertools
+import json
 import logging
 import os
 import pathlib
@@ -36,8 +38,9 @@ from core import CoreFault, command, try_on_nothing
 from official import NoAccount, calls_by
 from second_scheduler import log_to_standard_error
 from translating import words_of
+from watch import AWAY, message
 
-from answers import Words
+from answers import Maps, Words, maps_beside
 from asked import Asked
 from cores import Cores, digests
 from counting import Counting
@@ -162,6 +165,17 @@ def words_for(specs: list[str]) -> Words:
     return Words(reasons_by_name(specs), weights)
 
 
+def maps_of(calls: Any) -> Maps:
+    """As the API server's version has it; both where it doesn't tell that."""
+    try:
+        answer = client.VersionApi(calls).get_code(_preload_content=False, _request_timeout=5)
+        said = json.loads(answer.data)
+        return maps_beside(int("".join(itertools.takewhile(str.isdecimal, said["minor"]))))
+    except (*AWAY, ValueError, LookupError, TypeError) as why:
+        LOG.info("the API server's version isn't known: %s", message(why))
+        return Maps()
+
+
 def begin(given: argparse.Namespace, calls: Any) -> tuple[Service, Any]:
     """The cores, what is known, who answers, and who listens. Raises CoreFault."""
     counting = Counting()
@@ -174,7 +188,8 @@ def begin(given: argparse.Namespace, calls: Any) -> tuple[Service, Any]:
     modules = [module_of(it) for it in given.spec]
     filters = [it for it in modules if not it or has_filter(it)]
     steady, all_steady = all(map(is_steady, filters)), all(map(is_steady, modules))
-    ways = Ways(given.on_error == "reject-node", given.max_stale, steady, all_steady)
+    rejects = given.on_error == "reject-node"
+    ways = Ways(rejects, given.max_stale, steady, all_steady, maps_of(calls))
     service = Service(cores, rows, words_for(given.spec), counting, ways)
     if digests(given.spec) != cores.modules:
         raise CoreFault("a rule's module was changed meanwhile")

@@ -13,7 +13,7 @@ from typing import Callable, NamedTuple
 from core import CoreFault
 from watch import DEAF
 
-from answers import Counts, Sorted, Words, fault, faulty, filtered
+from answers import Counts, Maps, Sorted, Words, fault, faulty, filtered
 from cores import Asking, Cores, Said, nothing
 from counting import Counting
 from knowing import Knowing
@@ -66,6 +66,7 @@ class Ways(NamedTuple):
     max_stale: float | None
     steady_filters: bool
     steady: bool
+    maps: Maps = Maps()
 
 
 class UnderWay:
@@ -214,7 +215,7 @@ class Service:
         names, last = frozenset(asked.names), said.last
         if not last or last[0] != names or asked.nodes is not None:
             found = self.words.sort(asked.names, said, self.knowing.nodes.unsaid)
-            last = names, found, filtered(found, asked.nodes)
+            last = names, found, filtered(found, asked.nodes, self.ways.maps)
             if asked.nodes is None and not found.strange and len(last[2]) <= LARGE:
                 said.last = last
         self.counting.count(last[1].counts)

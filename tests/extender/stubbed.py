@@ -515,6 +515,28 @@ def steady(site: Site) -> str:
     return "four of five equal pods by what was kept"
 
 
+def versions(site: Site) -> str:
+    """A code 3 stands where the kube-schedulers beside the API server look for it; code 2 and a
+    node that nobody knows always in the one map."""
+    site.node("us", labels={REGION: "us-east-1"})
+    later = rule(site.folder, "later", answering(2))
+    final, others = {"us": REASON}, {"nobody's": UNKNOWN}
+    for minor, failed, unresolvable in (
+        ("", {**final, **others}, final),
+        ("20+", {**final, **others}, {}),
+        ("21", {**final, **others}, final),
+        ("24", others, final),
+    ):
+        site.server.minor = minor
+        running = Running(site, KEEP, later, name=f"beside-{minor}").ready()
+        said = running.filter(pod("one", PERSONAL), ["us", "nobody's"])
+        assert said["FailedNodes"] == failed, said
+        assert said["FailedAndUnresolvableNodes"] == unresolvable, said
+        said = running.filter(pod("two"), ["us"])
+        assert [*said["FailedNodes"]] == ["us"] and not said["FailedAndUnresolvableNodes"], said
+    return "four versions"
+
+
 def questions(folder: pathlib.Path) -> list[tuple[str, bool]]:
     """Of each question that wsched was asked the pod's uid, and whether it was of filters alone;
     that by which the extender tries it is none."""
@@ -745,6 +767,7 @@ TRIALS: list[Callable[[Site], str]] = [
     kept,
     steady,
     alone,
+    versions,
     shares,
     moved,
     explained,

@@ -52,6 +52,8 @@ class Server:
         self.bind_takes = 0.0
         # what an answer of 429 asks for, in seconds
         self.retry_after = 0
+        # what it says that it is, 1.X, where it tells that
+        self.minor = ""
         # each answer ends its connection
         self.closes = False
         self.connections: set["Connection"] = set()
@@ -169,7 +171,9 @@ class Connection(http.server.BaseHTTPRequestHandler):
             refused = self.server_stub.refuse(asked)
             if refused:
                 raise Conflict(*refused)
-            if verb == "watch":
+            if path.strip("/") == "version":
+                self.say(asked, 200, json.dumps({"major": "1", "minor": self.server_stub.minor}).encode())
+            elif verb == "watch":
                 self.watch(asked)
             else:
                 self.say(asked, 201 if verb == "create" else 200, self.done(asked))
