@@ -15,8 +15,8 @@ use Rattle.ledger.specs.Lists.{Side, is_named, is_left, IsSwept}
 use Rattle.ledger.specs.inside.Swept.{IsTakenOut, IsWithout, IsNamedIn, IsSlotSwept}
 
 module _ {X Y R : Type 0} (side : Side X Y R) where
-  -- what is known of an object, and what stands of it in the book, is as before, or it was unnamed and
-  -- is gone
+  -- what is known of an object, and what stands of it in the book, is as before, or it was unnamed
+  -- and is gone
   abbrev pub SameOrGone : ℕ → Slots X → Slots X → Cluster → Cluster → List ℕ → Type 0
   SameOrGone lists old now book left name =
       ((get (map_of now) name ≡ get (map_of old) name) × (get (side.table left) name ≡ get (side.table book) name))

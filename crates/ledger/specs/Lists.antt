@@ -10,8 +10,8 @@ use Rattle.ledger.specs.declared.known.Seen.{Seen}
 use Rattle.ledger.specs.declared.known.Stage.{Stage}
 use Rattle.ledger.specs.declared.known.Stage.TheVariants.{Waits, Asked, Stands}
 
--- how the objects of a kind, which are known as X, stand in a book, as Y, and what of a book is none
--- of theirs
+-- how the objects of a kind, which are known as X, stand in a book, as Y, and what of a book is
+-- none of theirs
 pub record Side (X Y R : Type 0) : Type 0 where
   pub list : X → ℕ  -- how many lists had begun when an object was last told
   pub stands : X → Bool  -- whether it stands in the book

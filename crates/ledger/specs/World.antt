@@ -1,5 +1,5 @@
--- The API server, and the ledger of the only one who binds pods to some of its nodes: what may happen
--- there, what may be told of it, and when, and that none of these nodes is ever overfull.
+-- The API server, and the ledger of the only one who binds pods to some of its nodes: what may
+-- happen there, what may be told of it, and when, and that none of these nodes is ever overfull.
 use Rattle.std.specs.Prelude.{◌≡◌, ◌≤◌, ℕ, true, false, ◌&&◌, ◌==◌, List, [], ◌∷◌, None, Some}
 use Rattle.std.specs.FinMap.{get, insert, remove}
 use Rattle.quant.specs.declared.amount.Request.{Request}

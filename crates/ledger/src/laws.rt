@@ -2,8 +2,8 @@
 ghost use Rattle.ledger.specs.Laws.{AlwaysCountsOnce, GrantsAreRight};
 ghost use Rattle.ledger.specs.World.{NeverOverfull};
 
-/// Whatever was told, in whatever order: each pod counts on the one node that was told last, or that
-/// a bind of it was asked for, with what it takes; and nothing else counts.
+/// Whatever was told, in whatever order: each pod counts on the one node that was told last, or
+/// that a bind of it was asked for, with what it takes; and nothing else counts.
 pub fn each_pod_counts_once()
     ensures { AlwaysCountsOnce }
 {}

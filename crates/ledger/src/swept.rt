@@ -1,12 +1,9 @@
 //! What a list didn't name goes.
 ghost use Rattle.std.specs.Prelude.{◌≡◌, ◌≢◌, ◌+◌, ◌<◌, ◌≤◌, ℕ, List, None, Some, IfSome, IfNone, length, slice_set};
 ghost use Rattle.std.specs.FinMap as fin;
-ghost use Rattle.name_table.specs.declared.entry.Entry.{Entry as Held};
 ghost use Rattle.name_table.specs.Slots.{entry_in, map_of, NamesOnce};
-ghost use Rattle.ledger.specs.declared.known.Known.{Known as KnownPod};
-ghost use Rattle.ledger.specs.declared.known.Seen.{Seen as SeenNode};
 ghost use Rattle.ledger.specs.Lists.{of_pods, of_nodes, IsSwept};
-ghost use Rattle.ledger.specs.inside.Swept.{IsTakenOut, IsSlotSwept};
+ghost use Rattle.ledger.specs.inside.Swept.{IsTakenOut, IsNamedIn, IsSlotSwept};
 
 use crate::known::{Known, Seen, Stage};
 use crate::tables::{take_place, take_row};
@@ -17,7 +14,7 @@ use name_table::{Entry, NameTable};
 fn take_unnamed_pod(pods: &mut NameTable<Known>, slot: usize, lists: u64) -> Option<Entry<Known>>
     ensures some { IfSome result (λ e. IsTakenOut of_pods lists slot e pods.old pods.new) }
     ensures unchanged { IfNone result (pods.new ≡ pods.old) }
-    ensures named { IfNone result ((e : Held KnownPod) → entry_in pods.old slot ≡ Some e → e.value.list ≡ lists) }
+    ensures named { IfNone result (IsNamedIn of_pods lists slot pods.old) }
     ensures room { length pods.new ≡ length pods.old }
     ensures once { NamesOnce pods.new }
 {
@@ -66,7 +63,7 @@ pub(crate) fn sweep_pods(book: &mut Book, pods: &mut NameTable<Known>, lists: u6
 fn take_unnamed_node(nodes: &mut NameTable<Seen>, slot: usize, lists: u64) -> Option<Entry<Seen>>
     ensures some { IfSome result (λ e. IsTakenOut of_nodes lists slot e nodes.old nodes.new) }
     ensures unchanged { IfNone result (nodes.new ≡ nodes.old) }
-    ensures named { IfNone result ((e : Held SeenNode) → entry_in nodes.old slot ≡ Some e → e.value.list ≡ lists) }
+    ensures named { IfNone result (IsNamedIn of_nodes lists slot nodes.old) }
     ensures room { length nodes.new ≡ length nodes.old }
     ensures once { NamesOnce nodes.new }
 {
