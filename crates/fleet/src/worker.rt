@@ -39,11 +39,9 @@ pub struct Hand<J: Site, K: Rules + Drop> {
 fn work<J: Site, K: Rules + Drop, G: Gate, R: Wait>(
     rt: &R,
     gate: &G,
-    jobs: Inbox<Job<J, K>, OfPool<J>>,
-    results: Outbox<Done<J, K>, OfPool<J>>,
+    jobs: &mut Inbox<Job<J, K>, OfPool<J>>,
+    results: &mut Outbox<Done<J, K>, OfPool<J>>,
 ) {
-    let mut jobs = jobs;
-    let mut results = results;
     for _ in rt.forever() {
         let Some(job) = jobs.receive(rt) else {
             return;
@@ -70,9 +68,12 @@ impl<J: Site, K: Rules + Drop> Hand<J, K> {
     {
         let (jobs, inbox) = way::<Job<J, K>, OfPool<J>>(alloc)?;
         let (outbox, results) = way::<Done<J, K>, OfPool<J>>(alloc)?;
-        // It isn't joined: that it is gone shows by its end of the results.
+        // It isn't joined: that it is gone shows by its end of the results, which it gives up last.
         let _detached = thread::spawn(&rt, move || {
-            work::<J, K, G, R>(&rt, &*gate, inbox, outbox)
+            let mut outbox = outbox;
+            let mut inbox = inbox;
+            let gate = gate;
+            work::<J, K, G, R>(&rt, &*gate, &mut inbox, &mut outbox)
         })?;
         Ok(Hand { jobs, results })
     }
