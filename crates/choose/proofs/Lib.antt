@@ -7,3 +7,4 @@ pub mod OneVerdict
 pub mod Uncounted
 pub mod OneDecision
 pub mod OnePass
+pub mod FirstPlain

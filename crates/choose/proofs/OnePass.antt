@@ -181,7 +181,7 @@ plain_count pod s plain = by (built_in s pod)
 -- ---- one node more
 
 -- a later name comes before no earlier one
-later_not_before : (a b : List ℕ) → is_before a b ≡ true → is_before b a ≡ false
+pub later_not_before : (a b : List ℕ) → is_before a b ≡ true → is_before b a ≡ false
 later_not_before a b first = not_before_earlier a b b first (irreflexive b)
 
 -- what was found is behind

@@ -1,3 +1,4 @@
 pub mod Verdict
 pub mod Finding
 pub mod Alone
+pub mod Plain

@@ -2,18 +2,20 @@
 //! one pass finds the node that goes first: the first one of the greatest total. No verdict is
 //! written, and no memory is taken.
 ghost use Rattle.std.specs.Prelude.{◌≡◌, ℕ, ◌≤◌, ◌<◌, true, length, map, IfSome};
+ghost use Rattle.desk.specs.Worth.{IsSought};
 ghost use Rattle.desk.specs.Plain.{is_plain};
 ghost use Rattle.desk.specs.Shown.{shown};
 ghost use Rattle.desk.specs.Order.{AreInOrder};
 ghost use Rattle.choose.specs.Choice.{total_of, most_of, IsChoice, Choice};
 ghost use Rattle.choose.specs.inside.Alone.{alone, verdicts_alone, judged_alone, worth_from, told_of, one_for};
+ghost use Rattle.choose.specs.inside.Plain.{LeadsPlain, first_of_both, goes_later, told_unless_plain};
 ghost use Rattle.choose.specs.inside.Finding.{StandsFirst, counts_in};
 
 use crate::best::{Found, Worth};
 use crate::choice::name_of;
 use crate::decision::{Counts, Decision, Reason, Verdict};
 use crate::judging::{built_in, built_in_verdict};
-use desk::{Row, Snapshot};
+use desk::{Row, Snapshot, Sought};
 use quant::Pod;
 use rules::Rules;
 use taints::normalize;
@@ -37,21 +39,41 @@ struct Pass {
 }
 
 /// Where a pod goes, by a look at the nodes, where there is no rule: as `choose` decides it, but no
-/// memory is taken.
+/// memory is taken. Plain nodes aren't judged where it was looked for the pod's request.
 pub fn choose_alone<R: Rules>(snapshot: &Snapshot, pod: &Pod, _rules: &R) -> Decision
     requires { length (R.answers _rules.now).weights ≡ 0 }
     ensures { Choice (R.answers _rules.now) snapshot.now pod.now result }
 {
     snapshot.stands_in_order();
-    decide_alone(snapshot.rows(), pod)
+    let rows = snapshot.rows();
+    let best = best_by(rows, pod, snapshot.sought(pod.request));
+    decide_by(rows, pod, best)
 }
 
-// The decision among these nodes.
-fn decide_alone(rows: &[Row], pod: &Pod) -> Decision
-    requires { AreInOrder (map shown rows.now) }
+// The best node that passes, if one does, by what was sought for the pod's request, if anything
+// was.
+fn best_by(rows: &[Row], pod: &Pod, sought: Option<Sought>) -> Option<Found>
+    requires order { AreInOrder (map shown rows.now) }
+    requires request { IfSome sought (λ sought. sought.request ≡ pod.now.request) }
+    requires sought { IfSome sought (IsSought (map shown rows.now)) }
+    ensures first { let nodes = judged_alone pod.now (map shown rows.now) in
+        StandsFirst (Worth.Total (most_of nodes)) nodes nodes result }
+    ensures there { IfSome result (λ found. found.at < length rows.now) }
+{
+    match sought {
+        Some(sought) => best_beside(rows, pod, sought),
+        None => best_alone(rows, pod),
+    }
+}
+
+// The decision among these nodes, of which this is the best one that passes, if one does.
+fn decide_by(rows: &[Row], pod: &Pod, best: Option<Found>) -> Decision
+    requires first { let nodes = judged_alone pod.now (map shown rows.now) in
+        StandsFirst (Worth.Total (most_of nodes)) nodes nodes best }
+    requires there { IfSome best (λ found. found.at < length rows.now) }
     ensures { IsChoice (judged_alone pod.now (map shown rows.now)) result }
 {
-    match best_alone(rows, pod) {
+    match best {
         Some(best) => Decision::Node(name_of(rows, best.at), best.worth),
         None => Decision::Unschedulable(counts_alone(rows, pod)),
     }
@@ -70,6 +92,106 @@ fn best_alone(rows: &[Row], pod: &Pod) -> Option<Found>
         return pass.first;
     }
     pass_over(rows, pod, pass.most).first
+}
+
+// The same, where it is known which of the plain nodes goes first: those that aren't are judged.
+fn best_beside(rows: &[Row], pod: &Pod, sought: Sought) -> Option<Found>
+    requires order { AreInOrder (map shown rows.now) }
+    requires request { sought.request ≡ pod.now.request }
+    requires sought { IsSought (map shown rows.now) sought }
+    ensures first { let nodes = judged_alone pod.now (map shown rows.now) in
+        StandsFirst (Worth.Total (most_of nodes)) nodes nodes result }
+    ensures there { IfSome result (λ found. found.at < length rows.now) }
+{
+    let plain = first_plain(rows, pod, sought);
+    if sought.all_plain {
+        return plain;
+    }
+    let pass = pass_marked(rows, pod, 0, plain);
+    if pass.most == 0 {
+        return pass.first;
+    }
+    pass_marked(rows, pod, pass.most, plain).first
+}
+
+// The plain node that goes first, if one passes, with its total.
+fn first_plain(rows: &[Row], pod: &Pod, sought: Sought) -> Option<Found>
+    requires request { sought.request ≡ pod.now.request }
+    requires sought { IsSought (map shown rows.now) sought }
+    ensures { (most : ℕ) → LeadsPlain most pod.now rows.now result }
+{
+    let Some(at) = sought.first else {
+        return None;
+    };
+    match plain_total(&rows[at], pod, 0) {
+        Some(worth) => Some(Found { at, worth }),
+        None => None,
+    }
+}
+
+// The first node among those of the greatest total, where so many untolerated taints count as the
+// most, and this is the first one among the plain ones.
+fn pass_marked(rows: &[Row], pod: &Pod, most: u8, plain: Option<Found>) -> Pass
+    requires order { AreInOrder (map shown rows.now) }
+    requires plain { LeadsPlain most pod.now rows.now plain }
+    ensures first { let nodes = judged_alone pod.now (map shown rows.now) in
+        StandsFirst (Worth.Total most) nodes nodes result.first }
+    ensures there { IfSome result.first (λ found. found.at < length rows.now) }
+    ensures most { result.most ≡ most_of (judged_alone pod.now (map shown rows.now)) }
+{
+    let mut first = plain;
+    let mut greatest = 0;
+    for at in 0..rows.len() {
+        let told = tell_unless_plain(&rows[at], pod, most);
+        greatest = greatest.max(told.count);
+        first = first_of_both(first, at, told.worth);
+    }
+    Pass {
+        first,
+        most: greatest,
+    }
+}
+
+// What counts of a node that isn't plain. Nothing does of a plain one, which isn't looked into.
+#[inline]
+fn tell_unless_plain(row: &Row, pod: &Pod, most: u8) -> Told
+    ensures { result ≡ told_unless_plain most pod.now (shown row.now) }
+{
+    if row.is_plain() {
+        return Told {
+            count: 0,
+            worth: None,
+        };
+    }
+    tell_marked(row, pod, most, 0)
+}
+
+// Which goes first: what was found so far, if anything was, or the node at this place, if it has a
+// total.
+#[inline]
+fn first_of_both(first: Option<Found>, at: usize, worth: Option<u32>) -> Option<Found>
+    ensures { result ≡ first_of_both first at worth }
+{
+    match (first, worth) {
+        (_, None) => first,
+        (None, Some(worth)) => Some(Found { at, worth }),
+        (Some(found), Some(worth)) => {
+            if goes_later(found, at, worth) {
+                first
+            } else {
+                Some(Found { at, worth })
+            }
+        }
+    }
+}
+
+// Whether a node with a total goes behind what was found: that is worth more, or as much and its
+// place comes before.
+#[inline]
+fn goes_later(found: Found, at: usize, worth: u32) -> bool
+    ensures { result ≡ goes_later found at worth }
+{
+    worth < found.worth || worth == found.worth && found.at < at
 }
 
 // The first node among those of the greatest total, where so many untolerated taints count as the

@@ -20,3 +20,5 @@ pub mod NodesStay
 pub mod Order
 pub mod Changes
 pub mod Noted
+pub mod LastLook
+pub mod Worths

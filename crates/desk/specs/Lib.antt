@@ -1,5 +1,6 @@
 pub mod Plain
 pub mod Shown
+pub mod Worth
 pub mod Order
 pub mod Machine
 pub mod Caller

@@ -6,4 +6,6 @@ pub mod Codes
 pub mod SharedCodes
 pub mod BoardCodes
 pub mod NodeCalls
+pub mod LastLook
 pub mod Done
+pub mod Kept

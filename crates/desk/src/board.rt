@@ -8,8 +8,9 @@ ghost use Rattle.desk.specs.inside.NodeCalls.{nodes_of};
 ghost use Rattle.desk.specs.Shown.{shown};
 ghost use Rattle.desk.specs.declared.limits.TheConstants.{MAX_PASSES};
 
-use crate::change::{Change, Total};
+use crate::change::{Change, Total, Totals};
 use crate::history::Prefix;
+use crate::kept::Kept;
 use crate::limits::MAX_PASSES;
 use crate::snapshot::Row;
 use book::{Limits, NoMemory};
@@ -199,10 +200,9 @@ impl Board {
         self.calls[pass] == calls && has_none_from(&self.calls, handed)
     }
 
-    /// The rows of the nodes, with what is used of each. Rows that have the same nodes are taken
-    /// over, and what is used written into them.
+    /// The rows of the nodes, with what is used of each: these, or else new ones.
     pub(crate) fn show(&self, before: Option<Vec<Row>>) -> Result<Arc<Vec<Row>>, NoMemory>
-        requires { IfSome before (λ rows. nodes_of rows.items ≡ self.now.nodes) }
+        requires { IfSome before (λ rows. map shown rows.items ≡ rows_shown self.now) }
         ensures { IfOk result (λ rows. map shown (arc_value rows).items ≡ rows_shown self.now) }
     {
         let rows = self.rows_now(before)?;
@@ -211,25 +211,34 @@ impl Board {
     }
 
     fn rows_now(&self, before: Option<Vec<Row>>) -> Result<Vec<Row>, NoMemory>
-        requires { IfSome before (λ rows. nodes_of rows.items ≡ self.now.nodes) }
+        requires { IfSome before (λ rows. map shown rows.items ≡ rows_shown self.now) }
         ensures { IfOk result (λ rows. map shown rows.items ≡ rows_shown self.now) }
     {
         match before {
-            Some(rows) => Ok(self.show_in(rows)),
+            Some(rows) => Ok(rows),
             None => self.show_anew(),
         }
     }
 
-    // These rows, with what is used now.
-    fn show_in(&self, before: Vec<Row>) -> Vec<Row>
-        requires { nodes_of before.items ≡ self.now.nodes }
-        ensures { map shown result.items ≡ rows_shown self.now }
+    /// Nothing is kept yet.
+    pub(crate) fn no_kept(&self) -> Kept
+        ensures { result.classes.items ≡ [] }
     {
-        let mut rows = before;
-        for (at, row) in rows.iter_mut().enumerate() {
-            row.used = self.used[at];
-        }
-        rows
+        Kept::new(self.alloc)
+    }
+
+    /// No totals yet.
+    pub(crate) fn no_totals(&self) -> Vec<Totals>
+        ensures { result.items ≡ [] }
+    {
+        Vec::new(self.alloc)
+    }
+
+    /// What is used of each row's node.
+    pub(crate) fn used(&self) -> &[Res]
+        ensures { result.now ≡ self.now.used }
+    {
+        &self.used
     }
 
     // Rows of all nodes, each of which has an owner more then.

@@ -11,6 +11,7 @@ use crate::snapshot::Snapshot;
 use crate::step::{Reply, Step};
 use crate::under_lock::UnderLock;
 use book::{Book, Limits, NoMemory};
+use quant::Request;
 use std::alloc::Global;
 use std::hash::RandomState;
 use std::hint::spin_loop;
@@ -163,7 +164,8 @@ impl<J: Naming> Desk<J> {
 
     /// Shows the nodes and what is used of them, as they are published. It takes no lock and waits
     /// for nobody. It copies the totals of each node, and a pointer to each; but no pointer where
-    /// the pass's last snapshot was dropped, and no call since then told of a node.
+    /// the pass's last snapshot was dropped, and no call since then told of a node; and then only
+    /// what the pass's own calls changed, where they are few and no other pass made one.
     ///
     /// Errors: `NoMemory`; nothing changes.
     pub fn look(&self, pass: &mut Pass<J>) -> Result<Snapshot, NoMemory>
@@ -171,7 +173,21 @@ impl<J: Naming> Desk<J> {
         ensures looked { IfOk result (λ shown. IsLooked self.now pass.old shown pass.new) }
         ensures err { OnErr result (pass.new ≡ pass.old) }
     {
-        pass.look(self.handed)
+        pass.look(self.handed, None)
+    }
+
+    /// Shows the same, and seeks what goes first among the plain nodes for pods of a request: what
+    /// nodes are worth to the requests that came last is kept from one look of a pass to the next,
+    /// and nodes of which something else is used are judged again. Memory is taken for that, and
+    /// where there is none nothing is sought.
+    ///
+    /// Errors: as those of `look`.
+    pub fn look_for(&self, pass: &mut Pass<J>, request: Request) -> Result<Snapshot, NoMemory>
+        requires of { IsPassOf pass.old self.now }
+        ensures looked { IfOk result (λ shown. IsLooked self.now pass.old shown pass.new) }
+        ensures err { OnErr result (pass.new ≡ pass.old) }
+    {
+        pass.look(self.handed, Some(request))
     }
 
     /// Tells each of two passes what the other has seen: both then have seen one history. It waits

@@ -121,6 +121,19 @@ impl Prefix {
         self.calls <= other.calls
     }
 
+    /// Whether the other is this one.
+    pub(crate) fn is_same(&self, other: &Prefix) -> bool
+        requires { other.now.book ≡ self.now.book }
+        ensures { IsTrue result → self.now.list ≡ other.now.list }
+    {
+        self.begins(other) && self.calls == other.calls
+    }
+
+    /// How many more calls the other has.
+    pub(crate) fn calls_until(&self, other: &Prefix) -> usize {
+        usize::try_from(other.calls.saturating_sub(self.calls)).unwrap_or(usize::MAX)
+    }
+
     /// Whether the other begins with this one, and none of its further calls tells of a node.
     pub(crate) fn has_same_nodes(&self, other: &Prefix) -> bool
         requires { other.now.book ≡ self.now.book }

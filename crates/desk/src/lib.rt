@@ -13,22 +13,26 @@
 //!   the word that threads share, its length. `HistoryRule` says how it grows: by one `NextCall` at
 //!   a time. `Naming` tells one desk from another, and `Blank` is a history before it has a name.
 //! - `Step`, `Reply` and `Counts` are what is asked and answered.
-//!   `Snapshot` is what a look shows.
+//!   `Snapshot` is what a look shows, with what was `Sought` for a pod's request. A pass keeps from
+//!   one look to the next what nodes are worth to each `Class` of pods: `Kept`.
 //! - What holds of every history are the laws.
 #![tactic(auto)]
 
 mod board;
 mod board_rule;
 mod change;
+mod class;
 mod desk;
 mod desk_core;
 mod history;
 mod history_rule;
+mod kept;
 mod laws;
 mod limits;
 mod next_call;
 mod pass;
 mod snapshot;
+mod sought;
 mod step;
 mod subject;
 mod under_lock;
@@ -43,4 +47,5 @@ pub use laws::{
 pub use limits::{MAX_CALLS, MAX_PASSES, NoPlace};
 pub use pass::Pass;
 pub use snapshot::{Row, Snapshot};
+pub use sought::Sought;
 pub use step::{Counts, Reply, Step};

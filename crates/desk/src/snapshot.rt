@@ -2,8 +2,9 @@
 ghost use Rattle.std.specs.Prelude.{◌≡◌};
 ghost use Rattle.desk.specs.Plain.{is_plain};
 
+use crate::sought::Sought;
 use fit::Allocatable;
-use quant::{Res, SharedNode};
+use quant::{Request, Res, SharedNode};
 use std::marker::Model;
 use std::sync::Arc;
 
@@ -27,6 +28,8 @@ pub struct Row {
 pub struct Snapshot {
     // The pass that looked owns them too, so that its next look needn't make them anew.
     rows: Arc<Vec<Row>>,
+    // What was found for the request for which it was looked.
+    sought: Option<Sought>,
 }
 
 impl Model for Snapshot {
@@ -43,7 +46,11 @@ impl Model for Snapshot {
 
     ghost view = { λ s. map shown (arc_value s.rows).items };
 
-    ghost invariant = { λ s. AreInOrder (map shown (arc_value s.rows).items) };
+    ghost use Rattle.std.specs.Prelude.{IfSome};
+    ghost use Rattle.desk.specs.Worth.{IsSought};
+
+    ghost invariant = { λ s. AreInOrder (map shown (arc_value s.rows).items)
+        × IfSome s.sought (IsSought (map shown (arc_value s.rows).items)) };
 }
 
 impl Row {
@@ -81,16 +88,18 @@ impl Row {
 }
 
 impl Snapshot {
-    ghost use Rattle.std.specs.Prelude.{map};
+    ghost use Rattle.std.specs.Prelude.{map, IfSome};
+    ghost use Rattle.desk.specs.Worth.{IsSought};
     ghost use Rattle.std.specs.Arc.{arc_value};
     ghost use Rattle.desk.specs.Shown.{shown};
     ghost use Rattle.desk.specs.Order.{AreInOrder};
 
-    pub(crate) fn new(rows: Arc<Vec<Row>>) -> Self
-        requires { AreInOrder (map shown (arc_value rows).items) }
+    pub(crate) fn new(rows: Arc<Vec<Row>>, sought: Option<Sought>) -> Self
+        requires order { AreInOrder (map shown (arc_value rows).items) }
+        requires sought { IfSome sought (IsSought (map shown (arc_value rows).items)) }
         ensures { result ≡ map shown (arc_value rows).items }
     {
-        Snapshot { rows }
+        Snapshot { rows, sought }
     }
 
     /// The rows.
@@ -98,6 +107,17 @@ impl Snapshot {
         ensures { map shown result.now ≡ self.now }
     {
         &self.rows
+    }
+
+    /// What was found for pods of a request, if it was looked for.
+    pub fn sought(&self, request: Request) -> Option<Sought>
+        ensures found { IfSome result (IsSought self.now) }
+        ensures request { IfSome result (λ sought. sought.request ≡ request) }
+    {
+        match self.sought {
+            Some(sought) if sought.request == request => Some(sought),
+            _ => None,
+        }
     }
 
     /// The rows stand in the order of their nodes' names, and no two nodes have one name. It does

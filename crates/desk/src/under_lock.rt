@@ -1,17 +1,17 @@
 //! What lies under a desk's lock: the desk itself, and the one way to change what is published of
 //! it.
-ghost use Rattle.std.specs.Prelude.{◌≡◌, ◌+◌, ◌<◌, ◌≤◌, ◌++◌, ◌∷◌, [], fold, drop, slice_index, IfOk, OnErr, IsErr, MatchBool};
-ghost use Rattle.desk.specs.inside.Board.{IsBoard, IsSubject, board_after, board_of};
+ghost use Rattle.std.specs.Prelude.{◌≡◌, ◌+◌, ◌<◌, ◌≤◌, ◌++◌, ◌∷◌, [], fold, drop, slice_index, IfOk, IfSome, OnErr, IsErr, MatchBool};
+ghost use Rattle.desk.specs.inside.Board.{IsBoard, IsSubject, Writes, board_after, board_of};
 ghost use Rattle.desk.specs.Caller.{IsTimely};
 ghost use Rattle.desk.specs.inside.Caller.{new_core, handed_by};
-ghost use Rattle.desk.specs.Machine.{reply};
+ghost use Rattle.desk.specs.Machine.{after, reply};
 ghost use Rattle.desk.specs.Shared.{IsAhead, IsApplied, Met, Closed};
 ghost use Rattle.desk.specs.inside.Shared.{Stands, first_held, held_after, prefix_after};
 ghost use Rattle.desk.specs.declared.limits.TheConstants.{MAX_PASSES, MAX_CALLS};
 
 use crate::board::{Board, Order};
 use crate::board_rule::{BoardRule, Sees};
-use crate::change::Change;
+use crate::change::{Change, Totals};
 use crate::desk_core::Core;
 use crate::history::{Head, Naming, Prefix};
 use crate::limits::MAX_CALLS;
@@ -275,7 +275,7 @@ impl<J: Naming> UnderLock<J> {
         prefix: Prefix,
         subject: Subject,
         first: Option<SharedPod>,
-    ) -> (Self, Reply)
+    ) -> (Self, Reply, Option<Totals>)
         requires number { pass.now.caller.number < MAX_PASSES }
         requires fits { pass.now.caller.calls < MAX_CALLS }
         requires calls { slice_index self.desk.state.calls pass.now.caller.number ≡ pass.now.caller.calls }
@@ -285,6 +285,8 @@ impl<J: Naming> UnderLock<J> {
         requires stands { Stands J.book J.limits (held_after self pass.now.caller.number step prefix) }
         ensures held { result.0 ≡ held_after self pass.now.caller.number step prefix }
         ensures said { result.1 ≡ reply self.desk.state pass.now.caller.number step }
+        ensures totals { IfSome result.2 (λ totals. Writes self.desk.state.cluster totals
+            (after self.desk.state pass.now.caller.number step).cluster) }
     {
         let UnderLock {
             core,
@@ -294,6 +296,7 @@ impl<J: Naming> UnderLock<J> {
         } = self;
         let mut core = core;
         let (said, change) = core.take_noted(pass.number(), step, subject, first);
+        let totals = change.totals();
         let order = Order {
             change,
             pass: pass.number(),
@@ -308,7 +311,7 @@ impl<J: Naming> UnderLock<J> {
             writer,
             has_room,
         };
-        (held, said)
+        (held, said, totals)
     }
 
     /// Does a step, or refuses it, publishes that, and counts the call.
@@ -339,9 +342,10 @@ impl<J: Naming> UnderLock<J> {
                     subject,
                 },
             ) => {
+                let before = held.prefix.again();
                 let seen = prefix.again();
-                let (held, said) = held.take_call(rt, pass, step, prefix, subject, pod);
-                pass.count(seen);
+                let (held, said, totals) = held.take_call(rt, pass, step, prefix, subject, pod);
+                pass.count(&before, seen, totals);
                 (held, Ok(said))
             }
         }

@@ -196,7 +196,7 @@ fn choose<J: Naming, T: Wait + Threads + Sync, D: Decider>(
     ensures looked { OnErr result (MayLook desk.now pass.old pass.new) }
     ensures kits { D.kits decider.new ≡ D.kits decider.old }
 {
-    let snapshot = desk.look(pass)?;
+    let snapshot = desk.look_for(pass, pod.request)?;
     decider.choose(rt, snapshot, pod)
 }
 

@@ -17,6 +17,7 @@ use Rattle.book.specs.declared.place.Place.{Place}
 use Rattle.desk.specs.declared.change.Change.{Change}
 use Rattle.desk.specs.declared.change.Change.TheVariants.{Nothing, Used, AllUsed, Set, Come, Gone}
 use Rattle.desk.specs.declared.change.Total.{Total}
+use Rattle.desk.specs.declared.change.Totals.{Totals}
 use Rattle.desk.specs.declared.board.Order.{Order}
 use Rattle.desk.specs.declared.subject.Subject.{Subject}
 use Rattle.desk.specs.declared.subject.Subject.TheVariants as subject
@@ -67,6 +68,19 @@ abbrev pub with_total : Option Total → List Res → List Res
 with_total None used = used
 with_total (Some t) used = slice_set used t.at t.used
 
+-- amounts with what a call changed of them, in its order
+abbrev pub with_totals : List Res → Totals → List Res
+with_totals used totals = with_total totals.second (with_total totals.first used)
+
+-- what a change writes, where that is all
+abbrev pub totals_of : Change → Option Totals
+totals_of Nothing = Some (record { first = None; second = None })
+totals_of (Used first second) = Some (record { first = first; second = second })
+totals_of (AllUsed all) = None
+totals_of (Set at node) = None
+totals_of (Come at used node) = None
+totals_of (Gone at) = None
+
 -- what is used of a row's node, if it is one
 abbrev pub total_in : List Res → Option ℕ → Option Total
 total_in used None = None
@@ -115,6 +129,12 @@ pub record IsPublished (book : Book) (limits : Limits) (x : Held) (b : Board) (w
 pub record IsChange (c : Cluster) (change : Change) (new : Cluster) : Type 0 where
   pub nodes : nodes_after c.limits.nodes change (rows_in c.nodes) ≡ rows_in new.nodes
   pub used : used_after c.limits.nodes change (used_in c) ≡ used_in new
+
+-- what is used of one cluster's nodes is, with these totals, what is used of those of another,
+-- which has the same nodes
+pub record Writes (c : Cluster) (totals : Totals) (new : Cluster) : Type 0 where
+  pub nodes : rows_in new.nodes ≡ rows_in c.nodes
+  pub used : used_in new ≡ with_totals (used_in c) totals
 
 -- ---- whose rows a step may change
 

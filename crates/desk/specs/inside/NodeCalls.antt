@@ -1,17 +1,13 @@
 -- The calls of a history that tell of nodes, and the nodes that a history leaves.
-use Rattle.std.specs.Prelude.{◌≡◌, ℕ, Bool, true, false, List, map, count_by}
+use Rattle.std.specs.Prelude.{ℕ, Bool, true, false, List, map, count_by}
 use Rattle.std.specs.FinMap.{entries}
-use Rattle.logbook.specs.Pages.{Book}
 use Rattle.quant.specs.declared.event.Event.TheVariants.{NodeSet, NodeGone}
 use Rattle.quant.specs.declared.objects.Node.{Node}
 use Rattle.book.specs.Cluster.{Cluster}
-use Rattle.book.specs.declared.limits.Limits.{Limits}
 use Rattle.desk.specs.declared.snapshot.Row.{Row}
 use Rattle.desk.specs.declared.step.Step.{Step}
 use Rattle.desk.specs.declared.step.Step.TheVariants.{Event}
-use Rattle.desk.specs.Machine.{opening}
-use Rattle.desk.specs.History.{Call, state_after}
-use Rattle.desk.specs.inside.Shared.{Prefix}
+use Rattle.desk.specs.History.{Call}
 
 -- a step that tells of a node
 abbrev pub tells_of_node : Step → Bool
@@ -30,8 +26,3 @@ nodes_in c = map (λ e. e.1) (entries c.nodes)
 -- the nodes that rows show
 abbrev pub nodes_of : List Row → List Node
 nodes_of rows = map (λ row. row.node) rows
-
--- rows that were shown of this beginning of a history: they have the nodes that it leaves
-pub record WereShown (book : Book) (limits : Limits) (prefix : Prefix) (rows : List Row) : Type 0 where
-  pub book_is : prefix.book ≡ book
-  pub nodes_are : nodes_of rows ≡ nodes_in (state_after (opening limits) prefix.list).cluster

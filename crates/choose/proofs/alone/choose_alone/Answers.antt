@@ -13,5 +13,5 @@ returns g c =
     record {
       verdicts = verdicts_alone pod nodes;
       are = all_without_rules (g.R.Rules.answers c.args._rules.now) pod nodes (verdicts_alone pod nodes) c.requires (are_alone pod nodes);
-      is = subst (λ rows. IsChoice (judged_alone pod rows) c.decide_alone.result) c.rows.ensures c.decide_alone.ensures;
+      is = subst (λ rows. IsChoice (judged_alone pod rows) c.decide_by.result) c.rows-rows.ensures c.decide_by.ensures;
     }

@@ -1,23 +1,20 @@
-use Rattle.std.proofs.Common.{◌≡◌, map, refl, ap, sym, subst, ◌∙◌}
+use Rattle.std.proofs.Common.{◌≡◌, List, map, refl, ap, sym, subst, ◌∙◌}
 use Rattle.std.specs.Arc.{arc_value}
 use Rattle.std.specs.Global.{Vec}
 use Rattle.desk.specs.declared.snapshot.Row.{Row}
 use Rattle.desk.specs.inside.Board.{Board}
-use Rattle.desk.specs.History.{state_after}
-use Rattle.desk.specs.Machine.{opening}
-use Rattle.desk.specs.inside.NodeCalls.{nodes_in}
 use Rattle.desk.specs.Shared.{Pass}
-use Rattle.desk.specs.inside.Shared.{Prefix}
 use Rattle.desk.specs.Shown.{shown}
 use Rattle.desk.specs.Order.{AreInOrder}
-use Rattle.desk.proofs.NodesStay.{nodes_shown, nodes_published, used_long}
+use Rattle.desk.specs.inside.Kept.{AreKept}
+use Rattle.desk.proofs.LastLook.{just_shown}
 use Rattle.desk.proofs.Sharing.{looked_on_board}
 use Rattle.desk.proofs.Order.{shown_in_order}
 use Rattle.desk.proofs.pass.Pass.look_at.Goals as goal
 
 -- what is published is shown in the order of the nodes' names
-pub new-shown-requires : goal.new-shown-requires
-new-shown-requires g c =
+pub new-shown-requires-clause-order : goal.new-shown-requires-clause-order
+new-shown-requires-clause-order g c =
     subst AreInOrder (sym (ap (λ (v : Vec Row). map shown v.items) c.in_ok-clone.ensures.cases ∙ c.in_ok-rows.ensures))
     (shown_in_order g.J.Naming.book g.J.Naming.limits c.args.board.now c.requires.stands)
 
@@ -29,20 +26,11 @@ returns-clause-looked g c =
     (c.see.ensures ∙ ap (λ (q : Pass). record q { seen = c.board.inside.prefix.list }) c.self.view_is ∙ ap (λ (y : Board). record p { seen = y.prefix.list }) c.board.view_is)
     (c.new-shown.ensures ∙ ap (λ (v : Vec Row). map shown v.items) c.in_ok-clone.ensures.cases ∙ c.in_ok-rows.ensures)
 
--- what is kept for the next look has the nodes that the history leaves
+-- what is kept for the next look is what was shown
 pub invariant_of-self-2 : goal.invariant_of-self-2
 invariant_of-self-2 g c =
-    let book = g.J.Naming.book in
-    let limits = g.J.Naming.limits in
-    let b = c.args.board.now in
-    let is = c.requires.stands in
-    let prefix : c.again.result ≡ b.prefix = c.again.ensures ∙ ap (λ (y : Board). y.prefix) c.board.view_is in (
+    let prefix : c.again.result ≡ c.args.board.now.prefix = c.again.ensures ∙ ap (λ (y : Board). y.prefix) c.board.view_is in (
       c.self.invariant.0,
       c.self.invariant.1,
-      record {
-        book_is = ap (λ (k : Prefix). k.book) prefix ∙ ap (λ (y : Board). y.prefix.book) is.is ∙ is.stands.book_is;
-        nodes_are = nodes_shown (arc_value c.in_ok-rows.rows).items b.nodes b.used (used_long book limits b is) c.in_ok-rows.ensures
-            ∙ nodes_published book limits b is
-            ∙ ap (λ (k : Prefix). nodes_in (state_after (opening limits) k.list).cluster) (sym prefix);
-      },
+      (just_shown g.J.Naming.book g.J.Naming.limits c.args.board.now c.requires.stands c.again.result (arc_value c.in_ok-rows.rows).items _ prefix c.in_ok-rows.ensures c.no_totals.ensures, subst (λ (l : List Row). AreKept (map shown l) c.seek-sought.new.self.classes.items) (c.deref-2.ensures.value ∙ ap (λ (v : Vec Row). v.items) c.deref.ensures) c.seek-sought.ensures.kept),
     )

@@ -1,10 +1,14 @@
 use Rattle.std.proofs.Common.{◌≡◌, ◌+◌, ◌++◌, ◌∷◌, [], sym, ap, ◌∙◌, refl, subst, slice_index}
-use Rattle.desk.specs.Machine.{reply}
+use Rattle.std.specs.Prelude.{IfSome}
+use Rattle.desk.specs.Machine.{after, reply}
+use Rattle.desk.specs.inside.Board.{Writes}
+use Rattle.desk.specs.inside.LastLook.{Changed}
 use Rattle.desk.specs.History.{HasCallsOf}
 use Rattle.desk.specs.inside.Caller.{handed_by}
 use Rattle.desk.specs.Shared.{IsApplied}
-use Rattle.desk.specs.inside.Shared.{Prefix, Held, Stands, held_after, next_call}
+use Rattle.desk.specs.inside.Shared.{Prefix, Held, Stands, held_after, next_call, prefix_after}
 use Rattle.desk.proofs.Histories.{calls_made}
+use Rattle.desk.proofs.LastLook.{changed_by}
 use Rattle.desk.proofs.Sharing.{stands_after, counted_alike, applied_more}
 use Rattle.desk.proofs.under_lock.UnderLock.apply.Goals as goal
 
@@ -40,6 +44,23 @@ count-requires-clause-own g c =
     let e = c.args.step in
     let prefix = c.again-seen.ensures ∙ c.in-Ok.ensures.prefix in
     subst (λ (k : Prefix). HasCallsOf (record p { calls = p.calls + 1 }) k.list) (sym prefix) (calls_made x.prefix.list x.desk p e (reply x.desk.state p.number e) c.in-Ok.ensures.ahead.own)
+
+-- it changed no more than these totals
+pub count-requires-clause-changed : goal.count-requires-clause-changed
+count-requires-clause-changed g c =
+    let book = g.J.Naming.book in
+    let limits = g.J.Naming.limits in
+    let x = c.args.self in
+    let p = c.args.pass.now.caller in
+    let e = c.args.step in
+    let ok = c.in-Ok.ensures in
+    let o = c.take_call-held.result.2 in
+    let before : c.again-before.result ≡ x.prefix = c.again-before.ensures ∙ ap (λ (y : Held). y.prefix) (c.held.view_is ∙ ok.same) in
+    let seen : c.again-seen.result ≡ prefix_after x p e = c.again-seen.ensures ∙ ok.prefix in
+    let writes = subst (λ (y : Held). IfSome o (λ totals. Writes y.desk.state.cluster totals (after y.desk.state p.number e).cluster)) ok.same c.take_call-held.ensures.totals in
+    subst (λ (k : Prefix). IfSome o (λ totals. Changed limits k.list totals c.again-seen.result.list)) (sym before)
+    (subst (λ (k : Prefix). IfSome o (λ totals. Changed limits x.prefix.list totals k.list)) (sym seen)
+    (changed_by book limits x (held_after x p.number e (prefix_after x p e)) o ok.stands (stands_after book limits x ok.stands c.args.handed p e c.requires.of c.requires.handed ok.ahead.own) writes))
 
 -- so the call was applied
 pub returns-in-Ok-clause-applied : goal.returns-in-Ok-clause-applied

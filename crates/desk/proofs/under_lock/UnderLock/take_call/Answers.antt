@@ -1,9 +1,11 @@
 use Rattle.std.proofs.Common.{◌≡◌, ◌+◌, sym, ap, ◌∙◌, subst, drop, fold, slice_index}
+use Rattle.std.specs.Prelude.{IfSome}
 use Rattle.desk.specs.declared.board.Order.{Order}
-use Rattle.desk.specs.inside.Board.{IsChange, board_after, board_of}
+use Rattle.desk.specs.inside.Board.{IsChange, Writes, board_after, board_of}
 use Rattle.desk.specs.inside.Caller.{Core, with_state}
 use Rattle.desk.specs.Machine.{after}
 use Rattle.desk.specs.inside.Shared.{Held, Stands, held_after}
+use Rattle.desk.proofs.LastLook.{writes}
 use Rattle.desk.proofs.Sharing.{published_more, is_board}
 use Rattle.desk.proofs.under_lock.UnderLock.take_call.Goals as goal
 
@@ -47,3 +49,16 @@ invariant_of-held g c =
           ∙ ap board_of (sym held);
       idle = ap (fold board_after c.publish_orders-writer.result.desk.shown.value) c.publish_orders-writer.ensures.1;
     }
+
+-- what the change writes
+pub returns-clause-totals : goal.returns-clause-totals
+returns-clause-totals g c =
+    let p = c.args.pass.now.caller in
+    let e = c.args.step in
+    let x : Held = record { desk = c.self.inside.core.value; prefix = c.self.inside.prefix } in
+    let change = c.take_noted-said.result.1 in
+    let opened = c.deref_mut.ensures.value in
+    let new = ap (λ (d : Core). d.state.cluster) c.take_noted-said.ensures.after ∙ (λ i. (after (opened i).state (c.number.ensures i) e).cluster) in
+    let changed = subst (λ (d : Core). IsChange d.state.cluster change (after x.desk.state p.number e).cluster) opened (subst (IsChange c.deref_mut.result.now.state.cluster change) new c.take_noted-said.ensures.changed) in
+    subst (λ (y : Held). IfSome c.totals-totals.result (λ totals. Writes y.desk.state.cluster totals (after y.desk.state p.number e).cluster)) c.self.view_is
+    (writes x.desk.state.cluster (after x.desk.state p.number e).cluster change c.totals-totals.result changed c.totals-totals.ensures)
