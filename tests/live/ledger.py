@@ -22,6 +22,7 @@ class Known:
     node: str = ""
     ticket: int = 0
     asking: str = SENT
+    withheld: bool = False
 
     @property
     def stands(self) -> bool:
@@ -95,10 +96,9 @@ class Ledger:
         self.is_rested = False
         self.left_out, self.left_out_in = False, 0
         self.tickets = self.asks = 0
-        # what a machine has beside: the names of uids, which pods are to be tried, and the reads
+        # what a machine has beside: the names of uids, which pods aren't to be tried, and the reads
         # that were asked for
         self.names: dict[str, str] = {}
-        self.ours: set[str] = set()
         self.aside: set[str] = set()
         self.reads: dict[int, tuple[str, int]] = {}
 
@@ -186,12 +186,12 @@ class Ledger:
 
     def tell_pod(self, pod: Pod) -> list[Output]:
         self.names[pod.uid] = pod.name
-        if pod.is_ours:
-            self.ours.add(pod.uid)
         if pod.node:
             return self.stands(pod.uid, pod.version, self.heard[PODS].lists, pod.node, pod.counts)
-        # (what waits and can't be read isn't told)
-        return self.waits(pod.uid, pod.version, pod.asks) if pod.asks else []
+        if pod.asks and pod.is_ours:
+            return self.waits(pod.uid, pod.version, pod.asks)
+        self.withheld(pod.uid, pod.version)
+        return []
 
     def is_old(self, uid: str, version: int) -> bool:
         """It names the pod all the same."""
@@ -223,10 +223,19 @@ class Ledger:
                 return [Full(self.names[uid])]
             self.known[uid] = Known(version, lists, asks)
         else:
-            known.version, known.listed = version, lists
+            known.version, known.listed, known.withheld = version, lists, False
             if not known.node:
                 known.asks = asks
         return []
+
+    def withheld(self, uid: str, version: int) -> None:
+        known = self.known.get(uid)
+        if not known or self.is_old(uid, version):
+            return
+        if known.node:
+            known.version, known.listed, known.withheld = version, self.heard[PODS].lists, bool(known.ticket)
+        else:
+            del self.known[uid]
 
     def gone(self, uid: str) -> None:
         self.owed(self, Off(uid))
@@ -237,7 +246,7 @@ class Ledger:
     def cycle(self, which: int, where: int) -> list[Output]:
         if self.is_shut():
             return [Shut()]
-        waiting = sorted(uid for uid, it in self.known.items() if not it.node and uid in self.ours - self.aside)
+        waiting = sorted(uid for uid, it in self.known.items() if not it.node and uid not in self.aside)
         if not waiting:
             return [Idle()]
         uid = waiting[which % len(waiting)]
@@ -270,6 +279,8 @@ class Ledger:
         if what == "waits":
             self.owed(self, Off(uid))
             known.node, known.ticket = "", 0
+            if known.withheld:
+                del self.known[uid]
         elif what == "gone":
             self.gone(uid)
         else:

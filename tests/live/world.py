@@ -68,11 +68,13 @@ class World(Transport):
             self.server.make_pod(name, SIZES[two % 4], True, True)
 
     def do_touch(self, one: int, two: int) -> None:
-        """A pod changes, in what it asks for too where it may."""
+        """A pod changes, in what it asks for too where it may, and in whether it is to be bound."""
         pod = pick([*self.server.pods.values()], one)
         if pod and pod.asks and not pod.node and self.server.rules.asks_grow and two % 2:
             pod = pod._replace(asks=SIZES[two // 2 % 4])
             self.server.asks[pod.uid] = SIZES[two // 2 % 4]
+        if pod and not pod.node and two // 8 % 4 == 0:
+            pod = pod._replace(is_ours=not pod.is_ours)
         if pod:
             self.server.set_pod(pod)
 

@@ -21,7 +21,7 @@ use Rattle.book.proofs.SumLemmas.{get_removed}
 use Rattle.ledger.specs.declared.event.Answer.{Answer}
 use Rattle.ledger.specs.declared.event.Answer.TheVariants.{Told, Old, Full, Granted, Shut, NotWaiting, Refused, Read as ToRead}
 use Rattle.ledger.specs.declared.event.Event.{Event}
-use Rattle.ledger.specs.declared.event.Event.TheVariants.{ListBegins, ListEnds, Deaf, Hears, Node, NodeGone, Waits as PodWaits, Stands as PodStands, Gone as PodGone, Rested, Bind, Answered, Read}
+use Rattle.ledger.specs.declared.event.Event.TheVariants.{ListBegins, ListEnds, Deaf, Hears, Node, NodeGone, Waits as PodWaits, Withheld, Stands as PodStands, Unread, Gone as PodGone, Rested, Bind, Answered, Read}
 use Rattle.ledger.specs.declared.event.Kind.{Kind}
 use Rattle.ledger.specs.declared.event.Kind.TheVariants.{Nodes, Pods}
 use Rattle.ledger.specs.declared.event.Outcome.{Outcome}
@@ -36,10 +36,10 @@ use Rattle.ledger.specs.Hearing.{is_last, list_begins, deaf, hears, IsListEnd, P
 use Rattle.ledger.specs.Lists.{of_pods, is_named, is_left}
 use Rattle.ledger.specs.Laws.{Line, Follows, IsPlacedAt, IsPlacedAs, EachCountsOnce}
 use Rattle.ledger.specs.State.{State, opening, is_open}
-use Rattle.ledger.specs.Telling.{Became, became, next_version, is_too_much, changed, named, with_pod, at_stage, stands_new, stands_of, waits_at, waits_first, waits_of, waits, without_pod, without_place, gone_at, gone_of, bind_at, bind_of, bind, asking_after, answered_at, answered_of, given_up, read_in_doubt, read_at, read_of, node_new, node_of, node_gone}
+use Rattle.ledger.specs.Telling.{Became, became, next_version, is_too_much, changed, named, with_pod, at_stage, stands_new, stands_of, waits_at, waits_first, waits_of, waits, withheld_at, withheld_of, without_pod, without_place, gone_at, gone_of, bind_at, bind_of, bind, asking_after, answered_at, answered_of, given_up, read_in_doubt, read_at, read_of, node_new, node_of, node_gone}
 use Rattle.ledger.specs.Told.{IsTold}
 use Rattle.ledger.proofs.Included.{cases_name, put_here, put_away, out_away}
-use Rattle.ledger.proofs.Events.{by_test}
+use Rattle.ledger.proofs.Events.{by_test, by_flag}
 
 -- what holds of two tables at one name holds of tables that have the same there
 both_as : (uid : Name) (k l : Option Known) (p q : Option Place) → k ≡ l → p ≡ q → IsPlacedAs l q → IsPlacedAs k p
@@ -140,6 +140,20 @@ module _ (s : State) (each : EachCountsOnce s) where
   gone_known uid None is = each
   gone_known uid (Some known) is = gone_stage uid known known.stage is refl
 
+  held_at : (version : Version) (uid : Name) (known : Known) (stage : Stage) → get s.pods uid ≡ Some known → known.stage ≡ stage → EachCountsOnce (withheld_at s version uid stage).state
+  held_at version uid known (Waits before) is at = left_waiting (without_pod s uid) uid refl refl (at_stage_of uid known (Waits before) is at)
+  held_at version uid known (Asked before ticket asking) is at =
+      let held : Known = record (at_stage s.of_pods.lists version (Asked before ticket asking)) { withheld = true } in
+      marked (with_pod s uid held) uid held refl refl (at_stage_of uid known (Asked before ticket asking) is at)
+  held_at version uid known Stands is at = marked (with_pod s uid (at_stage s.of_pods.lists version Stands)) uid (at_stage s.of_pods.lists version Stands) refl refl (at_stage_of uid known Stands is at)
+
+  held_of : (version : Version) (uid : Name) (o : Option Known) → get s.pods uid ≡ o → EachCountsOnce (withheld_of s version uid o).state
+  held_of version uid None is = each
+  held_of version uid (Some known) is =
+      by_test EachCountsOnce (nat_le version.0 known.version.0) _ _
+      (λ _. marked (with_pod s uid (named s known)) uid (named s known) refl refl (of_known uid known is))
+      (λ _. held_at version uid known known.stage is refl)
+
   -- ---- binds
 
   granted : (uid node : Name) (known : Known) (request : Request) (o : Option Refusal)
@@ -177,7 +191,9 @@ module _ (s : State) (each : EachCountsOnce s) where
   gives_up uid ticket known request =
       by_test EachCountsOnce (is_some (refusal s.cluster (Forget uid ticket false))) _ _
       (λ _. each)
-      (λ _. unplaced (with_pod (record s { cluster = effect s.cluster (Forget uid ticket false) }) uid (record known { stage = Waits request })) uid (record known { stage = Waits request }) request refl refl refl)
+      (λ _. by_flag EachCountsOnce known.withheld _ _
+      (left (without_pod (record s { cluster = effect s.cluster (Forget uid ticket false) }) uid) uid refl refl)
+      (unplaced (with_pod (record s { cluster = effect s.cluster (Forget uid ticket false) }) uid (record known { stage = Waits request })) uid (record known { stage = Waits request }) request refl refl refl))
 
   in_doubt : (uid : Name) (ticket : Ticket) (known : Known) (request : Request) (said : Said) → EachCountsOnce (read_in_doubt s uid ticket known request said).state
   in_doubt uid ticket known request SaidWaits = gives_up uid ticket known request
@@ -260,6 +276,8 @@ module _ (s : State) (each : EachCountsOnce s) where
   by_told (PodWaits version uid request) answer s' t = after _ answer s' (waited_of version uid request (get s.pods uid) refl) t
   by_told (PodStands version uid node request) answer s' t = after _ answer s' (stood_of version uid node request (get s.pods uid) refl) t
   by_told (PodGone uid) answer s' t = after _ answer s' (gone_known uid (get s.pods uid) refl) t
+  by_told (Withheld version uid) answer s' t = after _ answer s' (held_of version uid (get s.pods uid) refl) t
+  by_told Unread answer s' t = after _ answer s' each t
   by_told Rested answer s' t = after _ answer s' each t
   by_told (Bind uid node) answer s' t = after _ answer s' (by_bind uid node) t
   by_told (Answered uid ticket outcome) answer s' t = after _ answer s' (answer_of uid ticket outcome (get s.pods uid) refl) t

@@ -13,7 +13,7 @@ use Rattle.quant.specs.declared.version.Version.{Version}
 use Rattle.book.specs.Cluster.{Places}
 use Rattle.book.specs.Tables.{is_full_for}
 use Rattle.book.specs.Totals.{IsWithin}
-use Rattle.book.specs.Step.{refusal}
+use Rattle.book.specs.Step.{refusal, effect}
 use Rattle.book.specs.declared.place.Place.{Place}
 use Rattle.book.specs.declared.place.Status.TheVariants.{Bound}
 use Rattle.book.specs.declared.step.ClusterStep.TheVariants.{Forget}
@@ -29,7 +29,7 @@ use Rattle.ledger.specs.declared.known.Stage.{Stage}
 use Rattle.ledger.specs.declared.known.Stage.TheVariants.{Waits, Asked, Stands}
 use Rattle.ledger.specs.Lists.{has_place}
 use Rattle.ledger.specs.State.{State}
-use Rattle.ledger.specs.Telling.{Became, next_version, is_too_much, changed, named, with_pod, at_stage, fallen_short, stands_new, stands_of, stands, waits_at, waits_first, waits_of, waits, without_pod, without_place, gone_at, gone_of, gone, asking_after, answered_at, answered_of, answered, given_up, read_in_doubt, read_at, read_of, read, with_node, node_new, node_of, node_told, node_gone}
+use Rattle.ledger.specs.Telling.{Became, next_version, is_too_much, changed, named, with_pod, at_stage, fallen_short, stands_new, stands_of, stands, waits_at, waits_first, waits_of, waits, withheld_at, withheld_of, withheld, without_pod, without_place, gone_at, gone_of, gone, asking_after, answered_at, answered_of, answered, given_up, read_in_doubt, read_at, read_of, read, with_node, node_new, node_of, node_told, node_gone}
 use Rattle.ledger.specs.World.{IsNoMore}
 use Rattle.ledger.proofs.Included.{cases_name, put_here, put_away, out_away}
 use Rattle.ledger.proofs.Holding.{Counts, Holds, IsNoSurer, kept, put, out}
@@ -38,6 +38,11 @@ use Rattle.ledger.proofs.Holding.{Counts, Holds, IsNoSurer, kept, put, out}
 pub by_test : (P : State → Type 0) (b : Bool) (x y : Became) → (b ≡ true → P x.state) → (b ≡ false → P y.state) → P (if b then x else y).state
 by_test P true x y first second = first refl
 by_test P false x y first second = second refl
+
+-- and of one of two states
+pub by_flag : (P : State → Type 0) (b : Bool) (x y : State) → P x → P y → P (if b then x else y)
+by_flag P true x y first second = first
+by_flag P false x y first second = second
 
 waiting : (request : Request) → has_place (Waits request) ≡ true → ⊥
 waiting request e = cc
@@ -51,7 +56,7 @@ module _ (expected : Places) (room : List ℕ → Res) where
     same_flags listed whole = (listed, whole)
 
     -- a pod on a node was left out
-    short : Hold (fallen_short s)
+    pub short : Hold (fallen_short s)
     short = kept s (fallen_short s) expected room h refl (λ listed whole. absurd (cc)) refl h.placed
 
     -- something else is known of a pod, and what counts stays
@@ -123,12 +128,16 @@ module _ (expected : Places) (room : List ℕ → Res) where
         (λ k is has. no_pod uid k is)
         off)
 
-    gone_stage : (uid : Name) (stage : Stage) → get expected uid ≡ None → Hold (gone_at s uid stage).state
-    gone_stage uid (Waits request) off = kept s (without_pod s uid) expected room h refl same_flags refl (λ v l is has.
+    -- a pod goes that has no place
+    without_waiting : (uid : Name) → Hold (without_pod s uid)
+    without_waiting uid = kept s (without_pod s uid) expected room h refl same_flags refl (λ v l is has.
         elim (cases_name v uid) [
           | inl here ↦ absurd (no_pod uid l (ap (get (remove s.pods uid)) (sym here) ∙ is))
           | inr other ↦ h.placed v l (sym (out_away s.pods uid v other.1) ∙ is) has
         ])
+
+    gone_stage : (uid : Name) (stage : Stage) → get expected uid ≡ None → Hold (gone_at s uid stage).state
+    gone_stage uid (Waits request) off = without_waiting uid
     gone_stage uid (Asked request ticket asking) off = placeless uid off
     gone_stage uid Stands off = placeless uid off
 
@@ -138,6 +147,24 @@ module _ (expected : Places) (room : List ℕ → Res) where
 
     pub by_gone : (uid : Name) → get expected uid ≡ None → Hold (gone s uid).state
     by_gone uid off = gone_known uid (get s.pods uid) off
+
+    -- ---- a pod isn't to be bound
+
+    held_at : (version : Version) (uid : Name) (known : Known) (stage : Stage) → get s.pods uid ≡ Some known → known.stage ≡ stage → Hold (withheld_at s version uid stage).state
+    held_at version uid known (Waits before) is at = without_waiting uid
+    held_at version uid known (Asked before ticket asking) is at =
+        mark_same uid known (record (at_stage s.of_pods.lists version (Asked before ticket asking)) { withheld = true }) is (sym at)
+    held_at version uid known Stands is at = mark_same uid known (at_stage s.of_pods.lists version Stands) is (sym at)
+
+    held_of : (version : Version) (uid : Name) (o : Option Known) → get s.pods uid ≡ o → Hold (withheld_of s version uid o).state
+    held_of version uid None is = h
+    held_of version uid (Some known) is =
+        by_test Hold (nat_le version.0 known.version.0) _ _
+        (λ _. mark_same uid known (named s known) is refl)
+        (λ late. held_at version uid known known.stage is refl)
+
+    pub by_withheld : (version : Version) (uid : Name) → Hold (withheld s version uid).state
+    by_withheld version uid = held_of version uid (get s.pods uid) refl
 
     -- ---- binds
 
@@ -169,10 +196,15 @@ module _ (expected : Places) (room : List ℕ → Res) where
     gives_up uid ticket known request off =
         by_test Hold (is_some (refusal s.cluster (Forget uid ticket false))) _ _
         (λ _. h)
-        (λ _. out s _ expected room h refl same_flags uid refl
+        (λ _. by_flag Hold known.withheld _ _
+        (out s (without_pod (record s { cluster = effect s.cluster (Forget uid ticket false) }) uid) expected room h refl same_flags uid refl
+        (λ v other. out_away s.pods uid v other)
+        (λ k is has. no_pod uid k is)
+        off)
+        (out s (with_pod (record s { cluster = effect s.cluster (Forget uid ticket false) }) uid (record known { stage = Waits request })) expected room h refl same_flags uid refl
         (λ v other. put_away s.pods uid (record known { stage = Waits request }) v other)
         (λ k is has. let k_is : record known { stage = Waits request } ≡ k = let both : Some (record known { stage = Waits request }) ≡ Some k = sym (put_here s.pods uid (record known { stage = Waits request })) ∙ is in cc in waiting request (ap (λ k. has_place k.stage) k_is ∙ has))
-        off)
+        off))
 
     in_doubt : (uid : Name) (ticket : Ticket) (known : Known) (request : Request) (said : Said) → IsRight uid said → Hold (read_in_doubt s uid ticket known request said).state
     in_doubt uid ticket known request SaidWaits right = gives_up uid ticket known request right

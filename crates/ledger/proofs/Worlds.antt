@@ -26,7 +26,7 @@ use Rattle.book.proofs.SumLemmas.{get_removed}
 use Rattle.ledger.specs.declared.event.Answer.{Answer}
 use Rattle.ledger.specs.declared.event.Answer.TheVariants.{Told, Old, Full, Granted, Shut, NotWaiting, Refused, Read as ToRead}
 use Rattle.ledger.specs.declared.event.Event.{Event}
-use Rattle.ledger.specs.declared.event.Event.TheVariants.{ListBegins, ListEnds, Deaf, Hears, Node, NodeGone, Waits as PodWaits, Stands as PodStands, Gone as PodGone, Rested, Bind, Answered, Read}
+use Rattle.ledger.specs.declared.event.Event.TheVariants.{ListBegins, ListEnds, Deaf, Hears, Node, NodeGone, Waits as PodWaits, Withheld, Stands as PodStands, Unread, Gone as PodGone, Rested, Bind, Answered, Read}
 use Rattle.ledger.specs.declared.event.Kind.{Kind}
 use Rattle.ledger.specs.declared.event.Kind.TheVariants.{Nodes, Pods}
 use Rattle.ledger.specs.declared.event.Said.{Said}
@@ -41,7 +41,7 @@ use Rattle.ledger.specs.Telling.{Became, became, bind_waiting, bind_at, bind_of,
 use Rattle.ledger.specs.World.{World, Move, Tells, Lands, Ends, Lapses, Grows, Restarts, IsOwed, IsExpected, IsToldIn, IsMove, IsRoomy, IsBegin, Leads}
 use Rattle.ledger.proofs.Included.{cases_name, put_here, put_away, out_away, same_itself, IsIn, used_within}
 use Rattle.ledger.proofs.Holding.{Holds, IsNoSurer, kept, grant}
-use Rattle.ledger.proofs.Events.{by_test, by_stands, by_waits, by_gone, by_answer, by_read, by_node, by_node_gone}
+use Rattle.ledger.proofs.Events.{by_test, by_stands, by_waits, by_withheld, short, by_gone, by_answer, by_read, by_node, by_node_gone}
 use Rattle.ledger.proofs.Ends.{by_nodes_end, by_pods_end}
 
 -- ---- room for one more
@@ -251,6 +251,8 @@ module _ (w w' : World) (good : IsGood w) where
   by_told (PodWaits version uid request) answer t = carried t.standing t.room t.expected (after_told _ answer (by_waits w.expected w.room w.known good.holds version uid request) t.told)
   by_told (PodStands version uid node request) answer t = carried t.standing t.room t.expected (after_told _ answer (by_stands w.expected w.room w.known good.holds version uid node request t.owed) t.told)
   by_told (PodGone uid) answer t = carried t.standing t.room t.expected (after_told _ answer (by_gone w.expected w.room w.known good.holds uid t.owed) t.told)
+  by_told (Withheld version uid) answer t = carried t.standing t.room t.expected (after_told _ answer (by_withheld w.expected w.room w.known good.holds version uid) t.told)
+  by_told Unread answer t = carried t.standing t.room t.expected (after_told _ answer (short w.expected w.room w.known good.holds) t.told)
   by_told Rested answer t = carried t.standing t.room t.expected (after_told _ answer by_rested t.told)
   by_told (Answered uid ticket outcome) answer t = carried t.standing t.room t.expected (after_told _ answer (by_answer w.expected w.room w.known good.holds uid ticket outcome) t.told)
   by_told (Read uid ticket said) answer t = carried t.standing t.room t.expected (after_told _ answer (by_reading uid ticket said t.owed) t.told)

@@ -69,7 +69,7 @@ fallen_short s = record s { left_out = record { any = true; list = s.of_pods.lis
 
 -- a pod at a stage
 abbrev pub at_stage : ℕ → Version → Stage → Known
-at_stage list version stage = record { version = version; list = list; stage = stage }
+at_stage list version stage = record { version = version; list = list; stage = stage; withheld = false }
 
 -- the pod has a node, as was told since so many lists of pods began
 abbrev pub stands_new : State → ℕ → Version → Name → Name → Request → Became
@@ -138,6 +138,25 @@ gone_of s uid (Some known) = gone_at s uid known.stage
 abbrev pub gone : State → Name → Became
 gone s uid = gone_of s uid (get s.pods uid)
 
+-- the pod has no node, and isn't to be bound: where it waits it isn't known any more. A bind of it
+-- stays open all the same, and where it comes to nothing the pod isn't known any more; and nothing
+-- takes its node from a pod but its end
+abbrev pub withheld_at : State → Version → Name → Stage → Became
+withheld_at s version uid (Waits before) = became Told (without_pod s uid)
+withheld_at s version uid (Asked before ticket asking) =
+    became Told (with_pod s uid (record (at_stage s.of_pods.lists version (Asked before ticket asking)) { withheld = true }))
+withheld_at s version uid Stands = became Told (with_pod s uid (at_stage s.of_pods.lists version Stands))
+
+abbrev pub withheld_of : State → Version → Name → Option Known → Became
+withheld_of s version uid None = became Old s
+withheld_of s version uid (Some known) =
+    if nat_le version.0 known.version.0
+    then became Old (with_pod s uid (named s known))
+    else withheld_at s version uid known.stage
+
+abbrev pub withheld : State → Version → Name → Became
+withheld s version uid = withheld_of s version uid (get s.pods uid)
+
 -- ---- binds
 
 -- a bind of a pod that waits: the book says whether the node is there and has room beside all that
@@ -195,13 +214,17 @@ answered_of s uid ticket outcome (Some known) = answered_at s uid ticket outcome
 abbrev pub answered : State → Name → Ticket → Outcome → Became
 answered s uid ticket outcome = answered_of s uid ticket outcome (get s.pods uid)
 
--- the bind is over, and the pod waits
+-- a bind is over, and its pod waits, or isn't to be bound
+abbrev pub waits_again : State → Name → Known → Request → State
+waits_again s uid known request =
+    if known.withheld then without_pod s uid else with_pod s uid (record known { stage = Waits request })
+
 abbrev pub given_up : State → Name → Ticket → Known → Request → Became
 given_up s uid ticket known request =
     let step : ClusterStep = Forget uid ticket false in
     if is_some (refusal s.cluster step)
     then became Full s
-    else became Told (with_pod (record s { cluster = effect s.cluster step }) uid (record known { stage = Waits request }))
+    else became Told (waits_again (record s { cluster = effect s.cluster step }) uid known request)
 
 abbrev pub read_in_doubt : State → Name → Ticket → Known → Request → Said → Became
 read_in_doubt s uid ticket known request SaidWaits = given_up s uid ticket known request

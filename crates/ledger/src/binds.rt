@@ -50,7 +50,7 @@ impl Ledger {
             ticket,
             asking: Asking::Sent,
         };
-        self.keep(uid, known.version, known.list, stage);
+        self.keep(uid, Known { stage, ..known });
         Answer::Granted(ticket)
     }
 
@@ -76,7 +76,7 @@ impl Ledger {
                     ticket,
                     asking,
                 };
-                self.keep(uid, known.version, known.list, stage);
+                self.keep(uid, Known { stage, ..known });
                 asking.answer()
             }
             Stage::Waits(_) | Stage::Stands => Answer::Old,
@@ -124,7 +124,7 @@ impl Ledger {
         }
     }
 
-    // A bind is over, and its pod waits.
+    // A bind is over, and its pod waits, or isn't to be bound.
     fn give_up(&mut self, uid: Name, ticket: Ticket, known: Known, request: Request) -> Answer
         requires { contains_key self.old.pods uid ≡ true }
         ensures { became result self.new ≡ given_up self.old uid ticket known request }
@@ -137,7 +137,12 @@ impl Ledger {
         if matches!(self.book.step(step), Reply::Refused(_)) {
             return Answer::Full;
         }
-        self.keep(uid, known.version, known.list, Stage::Waits(request))
+        if known.withheld {
+            self.pods.remove(&uid);
+            return Answer::Told;
+        }
+        let stage = Stage::Waits(request);
+        self.keep(uid, Known { stage, ..known })
     }
 }
 

@@ -70,6 +70,14 @@ pub enum Event {
         /// What it asks for.
         request: Request,
     },
+    /// A pod is there, has no node, and isn't to be bound: it is another scheduler's, or what it
+    /// asks for can't be told.
+    Withheld {
+        /// The pod's version.
+        version: Version,
+        /// The pod.
+        uid: Name,
+    },
     /// A pod is there, and has a node.
     Stands {
         /// The pod's version.
@@ -81,6 +89,8 @@ pub enum Event {
         /// What the pod takes of the node.
         request: Request,
     },
+    /// Something was told that can't be read, and that may be a pod on a node.
+    Unread,
     /// A pod is gone, or takes nothing any more.
     Gone {
         /// The pod.
@@ -123,8 +133,8 @@ pub enum Answer {
     Told,
     /// It changes nothing: something as new was told before, or nothing is known that it could end.
     Old,
-    /// There is no room for it. A pod on a node that has no room here lets no bind be asked for
-    /// until a list has ended in which each had.
+    /// There is no room for it, or it can't be read. A pod on a node that isn't counted here lets
+    /// no bind be asked for until a list has ended in which each was.
     Full,
     /// The bind may be asked for, once. It counts from now on.
     Granted(Ticket),

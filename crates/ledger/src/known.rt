@@ -39,6 +39,8 @@ pub struct Known {
     pub list: u64,
     /// Where it stands.
     pub stage: Stage,
+    /// Whether it isn't to be bound once more where a bind of it comes to nothing.
+    pub withheld: bool,
 }
 
 /// When a node's row was told.

@@ -4,7 +4,7 @@ ghost use Rattle.std.specs.FinMap as fin;
 ghost use Rattle.std.specs.FinMap.{contains_key};
 ghost use Rattle.book.specs.Tables.{is_full_for};
 ghost use Rattle.ledger.specs.declared.event.Answer.TheVariants as answer;
-ghost use Rattle.ledger.specs.Telling.{became, named, at_stage, with_pod, fallen_short, stands, stands_new, waits, waits_at, waits_first, gone, gone_at};
+ghost use Rattle.ledger.specs.Telling.{became, named, at_stage, with_pod, fallen_short, stands, stands_new, waits, waits_at, waits_first, withheld, withheld_at, gone, gone_at};
 
 use crate::event::Answer;
 use crate::known::{Known, LeftOut, Stage};
@@ -52,8 +52,7 @@ impl Ledger {
         if is_full_for(&self.pods, &uid) || !take(&mut self.book, change) {
             return self.fall_short();
         }
-        let stage = Stage::Stands;
-        self.keep(uid, version, list, stage)
+        self.keep(uid, at_stage(list, version, Stage::Stands))
     }
 
     /// A pod has no node.
@@ -78,7 +77,8 @@ impl Ledger {
         if is_full_for(&self.pods, &uid) {
             return Answer::Full;
         }
-        self.keep(uid, version, self.of_pods.lists, Stage::Waits(request))
+        let stage = Stage::Waits(request);
+        self.keep(uid, at_stage(self.of_pods.lists, version, stage))
     }
 
     // A pod that is known at a stage is told to have no node. Nothing takes its node from a pod but
@@ -91,7 +91,36 @@ impl Ledger {
             Stage::Waits(_) => Stage::Waits(request),
             Stage::Asked { .. } | Stage::Stands => stage,
         };
-        self.keep(uid, version, self.of_pods.lists, stage)
+        self.keep(uid, at_stage(self.of_pods.lists, version, stage))
+    }
+
+    /// A pod has no node, and isn't to be bound.
+    pub(crate) fn withheld(&mut self, version: Version, uid: Name) -> Answer
+        ensures { became result self.new ≡ withheld self.old version uid }
+    {
+        let Some(known) = self.known(&uid) else {
+            return Answer::Old;
+        };
+        if version <= known.version {
+            return self.name_pod(uid, known);
+        }
+        self.withheld_at(version, uid, known.stage)
+    }
+
+    // A pod that is known at a stage isn't to be bound. A bind that was asked for stays open.
+    fn withheld_at(&mut self, version: Version, uid: Name, stage: Stage) -> Answer
+        requires { contains_key self.old.pods uid ≡ true }
+        ensures { became result self.new ≡ withheld_at self.old version uid stage }
+    {
+        if matches!(stage, Stage::Waits(_)) {
+            self.pods.remove(&uid);
+            return Answer::Told;
+        }
+        let known = Known {
+            withheld: matches!(stage, Stage::Asked { .. }),
+            ..at_stage(self.of_pods.lists, version, stage)
+        };
+        self.keep(uid, known)
     }
 
     /// A pod is gone.
@@ -128,17 +157,12 @@ impl Ledger {
         self.pods.get(uid).copied()
     }
 
-    /// A pod is at this stage.
-    pub(crate) fn keep(&mut self, uid: Name, version: Version, list: u64, stage: Stage) -> Answer
+    /// This is known of a pod.
+    pub(crate) fn keep(&mut self, uid: Name, known: Known) -> Answer
         requires { is_full_for self.old.pods self.old.room uid ≡ false }
         ensures told { result ≡ answer.Told }
-        ensures kept { self.new ≡ with_pod self.old uid (at_stage list version stage) }
+        ensures kept { self.new ≡ with_pod self.old uid known }
     {
-        let known = Known {
-            version,
-            list,
-            stage,
-        };
         put(&mut self.pods, uid, known);
         Answer::Told
     }
@@ -149,12 +173,13 @@ impl Ledger {
         ensures told { result ≡ answer.Old }
         ensures kept { self.new ≡ with_pod self.old uid (named self.old known) }
     {
-        self.keep(uid, known.version, self.of_pods.lists, known.stage);
+        let list = self.of_pods.lists;
+        self.keep(uid, Known { list, ..known });
         Answer::Old
     }
 
-    // A pod on a node is left out, for want of room.
-    fn fall_short(&mut self) -> Answer
+    /// A pod on a node is left out: there is no room for it, or it can't be read.
+    pub(crate) fn fall_short(&mut self) -> Answer
         ensures { became result self.new ≡ became answer.Full (fallen_short self.old) }
     {
         self.left_out = LeftOut {
@@ -162,5 +187,17 @@ impl Ledger {
             list: self.of_pods.lists,
         };
         Answer::Full
+    }
+}
+
+// What is known of a pod that was told to be at this stage when so many lists of pods had begun.
+fn at_stage(list: u64, version: Version, stage: Stage) -> Known
+    ensures { result ≡ at_stage list version stage }
+{
+    Known {
+        version,
+        list,
+        stage,
+        withheld: false,
     }
 }
