@@ -1,11 +1,15 @@
 -- What is told of an object in place of a row.
-use Rattle.std.proofs.Common.{◌≡◌, ℕ, Bool, true, List, [], ◌∷◌, Option, Result, Ok, Err, refl, sym, ap}
+use Rattle.std.proofs.Common.{◌≡◌, ℕ, Bool, true, false, List, [], ◌∷◌, Option, Result, Ok, Err, refl, sym, ap, ◌∙◌}
 use Rattle.serde_json.specs.Data.{Data}
 use Rattle.quant.specs.declared.version.Version.{Version}
 use Rattle.quant.specs.declared.event.Event.{Event}
 use Rattle.objects.specs.declared.change.Change.{Change}
 use Rattle.objects.specs.declared.change.Change.TheVariants.{Gone}
+use Rattle.objects.specs.declared.gone.Kind.{Kind}
 use Rattle.objects.specs.declared.gone.Kind.TheVariants as kinds
+use Rattle.objects.specs.declared.heard.Heard.{Heard}
+use Rattle.objects.specs.declared.heard.Heard.TheVariants.{Unread}
+use Rattle.objects.specs.Heard.{or_unread, is_pod, is_no_name}
 use Rattle.objects.specs.declared.fault.ObjectFault.{ObjectFault}
 use Rattle.objects.specs.declared.fault.ObjectFault.TheVariants.{LongLine, NotJson, UnknownEvent, IsList, BadField, BadName, Quantity, TooMany, PodResources, TooLarge, NoMemory}
 use Rattle.objects.specs.Reading.{Fails, Gives}
@@ -82,3 +86,30 @@ uncounted (TooMany key) meaning h e = ap told_or_uncounted e
 uncounted PodResources meaning h e = ap told_or_uncounted e
 uncounted TooLarge meaning h e = ap told_or_uncounted e
 uncounted NoMemory meaning h e = absurd (h refl)
+
+-- what is the same for each fault is that for the one that a definition tells
+by_any : {Y A : Type 0} (f : Result Y ObjectFault → A) (a : A) → ((e : ObjectFault) → f (Err e) ≡ a)
+    → (fault : ObjectFault) (meaning : Result Y ObjectFault) → ¬ (fault ≡ NoMemory) → Fails fault meaning → f meaning ≡ a
+by_any f a each LongLine meaning h e = ap f e ∙ each LongLine
+by_any f a each NotJson meaning h e = ap f e ∙ each NotJson
+by_any f a each UnknownEvent meaning h e = ap f e ∙ each UnknownEvent
+by_any f a each IsList meaning h e = ap f e ∙ each IsList
+by_any f a each (BadField key) meaning h e = ap f e ∙ each (BadField key)
+by_any f a each (BadName key) meaning h e = ap f e ∙ each (BadName key)
+by_any f a each (Quantity key why) meaning h e = ap f e ∙ each (Quantity key why)
+by_any f a each (TooMany key) meaning h e = ap f e ∙ each (TooMany key)
+by_any f a each PodResources meaning h e = ap f e ∙ each PodResources
+by_any f a each TooLarge meaning h e = ap f e ∙ each TooLarge
+by_any f a each NoMemory meaning h e = absurd (h refl)
+
+-- an object that can't be read
+pub unread : (fault : ObjectFault) (meaning : Result Heard ObjectFault) → ¬ (fault ≡ NoMemory) → Fails fault meaning → or_unread meaning ≡ Unread
+unread fault meaning h e = by_any or_unread Unread (λ e. refl) fault meaning h e
+
+-- one of a kind that can't be read is no pod
+pub no_pod : (fault : ObjectFault) (meaning : Result (Option Kind) ObjectFault) → ¬ (fault ≡ NoMemory) → Fails fault meaning → is_pod meaning ≡ false
+no_pod fault meaning h e = by_any is_pod false (λ e. refl) fault meaning h e
+
+-- and a node's name that can't be read isn't none
+pub no_name : (fault : ObjectFault) (meaning : Result (List ℕ) ObjectFault) → ¬ (fault ≡ NoMemory) → Fails fault meaning → is_no_name meaning ≡ false
+no_name fault meaning h e = by_any is_no_name false (λ e. refl) fault meaning h e

@@ -1,7 +1,7 @@
 -- How the Kubernetes API spells the names of its fields.
 use Rattle.std.specs.Prelude.{ℕ, List, codes}
 use Rattle.objects.specs.declared.key.Key.{Key}
-use Rattle.objects.specs.declared.key.Key.TheVariants.{Spec, Containers, InitContainers, RestartPolicy, Resources, Requests, Limits, Overhead, Status, Allocatable, Cpu, Memory, Pods, Metadata, Name, Namespace, Uid, Labels, DeletionTimestamp, Kind, EventType, Object, Unschedulable, Taints, LabelKey, LabelValue, Effect, Operator, Tolerations, Priority, NodeName, SchedulerName, Phase, NodeSelector, Affinity, NodeAffinity, PodAffinity, PodAntiAffinity, Required, Preferred, TopologySpread, WhenUnsatisfiable, SchedulingGates, ResourceClaims, Volumes, Ports, HostPort, ContainerStatuses, InitContainerStatuses, AllocatedResources, ApiVersion, Items, NodeInfo}
+use Rattle.objects.specs.declared.key.Key.TheVariants.{Spec, Containers, InitContainers, RestartPolicy, Resources, Requests, Limits, Overhead, Status, Allocatable, Cpu, Memory, Pods, Metadata, Name, Namespace, Uid, ResourceVersion, Labels, DeletionTimestamp, Kind, EventType, Object, Unschedulable, Taints, LabelKey, LabelValue, Effect, Operator, Tolerations, Priority, NodeName, SchedulerName, Phase, NodeSelector, Affinity, NodeAffinity, PodAffinity, PodAntiAffinity, Required, Preferred, TopologySpread, WhenUnsatisfiable, SchedulingGates, ResourceClaims, Volumes, Ports, HostPort, ContainerStatuses, InitContainerStatuses, AllocatedResources, ApiVersion, Items, NodeInfo}
 
 -- the name of a field
 unfoldable pub key_of : Key → List ℕ
@@ -22,6 +22,7 @@ key_of Metadata = codes "metadata"
 key_of Name = codes "name"
 key_of Namespace = codes "namespace"
 key_of Uid = codes "uid"
+key_of ResourceVersion = codes "resourceVersion"
 key_of Labels = codes "labels"
 key_of DeletionTimestamp = codes "deletionTimestamp"
 key_of Kind = codes "kind"

@@ -21,4 +21,5 @@ pub mod ObjectName
 pub mod Standing
 pub mod Shown
 pub mod Translation
+pub mod Heard
 pub mod inside

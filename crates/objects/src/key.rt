@@ -40,6 +40,8 @@ pub enum Key {
     Namespace,
     /// What tells an object from every other, at all times.
     Uid,
+    /// The version of an object, which rises as it changes.
+    ResourceVersion,
     /// The labels of a node or a pod.
     Labels,
     /// When the object's deletion was asked for.
@@ -138,6 +140,7 @@ impl Key {
             Key::Name => "name",
             Key::Namespace => "namespace",
             Key::Uid => "uid",
+            Key::ResourceVersion => "resourceVersion",
             Key::Labels => "labels",
             Key::DeletionTimestamp => "deletionTimestamp",
             Key::Kind => "kind",

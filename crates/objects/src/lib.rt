@@ -18,6 +18,9 @@
 //! What a field says is read by `field`, and what isn't told is named by `left_out`; how people
 //! know a line's object is found by `naming`.
 //!
+//! `heard` tells the same as of an object's own version, for who keeps account of binds, and which
+//! pods without a node no script is told of (`specs/Heard.antt`).
+//!
 //! `line` writes the line of a script that tells an event, and `line_field` its fields. Which
 //! events a line can say is defined in `specs/Sayable.antt`.
 #![tactic(auto)]
@@ -30,6 +33,7 @@ mod digits;
 mod fault;
 mod field;
 mod gone;
+mod heard;
 mod key;
 mod labels;
 mod laws;
@@ -55,6 +59,7 @@ mod translation;
 
 pub use change::Change;
 pub use fault::{ObjectFault, QuantityFault};
+pub use heard::{Heard, hear};
 pub use key::Key;
 pub use laws::left_out_is_named_in_texts;
 pub use line::write_line;
@@ -63,4 +68,5 @@ pub use node::allocatable;
 pub use pod::pod_request;
 pub use quantity::{cpu_asked, cpu_offered, memory_asked, memory_offered, pods_offered};
 pub use site::Site;
+pub use told::{is_blank, parse};
 pub use translation::{MAX_OBJECT, Translation, translate};

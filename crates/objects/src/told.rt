@@ -204,7 +204,7 @@ fn put_bound_left_out(
 }
 
 // Whether a pod has ended.
-fn has_ended(json: &Value) -> bool
+pub(crate) fn has_ended(json: &Value) -> bool
     ensures { result ≡ has_ended (view json.now) }
 {
     match within(json, Key::Status, Key::Phase) {
@@ -273,7 +273,7 @@ fn placed_told(
 
 // The name of the node on which a pod stands, which is empty where it stands on none.
 #[tactic(auto, unfolding(crate::specs::Told::node_name))]
-fn node_name(spec: &Value) -> Result<&str, ObjectFault>
+pub(crate) fn node_name(spec: &Value) -> Result<&str, ObjectFault>
     ensures { Gives (λ name. name.now) result (node_name (view spec.now)) }
 {
     if spec.as_object().is_none() {
@@ -368,7 +368,7 @@ fn kind_by_shape(json: &Value) -> Result<Option<Kind>, ObjectFault>
 
 // The kind of an object: a node, a pod or another.
 #[tactic(auto, unfolding(crate::specs::Told::kind_of))]
-fn kind_of(json: &Value) -> Result<Option<Kind>, ObjectFault>
+pub(crate) fn kind_of(json: &Value) -> Result<Option<Kind>, ObjectFault>
     ensures { Answers result (kind_of (view json.now)) }
 {
     let Some(value) = field(json, Key::Kind) else {
@@ -441,7 +441,7 @@ fn no_change(kind: &str) -> Result<Option<Event>, ObjectFault>
 
 // What is told by an event of the watch, or by an object that stands alone.
 #[tactic(auto, unfolding(crate::specs::Told::value_told))]
-fn value_told(
+pub(crate) fn value_told(
     alloc: Global,
     out: &mut Vec<u8>,
     json: &Value,
@@ -502,8 +502,8 @@ pub(crate) fn line_told(
     }
 }
 
-// Whether a line has no byte but spaces.
-fn is_blank(line: &[u8]) -> bool
+/// Whether a line has no byte but spaces.
+pub fn is_blank(line: &[u8]) -> bool
     ensures { result ≡ is_blank line.now }
 {
     line.iter().all(|byte| is_space(*byte))
@@ -516,9 +516,11 @@ fn is_space(byte: u8) -> bool
     matches!(byte, b' ' | b'\t' | b'\n' | b'\r')
 }
 
-// The JSON value that a line is, if it is one.
+/// The JSON value that a line is, if it is one.
+///
+/// Errors: `AllocError`, which may come in place of any answer.
 #[tactic(auto, using(crate::proofs::Parsed::parsed_read, crate::proofs::Parsed::parsed_refused))]
-pub(crate) fn parse(alloc: Global, line: &[u8]) -> Result<Option<Value>, AllocError>
+pub fn parse(alloc: Global, line: &[u8]) -> Result<Option<Value>, AllocError>
     ensures { IfOk result (λ value. option_map view value ≡ parsed line.now) }
 {
     match Value::from_slice(alloc, line) {

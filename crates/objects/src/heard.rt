@@ -1,0 +1,193 @@
+//! What the API tells of nodes and pods, as of their own versions.
+ghost use Rattle.std.specs.Prelude.{◌≡◌, ◌<◌, ◌^◌, length, Ok, option_map, IfOk, IsTrue};
+ghost use Rattle.std.specs.List.{list_all};
+ghost use Rattle.quant.specs.Amount.{is_digit, number};
+ghost use Rattle.serde_json.specs.View.{view};
+ghost use Rattle.objects.specs.Heard.{a_version, version_in, object_in, is_deletion, has_no_node, is_waiting, is_row, heard_by, heard_of, heard};
+ghost use Rattle.objects.specs.Reading.{Answers};
+ghost use Rattle.objects.specs.Sayable.{IsVersion};
+ghost use Rattle.objects.specs.Site.{site_of};
+ghost use Rattle.objects.specs.Field.{name_at};
+ghost use Rattle.objects.specs.Told.{in_metadata};
+ghost use Rattle.objects.specs.declared.key.Key.TheVariants as keys;
+
+use crate::digits::are_digits;
+use crate::fault::ObjectFault;
+use crate::field::{name_at, spelled, text_at};
+use crate::gone::Kind;
+use crate::key::Key;
+use crate::reading::field;
+use crate::site::Site;
+use crate::told::{has_ended, kind_of, node_name, value_told};
+use quant::{Event, Name, Version};
+use serde_json::Value;
+use std::alloc::{AllocError, Global};
+
+// The most digits of a version.
+const MAX_DIGITS: usize = 18;
+
+/// What an object of the API, or an event of its watch, tells as of the object's own version.
+#[derive(Debug, Drop)]
+pub enum Heard {
+    /// What a script's line tells of it.
+    Event(Event),
+    /// A pod is there that has no node, and that no script is told of: it is for another scheduler,
+    /// is being deleted, or asks for what no row tells.
+    Withheld {
+        /// The pod's version.
+        version: Version,
+        /// The pod's uid.
+        uid: Name,
+    },
+    /// Nothing of a node or a pod that a script knows.
+    Nothing,
+    /// It may be a pod on a node, and can't be read.
+    Unread,
+}
+
+/// What an object of the API tells, or an event of its watch, as of the object's own version: the
+/// `resourceVersion` of its metadata, a number from 1 on of up to 18 digits. A pod is called by its
+/// uid.
+///
+/// What `translate` tells of it is told here, too, and a pod without a node of which that tells
+/// nothing, or that it is gone, is `Withheld`. Where that says `uncounted`, or the version can't be
+/// read, the object is `Unread`.
+///
+/// Errors: `AllocError`, which may come in place of any answer.
+#[tactic(auto, unfolding(crate::specs::Heard::heard), using(crate::proofs::Faults::unread))]
+pub fn hear(alloc: Global, json: &Value, site: &Site<'_>) -> Result<Heard, AllocError>
+    ensures { IfOk result (λ found. found ≡ heard (site_of site.now) (view json.now)) }
+{
+    match heard_of(alloc, json, site) {
+        Ok(found) => Ok(found),
+        Err(ObjectFault::NoMemory) => Err(AllocError),
+        Err(_) => Ok(Heard::Unread),
+    }
+}
+
+// What an object or an event tells, or its first fault.
+#[tactic(auto, unfolding(crate::specs::Heard::heard_of))]
+fn heard_of(alloc: Global, json: &Value, site: &Site<'_>) -> Result<Heard, ObjectFault>
+    ensures { Answers result (heard_of (site_of site.now) (view json.now)) }
+{
+    let version = version_of(object_in(json))?;
+    let mut left_out = Vec::new(alloc);
+    let event = value_told(alloc, &mut left_out, json, site, true, version)?;
+    heard_by(version, json, event)
+}
+
+// What is heard of an object by the event that a script's line tells.
+fn heard_by(version: Version, json: &Value, event: Option<Event>) -> Result<Heard, ObjectFault>
+    ensures { Answers result (heard_by version (view json.now) event) }
+{
+    let object = object_in(json);
+    if !is_row(&event) && !is_deletion(json) && is_waiting(object)? {
+        let uid = uid_of(object)?;
+        return Ok(Heard::Withheld { version, uid });
+    }
+    Ok(match event {
+        Some(event) => Heard::Event(event),
+        None => Heard::Nothing,
+    })
+}
+
+// Whether an event is a pod that waits, with its row.
+fn is_row(event: &Option<Event>) -> bool
+    ensures { result ≡ is_row event.now }
+{
+    matches!(event, Some(Event::PodPending { .. }))
+}
+
+// The object of an event of the watch, or the object itself that is none.
+#[tactic(auto, unfolding(crate::specs::Heard::object_in))]
+fn object_in(json: &Value) -> &Value
+    ensures { view result.now ≡ object_in (view json.now) }
+{
+    match field(json, Key::Object) {
+        Some(held) => held,
+        None => json,
+    }
+}
+
+// Whether an event says that its object is gone.
+#[tactic(auto, unfolding(crate::specs::Heard::is_deletion))]
+fn is_deletion(json: &Value) -> bool
+    ensures { result ≡ is_deletion (view json.now) }
+{
+    field(json, Key::Object).is_some() && spelled(json, Key::EventType) == "DELETED"
+}
+
+// Whether an object is a pod that hasn't ended and has no node.
+#[tactic(auto, unfolding(crate::specs::Heard::is_waiting), using(crate::proofs::Faults::no_pod))]
+fn is_waiting(object: &Value) -> Result<bool, ObjectFault>
+    ensures { Answers result (Ok (is_waiting (view object.now))) }
+{
+    match kind_of(object) {
+        Ok(Some(Kind::Pod)) if !has_ended(object) => has_no_node(field(object, Key::Spec)),
+        Err(ObjectFault::NoMemory) => Err(ObjectFault::NoMemory),
+        _ => Ok(false),
+    }
+}
+
+// Whether what a pod is to be names no node.
+#[tactic(auto, using(crate::proofs::Faults::no_name))]
+fn has_no_node(spec: Option<&Value>) -> Result<bool, ObjectFault>
+    ensures { Answers result (Ok (has_no_node (option_map (λ v. view v.now) spec.entry))) }
+{
+    let Some(spec) = spec else {
+        return Ok(false);
+    };
+    match node_name(spec) {
+        Ok(name) => Ok(name.is_empty()),
+        Err(ObjectFault::NoMemory) => Err(ObjectFault::NoMemory),
+        Err(_) => Ok(false),
+    }
+}
+
+// A pod's uid.
+fn uid_of(object: &Value) -> Result<Name, ObjectFault>
+    ensures { Answers result (in_metadata (name_at keys.Uid) (view object.now)) }
+{
+    let meta = field(object, Key::Metadata).ok_or(ObjectFault::BadField(Key::Metadata))?;
+    name_at(meta, Key::Uid)
+}
+
+// An object's own version.
+#[tactic(auto, unfolding(crate::specs::Heard::version_at))]
+fn version_of(object: &Value) -> Result<Version, ObjectFault>
+    ensures value { Answers result (version_in (view object.now)) }
+    ensures version { IfOk result IsVersion }
+{
+    let meta = field(object, Key::Metadata).ok_or(ObjectFault::BadField(Key::Metadata))?;
+    let text = text_at(meta, Key::ResourceVersion)?;
+    version_from(text.as_bytes())
+}
+
+// The version that a text spells.
+fn version_from(text: &[u8]) -> Result<Version, ObjectFault>
+    ensures value { Answers result (a_version text.now) }
+    ensures version { IfOk result IsVersion }
+{
+    let fault = ObjectFault::BadField(Key::ResourceVersion);
+    if text.is_empty() || text.len() > MAX_DIGITS || !are_digits(text) {
+        return Err(fault);
+    }
+    match version_number(text) {
+        0 => Err(fault),
+        number => Ok(Version(number)),
+    }
+}
+
+// The number that digits spell.
+fn version_number(digits: &[u8]) -> u64
+    requires digits { IsTrue (list_all is_digit digits.now) }
+    requires few { length digits.now < 19 }
+    ensures value { result ≡ number digits.now }
+    ensures most { result < 10 ^ 18 }
+{
+    let mut value = 0;
+    for digit in digits {
+        value = value * 10 + u64::from(*digit - b'0');
+    }
+    value
+}
