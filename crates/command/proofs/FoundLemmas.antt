@@ -6,7 +6,7 @@ use Rattle.clap.specs.Words.{Row, Text, first_of, subcommand_name_of, subcommand
 use Rattle.clap.specs.declared.parser.matches.ArgMatches.{ArgMatches}
 use Rattle.clap.specs.declared.parser.matches.ArgMatches.TheViews.{out-ArgMatches}
 use Rattle.command.specs.declared.count.Count.TheVariants.{Workers, Cycles, Binders}
-use Rattle.command.specs.Words.{SpecSyntax, are_taken, check, command_line, explain, found, is_told, labels_found, meaning, number_found, plan_found, run, scheduler_found, specs_found, storm, storm_found, translate, translate_found, version}
+use Rattle.command.specs.Words.{SpecSyntax, are_taken, check, command_line, explain, found, is_told, labels_found, meaning, number_found, plan_found, run, scheduler_found, specs_found, storm, storm_found, translate, translate_found, live, live_found, version}
 
 -- the number of workers and the plugins of a run
 pub plan_is : (rows : List Row) (workers : ℕ) (specs : List SpecSyntax) → number_found Workers rows ≡ Some workers
@@ -43,6 +43,10 @@ pub translate_is : (rows : List Row) (scheduler labels : List ℕ) (by_uid answe
     → translate scheduler labels by_uid answers ≡ translate_found rows
 translate_is rows scheduler labels by_uid answers first second third fourth = λ i. translate (first i) (second i) (third i) (fourth i)
 
+-- the scheduler and the labels of a ledger
+pub live_is : (rows : List Row) (scheduler labels : List ℕ) → scheduler ≡ scheduler_found rows → labels ≡ labels_found rows → live scheduler labels ≡ live_found rows
+live_is rows scheduler labels first second = λ i. live (first i) (second i)
+
 -- the texts that stand there, or none
 pub texts_or_none : (r : Option (Bor (List (Bor (List ℕ))))) (d : Bor (List (Bor (List ℕ)))) → d.now ≡ []
     → map (λ s. s.now) (unwrap_or r d).now ≡ unwrap_or (option_map (λ s. map (λ v. v.now) s.now) r) []
@@ -67,7 +71,7 @@ found_by (Some p) name rows first second =
     let rows_are : p.1 ≡ rows = ap (λ o. unwrap_or o rows) (sym second) in
     ap₂ (λ n r. found (Some (n, r))) name_is rows_are
 
--- a run, what explains one, a storm, a translation, the version, and a command that is none of
+-- a run, what explains one, a storm, a translation, a ledger, the version, and a command that is none of
 -- these
 pub run_by : (name : Text) (rows : List Row) (workers : ℕ) (specs : List SpecSyntax) → bytes_eq name (codes "run") ≡ true → plan_found rows ≡ Some (workers, specs)
     → found (Some (name, rows)) ≡ Some (run workers specs)
@@ -85,13 +89,17 @@ pub translate_by : (name : Text) (rows : List Row) → bytes_eq name (codes "run
     → bytes_eq name (codes "translate") ≡ true → found (Some (name, rows)) ≡ Some (translate_found rows)
 translate_by name rows no_run no_explain no_storm is_translate = rw (no_run, no_explain, no_storm, is_translate) refl
 
+pub live_by : (name : Text) (rows : List Row) → bytes_eq name (codes "run") ≡ false → bytes_eq name (codes "explain") ≡ false → bytes_eq name (codes "storm") ≡ false
+    → bytes_eq name (codes "translate") ≡ false → bytes_eq name (codes "live") ≡ true → found (Some (name, rows)) ≡ Some (live_found rows)
+live_by name rows no_run no_explain no_storm no_translate is_live = rw (no_run, no_explain, no_storm, no_translate, is_live) refl
+
 pub check_by : (name : Text) (rows : List Row) → bytes_eq name (codes "run") ≡ false → bytes_eq name (codes "explain") ≡ false → bytes_eq name (codes "storm") ≡ false
-    → bytes_eq name (codes "translate") ≡ false → bytes_eq name (codes "version") ≡ false → found (Some (name, rows)) ≡ option_map check (first_of (codes "MODULE") rows)
-check_by name rows no_run no_explain no_storm no_translate no_version = rw (no_run, no_explain, no_storm, no_translate, no_version) refl
+    → bytes_eq name (codes "translate") ≡ false → bytes_eq name (codes "live") ≡ false → bytes_eq name (codes "version") ≡ false → found (Some (name, rows)) ≡ option_map check (first_of (codes "MODULE") rows)
+check_by name rows no_run no_explain no_storm no_translate no_live no_version = rw (no_run, no_explain, no_storm, no_translate, no_live, no_version) refl
 
 pub version_by : (name : Text) (rows : List Row) → bytes_eq name (codes "run") ≡ false → bytes_eq name (codes "explain") ≡ false → bytes_eq name (codes "storm") ≡ false
-    → bytes_eq name (codes "translate") ≡ false → bytes_eq name (codes "version") ≡ true → found (Some (name, rows)) ≡ Some version
-version_by name rows no_run no_explain no_storm no_translate is_version = rw (no_run, no_explain, no_storm, no_translate, is_version) refl
+    → bytes_eq name (codes "translate") ≡ false → bytes_eq name (codes "live") ≡ false → bytes_eq name (codes "version") ≡ true → found (Some (name, rows)) ≡ Some version
+version_by name rows no_run no_explain no_storm no_translate no_live is_version = rw (no_run, no_explain, no_storm, no_translate, no_live, is_version) refl
 
 -- what words ask for that are taken, and that aren't
 pub meaning_taken : (words : List Text) → are_taken words ≡ true → meaning words ≡ found (subcommand_of command_line words)

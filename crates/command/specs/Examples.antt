@@ -1,6 +1,6 @@
 -- What words ask for at worked examples.
 use Rattle.std.specs.Prelude.{◌≡◌, ℕ, ◌^◌, true, false, List, [], ◌∷◌, map, codes, Some, None}
-use Rattle.command.specs.Words.{SpecSyntax, check, explain, meaning, run, storm, translate, version}
+use Rattle.command.specs.Words.{SpecSyntax, check, explain, live, meaning, run, storm, translate, version}
 use Rattle.command.specs.declared.count.Count.TheVariants.{Workers, Cycles, Binders}
 use Rattle.command.specs.declared.misuse.Misuse.TheVariants.{Command, Number, Plugin, Scheduler, Unknown, Together}
 use Rattle.command.specs.declared.misuse.Part.TheVariants.{Spec, Name, Weight, Fuel}
@@ -97,6 +97,9 @@ pub record WorkedExamples : Type 0 where
   pub a_plugin_of_a_translation : meaning (codes "translate" ∷ codes "a:1:1:f" ∷ []) ≡ None
   pub an_option_of_a_translation_behind_the_end : meaning (codes "translate" ∷ codes "--" ∷ codes "--by-uid" ∷ []) ≡ None
   pub help_on_a_translation : meaning (codes "translate" ∷ codes "--help" ∷ []) ≡ None
+  pub a_ledger : meaning (codes "live" ∷ []) ≡ Some (live (codes "default-scheduler") [])
+  pub all_of_a_ledger : meaning (codes "live" ∷ codes "--labels=zone" ∷ codes "--scheduler" ∷ codes "mine" ∷ []) ≡ Some (live (codes "mine") (codes "zone"))
+  pub a_flag_of_a_ledger : meaning (codes "live" ∷ codes "--by-uid" ∷ []) ≡ None
   pub answers_of_a_run : meaning (codes "run" ∷ codes "--answers" ∷ []) ≡ None
   -- which program this is
   pub a_version : meaning (codes "version" ∷ []) ≡ Some version
@@ -149,4 +152,6 @@ pub record WorkedExamples : Type 0 where
   pub of_a_scheduler_twice : misuse_of (codes "translate" ∷ codes "--scheduler=a" ∷ codes "--scheduler" ∷ codes "a" ∷ []) ≡ Together
   pub of_answers_with_a_value : misuse_of (codes "translate" ∷ codes "--scheduler" ∷ codes "-" ∷ codes "--answers=true" ∷ []) ≡ Unknown 4
   pub of_a_plugin_of_a_translation : misuse_of (codes "translate" ∷ codes "a:1:1:f" ∷ []) ≡ Unknown 2
+  pub of_a_flag_of_a_ledger : misuse_of (codes "live" ∷ codes "--labels" ∷ codes "a" ∷ codes "--by-uid" ∷ []) ≡ Unknown 4
+  pub of_a_scheduler_of_a_ledger : misuse_of (codes "live" ∷ codes "--scheduler" ∷ []) ≡ Scheduler 2
   pub of_an_option_of_a_translation_behind_the_end : misuse_of (codes "translate" ∷ codes "--" ∷ codes "--by-uid" ∷ []) ≡ Unknown 3

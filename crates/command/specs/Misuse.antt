@@ -110,6 +110,7 @@ misuse_of [] = Command
 misuse_of (command ∷ rest) =
     if bytes_eq command (codes "run") || bytes_eq command (codes "explain") then misuse_in false 2 Anything rest
     else if bytes_eq command (codes "storm") then misuse_in true 2 Anything rest
-    else if bytes_eq command (codes "translate") then wrong_among 2 next_word.Anything rest
+    else if bytes_eq command (codes "translate") then wrong_among true 2 next_word.Anything rest
+    else if bytes_eq command (codes "live") then wrong_among false 2 next_word.Anything rest
     else if bytes_eq command (codes "check") || bytes_eq command (codes "version") then Together
     else Command

@@ -7,7 +7,7 @@ use Rattle.command.specs.declared.asked.StormPlan.{StormPlan}
 use Rattle.command.specs.declared.asked.Spec.{Spec}
 use Rattle.command.specs.declared.asked.Words.{Words}
 use Rattle.command.specs.declared.count.TheConstants.{MAX_STORM_THREADS}
-use Rattle.command.specs.declared.asked.Words.TheVariants.{Run, Explain, Storm, Check, Translate, Version}
+use Rattle.command.specs.declared.asked.Words.TheVariants.{Run, Explain, Storm, Check, Translate, Live, Version}
 
 -- a plugin's weight and fuel are within their limits
 pub record IsWithinLimits (spec : Spec) : Type 0 where
@@ -48,4 +48,5 @@ IsWithin (Explain plan) = IsPlan plan
 IsWithin (Storm plan) = IsStormPlan plan
 IsWithin (Check file) = ⊤
 IsWithin (Translate plan) = ⊤
+IsWithin (Live plan) = ⊤
 IsWithin Version = ⊤

@@ -1,7 +1,7 @@
 -- What the program's words ask for: `run [--workers N] [SPEC]...`, `explain` with the same words
 -- behind it, `storm [--cycles C] [--binders B] [--flaky] [SPEC]...`, where a SPEC is
 -- `NAME:WEIGHT:FUEL:FILE`, `check MODULE`, `translate [--scheduler NAME] [--labels KEY,..]
--- [--by-uid] [--answers]`, or `version`.
+-- [--by-uid] [--answers]`, `live [--scheduler NAME] [--labels KEY,..]`, or `version`.
 use Rattle.std.specs.Prelude.{ℕ, ◌+◌, ◌==◌, ◌&&◌, nat_le, not, Bool, true, false, List, [], ◌∷◌, take, drop, length, map, codes, bytes_eq, Option, Some, None, option_map, option_and_then, unwrap_or, Result, Ok, Err, if◌then◌else◌}
 use Rattle.std.specs.List.{list_any, position}
 use Rattle.clap.specs.declared.builder.action.ArgAction.TheVariants.{Set, SetTrue, Append}
@@ -9,11 +9,12 @@ use Rattle.clap.specs.Simple.{App, on_top}
 use Rattle.clap.specs.Words.{Row, Rule, Text, all_of, fault_of, first_of, new_app, new_rule, subcommand_of, with_rule, with_subcommand}
 use Rattle.quant.specs.Name.{is_name}
 use Rattle.quant.specs.declared.limits.TheConstants.{MAX_PLUGINS, MAX_WEIGHT, MAX_FUEL}
+use Rattle.command.specs.declared.asked.LivePlan.{LivePlan}
 use Rattle.command.specs.declared.asked.StormPlan.{StormPlan}
 use Rattle.command.specs.declared.asked.TranslatePlan.{TranslatePlan}
 use Rattle.command.specs.declared.asked.Spec.{Spec}
 use Rattle.command.specs.declared.asked.Words.{Words}
-use Rattle.command.specs.declared.asked.Words.TheVariants.{Run, Explain, Storm, Check, Translate, Version}
+use Rattle.command.specs.declared.asked.Words.TheVariants.{Run, Explain, Storm, Check, Translate, Live, Version}
 use Rattle.command.specs.declared.count.Count.{Count}
 use Rattle.command.specs.declared.count.Count.TheVariants.{Workers, Cycles, Binders}
 use Rattle.command.specs.Count.{name_of, number_for, number_up_to}
@@ -30,13 +31,15 @@ pub record SpecSyntax : Type 0 where
 -- one, a storm of so many threads that run cycles and so many that bind pods, of which every third
 -- bind fails or not, to check the module in the file of this name, or to translate objects for this
 -- scheduler, with the labels of these keys first, with pods called by their uid or not, and with
--- answers that also say what is left out or not, or which program this is
+-- answers that also say what is left out or not, or to keep a ledger of what is told of this
+-- scheduler's pods, with the labels of these keys first, or which program this is
 pub data Asked : Type 0 where
   run : (workers : ℕ) → (specs : List SpecSyntax) → Asked
   explain : (workers : ℕ) → (specs : List SpecSyntax) → Asked
   storm : (cycles binders : ℕ) → (is_flaky : Bool) → (specs : List SpecSyntax) → Asked
   check : (file : List ℕ) → Asked
   translate : (scheduler labels : List ℕ) → (by_uid answers : Bool) → Asked
+  live : (scheduler labels : List ℕ) → Asked
   version : Asked
 
 -- the same, as the code has it
@@ -49,12 +52,16 @@ storm_planned plan = storm plan.cycles plan.binders plan.is_flaky (map syntax_of
 abbrev pub translate_planned : TranslatePlan → Asked
 translate_planned plan = translate plan.scheduler.now plan.labels.now plan.by_uid plan.answers
 
+abbrev pub live_planned : LivePlan → Asked
+live_planned plan = live plan.scheduler.now plan.labels.now
+
 abbrev pub asked_of : Words → Asked
 asked_of (Run plan) = run plan.workers (map syntax_of plan.specs.items)
 asked_of (Explain plan) = explain plan.workers (map syntax_of plan.specs.items)
 asked_of (Storm plan) = storm_planned plan
 asked_of (Check file) = check file.now
 asked_of (Translate plan) = translate_planned plan
+asked_of (Live plan) = live_planned plan
 asked_of Version = version
 
 -- ---- a plugin, as a word spells it
@@ -135,6 +142,10 @@ abbrev pub translate_found : List Row → Asked
 translate_found rows =
     translate (scheduler_found rows) (labels_found rows) (is_told (first_of (codes "by-uid") rows)) (is_told (first_of (codes "answers") rows))
 
+-- the ledger that is asked for
+abbrev pub live_found : List Row → Asked
+live_found rows = live (scheduler_found rows) (labels_found rows)
+
 -- what is asked for by the command that `clap` found, and what it found behind it
 abbrev pub found : Option (Text × List Row) → Option Asked
 found None = None
@@ -143,6 +154,7 @@ found (Some command) =
     else if bytes_eq command.0 (codes "explain") then option_map (λ plan. explain plan.0 plan.1) (plan_found command.1)
     else if bytes_eq command.0 (codes "storm") then storm_found command.1
     else if bytes_eq command.0 (codes "translate") then Some (translate_found command.1)
+    else if bytes_eq command.0 (codes "live") then Some (live_found command.1)
     else if bytes_eq command.0 (codes "version") then Some version
     else option_map check (first_of (codes "MODULE") command.1)
 
@@ -180,6 +192,9 @@ translate_command =
     with_rule (with_rule (with_rule (with_rule (new_app (codes "translate")) (option_rule (codes "scheduler"))) (option_rule (codes "labels")))
     (flag_rule (codes "by-uid"))) (flag_rule (codes "answers"))
 
+abbrev pub live_command : App
+live_command = with_rule (with_rule (new_app (codes "live")) (option_rule (codes "scheduler"))) (option_rule (codes "labels"))
+
 abbrev pub version_command : App
 version_command = new_app (codes "version")
 
@@ -195,8 +210,8 @@ program = on_top (λ s. record s {
 -- the command line as `clap` sees it
 abbrev pub command_line : App
 command_line =
-    with_subcommand (with_subcommand (with_subcommand (with_subcommand (with_subcommand (with_subcommand program (run_command (codes "run")).top)
-    (run_command (codes "explain")).top) storm_command.top) check_command.top) translate_command.top) version_command.top
+    with_subcommand (with_subcommand (with_subcommand (with_subcommand (with_subcommand (with_subcommand (with_subcommand program (run_command (codes "run")).top)
+    (run_command (codes "explain")).top) storm_command.top) check_command.top) translate_command.top) live_command.top) version_command.top
 
 -- `clap` takes the words for the command line
 abbrev pub are_taken : List (List ℕ) → Bool

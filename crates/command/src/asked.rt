@@ -51,6 +51,16 @@ pub struct TranslatePlan<'a> {
     pub answers: bool,
 }
 
+/// A ledger that is told what the API server tells, as the words ask for it.
+#[derive(Debug, PartialEq, Eq, Drop)]
+pub struct LivePlan<'a> {
+    /// The name of the scheduler whose pods wait.
+    pub scheduler: &'a str,
+    /// The keys of the labels that the site's rules read, with commas between them. It is empty
+    /// where none are named.
+    pub labels: &'a str,
+}
+
 /// What the program is asked to do.
 #[derive(Debug, PartialEq, Eq, Drop)]
 pub enum Words<'a> {
@@ -66,6 +76,9 @@ pub enum Words<'a> {
     /// To read objects of the Kubernetes API from standard input, and to write the lines of a
     /// script that they give.
     Translate(TranslatePlan<'a>),
+    /// To tell a ledger what is read from standard input, objects of the Kubernetes API and orders,
+    /// and to write its answers.
+    Live(LivePlan<'a>),
     /// To say which program this is, and its version.
     Version,
 }

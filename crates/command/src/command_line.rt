@@ -2,11 +2,11 @@
 ghost use Rattle.std.specs.Prelude.{◌≡◌, ◌≤◌, Some, None, Err, true, false, map, option_map, IfErr, IfOk};
 ghost use Rattle.clap.specs.Words.{app_of, found_of, rows_of, rule_of, subcommand_of, subcommand_rows_of, with_rule, with_subcommand};
 ghost use Rattle.command.specs.Count.{most_of};
-ghost use Rattle.command.specs.Words.{are_taken, asked_of, check_command, command_line, file_rule, flag_rule, found, is_told, labels_found, meaning, number_found, option_rule, plan_found, program, run_command, scheduler_found, specs_found, specs_rule, storm_command, storm_found, storm_planned, syntax_of, translate_command, translate_found, translate_planned, version_command};
+ghost use Rattle.command.specs.Words.{are_taken, asked_of, check_command, command_line, file_rule, flag_rule, found, is_told, labels_found, meaning, number_found, option_rule, plan_found, program, run_command, scheduler_found, specs_found, specs_rule, storm_command, storm_found, storm_planned, syntax_of, translate_command, translate_found, translate_planned, live_command, live_found, live_planned, version_command};
 ghost use Rattle.command.specs.inside.Words.{IsLocal, planned};
 ghost use Rattle.command.specs.Within.{AreWithinLimits, IsPlan, IsStormPlan, IsWithin};
 
-use crate::asked::{Plan, Spec, StormPlan, TranslatePlan, Words};
+use crate::asked::{LivePlan, Plan, Spec, StormPlan, TranslatePlan, Words};
 use crate::count::{Count, number_for};
 use crate::fault::WordFault;
 use crate::plugin_words::specs_of;
@@ -108,6 +108,16 @@ fn translate_command<'a>(alloc: Global) -> Result<Command<'a>, AllocError>
     with_argument(translate, flag(alloc, "answers"))
 }
 
+// The command `live`.
+fn live_command<'a>(alloc: Global) -> Result<Command<'a>, AllocError>
+    ensures shape { IfOk result (λ command. app_of command ≡ live_command) }
+    ensures local { IfOk result IsLocal }
+{
+    let live = Command::new(alloc, "live");
+    let live = with_argument(live, option(alloc, "scheduler"))?;
+    with_argument(live, option(alloc, "labels"))
+}
+
 // The command `version`, behind which nothing stands.
 fn version_command<'a>(alloc: Global) -> Command<'a>
     ensures shape { app_of result ≡ version_command }
@@ -141,6 +151,8 @@ fn command_line<'a>(alloc: Global) -> Result<Command<'a>, AllocError>
     let line = with_command(line, check)?;
     let translate = translate_command(alloc)?;
     let line = with_command(line, translate)?;
+    let live = live_command(alloc)?;
+    let line = with_command(line, live)?;
     with_command(line, version_command(alloc))
 }
 
@@ -206,7 +218,7 @@ fn storm_of<'a>(alloc: Global, matches: &ArgMatches<'a>) -> Result<StormPlan<'a>
     })
 }
 
-// The scheduler whose pods a translation tells: the default one where none is named (Kubernetes,
+// The scheduler whose pods a translation tells, or that wait: the default one where none is named (Kubernetes,
 // "Configure Multiple Schedulers").
 fn scheduler_behind<'a>(matches: &ArgMatches<'a>) -> &'a str
     ensures { result.now ≡ scheduler_found (rows_of (found_of matches.now)) }
@@ -239,6 +251,16 @@ fn translate_of<'a>(matches: &ArgMatches<'a>) -> TranslatePlan<'a>
     }
 }
 
+// The ledger that is asked for by what was found behind a command.
+fn live_of<'a>(matches: &ArgMatches<'a>) -> LivePlan<'a>
+    ensures { live_planned result ≡ live_found (rows_of (found_of matches.now)) }
+{
+    LivePlan {
+        scheduler: scheduler_behind(matches),
+        labels: labels_behind(matches),
+    }
+}
+
 // The command that was found.
 fn words_of<'a>(alloc: Global, matches: &ArgMatches<'a>) -> Result<Words<'a>, WordFault>
     ensures ok { IfOk result (λ words. found (subcommand_rows_of matches.now) ≡ Some (asked_of words)) }
@@ -259,6 +281,9 @@ fn words_of<'a>(alloc: Global, matches: &ArgMatches<'a>) -> Result<Words<'a>, Wo
     }
     if name == "translate" {
         return Ok(Words::Translate(translate_of(behind)));
+    }
+    if name == "live" {
+        return Ok(Words::Live(live_of(behind)));
     }
     if name == "version" {
         return Ok(Words::Version);
@@ -290,7 +315,8 @@ fn found_in<'a, S: AsStr>(alloc: Global, args: &'a [S]) -> Result<ArgMatches<'a>
 
 /// Reads the words that follow the program's name: `run [--workers N] [SPEC]...`, `explain` with
 /// the same words behind it, `storm [--cycles C] [--binders B] [--flaky] [SPEC]...`, `check
-/// MODULE`, `translate [--scheduler NAME] [--labels KEY,..] [--by-uid] [--answers]` or `version`.
+/// MODULE`, `translate [--scheduler NAME] [--labels KEY,..] [--by-uid] [--answers]`, `live
+/// [--scheduler NAME] [--labels KEY,..]` or `version`.
 ///
 /// N is a whole number from 1 to 64, and 1 where it isn't told; C and B are from 1 to 8, and 2
 /// where they aren't. A SPEC is `NAME:WEIGHT:FUEL:FILE`, cut at its first three colons: a name of

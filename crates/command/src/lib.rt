@@ -1,11 +1,12 @@
 //! What the program's words ask for: a run or a storm with a site's plugins, to check a module, to
-//! translate objects, or which program this is.
+//! translate objects, to keep a ledger, or which program this is.
 //!
 //! `arguments` has the words that follow the program's name, and `words` says what they ask for:
 //! `run [--workers N] [SPEC]...`, `explain` with the same words behind it, or `storm [--cycles C]
 //! [--binders B] [--flaky] [SPEC]...`, where a SPEC is `NAME:WEIGHT:FUEL:FILE`, or `check MODULE`,
-//! or `translate [--scheduler NAME] [--labels KEY,..] [--by-uid] [--answers]`, or `version`. The
-//! words are read as `clap` reads them; `count` and `plugin_words` read what `clap` leaves as text.
+//! or `translate [--scheduler NAME] [--labels KEY,..] [--by-uid] [--answers]`, or `live
+//! [--scheduler NAME] [--labels KEY,..]`, or `version`. The words are read as `clap` reads them;
+//! `count` and `plugin_words` read what `clap` leaves as text.
 #![tactic(auto)]
 
 mod asked;
@@ -17,7 +18,7 @@ mod misuse;
 mod plugin_words;
 mod translate_misuse;
 
-pub use asked::{Plan, Spec, StormPlan, TranslatePlan, Words};
+pub use asked::{LivePlan, Plan, Spec, StormPlan, TranslatePlan, Words};
 pub use command_line::{arguments, words};
 pub use count::{Count, MAX_STORM_THREADS};
 pub use fault::WordFault;

@@ -241,7 +241,10 @@ pub fn misuse_of<S: AsStr>(args: &[S]) -> Misuse
         return misuse_behind(true, args);
     }
     if command.as_str() == "translate" {
-        return misuse_among(args);
+        return misuse_among(true, args);
+    }
+    if command.as_str() == "live" {
+        return misuse_among(false, args);
     }
     if command.as_str() == "check" || command.as_str() == "version" {
         return Misuse::Together;

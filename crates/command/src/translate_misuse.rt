@@ -1,11 +1,11 @@
-//! What is wrong with words behind `translate` that ask for nothing.
+//! What is wrong with words behind `translate`, or behind `live`, that ask for nothing.
 ghost use Rattle.std.specs.Prelude.{◌≡◌, ◌<◌, length, map, drop};
 ghost use Rattle.command.specs.TranslateMisuse.{asks_name, at_last, ends_options, is_option, is_value, next_behind, wrong_among, wrong_next};
 
 use crate::misuse::Misuse;
 use std::convert::AsStr;
 
-/// What the next word behind `translate` may be.
+/// What the next word behind `translate` or `live` may be.
 #[derive(Clone, Copy, Debug, PartialEq, Eq)]
 pub(crate) enum NextWord {
     /// An option, or the end of the options.
@@ -31,14 +31,13 @@ fn ends_options(word: &str) -> bool
 }
 
 // Whether a word is an option, or ends the options.
-fn is_option(word: &str) -> bool
-    ensures { result ≡ is_option word.now }
+fn is_option(has_flags: bool, word: &str) -> bool
+    ensures { result ≡ is_option has_flags word.now }
 {
     asks_name(word)
         || word.as_bytes().starts_with(b"--scheduler=")
         || word.as_bytes().starts_with(b"--labels=")
-        || word == "--by-uid"
-        || word == "--answers"
+        || (has_flags && (word == "--by-uid" || word == "--answers"))
         || ends_options(word)
 }
 
@@ -50,11 +49,11 @@ fn is_value(word: &str) -> bool
 }
 
 // What is wrong with the word of this number, of which this may be.
-fn wrong_next(number: usize, next: NextWord, word: &str) -> Option<Misuse>
-    ensures { result ≡ wrong_next number next word.now }
+fn wrong_next(has_flags: bool, number: usize, next: NextWord, word: &str) -> Option<Misuse>
+    ensures { result ≡ wrong_next has_flags number next word.now }
 {
     match next {
-        NextWord::Anything if is_option(word) => None,
+        NextWord::Anything if is_option(has_flags, word) => None,
         NextWord::Anything | NextWord::Nothing => Some(Misuse::Unknown(number)),
         NextWord::Name if is_value(word) => None,
         NextWord::Name => Some(Misuse::Scheduler(number)),
@@ -84,15 +83,16 @@ fn at_last(number: usize, next: NextWord) -> Misuse
     }
 }
 
-/// What is wrong with the words behind `translate`, which is the first.
-pub(crate) fn misuse_among<S: AsStr>(args: &[S]) -> Misuse
+/// What is wrong with the words behind `translate`, which is the first, or behind `live`, which has
+/// no flags.
+pub(crate) fn misuse_among<S: AsStr>(has_flags: bool, args: &[S]) -> Misuse
     requires { 0 < length args.now }
-    ensures { result ≡ wrong_among 2 NextWord.Anything (map S.text (drop 1 args.now)) }
+    ensures { result ≡ wrong_among has_flags 2 NextWord.Anything (map S.text (drop 1 args.now)) }
 {
     let mut next = NextWord::Anything;
     for at in 1..args.len() {
         let word = args[at].as_str();
-        if let Some(misuse) = wrong_next(at + 1, next, word) {
+        if let Some(misuse) = wrong_next(has_flags, at + 1, next, word) {
             return misuse;
         }
         next = next_behind(next, word);

@@ -1,16 +1,20 @@
-//! Decisions by the verdicts on one or two nodes. The expected ones were worked out by hand from
-//! the rules.
+//! Decisions by the verdicts on one or two nodes, and one by a look. The expected ones were worked
+//! out by hand from the rules.
 ghost use Rattle.std.specs.Prelude.{◌≡◌};
 
 use crate::cases::{
     A, Asking, B, LESS, NONE, OVERFULL, SMALL, Shape, TAINTED, Told, Tolerated, in_short, node_of,
     pod_of,
 };
-use choose::{Counts, decide, verdicts_of};
-use desk::Row;
+use crate::looks::look;
+use crate::objects::node_set;
+use choose::{Counts, choose, decide, verdicts_of};
+use desk::{Row, Snapshot};
 use quant::{Bytes, Cpu, Name, Pod, Res, SharedNode};
 use rules::{Cause, FilterVerdict, Rejection, Rules, ScoreVerdict, Trap};
 use std::alloc::Global;
+use std::hash::RandomState;
+use std::sync::Wait;
 
 /// A rule of weight 2, or none. Its filter says one thing of node `b`, and one of all others; its
 /// score is 50, or errs.
@@ -331,4 +335,35 @@ fn first_other(alloc: Global, cases: &'static [Case]) -> Option<&'static str> {
 fn worked_decisions(rt: HostRuntime) {
     assert_eq!(rt; first_other(rt.alloc(), built_in()), None);
     assert_eq!(rt; first_other(rt.alloc(), by_a_rule()), None);
+}
+
+fn is_chosen(alloc: Global, shown: &Snapshot, pod: &Pod, mut site: Site, told: Told) -> bool {
+    match choose(alloc, shown, pod, &mut site) {
+        Ok(decision) => in_short(&decision) == told,
+        Err(_) => false,
+    }
+}
+
+/// Whether a case's decision comes by a look at its first node too.
+fn is_chosen_by_a_look<R: Wait>(
+    rt: &R,
+    alloc: Global,
+    keys: Option<RandomState>,
+    case: &Case,
+) -> Option<bool> {
+    let node = node_of(&case.first, Name::new(case.first.name).ok()?)?;
+    let mut events = Vec::new(alloc);
+    events.push(node_set(alloc, 1, node)?).ok()?;
+    let shown = look(rt, alloc, keys?, events)?;
+    let pod = pod_of(&case.pod)?;
+    Some(is_chosen(alloc, &shown, &pod, case.site, case.told))
+}
+
+#[test]
+fn a_look_decides(rt: HostRuntime) {
+    let keys = RandomState::new(&rt).ok();
+    assert_eq!(rt;
+        is_chosen_by_a_look(&rt, rt.alloc(), keys, &ONE_NODE),
+        Some(true)
+    );
 }

@@ -17,7 +17,9 @@ enum Tell {
     Node(u64, u16),
     NodeGone,
     Waits(u64, u8, u16),
+    Withheld(u64, u8),
     Stands(u64, u8, u16),
+    Unread,
     Gone(u8),
     Bind(u8),
     Answered(u8, u64, Outcome),
@@ -99,6 +101,29 @@ const LISTED: &[Row] = &[
     (Tell::Bind(b'q'), Answer::Refused(Refusal::NoNode), 0),
 ];
 
+/// A pod that isn't to be bound keeps its open bind, and one that can't be read shuts until a list.
+const WITHHELD: &[Row] = &[
+    (Tell::Bind(b'p'), GRANTED, 600),
+    (Tell::Withheld(8, b'p'), Answer::Told, 600),
+    (Tell::Withheld(8, b'q'), Answer::Told, 600),
+    (Tell::Bind(b'q'), Answer::NotWaiting, 600),
+    (Tell::Withheld(9, b'r'), Answer::Old, 600),
+    (Tell::Waits(9, b'q', 400), Answer::Told, 600),
+    (Tell::Withheld(8, b'q'), Answer::Old, 600),
+    (Tell::Unread, Answer::Full, 600),
+    (Tell::Bind(b'q'), Answer::Shut, 600),
+    (Tell::Begins(Kind::Pods), Answer::Told, 600),
+    (Tell::Withheld(8, b'p'), Answer::Old, 600),
+    (Tell::Waits(9, b'q', 400), Answer::Old, 600),
+    (Tell::Ends(Kind::Pods), Answer::Told, 600),
+    (Tell::Bind(b'q'), Answer::Granted(Ticket(2)), 1_000),
+    (Tell::Answered(b'p', 1, Outcome::Over), Answer::Read, 1_000),
+    (Tell::ReadWaits(b'p', 1), Answer::Told, 400),
+    (Tell::Bind(b'p'), Answer::NotWaiting, 400),
+    (Tell::Waits(12, b'p', 500), Answer::Told, 400),
+    (Tell::Bind(b'p'), Answer::Granted(Ticket(3)), 900),
+];
+
 fn told(alloc: Global, tell: Tell) -> Option<Event> {
     match tell {
         Tell::Begins(kind) => Some(Event::ListBegins(kind)),
@@ -106,6 +131,7 @@ fn told(alloc: Global, tell: Tell) -> Option<Event> {
         Tell::Deaf(kind) => Some(Event::Deaf(kind)),
         Tell::Hears(kind) => Some(Event::Hears(kind)),
         Tell::Rested => Some(Event::Rested),
+        Tell::Unread => Some(Event::Unread),
         Tell::Node(version, cpu) => {
             let row = node(named(b'a')?, u64::from(cpu), 1_073_741_824, 10);
             Some(Event::Node {
@@ -130,6 +156,10 @@ fn of_pod(tell: Tell) -> Option<Event> {
             uid: named(uid)?,
             node: named(b'a')?,
             request: request(u64::from(cpu), 0)?,
+        }),
+        Tell::Withheld(version, uid) => Some(Event::Withheld {
+            version: Version(version),
+            uid: named(uid)?,
         }),
         Tell::Gone(uid) => Some(Event::Gone { uid: named(uid)? }),
         Tell::Bind(uid) => Some(Event::Bind {
@@ -216,10 +246,15 @@ fn listed() -> &'static [Row] {
     LISTED
 }
 
+fn withheld() -> &'static [Row] {
+    WITHHELD
+}
+
 #[test]
 fn a_ledger_answers(rt: HostRuntime) {
     let keys = RandomState::new(&rt).ok();
     assert_eq!(rt; first_other_of_new(rt.alloc(), keys, late()), None);
     assert_eq!(rt; first_other_of_new(rt.alloc(), keys, lost()), None);
     assert_eq!(rt; first_other_of_new(rt.alloc(), keys, listed()), None);
+    assert_eq!(rt; first_other_of_new(rt.alloc(), keys, withheld()), None);
 }

@@ -13,11 +13,11 @@
 //! - `quant`: `amounts`, `objects`
 //! - `name_table`: `names`
 //! - `queue`: `waiting`
-//! - `book`: `expiry`
+//! - `book`: the rows `a_place_*` and `places_that_expire_each_by_its_bind`
 //! - `ledger`: `ledgers`
 //! - `desk`: `steps` by one pass, `sharing` by several, `at_once` in threads, `looks`
-//! - `choose`: `decisions` on one or two nodes, `choices` by a look; `cases` has their nodes and
-//!   pods in short
+//! - `choose`: `decisions`; `cases` has their nodes and pods in short; by a site's modules, and
+//!   among many nodes, tests/rows
 //! - `fleet`: `workers`
 //! - `binder`: `binding`; `audit`: `audits`
 #![tactic(auto)]
@@ -33,11 +33,7 @@ mod binding;
 #[cfg(test)]
 mod cases;
 #[cfg(test)]
-mod choices;
-#[cfg(test)]
 mod decisions;
-#[cfg(test)]
-mod expiry;
 #[cfg(test)]
 mod ledgers;
 #[cfg(test)]

@@ -1,21 +1,20 @@
 -- What the words ask for is done, or its fault is told, at each end of an answer.
-use Rattle.std.proofs.Common.{◌≡◌, ◌≢◌, ◌⊎◌, ◌∙◌, ◌<◌, ℕ, Bool, List, Option, Some, None, Result, Ok, Err, inl, inr, refl, sym, subst, arith}
+use Rattle.std.proofs.Common.{◌≡◌, ℕ, List, Option, Some, None, Result, Ok, Err, inl, inr, refl, sym, subst, arith}
 use Rattle.std.specs.Prelude.{IfErr}
 use Rattle.engine.specs.Device.{DeviceUse}
-use Rattle.engine.specs.declared.fault.RunFault.TheVariants as run_fault
-use Rattle.command.specs.Words.{Asked, asked_by, run, explain, check, storm, translate, version}
+use Rattle.command.specs.Words.{Asked, asked_by, run, explain, check, storm, translate, live, version}
 use Rattle.command.specs.declared.fault.WordFault.{WordFault}
 use Rattle.command.specs.declared.fault.WordFault.TheVariants as word_fault
 use Rattle.fault_line.specs.declared.fault.Fault.{Fault}
-use Rattle.fault_line.specs.declared.fault.Fault.TheVariants.{Run, Words}
+use Rattle.fault_line.specs.declared.fault.Fault.TheVariants.{Words}
 use Rattle.fault_line.specs.Fault.{status_of}
 use Rattle.serving.specs.Answer.{FilesUse, IsAnswer, IsDone}
-use Rattle.serving.specs.Check.{IsCheck}
 use Rattle.serving.specs.Run.{TellsFault, told_of}
 use Rattle.serving.proofs.Ends.{not_begun, told}
 use Rattle.serving.proofs.Quiet.{no_memory_told}
 use Rattle.serving.proofs.StormEnds.{storm_not_begun}
 use Rattle.translator.proofs.Translated.{nothing_translated}
+use Rattle.live.proofs.Lived.{nothing_lived}
 
 module _ (Unkeyed : Type 0) (files : FilesUse) (source out err : DeviceUse) (ended : ℕ) where
   -- nothing was touched
@@ -68,6 +67,10 @@ module _ (Unkeyed : Type 0) (files : FilesUse) (source out err : DeviceUse) (end
   }
   wanting (Some (translate scheduler labels by_uid answers)) fault three tells h = record {
     translated = nothing_translated _ source out err ended three (rw no_memory_told at tells) h.same h.reads h.writes;
+    unopened = h.unopened;
+  }
+  wanting (Some (live scheduler labels)) fault three tells h = record {
+    answered = nothing_lived _ source out err ended three (rw no_memory_told at tells) h.same h.reads h.writes;
     unopened = h.unopened;
   }
   wanting (Some version) fault three tells h = record {

@@ -7,7 +7,7 @@ use Rattle.choose.specs.Kits as choosing
 use Rattle.engine.specs.declared.named_rule.NamedRule.{NamedRule}
 use Rattle.engine.specs.Telling.{telling}
 use Rattle.engine.specs.Output.{first_fault, WritesOutput, WritesFront}
-use Rattle.command.specs.Words.{SpecSyntax, Asked, run, explain, storm, check, translate, version}
+use Rattle.command.specs.Words.{SpecSyntax, Asked, run, explain, storm, check, translate, live, version}
 use Rattle.serving.specs.Site.{AreSiteKits, IsSiteKit, WritesSiteOutput, WritesSiteFront, named_of, told_by}
 use Rattle.serving.proofs.Quiet.{output_front}
 
@@ -69,6 +69,7 @@ specs_in (Some (explain workers specs)) = specs
 specs_in (Some (storm cycles binders is_flaky specs)) = specs
 specs_in (Some (check file)) = []
 specs_in (Some (translate scheduler labels by_uid answers)) = []
+specs_in (Some (live scheduler labels)) = []
 specs_in (Some version) = []
 
 -- the plugins of a run that words ask for are those of the run that they were read as
@@ -83,6 +84,7 @@ threads_in (Some (explain workers specs)) = (0, 0)
 threads_in (Some (storm cycles binders is_flaky specs)) = (cycles, binders)
 threads_in (Some (check file)) = (0, 0)
 threads_in (Some (translate scheduler labels by_uid answers)) = (0, 0)
+threads_in (Some (live scheduler labels)) = (0, 0)
 threads_in (Some version) = (0, 0)
 
 -- a storm that words ask for is the one that they were read as

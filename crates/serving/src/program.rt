@@ -11,6 +11,8 @@ use crate::version::tell_version;
 use command::{WordFault, Words, misuse_of, words};
 use engine::{Sink, Source};
 use fault_line::{Fault, report};
+use live::serve_live;
+use objects::Site;
 use std::alloc::Global;
 use std::convert::AsStr;
 use std::hash::RandomState;
@@ -22,7 +24,7 @@ use translator::serve_translation;
 /// that could not be read, or that ask for nothing, are told on `err`, and nothing is read or
 /// written. For `run` and `explain` it is what `serve_plan` does under the keys, for `storm` what
 /// `storm_plan` does, for `check` what `check_file` does, for `translate` what `serve_translation`
-/// does, and for `version` what `tell_version` does.
+/// does, for `live` what `serve_live` does, and for `version` what `tell_version` does.
 pub fn answer<
     T: Wait + Threads + Copy + Send + Sync + 'static,
     S: AsStr + Drop,
@@ -61,6 +63,13 @@ pub fn answer<
             Ok(Words::Storm(plan)) => storm_plan(rt, alloc, keys, &plan, files, source, out, err),
             Ok(Words::Check(file)) => check_file(alloc, file, files, out, err),
             Ok(Words::Translate(plan)) => serve_translation(alloc, &plan, source, out, err),
+            Ok(Words::Live(plan)) => {
+                let site = Site {
+                    scheduler: plan.scheduler,
+                    labels: plan.labels,
+                };
+                serve_live(alloc, keys, &site, source, out, err)
+            }
             Ok(Words::Version) => tell_version(out, err),
             Err(WordFault::BadWords) => report(Fault::Misused(misuse_of(args.as_slice())), err),
             Err(WordFault::NoMemory) => report(Fault::Words(WordFault::NoMemory), err),

@@ -12,4 +12,5 @@ returns c =
     let with_storm = c.in_ok-line-3.ensures ∙ ap₂ with_subcommand with_explain (ap top c.in_ok-storm.ensures.shape) in
     let with_check = c.in_ok-line-4.ensures ∙ ap₂ with_subcommand with_storm (ap top c.in_ok-check.ensures.shape) in
     let with_translate = c.in_ok-line-5.ensures ∙ ap₂ with_subcommand with_check (ap top c.in_ok-translate.ensures.shape) in
-    IfOk-weaker c.with_command-6.result _ _ (λ _ h. h ∙ ap₂ with_subcommand with_translate (ap top c.version_command.ensures.shape)) c.with_command-6.ensures
+    let with_live = c.in_ok-line-6.ensures ∙ ap₂ with_subcommand with_translate (ap top c.in_ok-live.ensures.shape) in
+    IfOk-weaker c.with_command-7.result _ _ (λ _ h. h ∙ ap₂ with_subcommand with_live (ap top c.version_command.ensures.shape)) c.with_command-7.ensures

@@ -77,6 +77,9 @@ returns c = record {
   a_plugin_of_a_translation = refl;
   an_option_of_a_translation_behind_the_end = refl;
   help_on_a_translation = refl;
+  a_ledger = refl;
+  all_of_a_ledger = refl;
+  a_flag_of_a_ledger = refl;
   answers_of_a_run = refl;
   a_version = refl;
   version_behind_the_end = refl;
@@ -126,5 +129,7 @@ returns c = record {
   of_a_scheduler_twice = refl;
   of_answers_with_a_value = refl;
   of_a_plugin_of_a_translation = refl;
+  of_a_flag_of_a_ledger = refl;
+  of_a_scheduler_of_a_ledger = refl;
   of_an_option_of_a_translation_behind_the_end = refl;
 }

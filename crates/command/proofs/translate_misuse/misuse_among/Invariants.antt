@@ -6,4 +6,4 @@ use Rattle.command.proofs.translate_misuse.misuse_among.Given as goal
 -- no word so far is wrong
 abbrev pub invariant-loop-at : goal.invariant-loop-at
 invariant-loop-at g l =
-    wrong_among 2 Anything (map g.S.AsStr.text (drop 1 l.args)) ≡ wrong_among (l.at + 1) l.next (map g.S.AsStr.text (drop l.at l.args))
+    wrong_among l.has_flags 2 Anything (map g.S.AsStr.text (drop 1 l.args)) ≡ wrong_among l.has_flags (l.at + 1) l.next (map g.S.AsStr.text (drop l.at l.args))

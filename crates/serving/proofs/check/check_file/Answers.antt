@@ -1,7 +1,4 @@
-use Rattle.std.proofs.Common.{◌≡◌, ◌∙◌, IfSome, inl, inr, refl, ap, sym, subst, arith, rules}
-use Rattle.fault_line.specs.Fault.{status_of}
-use Rattle.fault_line.specs.Message.{Tells, message_of}
-use Rattle.fault_line.specs.declared.fault.Fault.TheVariants.{Run}
+use Rattle.std.proofs.Common.{◌≡◌, IfSome, inl, inr, sym, subst, rules}
 use Rattle.serving.specs.Verdict.{front_of}
 use Rattle.serving.proofs.Verdicts.{tells_whole, fronts_whole}
 use Rattle.serving.proofs.check.check_file.Goals as goal

@@ -1,6 +1,6 @@
 use Rattle.std.proofs.Common.{◌∙◌, map, refl, ap, inl, inr, arith}
 use Rattle.command.specs.Words.{asked_by}
-use Rattle.serving.proofs.Answered.{done, misused, unread, wanting_words}
+use Rattle.serving.proofs.Answered.{done, unread, wanting_words}
 use Rattle.serving.proofs.program.answer.Goals as goal
 
 -- ---- the words ask for something, which is done
@@ -39,6 +39,15 @@ returns-in-Ok-Translate g c =
     let asked = ap (asked_by (λ given. map g.S.AsStr.text given.items)) c.in-Ok.is ∙ read in
     done _ _ _ _ _ _ (λ given. map g.S.AsStr.text given.items) _ _ _ c.in-Ok.is asked (record {
       translated = c.serve_translation.ensures;
+      unopened = refl;
+    })
+
+pub returns-in-Ok-Live : goal.returns-in-Ok-Live
+returns-in-Ok-Live g c =
+    let read = rw (c.as_slice.ensures.value, c.in-Ok-Live.field-0-is) at c.in-Ok-Live.ensures.ok in
+    let asked = ap (asked_by (λ given. map g.S.AsStr.text given.items)) c.in-Ok.is ∙ read in
+    done _ _ _ _ _ _ (λ given. map g.S.AsStr.text given.items) _ _ _ c.in-Ok.is asked (record {
+      answered = c.serve_live.ensures;
       unopened = refl;
     })
 

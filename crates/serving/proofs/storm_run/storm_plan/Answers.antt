@@ -1,4 +1,4 @@
-use Rattle.std.proofs.Common.{◌≡◌, ◌⊎◌, ◌∙◌, ℕ, List, None, map, inl, inr, refl, sym, subst, rules}
+use Rattle.std.proofs.Common.{◌≡◌, ◌∙◌, ℕ, List, None, map, inl, inr, refl, sym, subst, rules}
 use Rattle.command.specs.Words.{syntax_of}
 use Rattle.engine.specs.declared.fault.RunFault.TheVariants as run_fault
 use Rattle.fault_line.specs.declared.fault.Fault.TheVariants.{Run}

@@ -1,0 +1,3 @@
+pub mod Kept
+pub mod Going
+pub mod Lived

@@ -1,0 +1,9 @@
+use Rattle.std.proofs.Common.{refl}
+use Rattle.live.proofs.Lived.{done_at_end, told_at_end}
+use Rattle.live.proofs.live_run.serve_live.Goals as goal
+
+pub returns-in-Ok : goal.returns-in-Ok
+returns-in-Ok g c = done_at_end _ _ _ _ _ _ c.in-Ok.ensures refl refl
+
+pub returns-in-Err : goal.returns-in-Err
+returns-in-Err g c = told_at_end _ _ _ _ _ c.in-Err.fault c.in-Err.ensures c.report.ensures.status c.report.ensures.told
