@@ -3,20 +3,18 @@
 
 mod definition;
 mod generated;
-mod lone_modules;
 mod rows;
 mod sides;
 mod worked_module;
 
 use generated::MODULES;
-use lone_modules::{LONE, Lone, RECORD, START_ASKS};
 use rows::{CALLS, ELEMENT_CALLS, RECORD_CALLS, Row, START_CALLS};
-use sides::{AMPLE, EXHAUSTED, Ended, POD, Sides, invoked, machine, put_data, put_elements};
+use sides::{AMPLE, EXHAUSTED, Ended, Sides, invoked, machine, put_data, put_elements};
 use std::alloc::Global;
 use std::panic::Expect;
 use std::process::Abort;
 use wmach::{Export, Machine};
-use worked_module::{module_around, module_of};
+use worked_module::module_around;
 
 // Where a reduction may cost 2, so that less fuel can be used up than there is.
 #[derive(Clone, Copy)]
@@ -109,7 +107,7 @@ struct Kind {
 fn difference_at<R: Abort>(rt: &R, alloc: Global, row: Row, kind: Kind) -> Option<Given> {
     let (body, trap, value, cost) = row;
     let bytes = module_around(rt, alloc, body);
-    let mut sides = Sides::new(rt, alloc, bytes.as_slice(), kind.export, kind.segments, POD);
+    let mut sides = Sides::new(rt, alloc, bytes.as_slice(), kind.export, kind.segments);
     let copies = kind.copies;
     difference(
         rt,
@@ -161,36 +159,6 @@ fn worked_calls(rt: HostRuntime) {
     }
 }
 
-// The least fuel with which a small module's call doesn't end as it is to, by the machine and by
-// the definition.
-fn wrong_end<R: Abort>(rt: &R, alloc: Global, lone: Lone) -> Option<(u64, Ended, Ended)> {
-    let (sections, bodies, data, export, (trap, value, cost)) = lone;
-    let bytes = module_of(rt, alloc, sections, bodies, data);
-    let mut sides = Sides::new(rt, alloc, bytes.as_slice(), export, true, RECORD);
-    let wanted = Wanted {
-        trap,
-        value,
-        cost,
-        copies: Copies::Nowhere,
-    };
-    for fuel in 0..=MOST {
-        let by_machine = sides.ends_by_machine(fuel);
-        let by_definition = sides.ends_by_definition(rt, fuel);
-        if by_machine != by_definition || !is_wanted(wanted, fuel, by_machine) {
-            return Some((fuel, by_machine, by_definition));
-        }
-    }
-    None
-}
-
-#[test]
-fn small_modules(rt: HostRuntime) {
-    for (i, lone) in LONE.into_iter().enumerate() {
-        assert_eq!(rt; wrong_end(&rt, rt.alloc(), lone), None, "module {i}");
-    }
-    assert_eq!(rt; wrong_end(&rt, rt.alloc(), START_ASKS), None);
-}
-
 // A number in so many bytes of a table, the lower ones first.
 fn number(table: &[u8], at: usize, count: usize) -> u64 {
     let bytes = table.get(at..at.saturating_add(count)).unwrap_or(&[]);
@@ -207,7 +175,7 @@ fn difference_in<R: Abort>(rt: &R, alloc: Global, table: &[u8], at: usize) -> Op
     let begin = at.saturating_add(HEAD);
     let end = begin.saturating_add(number(table, at, 2) as usize);
     let bytes = table.get(begin..end).expect(rt, "a whole module");
-    let mut sides = Sides::new(rt, alloc, bytes, Export::Filter, true, POD);
+    let mut sides = Sides::new(rt, alloc, bytes, Export::Filter, true);
     let ((_, _, cost), digest) = sides.by_machine(AMPLE);
     assert_eq!(rt; digest, number(table, at.saturating_add(7), 8));
     let wanted = Wanted {

@@ -1,9 +1,10 @@
 //! Outside vectors: WebAssembly Core 1.0, 5.2.2 (its examples), and DWARF 4, 7.6 (figures 22 and
-//! 23).
+//! 23). And the texts of faults that the program prints nowhere.
 
 use leb::LebFault::{BadLastByte, TooLong, Truncated};
 use leb::{LebFault, read_i32, read_i64, read_u32};
-use std::test::Fail;
+use std::alloc::Global;
+use wcode::BinFault;
 
 // Bytes, and the number that begins them with the place behind it, or its fault.
 const UNSIGNED: [(&[u8], Result<(u32, usize), LebFault>); 12] = [
@@ -90,18 +91,20 @@ fn long() -> Option<usize> {
     None
 }
 
-const PRINTED: [(LebFault, &str); 2] = [(TooLong, "2 TooLong"), (BadLastByte, "3 BadLastByte")];
-
 #[test]
 fn numbers(rt: HostRuntime) {
     assert_eq!(rt; (unsigned(), signed(), long()), (None, None, None));
     assert!(rt; read_u32(&[9, 0xB9, 0x64, 7], 1) == Ok((12857, 3)));
 }
 
-#[test]
-fn printed_faults(rt: HostRuntime) -> Result<(), Fail> {
-    for (fault, text) in PRINTED {
-        assert_eq!(rt; fault.to_string(rt.alloc())?.as_str(), text);
+fn are_printed(alloc: Global) -> bool {
+    match format!(in alloc; "{}, {}, {}", TooLong, BadLastByte, BinFault::NoMemory) {
+        Ok(text) => text.as_str() == "2 TooLong, 3 BadLastByte, 3 NoMemory",
+        Err(_) => false,
     }
-    Ok(())
+}
+
+#[test]
+fn printed_faults(rt: HostRuntime) {
+    assert!(rt; are_printed(rt.alloc()));
 }

@@ -1,44 +1,6 @@
-//! What another engine loads after each store, which pages a write notes, and where accesses
-//! end.
-use accesses::{LOADS, ROWS};
-use std::test::Fail;
-use wmem::{Load, MAX_PAGES, Memory, Trap, Width};
-
-mod accesses;
-
-// Whether each load of what was stored gives what the engine loads.
-fn loads_are(memory: &Memory, loaded: &[u64; 12]) -> bool {
-    for (load, want) in LOADS.iter().zip(loaded) {
-        if memory.load(3, 5, *load) != Ok(*want) {
-            return false;
-        }
-    }
-    true
-}
-
-// Whether the store is made, and leaves this byte below it.
-fn stores(memory: &mut Memory, width: Width, value: u64, before: u8) -> bool {
-    memory.copy_in(0, &[0x55; 24]).is_ok()
-        && memory.store(5, 3, width, value).is_ok()
-        && memory.load(7, 0, Load::I32Unsigned8) == Ok(u64::from(before))
-}
-
-// The first row at which a load gives another answer than the engine that made the rows.
-fn first_difference(memory: &mut Memory) -> Option<usize> {
-    for (row, (width, value, before, loaded)) in ROWS.iter().enumerate() {
-        if !stores(memory, *width, *value, *before) || !loads_are(memory, loaded) {
-            return Some(row);
-        }
-    }
-    None
-}
-
-#[test]
-fn loads_give_what_another_engine_loads(rt: HostRuntime) -> Result<(), Fail> {
-    let mut memory = Memory::new(rt.alloc(), 1, 1)?;
-    assert_eq!(rt; first_difference(&mut memory), None);
-    Ok(())
-}
+//! Which pages a write notes.
+use std::alloc::Global;
+use wmem::{Load, MAX_PAGES, Memory, Width};
 
 // What is done to a memory of one page of zeros.
 #[derive(Clone, Copy)]
@@ -85,21 +47,29 @@ const NOTED: &[(Access, usize)] = &[
     (Access::Copy(65_280), 0),
 ];
 
-#[test]
-fn writes_note_their_pages(rt: HostRuntime) -> Result<(), Fail> {
-    let mut memory = Memory::new(rt.alloc(), 1, MAX_PAGES)?;
-    for (access, noted) in NOTED {
-        assert_eq!(rt; pages_noted(&mut memory, *access), (*noted, 0, 1));
+fn noted() -> &'static [(Access, usize)] {
+    NOTED
+}
+
+// The first after which others are noted.
+fn first_other(memory: &mut Memory) -> Option<usize> {
+    for (at, (access, pages)) in noted().iter().enumerate() {
+        if pages_noted(memory, *access) != (*pages, 0, 1) {
+            return Some(at);
+        }
     }
-    Ok(())
+    None
+}
+
+// The same of a new memory. Without memory nothing is noted.
+fn first_other_of_new(alloc: Global) -> Option<usize> {
+    match Memory::new(alloc, 1, MAX_PAGES) {
+        Ok(mut memory) => first_other(&mut memory),
+        Err(_) => Some(0),
+    }
 }
 
 #[test]
-fn traps_print_their_names(rt: HostRuntime) -> Result<(), Fail> {
-    let trap = Trap::MemoryOutOfBounds;
-    assert_eq!(rt;
-        format!(in rt.alloc(); "{trap}")?.as_str(),
-        "MemoryOutOfBounds"
-    );
-    Ok(())
+fn writes_note_their_pages(rt: HostRuntime) {
+    assert_eq!(rt; first_other_of_new(rt.alloc()), None);
 }

@@ -1,5 +1,5 @@
 // Asks another engine, the one in `node`, for the values of the worked calls: it makes each call of
-// `src/tests/rows.rt` in the module of `src/tests/worked_module.rt`, and tells where it gives
+// `src/comparison/rows.rt` in the module of `src/comparison/worked_module.rt`, and tells where it gives
 // another value or traps for another reason. What a call costs, how deep calls may go, and that a
 // start function is given no record, is wsched's own, so those rows are passed over. Run in this
 // crate's folder:
@@ -17,7 +17,7 @@ const bytesOf = (text) => {
     return bytes;
 };
 
-const source = readFileSync("src/tests/worked_module.rt", "utf8");
+const source = readFileSync("src/comparison/worked_module.rt", "utf8");
 const part = Object.fromEntries([...source.matchAll(/const (\w+): &\[u8\] =\s*b"(.*)";/g)].map(([, name, text]) => [name, bytesOf(text)]));
 const size = (length) => [(length % 128) + 128, length >> 7];
 
@@ -69,7 +69,7 @@ function outcome(body, elements) {
     }
 }
 
-const rows = readFileSync("src/tests/rows.rt", "utf8");
+const rows = readFileSync("src/comparison/rows.rt", "utf8");
 let [asked, others] = [0, 0];
 for (const [, table, text] of rows.matchAll(/pub const (\w+): &\[Row\] = &\[(.*?)\n\];/gs)) {
     for (const [, body, trap, value, cost] of text.matchAll(/\(\s*b"([^"]*)",\s*(\d+),\s*([\d_]+),\s*([\d_]+|NEVER),?\s*\)/g)) {

@@ -11,6 +11,7 @@ pub const NEVER: u64 = u64::MAX;
 pub const CALLS: &[Row] = &[
     // constants, blocks and branches
     (b"\x41\x00\x0B", 0, 0, 0),
+    (b"\x41\x80\x80\x80\x80\x00\x0B", 0, 0, 0),
     (b"\x01\x41\x03\x0B", 0, 3, 1),
     (b"\x02\x7F\x41\x07\x41\x08\x6A\x0B\x0B", 0, 15, 2),
     (b"\x03\x40\x0C\x00\x0B\x41\x00\x0B", 0, 0, NEVER),
@@ -33,6 +34,8 @@ pub const CALLS: &[Row] = &[
     (b"\x41\x00\x04\x7F\x41\x07\x05\x41\x08\x0B\x0B", 0, 8, 1),
     (b"\x41\x05\x41\x06\x0F\x0B", 0, 6, 1),
     (b"\x00\x0B", 1, 0, 1),
+    (b"\x00\x1B\x0B", 1, 0, 1),
+    (b"\x00\x1A\x1B\x0B", 1, 0, 1),
     // operands and variables
     (b"\x41\x07\x41\x08\x41\x00\x1B\x0B", 0, 8, 1),
     (
@@ -72,6 +75,12 @@ pub const CALLS: &[Row] = &[
     (b"\x41\x01\x40\x00\x0B", 0, 1, 1),
     (b"\x41\x02\x40\x00\x0B", 0, 4_294_967_295, 1),
     (b"\x41\x02\x40\x00\x1A\x3F\x00\x0B", 0, 1, 3),
+    (
+        b"\x41\x01\x40\x00\x1A\x41\x01\x40\x00\x0B",
+        0,
+        4_294_967_295,
+        3,
+    ),
     // calls: itself too often, an empty element of the table, a record longer than there is room,
     // and one out of bounds
     (b"\x10\x01\x0B", 8, 0, 256),
@@ -116,7 +125,13 @@ pub const CALLS: &[Row] = &[
         105,
         6,
     ),
-    // a loop that leaves an operand at each branch back to it
+    // a counter from 3, and a loop that leaves an operand at each branch back to it
+    (
+        b"\x41\x03\x21\x00\x03\x40\x20\x00\x41\x01\x6B\x22\x00\x0D\x00\x0B\x41\x00\x0B",
+        0,
+        0,
+        21,
+    ),
     (
         b"\x41\x03\x21\x00\x03\x7F\x41\x07\x20\x00\x41\x01\x6B\x22\x00\x0D\x00\x0B\x0B",
         0,

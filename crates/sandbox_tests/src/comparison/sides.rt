@@ -40,8 +40,8 @@ fn told(outcome: Outcome) -> Ended {
     }
 }
 
-/// The record of a pod that is handed over; there is none of a node.
-pub const POD: &[u8] = &[7; 257];
+// The record of a pod that is handed over; there is none of a node.
+const POD: &[u8] = &[7; 257];
 
 #[derive(Clone, Copy)]
 struct PodAlone<'a>(&'a [u8]);
@@ -57,25 +57,20 @@ impl Host for PodAlone<'_> {
 }
 
 // The same for the definition; a start function is given none.
-fn record_for<R: Abort>(rt: &R, alloc: Global, export: Export, pod: &[u8]) -> Option<Vec<u8>> {
+fn record_for<R: Abort>(rt: &R, alloc: Global, export: Export) -> Option<Vec<u8>> {
     match export {
         Export::Start => None,
-        _ => Some(Vec::from_slice(alloc, pod).expect(rt, MEMORY)),
-    }
-}
-
-// A call that the machine makes, with this record of a pod.
-fn invoked_with(machine: &mut Machine, export: Export, pod: &[u8], fuel: u64) -> Ended {
-    if machine.has(export) {
-        told(machine.invoke(export, &PodAlone(pod), fuel))
-    } else {
-        (NOTHING, 0, 0)
+        _ => Some(Vec::from_slice(alloc, POD).expect(rt, MEMORY)),
     }
 }
 
 /// A call that the machine makes.
 pub fn invoked(machine: &mut Machine, export: Export, fuel: u64) -> Ended {
-    invoked_with(machine, export, POD, fuel)
+    if machine.has(export) {
+        told(machine.invoke(export, &PodAlone(POD), fuel))
+    } else {
+        (NOTHING, 0, 0)
+    }
 }
 
 /// Writes the element segment, if it is in bounds.
@@ -118,7 +113,6 @@ pub struct Sides {
     globals: Vec<Value>,
     export: Export,
     function: u32,
-    pod: &'static [u8],
 }
 
 // The next joins a digest.
@@ -145,14 +139,13 @@ fn digest_of(store: &Store) -> u64 {
 
 impl Sides {
     /// Both for calls of this export of the module that bytes spell, whose store has the module's
-    /// segments or none of them, with this record of a pod.
+    /// segments or none of them.
     pub fn new<R: Abort>(
         rt: &R,
         alloc: Global,
         bytes: &[u8],
         export: Export,
         segments: bool,
-        pod: &'static [u8],
     ) -> Sides {
         let checked = checked(rt, alloc, bytes);
         let module = checked.module();
@@ -162,7 +155,7 @@ impl Sides {
             Export::Start => module.tables().start,
         };
         let function = function.expect(rt, "there is such a function");
-        let setting = setting_of(rt, alloc, module, record_for(rt, alloc, export, pod));
+        let setting = setting_of(rt, alloc, module, record_for(rt, alloc, export));
         let store = first_store(rt, alloc, module, segments);
         let globals = first_globals(rt, alloc, module);
         let mut machine = machine_of(rt, alloc, checked);
@@ -179,14 +172,13 @@ impl Sides {
             globals,
             export,
             function,
-            pod,
         }
     }
 
     /// How the machine's call ends from the image.
     pub fn ends_by_machine(&mut self, fuel: u64) -> Ended {
         self.machine.reset();
-        invoked_with(&mut self.machine, self.export, self.pod, fuel)
+        invoked(&mut self.machine, self.export, fuel)
     }
 
     /// The same by the definition, from the first store. Calls don't write the table.

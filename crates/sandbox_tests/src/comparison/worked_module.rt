@@ -1,5 +1,5 @@
 //! The module that worked calls are made in, in its bytes (WebAssembly Core 1.0, 5.5). Only the
-//! body of `filter` differs. And modules of other sections.
+//! body of `filter` differs.
 
 use std::alloc::Global;
 use std::panic::Expect;
@@ -74,31 +74,6 @@ fn joined<R: Abort>(rt: &R, alloc: Global, parts: &[&[u8]]) -> Vec<u8> {
         bytes.extend_from_slice(part).expect(rt, "there is memory");
     }
     bytes
-}
-
-/// The module with these sections, these bodies behind them, each with its locals, and what is
-/// behind the code.
-pub fn module_of<R: Abort>(
-    rt: &R,
-    alloc: Global,
-    sections: &[&[u8]],
-    bodies: &[&[u8]],
-    behind: &[u8],
-) -> Vec<u8> {
-    let mut code = Vec::new(alloc);
-    for body in bodies {
-        code.extend_from_slice(&size(body.len()))
-            .expect(rt, "there is memory");
-        code.extend_from_slice(body).expect(rt, "there is memory");
-    }
-    let front = joined(rt, alloc, sections);
-    let all = size(code.len().saturating_add(1));
-    let count = [bodies.len().min(127) as u8];
-    joined(
-        rt,
-        alloc,
-        &[HEADER, &front, CODE, &all, &count, &code, behind],
-    )
 }
 
 /// The module in which `filter` has this body, an i32 as its local 0 and an i64 as its local 1.
