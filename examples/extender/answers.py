@@ -26,6 +26,8 @@ PERCENT = "\N{FULLWIDTH PERCENT SIGN}"
 # The first version whose kube-scheduler knows FailedAndUnresolvableNodes, and one beside whose API
 # server each does.
 FIRST, KNOWN = 21, 24
+# Up to how many bytes an answer is kept as it is sent.
+LARGE = 2**18
 # How many nodes there are of a rule and its answer.
 Counts = dict[tuple[str, str], int]
 
@@ -78,6 +80,16 @@ class Sorted(NamedTuple):
     faults: Groups
     strange: dict[str, str]
     counts: Counts
+
+
+class Filtered(NamedTuple):
+    """What a filter is answered about these nodes, and how the names that pass are spelled, where
+    it is of names."""
+
+    asked: frozenset[str]
+    found: Sorted
+    body: bytes
+    passed: str
 
 
 class Scored(NamedTuple):
@@ -163,6 +175,19 @@ class Words:
                 said.hosts, said.like = hosts, None
         return hosts
 
+    def make_ready(self, names: Sequence[str], spelled: str, said: Said) -> None:
+        """Has what a prioritize of these names is answered, if it isn't large; and where each node
+        has the score that it had before, that is what it was."""
+        like = said.like
+        if like and like.hosts and like.scored[0] == spelled and not like.has_faults:
+            before = map(like.hosts.get, said.new)
+            if not said.has_faults and [*before] == [self.host(it, said[it]) for it in said.new]:
+                said.hosts, said.scored, said.like = like.hosts, like.scored, None
+                return
+        found = self.scores(names, said)
+        if len(found.body) <= LARGE:
+            said.scored = spelled, found
+
     def scores(self, names: Sequence[str], said: Said) -> Scored:
         hosts = self.hosts(said)
         faults: Counts = {}
@@ -195,11 +220,15 @@ def by_name(groups: Groups, strange: Mapping[str, str]) -> str:
     return f"{{{','.join(parts)}}}"
 
 
-def filtered(found: Sorted, nodes: Sequence[Json] | None, maps: Maps) -> bytes:
+def filtered(
+    asked: frozenset[str], found: Sorted, nodes: Sequence[Json] | None, maps: Maps
+) -> Filtered:
     """What a filter is answered; of nodes that were handed over those that pass are handed back."""
+    named = ""
     if nodes is None:
-        named = '"' + '","'.join(found.passed) + '"' if found.passed else ""
-        passed = f'"NodeNames":[{named}]'
+        # (as kube-scheduler spells them when it asks for their scores)
+        named = '["' + '","'.join(found.passed) + '"]' if found.passed else "[]"
+        passed = f'"NodeNames":{named}'
     else:
         names = {*found.passed}
         handed = [it for it in nodes if it["metadata"]["name"] in names]
@@ -207,7 +236,8 @@ def filtered(found: Sorted, nodes: Sequence[Json] | None, maps: Maps) -> bytes:
     others = {why: names for why, names in found.failed.items() if why not in found.final}
     failed = by_name(found.failed if maps.failed else others, found.strange)
     final = by_name(found.final if maps.unresolvable else {}, {})
-    return f'{{{passed},"FailedNodes":{failed},"FailedAndUnresolvableNodes":{final}}}'.encode()
+    body = f'{{{passed},"FailedNodes":{failed},"FailedAndUnresolvableNodes":{final}}}'
+    return Filtered(asked, found, body.encode(), named)
 
 
 def fault(why: str) -> bytes:

@@ -12,7 +12,6 @@ import functools
 import hashlib
 import itertools
 import logging
-import operator
 import os
 import threading
 import time
@@ -27,8 +26,12 @@ from questions import Row
 LOG = logging.getLogger("second-scheduler")
 # How many nodes one has room for, and how many pods on them.
 NODES, PLACES = 1000, 150_000
-# Of how many kinds of pods it is kept what was said last.
-KINDS = 16
+# So many bytes are told at once; fewer are, before the next question or within a second, by one
+# write, since each wakes a child, which takes this process's core where all are busy.
+MUCH = 4096
+# Of how many kinds of pods it is kept what was said last, and by how many characters at a time that
+# is compared with what is said.
+KINDS, BLOCK = 16, 2048
 # For how long an answer may be waited for, in seconds, beside what the fuel of all calls can take;
 # and what a unit of fuel takes on a slow machine.
 PATIENCE, UNIT = 4.0, 5e-9
@@ -40,8 +43,10 @@ class Said(dict[str, str]):
     nodes that are `new`."""
 
     has_faults = False
-    # a filter's last answer by it: to which nodes, how they were sorted, and its text
-    last: tuple[frozenset[str], Any, bytes] | None = None
+    # a filter's last answer by it, and a prioritize's that is ready, for which names as they are
+    # spelled
+    filtered: Any = None
+    scored: tuple[str, Any] = "", None
     hosts: dict[str, str] | None = None
     like: Said | None = None
     new: Iterable[str] = ()
@@ -71,10 +76,15 @@ class Piped(Core):
     def __init__(self, words: list[str], patience: float) -> None:
         super().__init__(words, None, nothing, patience)
         self.unheard: collections.deque[Told] = collections.deque()
-        self.unheard_bytes = 0
+        self.unheard_bytes = self.unsent_bytes = 0
+
+    def tell(self, line: str, then: Callable[[str], None], last: str = "") -> None:
+        super().tell(line, then, last)
+        self.unsent_bytes += len(self.waiting[-1].line)
 
     def send(self) -> None:
         """Writes what is to be told. Raises CoreFault where answers are due and don't come."""
+        self.unsent_bytes = 0
         while self.waiting:
             if self.unheard_bytes + len(self.waiting[0].line) > BYTES:
                 self.hear()
@@ -123,22 +133,20 @@ class Share:
         self.core: Piped | None = None
         self.why, self.version, self.places = "it isn't started yet", 0, 0
         self.names: set[str] = set()
-        # what was said last of some kinds of pods, line by line and in all
-        self.last: collections.OrderedDict[tuple[bool, str], tuple[list[str], Said]]
+        # what was said last of some kinds of pods, as text and as read
+        self.last: collections.OrderedDict[tuple[bool, str], tuple[str, Said]]
         self.last = collections.OrderedDict()
 
     def read(self, asking: Asking) -> Said:
         """Of each node what its line says. (A thousand at each question, of which most say of such
-        a pod what they said before: so this is as short as can be.)"""
-        lines, judged, _ = asking.answers[self].rpartition("\njudged ")
-        each = lines[2:].split("\n  ") if judged else []
-        before, said = self.last.get(asking.kind, ([], Said()))
-        if each != before:
-            new = said_by(itertools.compress(each, map(operator.ne, each, before)))
-            is_like = len(each) == len(before) and new.keys() < said.keys()
-            said = said.changed(new) if is_like else said_by(each)
+        a pod what they said before: so these aren't read again.)"""
+        lines = asking.answers[self].rpartition("\njudged ")[0]
+        before, said = self.last.get(asking.kind, ("", Said()))
+        if lines != before:
+            new = changed_lines(before, lines)
+            said = said_by(lines.split("\n")) if new is None else said.changed(said_by(new))
             said.has_faults = " error plugin " in lines
-        self.last[asking.kind] = each, said
+        self.last[asking.kind] = lines, said
         self.last.move_to_end(asking.kind)
         if len(self.last) > KINDS:
             self.last.popitem(last=False)
@@ -266,12 +274,12 @@ class Cores:
             self.refused += 1
             LOG.error("wsched answers %s to %s", answer, line)
 
-    def settle(self) -> None:
-        """Writes what is to be told; one that doesn't answer, where answers are due, is begun
-        anew."""
+    def settle(self, least: int = MUCH) -> None:
+        """Writes what is to be told, where it is as much; one that doesn't answer, where answers
+        are due, is begun anew."""
         for it in self.shares:
             try:
-                if it.core:
+                if it.core and it.core.unsent_bytes >= least:
                     it.core.send()
             except CoreFault as why:
                 self.begin_anew(it, why)
@@ -284,7 +292,7 @@ class Cores:
         asking = Asking(row, filters_alone)
         for it in self.shares:
             asking.put(it)
-        self.settle()
+        self.settle(0)
         return asking
 
     def heard(self, asking: Asking) -> Said:
@@ -402,9 +410,32 @@ def together(parts: list[Said]) -> Said:
 
 
 def said_by(lines: Iterable[str]) -> Said:
-    return Said(
-        (name, what) for name, _, what in map(str.partition, lines, itertools.repeat(" "))
-    )
+    """(two blanks stand before a name)"""
+    return Said((line[2:].partition(" ")[::2]) for line in lines if line)
+
+
+def changed_lines(before: str, after: str) -> list[str] | None:
+    """Those of the lines that are other ones than before; None where it isn't plain that the others
+    are as they were, and all of the same nodes."""
+    at, found = 0, list[str]()
+    while at < len(after) == len(before):
+        if before[at : at + BLOCK] == after[at : at + BLOCK]:
+            at += BLOCK
+            continue
+        first, last = after.rfind("\n", 0, at) + 1, after.find("\n", at + BLOCK)
+        last = len(after) if last < 0 else last
+        old, new = before[first:last].split("\n"), after[first:last].split("\n")
+        if before[last : last + 1] != after[last : last + 1] or [*map(name_of, old)] != [
+            *map(name_of, new)
+        ]:
+            return None
+        found += [line for line, was in zip(new, old) if line != was]
+        at = last + 1
+    return found if len(after) == len(before) else None
+
+
+def name_of(line: str) -> str:
+    return line[2:].partition(" ")[0]
 
 
 def spent(pid: int) -> float:

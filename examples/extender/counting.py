@@ -2,6 +2,7 @@
 """What is counted, in Prometheus' form."""
 from __future__ import annotations
 
+import functools
 from typing import Callable, Mapping
 
 from prometheus_client import CollectorRegistry, Counter, Gauge, Histogram, generate_latest
@@ -81,10 +82,18 @@ class Counting:
             for result in ("answered", "error", "refused"):
                 self.requests.labels(verb, result)
         self.look: Callable[[], None] = lambda: None
+        # (to look up a counter by its labels takes longer than to count)
+        self.requests_of = functools.cache(self.requests.labels)
+        self.seconds_of = functools.cache(self.seconds.labels)
+        self.verdicts_of = functools.cache(self.verdicts.labels)
 
     def count(self, verdicts: Mapping[tuple[str, str], int]) -> None:
         for (rule, answer), count in verdicts.items():
-            self.verdicts.labels(rule, answer).inc(count)
+            self.verdicts_of(rule, answer).inc(count)
+
+    def answer(self, verb: str, result: str, seconds: float) -> None:
+        self.requests_of(verb, result).inc()
+        self.seconds_of(verb).observe(seconds)
 
     def text(self) -> bytes:
         self.look()

@@ -10,6 +10,7 @@ NAME:WEIGHT:FUEL:FILE. The README.md beside this says how to use it.
 from __future__ import annotations
 
 import argparse
+import gc
 import itertools
 import json
 import logging
@@ -245,6 +246,8 @@ def main() -> None:
         given.listen[1],
         " by TLS" if given.tls_cert else "",
     )
+    # (what is there by now stays)
+    gc.freeze()
     stop.wait()
     end(service, server)
 

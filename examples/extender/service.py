@@ -13,7 +13,7 @@ from typing import Callable, NamedTuple
 from core import CoreFault
 from watch import DEAF
 
-from answers import Counts, Maps, Sorted, Words, fault, faulty, filtered
+from answers import LARGE, Counts, Filtered, Maps, Scored, Words, fault, faulty, filtered
 from cores import Asking, Cores, Said, nothing
 from counting import Counting
 from knowing import Knowing
@@ -28,8 +28,6 @@ KEPT, LOOK = 64, 1.0
 # quickly the one before is told of between the two. And for how long behind a prioritize a filter
 # asks for the next one's scores too.
 FILTER, PRIORITIZE, AHEAD = 0.0, 1.0, 60.0
-# Up to how many bytes a filter's answer is kept as it is sent.
-LARGE = 2**18
 # For how long nobody may have looked, in seconds, before this process is held to do nothing.
 SILENCE = 60.0
 # The least seconds between two lines of the log that say the same kind of thing.
@@ -111,31 +109,37 @@ class Service:
 
     def filter(self, body: bytes) -> Reply:
         try:
-            asked = read(body)
+            asked = read(body, self.rows.kept)
             self.look_at_age()
-            row = self.rows.row(asked.pod)
+            row = self.rows.row(asked)
             said = self.said(row, True, FILTER)
-            found, body = self.answered(asked, said)
+            answer = self.answered(asked, said)
         except Bad as why:
             return Reply(400, fault(str(why)), "refused")
         except (Untold, Unknown, CoreFault) as why:
             return self.no_answer(200, str(why))
-        if found.faults and not self.ways.rejects:
-            return self.no_answer(200, faulty(found))
+        if answer.found.faults and not self.ways.rejects:
+            self.counting.count(answer.found.counts)
+            return self.no_answer(200, faulty(answer.found))
+        then = functools.partial(self.behind, row, answer)
+        return Reply(200, answer.body, "answered", self.age(), then)
+
+    def behind(self, row: Row, answer: Filtered) -> None:
+        """What is done once a filter's answer is sent."""
+        self.counting.count(answer.found.counts)
         # (wsched works while kube-scheduler does, which asks about one node no more)
-        is_next = len(found.passed) > 1 and time.monotonic() < self.ahead
-        reply = Reply(200, body, age=self.age())
-        return reply._replace(then=functools.partial(self.ask_ahead, row)) if is_next else reply
+        if len(answer.found.passed) > 1 and time.monotonic() < self.ahead:
+            self.ask_ahead(row, answer)
 
     def prioritize(self, body: bytes) -> Reply:
         """(it has no field for an error, and a status that is none of success has all nodes alike)
         """
         try:
-            asked = read(body)
+            asked = read(body, self.rows.kept)
             self.look_at_age()
             self.ahead = time.monotonic() + AHEAD
-            row = self.rows.row(asked.pod)
-            found = self.words.scores(asked.names, self.said(row, False, PRIORITIZE))
+            row = self.rows.row(asked)
+            found = self.scored(asked, self.said(row, False, PRIORITIZE))
             self.tell_faults(found.faults)
             return Reply(200, found.body, age=self.age())
         except Bad as why:
@@ -178,12 +182,19 @@ class Service:
                 del self.kept[key]
                 raise
 
-    def ask_ahead(self, row: Row) -> None:
-        """Has wsched asked for the scores, which are heard when a prioritize asks for them."""
+    def ask_ahead(self, row: Row, answer: Filtered) -> None:
+        """Asks wsched for the scores, and has what a prioritize of the nodes that passed will be
+        answered."""
         with self.cores.lock:
             key = self.key(row, False)
-            if not self.good(key, FILTER):
-                self.ask(key, row)
+            kept = self.good(key, FILTER) or self.ask(key, row)
+            try:
+                said = self.cores.heard(kept.asking)
+            except CoreFault:
+                # (the prioritize tries again, and tells it)
+                return
+        if answer.passed:
+            self.words.make_ready(answer.found.passed, answer.passed, said)
 
     def is_steady(self, filters_alone: bool) -> bool:
         return self.ways.steady_filters if filters_alone else self.ways.steady
@@ -208,18 +219,28 @@ class Service:
             self.kept.popitem(last=False)
         return kept
 
-    def answered(self, asked: Question, said: Said) -> tuple[Sorted, bytes]:
+    def answered(self, asked: Question, said: Said) -> Filtered:
         """What a filter is answered; as it was answered last where the same nodes were asked about,
         in whatever order, and all of them are said."""
         assert self.knowing
-        names, last = frozenset(asked.names), said.last
-        if not last or last[0] != names or asked.nodes is not None:
-            found = self.words.sort(asked.names, said, self.knowing.nodes.unsaid)
-            last = names, found, filtered(found, asked.nodes, self.ways.maps)
-            if asked.nodes is None and not found.strange and len(last[2]) <= LARGE:
-                said.last = last
-        self.counting.count(last[1].counts)
-        return last[1], last[2]
+        last: Filtered | None = said.filtered
+        if last and asked.nodes is None and asked.is_of(last.asked):
+            return last
+        found = self.words.sort(asked.names, said, self.knowing.nodes.unsaid)
+        answer = filtered(frozenset(asked.names), found, asked.nodes, self.ways.maps)
+        if asked.nodes is None and not found.strange and len(answer.body) <= LARGE:
+            said.filtered = answer
+        return answer
+
+    def scored(self, asked: Question, said: Said) -> Scored:
+        """What a prioritize is answered; as was made ready for the same names, where it was."""
+        spelled, ready = said.scored
+        answer: Scored = (
+            ready
+            if ready and asked.spelled and spelled == asked.spelled.names
+            else self.words.scores(asked.names, said)
+        )
+        return answer
 
     # How old what is known is.
 

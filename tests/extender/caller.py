@@ -101,15 +101,14 @@ class Caller:
     def ask(
         self, verb: str, one: Thing, names: Sequence[str], nodes: Optional[Sequence[Thing]] = None
     ) -> tuple[int, Any]:
-        """A question as kube-scheduler asks it; with whole nodes where they are given."""
+        """A question as kube-scheduler spells it; with whole nodes where they are given."""
         asked = {
             "Pod": one,
             "Nodes": None if nodes is None else {"metadata": {}, "items": nodes},
             "NodeNames": names if nodes is None else None,
         }
-        status, said = self.send(
-            "POST", f"/{verb}", json.dumps(asked), **{"Content-Type": "application/json"}
-        )
+        body = json.dumps(asked, separators=(",", ":"))
+        status, said = self.send("POST", f"/{verb}", body, **{"Content-Type": "application/json"})
         return status, json.loads(said)
 
     def metrics(self) -> dict[str, float]:
@@ -210,6 +209,7 @@ def pod(name: str, labels: Optional[Thing] = None, **spec: Any) -> Thing:
         "namespace": "default",
         "uid": f"uid-of-{name}",
         "resourceVersion": "7",
+        "creationTimestamp": "2026-11-01T00:00:00Z",
         "labels": labels or {},
     }
     return {

@@ -311,6 +311,26 @@ def bodies(site: Site) -> str:
         '{"Pod":{"metadata":[]}}': "metadata",
         '{"Pod":{"metadata":{},"spec":{"containers":7}},"NodeNames":[]}': "",
     }
+    # (and as kube-scheduler spells it, behind an empty list that is kept)
+    start = json.dumps({"Pod": pod("one")}, separators=(",", ":"))[:-1]
+    wrong[f'{start},"Nodes":null,"NodeNames":[]}}'] = ""
+    wrong |= {
+        f'{start},"Nodes":null,"NodeNames":{names}}}': why
+        for names, why in (
+            ("[1]", "NodeNames is no array of texts"),
+            ("[x]", "the body is no JSON"),
+            ('["a",]', "the body is no JSON"),
+            ('["a""b"]', "the body is no JSON"),
+            ('["a\\"]', "the body is no JSON"),
+            ('["a\\u0062"]', ""),
+            ('["a"],"NodeNames":["b"]', "a member twice"),
+        )
+    }
+    wrong |= {
+        f'{start[:-1]},"Nodes":null,"NodeNames":["a"]}}}}': "neither NodeNames nor Nodes",
+        f'{start[:-2]},"Nodes":null,"NodeNames":["a"]}}': "the body is no JSON",
+        '{"Pod":[],"Nodes":null,"NodeNames":["a"]}': "Pod is no object",
+    }
     for body, why in wrong.items():
         status, said = running.caller.send("POST", "/filter", body)
         assert status == (400 if why else 200) and why in json.loads(said).get(
@@ -705,7 +725,7 @@ def moved(site: Site) -> str:
     """Where few nodes and pods have room in one wsched: nodes and pods come, change and go by
     chance, and after some each wsched has as used what there is, has no more than its room, and
     answers by that; no line is refused."""
-    cores.NODES, cores.PLACES = 4, 9
+    cores.NODES, cores.PLACES, cores.BLOCK = 4, 9, 16
     own = cores.Cores(site.programs.wsched, 1, [PREFER], lambda why: None)
     own.start(own.shares[0])
     row = Row("asked", '"containers":[["1m","1"]],"labels":[["wished-zone","a"]]')
