@@ -29,7 +29,7 @@ _wsched() {
     local cur=${COMP_WORDS[COMP_CWORD]} prev=${COMP_WORDS[COMP_CWORD - 1]} command=${COMP_WORDS[1]} options=
     COMPREPLY=()
     if [ "$COMP_CWORD" = 1 ]; then
-        _wsched_options "run explain storm check translate version" "$cur"
+        _wsched_options "run explain storm check translate live version" "$cur"
         return
     fi
     case $prev in
@@ -39,12 +39,13 @@ _wsched() {
         run | explain) options=--workers ;;
         storm) options="--cycles --binders --flaky" ;;
         translate) options="--scheduler --labels --by-uid --answers" ;;
+        live) options="--scheduler --labels" ;;
         check) _wsched_modules "$cur" file; return ;;
         *) return ;;
     esac
     case $cur in
         -*) _wsched_options "$options" "$cur" ;;
-        *) [ "$command" = translate ] || _wsched_modules "$cur" spec ;;
+        *) [ "$command" = translate ] || [ "$command" = live ] || _wsched_modules "$cur" spec ;;
     esac
 }
 

@@ -26,6 +26,7 @@ _wsched() {
         'storm:have many threads work off a script, and audit what they come to'
         'check:say whether a module would be accepted'
         'translate:objects of the Kubernetes API as lines of a script'
+        'live:which binds may be asked for'
         'version:name, version and kit'
     )
     local rules=('--rules[a file of rules and settings]:file:_files') cluster=(
@@ -73,6 +74,7 @@ _wsched() {
                 run | explain) _arguments '--workers[how many share a decision]:number:' '*:plugin:_wsched_spec' ;;
                 storm)
                     _arguments '--cycles[threads that make cycles]:number:' '--binders[threads that bind]:number:' '--flaky[every third bind fails]' '*:plugin:_wsched_spec' ;;
+                live) _arguments '--scheduler[whose pods]:name:' '--labels[labels that rules read]:keys:' ;;
                 check) _arguments '1:module:_files -g "*.wasm"' ;;
                 translate) _arguments '--scheduler[whose pods]:name:' '--labels[labels that rules read]:keys:' '--by-uid[call pods by their uid]' '--answers[an object for each]' ;;
             esac ;;
