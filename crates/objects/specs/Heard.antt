@@ -1,7 +1,7 @@
 -- What an object of the API, or an event of its watch, tells as of the object's own version: what a
 -- script's line tells of it; and of a pod that has no node and that no script is told of, that it
 -- is there.
-use Rattle.std.specs.Prelude.{ℕ, Bool, true, false, not, ◌&&◌, nat_le, List, [], ◌∷◌, codes, bytes_eq, Option, Some, None, Result, Ok, Err, is_some, if◌then◌else◌}
+use Rattle.std.specs.Prelude.{ℕ, Bool, true, false, not, ◌&&◌, ◌||◌, nat_le, List, [], ◌∷◌, codes, bytes_eq, Option, Some, None, Result, Ok, Err, is_some, if◌then◌else◌}
 use Rattle.std.specs.Option.{ok_or}
 use Rattle.serde_json.specs.Data.{Data}
 use Rattle.quant.specs.Amount.{is_digits, number}
@@ -19,7 +19,7 @@ use Rattle.objects.specs.Quantity.{◌>>=◌}
 use Rattle.objects.specs.Reading.{field}
 use Rattle.objects.specs.Field.{text_at, name_at, spelled}
 use Rattle.objects.specs.Site.{Site}
-use Rattle.objects.specs.Told.{in_metadata, has_ended, node_name, kind_of, value_told}
+use Rattle.objects.specs.Told.{in_metadata, has_ended, node_name, kind_of, is_bookmark, value_told}
 
 -- the version of an object, which is told as a number (the page "Kubernetes API Concepts", on
 -- resource versions)
@@ -41,9 +41,13 @@ held_or json (Some held) = held
 unfoldable pub object_in : Data → Data
 object_in json = held_or json (field keys.Object json)
 
--- an event that says that its object is gone
-unfoldable pub is_deletion : Data → Bool
-is_deletion json = is_some (field keys.Object json) && bytes_eq (spelled keys.EventType json) (codes "DELETED")
+-- an event that shows no object that is there: a deletion, or a bookmark, whose object is one of its
+-- kind without a name
+abbrev pub is_none_type : (type : List ℕ) → Bool
+is_none_type type = bytes_eq type (codes "DELETED") || is_bookmark type
+
+unfoldable pub shows_none : Data → Bool
+shows_none json = is_some (field keys.Object json) && is_none_type (spelled keys.EventType json)
 
 -- a pod that is there, and has no node
 
@@ -80,7 +84,7 @@ event_heard (Some event) = Event event
 
 abbrev pub heard_by : Version → (json : Data) → Option quant.Event → Result Heard ObjectFault
 heard_by version json event =
-    if not (is_row event) && not (is_deletion json) && is_waiting (object_in json)
+    if not (is_row event) && not (shows_none json) && is_waiting (object_in json)
     then (do
       uid ← in_metadata (name_at keys.Uid) (object_in json)
       Ok (Withheld version uid))

@@ -3,7 +3,7 @@ ghost use Rattle.std.specs.Prelude.{◌≡◌, ◌<◌, ◌^◌, length, Ok, opt
 ghost use Rattle.std.specs.List.{list_all};
 ghost use Rattle.quant.specs.Amount.{is_digit, number};
 ghost use Rattle.serde_json.specs.View.{view};
-ghost use Rattle.objects.specs.Heard.{a_version, version_in, object_in, is_deletion, has_no_node, is_waiting, is_row, heard_by, heard_of, heard};
+ghost use Rattle.objects.specs.Heard.{a_version, version_in, object_in, is_none_type, shows_none, has_no_node, is_waiting, is_row, heard_by, heard_of, heard};
 ghost use Rattle.objects.specs.Reading.{Answers};
 ghost use Rattle.objects.specs.Sayable.{IsVersion};
 ghost use Rattle.objects.specs.Site.{site_of};
@@ -81,7 +81,7 @@ fn heard_by(version: Version, json: &Value, event: Option<Event>) -> Result<Hear
     ensures { Answers result (heard_by version (view json.now) event) }
 {
     let object = object_in(json);
-    if !is_row(&event) && !is_deletion(json) && is_waiting(object)? {
+    if !is_row(&event) && !shows_none(json) && is_waiting(object)? {
         let uid = uid_of(object)?;
         return Ok(Heard::Withheld { version, uid });
     }
@@ -109,12 +109,20 @@ fn object_in(json: &Value) -> &Value
     }
 }
 
-// Whether an event says that its object is gone.
-#[tactic(auto, unfolding(crate::specs::Heard::is_deletion))]
-fn is_deletion(json: &Value) -> bool
-    ensures { result ≡ is_deletion (view json.now) }
+// Whether an event shows no object that is there: it says that one is gone, or is a bookmark, whose
+// object is one of its kind without a name.
+#[tactic(auto, unfolding(crate::specs::Heard::shows_none))]
+fn shows_none(json: &Value) -> bool
+    ensures { result ≡ shows_none (view json.now) }
 {
-    field(json, Key::Object).is_some() && spelled(json, Key::EventType) == "DELETED"
+    field(json, Key::Object).is_some() && is_none_type(spelled(json, Key::EventType))
+}
+
+// Whether an event of this type shows none.
+fn is_none_type(kind: &str) -> bool
+    ensures { result ≡ is_none_type kind.now }
+{
+    matches!(kind, "DELETED" | "BOOKMARK")
 }
 
 // Whether an object is a pod that hasn't ended and has no node.
