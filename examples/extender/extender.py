@@ -17,8 +17,8 @@ import logging
 import os
 import pathlib
 import signal
+import socket
 import sys
-import threading
 import time
 from typing import Any
 
@@ -231,9 +231,13 @@ def main() -> None:
     for it in (command(given.wsched, given.workers, given.spec), words_of(given.wsched, WHO)):
         if wrong := try_on_nothing(it):
             sys.exit(f"extender.py: wsched {it[1]}: {wrong}")
-    stop = threading.Event()
+    # A signal may come to any thread, and wakes the main one only where it waits for a byte that the
+    # handler below Python writes: from an `Event` it wouldn't wake until something else does.
+    stops, stop = socket.socketpair()
+    stop.setblocking(False)
+    signal.set_wakeup_fd(stop.fileno(), warn_on_full_buffer=False)
     for number in (signal.SIGTERM, signal.SIGINT, signal.SIGHUP):
-        signal.signal(number, lambda *_: stop.set())
+        signal.signal(number, lambda *_: None)
     try:
         service, server = begin(given, calls_by(given.kubeconfig, 4))
     except (NoAccount, CoreFault) as why:
@@ -248,7 +252,7 @@ def main() -> None:
     )
     # (what is there by now stays)
     gc.freeze()
-    stop.wait()
+    stops.recv(1)
     end(service, server)
 
 
