@@ -17,8 +17,8 @@ import logging
 import os
 import pathlib
 import signal
-import socket
 import sys
+import threading
 import time
 from typing import Any
 
@@ -33,6 +33,7 @@ from tools.wasm_sections import has_filter, has_score, is_steady, module_of, rea
 
 import rule_labels
 import serving
+import signals
 import site_settings
 from affinity import NodeLabels
 from core import CoreFault, command, try_on_nothing
@@ -231,13 +232,8 @@ def main() -> None:
     for it in (command(given.wsched, given.workers, given.spec), words_of(given.wsched, WHO)):
         if wrong := try_on_nothing(it):
             sys.exit(f"extender.py: wsched {it[1]}: {wrong}")
-    # A signal may come to any thread, and wakes the main one only where it waits for a byte that the
-    # handler below Python writes: from an `Event` it wouldn't wake until something else does.
-    stops, stop = socket.socketpair()
-    stop.setblocking(False)
-    signal.set_wakeup_fd(stop.fileno(), warn_on_full_buffer=False)
-    for number in (signal.SIGTERM, signal.SIGINT, signal.SIGHUP):
-        signal.signal(number, lambda *_: None)
+    stop = threading.Event()
+    signals.hear({it: stop.set for it in (signal.SIGTERM, signal.SIGINT, signal.SIGHUP)})
     try:
         service, server = begin(given, calls_by(given.kubeconfig, 4))
     except (NoAccount, CoreFault) as why:
@@ -252,7 +248,7 @@ def main() -> None:
     )
     # (what is there by now stays)
     gc.freeze()
-    stops.recv(1)
+    stop.wait()
     end(service, server)
 
 

@@ -30,6 +30,7 @@ from tools.wasm_sections import reasons_by_name
 import lease
 import rule_labels
 import serving
+import signals
 import share
 import site_settings
 from binding import LANDS
@@ -150,9 +151,7 @@ class Replica:
         self.health, self.metrics, self.stop = Health(), Metrics(given.scheduler), threading.Event()
         self.running: Scheduler | None = None
         self.lease: lease.Lease | None = None
-        for it in (signal.SIGTERM, signal.SIGINT, signal.SIGHUP):
-            signal.signal(it, lambda *_: self.end())
-        signal.signal(signal.SIGUSR1, lambda *_: self.audit())
+        signals.hear({signal.SIGTERM: self.end, signal.SIGINT: self.end, signal.SIGHUP: self.end, signal.SIGUSR1: self.audit})
         if given.listen:
             try:
                 serving.serve(given.listen, self.health, self.metrics, serving.Files(given.tls_cert, given.tls_key, given.token_file))
