@@ -3,9 +3,10 @@
 
     measure.py PROGRAM FOLDER [ROUNDS [OTHER]]
     measure.py --site PROGRAM ROUNDS [OTHER]
+    measure.py --sites PROGRAM ROUNDS
 
 FOLDER has the plugin loop.wasm, and room for scripts. OTHER is another build of the program, whose cycles by one worker are compared
-with PROGRAM's; with --site a site's with rules that ship are, and nothing else.
+with PROGRAM's; with --site a site's with rules that ship are, and nothing else; with --sites whole runs of several sites.
 
 A span is a number of cycles that are handed to the program at once, when it has answered everything before; it answers once it
 has done them all. So a span is the reading of its lines, the cycles, and the writing of their answers, and nothing else. It is
@@ -120,8 +121,8 @@ def rules(names):
     return [f"{it}:1:500000:{PLUGINS}/{it}.wasm" for it in names]
 
 
-def site_lines(pods):
-    return [*site_script.nodes(), *site_script.pods(pods)]
+def site_lines(pods, site=site_script.SITES["usual"]):
+    return [*site_script.nodes(site), *site_script.pods(site, pods)]
 
 
 def whole(program, path):
@@ -255,11 +256,32 @@ def sites(program, _folder, rounds, other=None):
             compared(times, found[other, tuple(names)])
 
 
+def other_sites(program, _folder, rounds):
+    """A pod of 10,000 at sites that nobody had in mind: the processor time of a whole run by the rules, and of one without."""
+    for name, site in site_script.SITES.items():
+        lines = [*site_lines(10_000, site)]
+        text = "".join(f"{it}\n" + ('{"op":"cycle"}\n' if it.startswith('{"op":"pod"') else "") for it in lines).encode()
+        least = [min(used(program, words, text) for _ in range(rounds)) for words in (rules(site.rules), [])]
+        what = f"a pod of 10,000 at the site {name}: {site.nodes} nodes, {site.kinds} deployments, by {', '.join(site.rules)}"
+        row(what, f"{least[0] / 10:.3f} ms; without rules {least[1] / 10:.3f}")
+
+
+def used(program, words, text):
+    """The processor time of a run, in seconds."""
+    before = resource.getrusage(resource.RUSAGE_CHILDREN)
+    subprocess.run([program, "run", *words], input=text, stdout=subprocess.DEVNULL, check=True)
+    after = resource.getrusage(resource.RUSAGE_CHILDREN)
+    return after.ru_utime + after.ru_stime - before.ru_utime - before.ru_stime
+
+
 def main():
     print("| What | Figure | Target |\n|---|---|---|")
     if sys.argv[1] == "--site":
         program, rounds, *other = sys.argv[2:]
         sites(program, None, int(rounds), *other)
+        return
+    if sys.argv[1] == "--sites":
+        other_sites(sys.argv[2], None, int(sys.argv[3]))
         return
     program, folder = sys.argv[1:3]
     rounds = int(sys.argv[3]) if len(sys.argv) > 3 else 5
