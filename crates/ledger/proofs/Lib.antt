@@ -7,3 +7,4 @@ pub mod Ends
 pub mod Worlds
 pub mod Counting
 pub mod Grants
+pub mod Keeping

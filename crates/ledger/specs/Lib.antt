@@ -4,5 +4,6 @@ pub mod Lists
 pub mod Hearing
 pub mod Told
 pub mod Laws
+pub mod Keeping
 pub mod World
 pub mod inside

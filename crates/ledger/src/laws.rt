@@ -1,4 +1,5 @@
 //! What holds of every history. The functions do nothing: their contracts are the laws.
+ghost use Rattle.ledger.specs.Keeping.{EachIsKept};
 ghost use Rattle.ledger.specs.Laws.{AlwaysCountsOnce, GrantsAreRight};
 ghost use Rattle.ledger.specs.World.{NeverOverfull};
 
@@ -12,6 +13,13 @@ pub fn each_pod_counts_once()
 /// heard, and the node is there and has room beside all that counts on it; and nowhere else.
 pub fn grants_are_right()
     ensures { GrantsAreRight }
+{}
+
+/// A pod that is told is known from then on, but where it is answered that there is no room for it,
+/// until it ends. What waits is bound by a grant alone; a bind is over once its pod has a node, or a
+/// read of that bind finds that it has none; and nothing takes its node from a pod.
+pub fn each_pod_is_kept()
+    ensures { EachIsKept }
 {}
 
 /// However late the server's changes are told, whichever binds land or don't, and however often the
