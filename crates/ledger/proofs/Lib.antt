@@ -8,3 +8,4 @@ pub mod Worlds
 pub mod Counting
 pub mod Grants
 pub mod Keeping
+pub mod OneAnswer

@@ -3,7 +3,7 @@ use Rattle.std.proofs.Common.{◌≡◌, ◌⊎◌, inl, inr, ℕ, ◌+◌, ◌<
 use Rattle.std.specs.Prelude.{if◌then◌else◌}
 use Rattle.std.specs.Str.{bytes_eq}
 use Rattle.std.specs.Cmp.Lexicographic.{nat_list_cmp_total, bytes_decides}
-use Rattle.std.specs.FinMap.{get, get-remove}
+use Rattle.std.specs.FinMap.{get, len, get-remove}
 use Rattle.std.proofs.lemmas.Bool.Decides.{nat_tests, eqb_tells}
 use Rattle.std.proofs.lemmas.Bool.{cases_Bool}
 use Rattle.name_table.proofs.SlotLemmas.{slot_with, within}
@@ -30,6 +30,7 @@ module _ {X Y R : Type 0} (side : Side X Y R) where
     pub earlier : (j : ℕ) → j < i → IsNamedIn side lists j now
     pub rest : side.rest left ≡ side.rest book
     pub version : left.version ≤ book.version + i
+    pub counted : left.version + len (side.table left) ≡ book.version + len (side.table book)
 
   pub begun : (lists : ℕ) (old : Slots X) (book : Cluster) → NamesOnce old → SoFar lists 0 old old book book
   begun lists old book once = record {
@@ -39,6 +40,7 @@ module _ {X Y R : Type 0} (side : Side X Y R) where
     earlier = λ j lt. absurd (omega arith);
     rest = refl;
     version = omega arith;
+    counted = refl;
   }
 
   -- an object that is taken out
@@ -67,8 +69,8 @@ module _ {X Y R : Type 0} (side : Side X Y R) where
     | inr other ↦ was j (omega (arith, other.1)) f (sym (ap (λ s. entry_in s j) out.slots ∙ get_or-set_other now i j None None other.1) ∙ is)
   ]
 
-  pub one_more : (lists i : ℕ) (old now new : Slots X) (book left next : Cluster) → SoFar lists i old now book left → IsSlotSwept side lists i now new left next → length new ≡ length now → NamesOnce new → next.version ≤ left.version + 1 → SoFar lists (i + 1) old new book next
-  one_more lists i old now new book left next s out room once version = elim out [
+  pub one_more : (lists i : ℕ) (old now new : Slots X) (book left next : Cluster) → SoFar lists i old now book left → IsSlotSwept side lists i now new left next → length new ≡ length now → NamesOnce new → next.version ≤ left.version + 1 → next.version + len (side.table next) ≡ left.version + len (side.table left) → SoFar lists (i + 1) old new book next
+  one_more lists i old now new book left next s out room once version counted = elim out [
     | inl same ↦ record {
       room = room ∙ s.room;
       once = once;
@@ -76,6 +78,7 @@ module _ {X Y R : Type 0} (side : Side X Y R) where
       earlier = λ j lt. subst (λ p. IsNamedIn side lists j p) (sym same.1) (elim (eqb_tells j i) [ inl at ↦ subst (λ k. IsNamedIn side lists k now) (sym at.1) same.0 | inr other ↦ s.earlier j (omega (arith, other.1)) ]);
       rest = ap side.rest same.2 ∙ s.rest;
       version = omega (arith, s.version, version);
+      counted = counted ∙ s.counted;
     }
     | inr gone ↦ record {
       room = room ∙ s.room;
@@ -84,6 +87,7 @@ module _ {X Y R : Type 0} (side : Side X Y R) where
       earlier = earlier_out lists i gone.0 now new gone.1 s.earlier;
       rest = gone.2.rest ∙ s.rest;
       version = omega (arith, s.version, version);
+      counted = counted ∙ s.counted;
     }
   ]
 
@@ -93,6 +97,7 @@ module _ {X Y R : Type 0} (side : Side X Y R) where
     known = λ name. by name (get (map_of old) name) refl (s.each name);
     standing = λ name. counts name (get (map_of old) name) refl (s.each name);
     rest = s.rest;
+    version = s.counted;
   }
     where
       named : (name : List ℕ) (k : X) → get (map_of now) name ≡ Some k → side.list k ≡ lists

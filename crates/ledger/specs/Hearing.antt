@@ -1,5 +1,5 @@
 -- What is heard of each kind, and what ends with a list.
-use Rattle.std.specs.Prelude.{◌≡◌, ◌≤◌, ◌+◌, Bool, true, false, not, ◌&&◌, ◌||◌, ◌==◌, if◌then◌else◌}
+use Rattle.std.specs.Prelude.{◌≡◌, ℕ, ◌≤◌, ◌<◌, ◌+◌, Bool, true, false, not, ◌&&◌, ◌||◌, ◌==◌, if◌then◌else◌}
 use Rattle.ledger.specs.declared.event.Answer.{Answer}
 use Rattle.ledger.specs.declared.event.Answer.TheVariants.{Told, Old, Full}
 use Rattle.ledger.specs.declared.event.Kind.{Kind}
@@ -72,7 +72,7 @@ pub record PodsEnd (old new : State) : Type 0 where
   pub rested : new.rested ≡ old.rested
   pub left_out : new.left_out ≡ record { any = are_left_out old; list = old.left_out.list }
 
--- a list ended, and what it left: nothing else says what became of a version of the book
+-- a list ended, and what it left
 abbrev pub HasEnded : Kind → State → State → Type 0
 HasEnded Nodes old new = NodesEnd old new
 HasEnded Pods old new = PodsEnd old new
@@ -82,14 +82,19 @@ pub record NoneEnds (kind : Kind) (old new : State) : Type 0 where
   pub none : (heard old kind).listing ≡ false
   pub same : new ≡ old
 
+-- the last version of the book at which a list may end: there are fewer objects than versions behind
+abbrev pub last_end : ℕ
+last_end = 18446744073707551615
+
 -- the book has no versions left for what it would take away
 pub record NoneLeft (kind : Kind) (old new : State) : Type 0 where
   pub listing : (heard old kind).listing ≡ true
-  pub late : 18446744073707551615 ≤ old.cluster.version
+  pub late : last_end < old.cluster.version
   pub same : new ≡ old
 
 pub record EndsList (kind : Kind) (old new : State) : Type 0 where
   pub listing : (heard old kind).listing ≡ true
+  pub early : old.cluster.version ≤ last_end
   pub ended : HasEnded kind old new
 
 -- a list ends

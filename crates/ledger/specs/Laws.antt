@@ -67,3 +67,7 @@ pub record IsGrantRight (s : State) (uid node : Name) (answer : Answer) : Type 0
 
 abbrev pub GrantsAreRight : Type 0
 GrantsAreRight = (s s' : State) (uid node : Name) (answer : Answer) → EachCountsOnce s → IsTold s (Bind uid node) answer s' → IsGrantRight s uid node answer
+
+-- each event has one answer, and there is one state after it
+abbrev pub OneAnswer : Type 0
+OneAnswer = (s one other : State) (event : Event) (answer also : Answer) → IsTold s event answer one → IsTold s event also other → (answer ≡ also) × (one ≡ other)

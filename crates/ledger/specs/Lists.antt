@@ -1,6 +1,6 @@
 -- What the end of a list says of what it didn't name.
-use Rattle.std.specs.Prelude.{◌≡◌, ℕ, Bool, true, false, not, ◌||◌, ◌==◌, List, Option, None, Some, if◌then◌else◌}
-use Rattle.std.specs.FinMap.{FinMap, get}
+use Rattle.std.specs.Prelude.{◌≡◌, ℕ, ◌+◌, Bool, true, false, not, ◌||◌, ◌==◌, List, Option, None, Some, if◌then◌else◌}
+use Rattle.std.specs.FinMap.{FinMap, get, len}
 use Rattle.book.specs.Cluster.{name_cmp, Cluster, Nodes, Places}
 use Rattle.book.specs.declared.limits.Limits.{Limits}
 use Rattle.book.specs.declared.place.Place.{Place}
@@ -46,3 +46,5 @@ module _ {X Y R : Type 0} (side : Side X Y R) (lists : ℕ) where
     pub known : (name : List ℕ) → get new name ≡ (if is_named (get old name) then get old name else None)
     pub standing : (name : List ℕ) → get (side.table left) name ≡ (if is_left (get old name) then get (side.table book) name else None)
     pub rest : side.rest left ≡ side.rest book
+    -- the book has one version more for each that is gone
+    pub version : left.version + len (side.table left) ≡ book.version + len (side.table book)

@@ -1,6 +1,6 @@
 //! What holds of every history. The functions do nothing: their contracts are the laws.
 ghost use Rattle.ledger.specs.Keeping.{EachIsKept};
-ghost use Rattle.ledger.specs.Laws.{AlwaysCountsOnce, GrantsAreRight};
+ghost use Rattle.ledger.specs.Laws.{AlwaysCountsOnce, GrantsAreRight, OneAnswer};
 ghost use Rattle.ledger.specs.World.{NeverOverfull};
 
 /// Whatever was told, in whatever order: each pod counts on the one node that was told last, or
@@ -20,6 +20,12 @@ pub fn grants_are_right()
 /// read of that bind finds that it has none; and nothing takes its node from a pod.
 pub fn each_pod_is_kept()
     ensures { EachIsKept }
+{}
+
+/// What is answered depends on what was told before, and on nothing else: each event has one
+/// answer, and leads to one state.
+pub fn one_answer()
+    ensures { OneAnswer }
 {}
 
 /// However late the server's changes are told, whichever binds land or don't, and however often the

@@ -22,5 +22,7 @@ mod tables;
 
 pub use event::{Answer, Event, Kind, Outcome, Said};
 pub use known::{Asking, Heard, Known, Seen, Stage};
-pub use laws::{each_pod_counts_once, each_pod_is_kept, grants_are_right, never_overfull};
+pub use laws::{
+    each_pod_counts_once, each_pod_is_kept, grants_are_right, never_overfull, one_answer,
+};
 pub use ledger::Ledger;

@@ -39,6 +39,7 @@ fn sweep_pod_slot(book: &mut Book, pods: &mut NameTable<Known>, slot: usize, lis
     ensures room { length pods.new ≡ length pods.old }
     ensures once { NamesOnce pods.new }
     ensures version { book.new.version ≤ book.old.version + 1 }
+    ensures counted { book.new.version + fin.len book.new.places ≡ book.old.version + fin.len book.old.places }
 {
     if let Some(entry) = take_unnamed_pod(pods, slot, lists) {
         if !matches!(entry.value.stage, Stage::Waits(_)) {
@@ -88,6 +89,7 @@ fn sweep_node_slot(book: &mut Book, nodes: &mut NameTable<Seen>, slot: usize, li
     ensures room { length nodes.new ≡ length nodes.old }
     ensures once { NamesOnce nodes.new }
     ensures version { book.new.version ≤ book.old.version + 1 }
+    ensures counted { book.new.version + fin.len book.new.nodes ≡ book.old.version + fin.len book.old.nodes }
 {
     if let Some(entry) = take_unnamed_node(nodes, slot, lists) {
         take_row(book, entry.name);

@@ -81,7 +81,7 @@ pub(crate) fn assume(
 }
 
 /// Takes a pod's place away, if it has one.
-#[tactic(auto, using(crate::proofs::Places::place_gone))]
+#[tactic(auto, using(crate::proofs::Places::place_gone, crate::proofs::Places::place_counted))]
 pub(crate) fn take_place(book: &mut Book, uid: Name)
     requires { book.old.version < 18446744073709551615 }
     ensures places { (other : List ℕ) → fin.get book.new.places other
@@ -90,13 +90,14 @@ pub(crate) fn take_place(book: &mut Book, uid: Name)
     ensures limits { book.new.limits ≡ book.old.limits }
     ensures ticket { book.new.ticket ≡ book.old.ticket }
     ensures version { book.new.version ≤ book.old.version + 1 }
+    ensures counted { book.new.version + fin.len book.new.places ≡ book.old.version + fin.len book.old.places }
 {
     let version = next_version(book);
     take(book, Event::PodGone { version, uid });
 }
 
 /// Takes a node's row away, if it is there.
-#[tactic(auto, using(crate::proofs::Places::row_gone))]
+#[tactic(auto, using(crate::proofs::Places::row_gone, crate::proofs::Places::row_counted))]
 pub(crate) fn take_row(book: &mut Book, name: Name)
     requires { book.old.version < 18446744073709551615 }
     ensures rows { (other : List ℕ) → fin.get book.new.nodes other
@@ -105,6 +106,7 @@ pub(crate) fn take_row(book: &mut Book, name: Name)
     ensures limits { book.new.limits ≡ book.old.limits }
     ensures ticket { book.new.ticket ≡ book.old.ticket }
     ensures version { book.new.version ≤ book.old.version + 1 }
+    ensures counted { book.new.version + fin.len book.new.nodes ≡ book.old.version + fin.len book.old.nodes }
 {
     let version = next_version(book);
     take(book, Event::NodeGone { version, name });
