@@ -1,3 +1,4 @@
 pub mod Kept
 pub mod Going
 pub mod Lived
+pub mod Once

@@ -16,5 +16,5 @@ mod meaning;
 mod order;
 
 pub use field::Field;
-pub use laws::live_counts_once;
+pub use laws::{live_counts_once, one_live_output};
 pub use live_run::{MAX_KNOWN, serve_live};
