@@ -6,7 +6,7 @@ use Rattle.ledger.specs.State.{State}
 use Rattle.ledger.proofs.OneAnswer.{one_answer}
 use Rattle.live.specs.Answer.{answer_text}
 use Rattle.live.specs.Laws.{OneLiveOutput, FrontsBeginIt}
-use Rattle.live.specs.Live.{AreAnswered, IsAnswered, IsBegun, IsWhole, first_state, together}
+use Rattle.live.specs.Live.{AreAnswered, IsAnswered, first_state, together}
 use Rattle.live.specs.Meaning.{meaning}
 use Rattle.live.specs.declared.meaning.Meaning.{Meaning}
 use Rattle.live.specs.declared.meaning.Meaning.TheVariants as means

@@ -11,7 +11,6 @@ pub fn live_counts_once()
 
 /// There is one output of an input, whoever reads it and whenever; and what was written of it before
 /// an early end begins it.
-#[tactic(auto, using(crate::proofs::Once::one_live_output, crate::proofs::Once::fronts_begin))]
 pub fn one_live_output()
     ensures one { OneLiveOutput }
     ensures front { FrontsBeginIt }
