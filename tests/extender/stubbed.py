@@ -291,12 +291,8 @@ def holes(site: Site) -> str:
     return error
 
 
-def bodies(site: Site) -> str:
-    """What is no request: 400 with the reason for a bad body, 411 without its length, 413 above 64
-    MiB, 404 and 405; the connection goes on where it can."""
-    site.node("a")
-    running = Running(site, KEEP).ready()
-    good = json.dumps({"Pod": pod("one"), "NodeNames": ["a"]})
+def wrong_bodies() -> dict[str, str]:
+    """Bodies, and a part of what each is refused for, nothing where it isn't."""
     wrong = {
         "{": "the body is no JSON",
         "[]": "the body is no object",
@@ -331,7 +327,16 @@ def bodies(site: Site) -> str:
         f'{start[:-2]},"Nodes":null,"NodeNames":["a"]}}': "the body is no JSON",
         '{"Pod":[],"Nodes":null,"NodeNames":["a"]}': "Pod is no object",
     }
-    for body, why in wrong.items():
+    return wrong
+
+
+def bodies(site: Site) -> str:
+    """What is no request: 400 with the reason for a bad body, 411 without its length, 413 above 64
+    MiB, 404 and 405; the connection goes on where it can."""
+    site.node("a")
+    running = Running(site, KEEP).ready()
+    good = json.dumps({"Pod": pod("one"), "NodeNames": ["a"]})
+    for body, why in wrong_bodies().items():
         status, said = running.caller.send("POST", "/filter", body)
         assert status == (400 if why else 200) and why in json.loads(said).get(
             "Error", ""
@@ -374,7 +379,7 @@ def bodies(site: Site) -> str:
     refused = running.caller.metrics()[
         'wsched_extender_requests_total{result="refused",verb="filter"}'
     ]
-    return f"{len(wrong)} bodies and 6 heads: {refused:.0f} requests refused"
+    return f"{len(wrong_bodies())} bodies and 6 heads: {refused:.0f} requests refused"
 
 
 def at_once(site: Site) -> str:
