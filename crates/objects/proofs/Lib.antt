@@ -20,3 +20,4 @@ pub mod Names
 pub mod Changes
 pub mod Faults
 pub mod Marks
+pub mod Enough

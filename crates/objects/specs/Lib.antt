@@ -22,4 +22,5 @@ pub mod Standing
 pub mod Shown
 pub mod Translation
 pub mod Heard
+pub mod Enough
 pub mod inside

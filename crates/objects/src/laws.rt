@@ -1,4 +1,6 @@
-//! What holds of each object, whatever it says. The function does nothing: its contract is the law.
+//! What holds of each object, whatever it says. The functions do nothing: their contracts are the
+//! laws.
+ghost use Rattle.objects.specs.Enough.{CountsEnough};
 ghost use Rattle.objects.specs.Shown.{NamesAreTexts};
 
 /// What is left out is named in texts in quotation marks, with a comma and a space before each, in
@@ -7,4 +9,10 @@ ghost use Rattle.objects.specs.Shown.{NamesAreTexts};
 #[tactic(auto, using(crate::proofs::Shown::names_are_texts))]
 pub fn left_out_is_named_in_texts()
     ensures { NamesAreTexts }
+{}
+
+/// What a pod takes of its node is never less than what it asked for while it waited, whatever its
+/// status says by then: so that what a bind was granted for is enough once it is told.
+pub fn what_stands_counts_enough()
+    ensures { CountsEnough }
 {}

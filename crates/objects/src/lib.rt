@@ -61,7 +61,7 @@ pub use change::Change;
 pub use fault::{ObjectFault, QuantityFault};
 pub use heard::{Heard, hear};
 pub use key::Key;
-pub use laws::left_out_is_named_in_texts;
+pub use laws::{left_out_is_named_in_texts, what_stands_counts_enough};
 pub use line::write_line;
 pub use naming::object_name;
 pub use node::allocatable;
