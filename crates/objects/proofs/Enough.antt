@@ -3,6 +3,7 @@ use Rattle.std.proofs.Common.{◌≡◌, ◌⊎◌, inl, inr, ℕ, ◌+◌, ◌^
 use Rattle.std.specs.Prelude.{if◌then◌else◌}
 use Rattle.std.specs.List.{fold}
 use Rattle.std.specs.Option.{ok_or}
+use Rattle.std.proofs.lemmas.Bool.Decides.{nat_tests}
 use Rattle.serde_json.specs.Data.{Data, Items, no_items, item}
 use Rattle.serde_json.specs.Find.{as_array, as_object}
 use Rattle.quant.specs.declared.amount.Cpu.{Cpu}
@@ -21,11 +22,11 @@ use Rattle.objects.specs.declared.resource.Resource.TheVariants as resources
 use Rattle.objects.specs.Quantity.{◌>>=◌}
 use Rattle.objects.specs.Resource.{amount_of}
 use Rattle.objects.specs.Field.{is_given}
-use Rattle.objects.specs.Reading.{field, field_at, under, in_resources, or_else, asked, found_in, cpu_if, memory_if, cpu_in, memory_in}
+use Rattle.objects.specs.Reading.{field, field_at, under, in_resources, or_else, asked, listed_in, found_in, cpu_if, memory_if, cpu_in, memory_in}
 use Rattle.objects.specs.Container.{whole, goes_on, container, count, each, listed, containers, overhead_request}
 use Rattle.objects.specs.PodRequest.{beside_others, peak, effective, request_of_all, by_containers, pod_request}
-use Rattle.objects.specs.Counted.{at_most, larger, counted_cpu, counted_memory, counted_part, is_status_of, status_request, held, counted_going_on, counted_container, counted_items, unread, items_if, statuses, are_few, counted_listed, counted_containers, some_or_unread, counted_as_a_whole, counted_amount, counted}
-use Rattle.objects.specs.Enough.{IsNoMore, CountsEnough}
+use Rattle.objects.specs.Counted.{at_most, larger, counted_cpu, counted_memory, counted_part, is_status_of, status_request, held, held_as_a_whole, listed_of, counted_going_on, counted_container, counted_items, unread, items_if, statuses, are_few, counted_listed, counted_containers, some_or_unread, counted_as_a_whole, counted_amount, counted}
+use Rattle.objects.specs.Enough.{IsNoMore, CountsEnough, CountsNoMore}
 
 -- ---- requests
 
@@ -297,14 +298,175 @@ comes_to later spec request xs init overhead running starting over some all =
     (omega (arith, enough_by resources.Cpu request xs ys init there overhead taken (ap (λ x. x.0) of.0) some first second less))
     (omega (arith, enough_by resources.Memory request xs ys init there overhead taken (ap (λ x. x.0) of.1) some first second less))
 
-pub counts_enough : CountsEnough
+-- what a pod's request was read of
+pub record Read (spec : Data) (request : Request) : Type 0 where
+  pub running : List Container
+  pub init : List Container
+  pub overhead : Request
+  pub are : containers keys.Containers spec ≡ Ok running
+  pub start : containers keys.InitContainers spec ≡ Ok init
+  pub over : overhead_request spec ≡ Ok overhead
+  pub some : nat_le 1 (length running) ≡ true
+  pub all : request_of_all running init overhead ≡ Ok request
+
+was_read : (pod spec : Data) (request : Request) → field keys.Spec pod ≡ Some spec → pod_request pod ≡ Ok request → Read spec request
 unfolding pod_request
-counts_enough pod later spec request there e =
+was_read pod spec request there e =
     let spec_there = behind (ok_or (field keys.Spec pod) (BadField keys.Spec)) (λ spec. containers keys.Containers spec >>= λ running. containers keys.InitContainers spec >>= λ init. overhead_request spec >>= λ overhead. if nat_le 1 (length running) then by_containers (is_given (field keys.Resources spec)) (request_of_all running init overhead) else Err (BadField keys.Containers)) request e in
     let is : spec_there.0 ≡ spec = let one : ok_or (field keys.Spec pod) (BadField keys.Spec) ≡ Ok spec = ap (λ o. ok_or o (BadField keys.Spec)) there in let both : Ok spec_there.0 ≡ Ok spec = sym spec_there.1 ∙ one in cc in
     let a = behind (containers keys.Containers spec_there.0) (λ running. containers keys.InitContainers spec_there.0 >>= λ init. overhead_request spec_there.0 >>= λ overhead. if nat_le 1 (length running) then by_containers (is_given (field keys.Resources spec_there.0)) (request_of_all running init overhead) else Err (BadField keys.Containers)) request spec_there.2 in
     let b = behind (containers keys.InitContainers spec_there.0) (λ init. overhead_request spec_there.0 >>= λ overhead. if nat_le 1 (length a.0) then by_containers (is_given (field keys.Resources spec_there.0)) (request_of_all a.0 init overhead) else Err (BadField keys.Containers)) request a.2 in
     let o = behind (overhead_request spec_there.0) (λ overhead. if nat_le 1 (length a.0) then by_containers (is_given (field keys.Resources spec_there.0)) (request_of_all a.0 b.0 overhead) else Err (BadField keys.Containers)) request b.2 in
     let last = by_some (nat_le 1 (length a.0)) (by_containers (is_given (field keys.Resources spec_there.0)) (request_of_all a.0 b.0 o.0)) (BadField keys.Containers) request o.2 in
-    subst (λ s. IsNoMore request (counted later s)) is
-    (comes_to later spec_there.0 request a.0 b.0 o.0 a.1 b.1 o.1 last.0 (by_whole (is_given (field keys.Resources spec_there.0)) (request_of_all a.0 b.0 o.0) request last.1))
+    subst (λ s. Read s request) is (record {
+      running = a.0;
+      init = b.0;
+      overhead = o.0;
+      are = a.1;
+      start = b.1;
+      over = o.1;
+      some = last.0;
+      all = by_whole (is_given (field keys.Resources spec_there.0)) (request_of_all a.0 b.0 o.0) request last.1;
+    })
+
+pub counts_enough : CountsEnough
+counts_enough pod later spec request there e =
+    let r = was_read pod spec request there e in
+    comes_to later spec request r.running r.init r.overhead r.are r.start r.over r.some r.all
+
+-- ---- and no more
+
+-- the least of the limits and of what a request has is no more than it
+at_most_within : (a : Request) (cpu memory : ℕ) → cpu ≤ a.cpu.0 → memory ≤ a.mem.0 → IsNoMore (at_most cpu memory) a
+unfolding at_most
+at_most_within a cpu memory c m = (omega (arith, c), omega (arith, m))
+
+just_asked : (part : Part) (holder : Key) (json : Data) (cpu : Cpu) (memory : Bytes) (request : Request) → cpu_in part holder json ≡ Ok cpu → memory_in part holder json ≡ Ok memory → whole (request_of cpu memory) ≡ Ok request → IsNoMore (counted_part part holder json) request
+unfolding counted_part
+just_asked part holder json cpu memory request c m made =
+    let of = made_of cpu memory request made in
+    at_most_within request (counted_cpu (cpu_in part holder json)) (counted_memory (memory_in part holder json))
+    (omega (arith, ap (λ x. x.0) of.0, ap counted_cpu c))
+    (omega (arith, ap (λ x. x.0) of.1, ap counted_memory m))
+
+one_just : (key : Key) (d : Data) (c : Container) → container key d ≡ Ok c → IsCovered (counted_container no_items d) c
+unfolding container counted_container
+one_just key d c e =
+    let a = behind (cpu_in parts.Asked key d) (λ cpu. memory_in parts.Asked key d >>= λ memory. goes_on d >>= λ goes_on. whole (request_of cpu memory) >>= λ request. Ok (record { request = request; goes_on = goes_on })) c e in
+    let b = behind (memory_in parts.Asked key d) (λ memory. goes_on d >>= λ goes_on. whole (request_of a.0 memory) >>= λ request. Ok (record { request = request; goes_on = goes_on })) c a.2 in
+    let g = behind (goes_on d) (λ goes_on. whole (request_of a.0 b.0) >>= λ request. Ok (record { request = request; goes_on = goes_on })) c b.2 in
+    let r = behind (whole (request_of a.0 b.0)) (λ request. Ok (record { request = request; goes_on = g.0 })) c g.2 in
+    let it : record { request = r.0; goes_on = g.0 } ≡ c = cc in
+    let just : IsNoMore (counted_part parts.Asked keys.Containers d) r.0 = just_asked parts.Asked keys.Containers d a.0 b.0 r.0 (cpu_alike key keys.Containers d a.0 a.1) (memory_alike key keys.Containers d b.0 b.1) r.1 in
+    (ap counted_going_on g.1 ∙ ap (λ c. c.goes_on) it, subst (λ q. IsNoMore (counted_part parts.Asked keys.Containers d) q) (ap (λ c. c.request) it) just)
+
+each_just : (key : Key) (items : Items) (before there xs : List Container) → AreCovered there before → each key before items ≡ Ok xs → AreCovered (counted_items no_items there items) xs
+each_just key no_items before there xs all e = subst (λ x. AreCovered there x) (let it : before ≡ xs = cc in it) all
+each_just key (item d ds) before there xs all e =
+    let first = behind (container key d) (λ x. each key (before ++ x ∷ []) ds) xs e in
+    each_just key ds (before ++ first.0 ∷ []) (there ++ counted_container no_items d ∷ []) xs (covered_more there before (counted_container no_items d) first.0 all (one_just key d first.0 first.1)) first.2
+
+are_few_alone : (found : Items) → nat_le (count found) 65536 ≡ true → are_few found no_items ≡ true
+are_few_alone found few = grind (arith, nat_tests, few)
+
+by_count_both : (key : Key) (found : Items) (xs : List Container) (b : Bool) → nat_le (count found) 65536 ≡ b → (if b then each key [] found else Err (TooMany key)) ≡ Ok xs → (nat_le (count found) 65536 ≡ true) × (each key [] found ≡ Ok xs)
+by_count_both key found xs true few e = (few, e)
+by_count_both key found xs false few e = absurd (cc)
+
+listed_just : (key : Key) (o : Option Data) (xs : List Container) → listed key o ≡ Ok xs → AreCovered (counted_listed (items_if o) (Some no_items)) xs
+listed_just key None xs e = subst (λ x. AreCovered [] x) (let it : [] ≡ xs = cc in it) tt
+listed_just key (Some value) xs e =
+    let found = behind (ok_or (as_array value) (BadField key)) (λ found. if nat_le (count found) 65536 then each key [] found else Err (TooMany key)) xs e in
+    let both = by_count_both key found.0 xs (nat_le (count found.0) 65536) refl found.2 in
+    subst (λ o. AreCovered (counted_listed o (Some no_items)) xs) (sym (array_is (as_array value) (BadField key) found.0 found.1))
+    (subst (λ b. AreCovered (if b then counted_items no_items [] found.0 else unread ∷ []) xs) (sym (are_few_alone found.0 both.0)) (each_just key found.0 [] [] xs tt both.1))
+
+no_statuses : (status_key : Key) (later : Data) → field keys.Status later ≡ None → statuses status_key later ≡ Some no_items
+unfolding statuses
+no_statuses status_key later none = ap (listed_of status_key) none
+
+containers_just : (key status_key : Key) (later spec : Data) (xs : List Container) → field keys.Status later ≡ None → containers key spec ≡ Ok xs → AreCovered (counted_containers key status_key later spec) xs
+unfolding containers counted_containers
+containers_just key status_key later spec xs none e =
+    subst (λ o. AreCovered (counted_listed (items_if (field key spec)) o) xs) (sym (no_statuses status_key later none)) (listed_just key (field key spec) xs e)
+
+-- what a pod doesn't ask for as a whole
+nothing_in : (k part what : Key) (json : Data) → is_some (as_object json) ≡ true → field keys.Resources json ≡ None → in_resources k part what json ≡ Ok None
+unfolding in_resources field_at
+nothing_in k part what json is none = rw (is, none) refl
+
+nothing_asked : (k resource : Key) (json : Data) → is_some (as_object json) ≡ true → field keys.Resources json ≡ None → asked k resource json ≡ Ok None
+unfolding asked
+nothing_asked k resource json is none = rw (nothing_in k keys.Requests resource json is none, nothing_in k keys.Limits resource json is none) refl
+
+nothing_counted : (k : Key) (json : Data) → is_some (as_object json) ≡ true → field keys.Resources json ≡ None → counted_part parts.Asked k json ≡ at_most 0 0
+unfolding counted_part found_in
+nothing_counted k json is none = rw (nothing_asked k keys.Cpu json is none, nothing_asked k keys.Memory json is none) refl
+
+-- a pod that says what running it costs is an object
+listed_is_object : (holder part resource : Key) (json : Data) (o : Option Data) → listed_in holder part resource json ≡ Ok o → is_some (as_object json) ≡ true
+unfolding listed_in
+listed_is_object holder part resource json o e =
+    let first = behind (field_at holder part json) (λ amounts. under part resource amounts) o e in
+    field_is_object holder part json first.0 (is_some (as_object json)) refl first.1
+
+overhead_is_object : (spec : Data) (overhead : Request) → overhead_request spec ≡ Ok overhead → is_some (as_object spec) ≡ true
+unfolding overhead_request found_in
+overhead_is_object spec overhead e =
+    let a = behind (cpu_in parts.Overhead keys.Spec spec) (λ cpu. memory_in parts.Overhead keys.Spec spec >>= λ memory. whole (request_of cpu memory)) overhead e in
+    let first = behind (listed_in keys.Spec keys.Overhead keys.Cpu spec) cpu_if a.0 a.1 in
+    listed_is_object keys.Spec keys.Overhead keys.Cpu spec first.0 first.1
+
+overhead_just : (spec : Data) (overhead : Request) → overhead_request spec ≡ Ok overhead → IsNoMore (counted_part parts.Overhead keys.Spec spec) overhead
+unfolding overhead_request
+overhead_just spec overhead e =
+    let a = behind (cpu_in parts.Overhead keys.Spec spec) (λ cpu. memory_in parts.Overhead keys.Spec spec >>= λ memory. whole (request_of cpu memory)) overhead e in
+    let b = behind (memory_in parts.Overhead keys.Spec spec) (λ memory. whole (request_of a.0 memory)) overhead a.2 in
+    just_asked parts.Overhead keys.Spec spec a.0 b.0 overhead a.1 b.1 b.2
+
+-- nothing as a whole
+whole_is_nothing : (later spec : Data) (overhead : Request) → overhead_request spec ≡ Ok overhead → field keys.Status later ≡ None → field keys.Resources spec ≡ None → counted_as_a_whole later spec ≡ larger (at_most 0 0) (at_most 0 0)
+unfolding counted_as_a_whole
+whole_is_nothing later spec overhead over none alone =
+    (λ j. larger (nothing_counted keys.Spec spec (overhead_is_object spec overhead over) alone j) (held_as_a_whole (none j)))
+
+nothing_whole : (r : Resource) → amount_of r (larger (at_most 0 0) (at_most 0 0)) ≡ 0
+unfolding larger at_most
+nothing_whole resources.Cpu = omega arith
+nothing_whole resources.Memory = omega arith
+
+some_also : (xs ys : List Container) → nat_le 1 (length xs) ≡ true → AreCovered ys xs → some_or_unread ys ≡ ys
+some_also [] ys some all = absurd (cc)
+some_also (x ∷ xs) [] some all = absurd all
+some_also (x ∷ xs) (y ∷ ys) some all = refl
+
+overhead_within : (r : Resource) (ys there : List Container) (taken : Request) → amount_of r taken ≤ effective r ys there taken
+unfolding effective
+overhead_within r ys there taken = omega arith
+
+-- what is counted is no more than what the containers come to
+just_by : (r : Resource) (request : Request) (xs ys init there : List Container) (overhead taken whole : Request) → amount_of r request ≡ effective r xs init overhead → nat_le 1 (length xs) ≡ true → AreCovered ys xs → AreCovered there init → IsNoMore taken overhead → amount_of r whole ≡ 0 → counted_amount r (some_or_unread ys) there taken whole ≤ amount_of r request
+just_by r request xs ys init there overhead taken whole is some all first less nothing =
+    let less_of = effective_more r ys xs there init taken overhead all first less in
+    let alone = overhead_within r ys there taken in
+    subst (λ cs. counted_amount r cs there taken whole ≤ amount_of r request) (sym (some_also xs ys some all)) (omega (arith, is, less_of, alone, nothing))
+
+comes_to_just : (later spec : Data) (request : Request) (xs init : List Container) (overhead : Request) → field keys.Status later ≡ None → field keys.Resources spec ≡ None → containers keys.Containers spec ≡ Ok xs → containers keys.InitContainers spec ≡ Ok init → overhead_request spec ≡ Ok overhead → nat_le 1 (length xs) ≡ true → request_of_all xs init overhead ≡ Ok request → IsNoMore (counted later spec) request
+unfolding request_of_all counted
+comes_to_just later spec request xs init overhead none alone running starting over some all =
+    let of = made_of (record { 0 = effective resources.Cpu xs init overhead }) (record { 0 = effective resources.Memory xs init overhead }) request all in
+    let ys = counted_containers keys.Containers keys.ContainerStatuses later spec in
+    let there = counted_containers keys.InitContainers keys.InitContainerStatuses later spec in
+    let taken = counted_part parts.Overhead keys.Spec spec in
+    let first = containers_just keys.Containers keys.ContainerStatuses later spec xs none running in
+    let second = containers_just keys.InitContainers keys.InitContainerStatuses later spec init none starting in
+    let less = overhead_just spec overhead over in
+    let nothing : (r : Resource) → amount_of r (counted_as_a_whole later spec) ≡ 0 = λ r. ap (amount_of r) (whole_is_nothing later spec overhead over none alone) ∙ nothing_whole r in
+    at_most_within request (counted_amount resources.Cpu (some_or_unread ys) there taken (counted_as_a_whole later spec)) (counted_amount resources.Memory (some_or_unread ys) there taken (counted_as_a_whole later spec))
+    (just_by resources.Cpu request xs ys init there overhead taken (counted_as_a_whole later spec) (ap (λ x. x.0) of.0) some first second less (nothing resources.Cpu))
+    (just_by resources.Memory request xs ys init there overhead taken (counted_as_a_whole later spec) (ap (λ x. x.0) of.1) some first second less (nothing resources.Memory))
+
+pub counts_no_more : CountsNoMore
+counts_no_more pod later spec request there e none alone =
+    let r = was_read pod spec request there e in
+    comes_to_just later spec request r.running r.init r.overhead none alone r.are r.start r.over r.some r.all

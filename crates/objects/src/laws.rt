@@ -1,6 +1,6 @@
 //! What holds of each object, whatever it says. The functions do nothing: their contracts are the
 //! laws.
-ghost use Rattle.objects.specs.Enough.{CountsEnough};
+ghost use Rattle.objects.specs.Enough.{CountsEnough, CountsNoMore};
 ghost use Rattle.objects.specs.Shown.{NamesAreTexts};
 
 /// What is left out is named in texts in quotation marks, with a comma and a space before each, in
@@ -12,7 +12,9 @@ pub fn left_out_is_named_in_texts()
 {}
 
 /// What a pod takes of its node is never less than what it asked for while it waited, whatever its
-/// status says by then: so that what a bind was granted for is enough once it is told.
+/// status says by then, so what a bind was granted for is enough once it is told; and never more
+/// where that says nothing, nor the pod of its resources as a whole.
 pub fn what_stands_counts_enough()
-    ensures { CountsEnough }
+    ensures enough { CountsEnough }
+    ensures just { CountsNoMore }
 {}
