@@ -20,9 +20,14 @@ class Trouble:
         self.doubts = Gauge("wsched_binds_in_doubt", "Binds without a good answer, whose pods are looked up.", registry=it)
         self.unrecorded = Gauge("wsched_record_stands_still", "1 where the record can't be written.", registry=it)
         self.list_audits = Counter("wsched_list_audits_total", "Comparisons with the API server's own list of pods.", registry=it)
+        self.not_granted = Counter("wsched_binds_not_granted_total", "Binds that the ledger didn't grant.", ["answer"], registry=it)
+        self.full = Counter("wsched_ledger_full_total", "What the ledger had no room for.", ["kind"], registry=it)
         self.list_differences = Gauge("wsched_list_differences", "Nodes on which the last list had a pod that counts for less.", registry=it)
         for kind in ("node", "pod"):
             self.shut.labels(kind)
+            self.full.labels(kind)
+        for answer in ("shut", "not-waiting", "NoNode", "NoRoom", "Full"):
+            self.not_granted.labels(answer)
 
 
 class Metrics:

@@ -156,7 +156,7 @@ def start(words: Sequence[str]) -> subprocess.Popen[bytes]:
     try:
         child = subprocess.Popen(words, stdin=subprocess.PIPE, stdout=subprocess.PIPE, bufsize=0, start_new_session=True)
     except OSError as why:
-        raise CoreFault(f"wsched translate can't be run: {why}") from why
+        raise CoreFault(f"wsched {words[1]} can't be run: {why}") from why
     assert child.stdin
     # (a pipe that has room for a part is given that part)
     os.set_blocking(child.stdin.fileno(), False)

@@ -76,11 +76,40 @@ class Ears(Protocol):
     def failed(self) -> None: ...
 
 
+class First:
+    """Who is told what the API server tells before `Ears` hear of it, as it came, and when a watch is opened and shut. This one takes no notice."""
+
+    def begins(self) -> None:
+        """A list is asked for next."""
+
+    def items(self, things: Sequence[dict[str, Any]]) -> None:
+        """A page of it."""
+
+    def ends(self) -> None:
+        """It was whole."""
+
+    def event(self, line: bytes, event: dict[str, Any]) -> None:
+        """An event that is of an object."""
+
+    def opened(self) -> None:
+        """A watch goes on from where the last one or the list ended."""
+
+    def shut(self) -> None:
+        """It goes on no longer."""
+
+    def wants_list(self) -> bool:
+        """Whether all is to be listed anew."""
+        return False
+
+
+NOBODY = First()
+
+
 class Watched:
     """One kind of object. It begins at once, in a thread of its own."""
 
-    def __init__(self, call: Callable[..., Any], ears: Ears, **only: str) -> None:
-        self.call, self.ears, self.only = call, ears, only
+    def __init__(self, call: Callable[..., Any], ears: Ears, first: First = NOBODY, **only: str) -> None:
+        self.call, self.ears, self.first, self.only = call, ears, first, only
         self.version: str | None = None
         self.pause = self.opened = 0.0
         # since when it is shut, None while it is open; whether it may not have told yet what
@@ -131,13 +160,16 @@ class Watched:
     def list(self) -> None:
         keys: set[str] = set()
         more = None
+        self.first.begins()
         while True:
             answer = self.call(limit=PAGE, _continue=more, _preload_content=False, _request_timeout=(5, 60), **self.only)
             page = json.loads(answer.data)
+            self.first.items(page["items"])
             keys |= {self.ears.key(it) for it in page["items"]}
             self.ears.hear("MODIFIED", page["items"])
             more = page["metadata"].get("continue")
             if not more:
+                self.first.ends()
                 self.ears.listed(keys)
                 self.version = page["metadata"]["resourceVersion"]
                 return
@@ -156,28 +188,33 @@ class Watched:
         try:
             for line in lines_of(answer):
                 self.is_hearing = True
-                self.take(json.loads(line))
+                self.take(line, json.loads(line))
                 self.heard, self.is_hearing = time.monotonic(), False
             answer.release_conn()
         finally:
             self.shut, self.is_hearing = time.monotonic(), False
+            self.first.shut()
             # (a connection that has been given back is none of this answer's any more)
             answer.close()
 
-    def take(self, event: dict[str, Any]) -> None:
+    def take(self, line: bytes, event: dict[str, Any]) -> None:
         thing = event["object"]
         if event["type"] == "ERROR":
             if thing.get("code") == GONE:
                 raise Expired(thing.get("message"))
             raise ValueError(f"the watch ended: {thing.get('message')}")
         if event["type"] != "BOOKMARK":
+            self.first.event(line, event)
             self.ears.hear(event["type"], [thing])
         self.version = thing["metadata"]["resourceVersion"]
+        if self.first.wants_list():
+            raise Expired("there may be room for more")
 
     # For whoever decides.
 
     def is_open(self) -> None:
         """What happened while it was shut comes now."""
+        self.first.opened()
         now = time.monotonic()
         with self.lock:
             self.is_behind = self.is_behind or self.shut_for(now) > DEAF

@@ -1,0 +1,278 @@
+# SPDX-License-Identifier: Apache-2.0
+"""`wsched live` as a child: it is told what the API server tells before anyone else here is, and no bind is sent that it didn't grant.
+
+So no node gets more pods than it has room for, whatever this client's own books say (docs/GUARANTEES.md, "What is told of a cluster"). What
+that rests on is done here and in `watch` and `binding`: each event of a watch is told, in its order and as it came, each list as a whole, each
+bind is asked for once, and each answer and each read told for what it was. What a line tells and what is cut from it is at the end of this file.
+"""
+from __future__ import annotations
+
+import collections
+import functools
+import logging
+import os
+import select
+import threading
+import time
+from typing import Callable, Iterable, Sequence
+
+import affinity
+from core import CoreFault, quoted
+from metrics import Metrics
+from seen import CONTAINERS, ENDED, OF_CONTAINERS, without
+from share import Share
+from translating import EVERYTHING, PIECE, Json, batches, line_of, start, written
+from watch import First
+
+LOG = logging.getLogger("second-scheduler")
+# For how long an answer may be waited for, in seconds, and how many may be owed before they are read.
+PATIENCE, OWED = 15.0, 256
+# The most bytes of an object that is told, so that a line has room for it and an order around it: one
+# of more than 2 MiB isn't read, may be a pod on a node, and shuts the ledger.
+LONGEST = 2**21 - 4096
+# For how long a kind isn't listed again for want of room, in seconds.
+AGAIN = 30.0
+# What answers a line that isn't a bind.
+TOLD, FULL, TO_READ = ("told", "old", "nothing"), "full", "read"
+GRANTED = "granted "
+# A label that nobody reads: where one is named, what has more labels than a row is told all the same.
+NO_LABELS = "none"
+# What is told of a pod's metadata at least.
+OF_POD = ("name", "namespace", "uid", "resourceVersion", "deletionTimestamp")
+
+
+def words_of(program: str, scheduler: str) -> list[str]:
+    """By which it is started. (It counts room, and reads no labels.)"""
+    return [program, "live", f"--scheduler={scheduler}", f"--labels={NO_LABELS}"]
+
+
+def order(op: str, **fields: str) -> bytes:
+    """`fields` are JSON already."""
+    return ("".join([f'{{"op":"{op}"', *(f',"{key}":{value}' for key, value in fields.items())]) + "}\n").encode()
+
+
+class Ledger:
+    """The child. Any thread may tell it and ask it; its lines stand in one order, and each has one answer. Once it has died or hung nothing is
+    granted any more, and the main loop ends by that."""
+
+    def __init__(self, program: str, scheduler: str, metrics: Metrics, share: Share, has_affinity: bool) -> None:
+        """With `has_affinity` what a pod asks of nodes' labels, and where its volumes are, is told to a rule."""
+        self.metrics, self.lock, self.fault = metrics, threading.Lock(), ""
+        self.nodes = Side(self, "nodes", functools.partial(node_event, share))
+        self.pods = Side(self, "pods", functools.partial(pod_event, share, has_affinity))
+        self.child = start(words_of(program, scheduler))
+        assert self.child.stdin and self.child.stdout
+        self.input, self.output, self.rest = self.child.stdin.fileno(), self.child.stdout.fileno(), b""
+        self.hearing, self.both = select.poll(), select.poll()
+        for it in (self.hearing, self.both):
+            it.register(self.output, select.POLLIN)
+        self.both.register(self.input, select.POLLOUT)
+        # of each line that isn't answered yet who takes its answer, and the last of the answers
+        self.owed: collections.deque[Callable[[str], None]] = collections.deque()
+        self.last = ""
+        # (whoever had the Lease before has nothing under way any more: `second_scheduler` has waited
+        # for that)
+        self.tell([order("rested")])
+
+    def tell(self, lines: Iterable[bytes], then: Callable[[str], None] | None = None) -> None:
+        """Each answer is handed to `then`, sooner or later."""
+        then = then or self.is_told
+        with self.lock:
+            for some in batches(lines):
+                self.owed.extend([then] * len(some))
+                self.exchange(b"".join(some), OWED)
+
+    def ask(self, line: bytes) -> str:
+        """Waits for the answer. Once there is a fault there is none."""
+        with self.lock:
+            self.owed.append(self.is_answered)
+            self.exchange(line, 0)
+            return "" if self.fault else self.last
+
+    def tick(self) -> None:
+        """(in the main loop) Reads the answers that are owed, and raises where there is a fault."""
+        if self.lock.acquire(blocking=False):
+            try:
+                self.exchange(b"", 0)
+            finally:
+                self.lock.release()
+        if not self.fault and self.child.poll() is not None:
+            self.failed(f"ended with status {self.child.returncode}")
+        if self.fault:
+            raise CoreFault(self.fault)
+
+    def kill(self) -> None:
+        self.child.kill()
+
+    # Lines and answers, under the lock.
+
+    def exchange(self, lines: bytes, most: int) -> None:
+        """Writes lines, and reads answers meanwhile, so that neither side waits for the other before a full pipe; and then until no more are owed
+        than `most`."""
+        unwritten = memoryview(lines)
+        if unwritten and not self.fault:
+            unwritten = unwritten[written(self.input, unwritten) :]
+        while (unwritten or len(self.owed) > most) and not self.fault:
+            events = dict((self.both if unwritten else self.hearing).poll(1000 * PATIENCE))
+            if not events:
+                self.failed(f"has said nothing for {PATIENCE:.0f} s")
+            if self.input in events:
+                unwritten = unwritten[written(self.input, unwritten[:PIECE]) :]
+            if self.output in events:
+                self.read()
+
+    def read(self) -> None:
+        some = os.read(self.output, PIECE)
+        if not some:
+            return self.failed(f"ended with status {self.child.wait()}")
+        *answers, self.rest = (self.rest + some).split(b"\n")
+        for it in answers:
+            if not self.owed:
+                return self.failed("says more than it is asked")
+            self.owed.popleft()(it.decode(errors="replace"))
+        return None
+
+    def failed(self, why: str) -> None:
+        self.fault = f"wsched live {why}"
+        self.owed.clear()
+        self.child.kill()
+
+    def is_told(self, answer: str) -> None:
+        if answer not in TOLD:
+            LOG.error("the ledger answers an order by: %s", answer)
+
+    def is_answered(self, answer: str) -> None:
+        self.last = answer
+
+    # Binds.
+
+    def grant(self, uid: str, node: str) -> tuple[int, str]:
+        """Asks whether a pod may be bound to a node, which is asked for then at once, and no more than once: the ticket of that bind; 0 where it
+        mayn't be, and why."""
+        answer = self.ask(order("bind", uid=quoted(uid), node=quoted(node)))
+        if answer.startswith(GRANTED):
+            return int(answer.removeprefix(GRANTED)), ""
+        self.metrics.trouble.not_granted.labels(answer.rpartition(" ")[2] or "none").inc()
+        return 0, answer
+
+    def created(self, uid: str, ticket: int) -> None:
+        self.tell([order("answer", uid=quoted(uid), ticket=str(ticket), **{"is": '"created"'})])
+
+    def is_to_read(self, uid: str, ticket: int, outcome: str) -> bool:
+        """What became of a bind that had no good answer: `refused`, or `over` where nothing can be done of it any more. Whether the pod has to be
+        read, from now on, and that told."""
+        return self.ask(order("answer", uid=quoted(uid), ticket=str(ticket), **{"is": quoted(outcome)})) == TO_READ
+
+    def was_read(self, uid: str, ticket: int, pod: Json | None) -> None:
+        """What the read gave of the pod's name, None where there is none."""
+        gave = self.pods.event_of("MODIFIED", pod, None) if pod else None
+        self.tell([order("read", uid=quoted(uid), ticket=str(ticket), gave=gave.decode().rstrip("\n") if gave else "null")])
+
+
+class Side(First):
+    """What the watch of a kind has the ledger told: each list, each event, and whether it is open. `event_of` makes a line of an event's type, its
+    object and the line that it was; None of what is none of this instance's."""
+
+    def __init__(self, ledger: Ledger, of: str, event_of: Callable[[str, Json, bytes | None], bytes | None]) -> None:
+        self.ledger, self.of, self.event_of = ledger, of, event_of
+        # whether something had no room, and something went since; and when a list began
+        self.is_short = self.has_room = False
+        self.began = 0.0
+
+    def order(self, op: str) -> None:
+        self.ledger.tell([order(op, of=quoted(self.of))])
+
+    def begins(self) -> None:
+        self.began, self.is_short, self.has_room = time.monotonic(), False, False
+        self.order("list")
+
+    def items(self, things: Sequence[Json]) -> None:
+        self.ledger.tell(filter(None, (self.event_of("ADDED", it, None) for it in things)), self.is_told)
+
+    def ends(self) -> None:
+        self.order("listed")
+
+    def event(self, line: bytes, event: Json) -> None:
+        told = self.event_of(event["type"], event["object"], line)
+        if told:
+            self.ledger.tell([told], self.is_told)
+        self.has_room = self.has_room or (self.is_short and event["type"] == "DELETED")
+
+    def opened(self) -> None:
+        self.order("hears")
+
+    def shut(self) -> None:
+        self.order("deaf")
+
+    def wants_list(self) -> bool:
+        """Whether something that had no room may have some now."""
+        return self.has_room and time.monotonic() >= self.began + AGAIN
+
+    def is_told(self, answer: str) -> None:
+        if answer != FULL:
+            return self.ledger.is_told(answer)
+        self.ledger.metrics.trouble.full.labels(self.of.removesuffix("s")).inc()
+        if not self.is_short:
+            what = "nothing is bound until a list of them has ended in which each had room" if self.of == "pods" else "the others aren't used"
+            LOG.error("the ledger has no room for more %s: %s", self.of, what)
+        self.is_short = True
+        return None
+
+
+# What is told of an object: as it came; or, where that is too long to be read, or an item of a list,
+# which doesn't say its kind, without what counts for nothing.
+
+
+def event_line(kind: str, thing: Json) -> bytes:
+    return line_of({"type": kind, "object": thing})
+
+
+def node_event(share: Share, kind: str, node: Json, line: bytes | None) -> bytes | None:
+    meta = node["metadata"]
+    if not share.has_node(meta["name"]):
+        return None
+    if line and len(line) <= LONGEST:
+        return line + b"\n"
+    short = {"kind": "Node", "metadata": {key: meta[key] for key in ("name", "resourceVersion")}}
+    allocatable = (node.get("status") or {}).get("allocatable")
+    told = event_line(kind, {**short, "spec": node.get("spec"), "status": {"allocatable": allocatable}})
+    # (one that can't be read isn't used)
+    return told if len(told) <= LONGEST else event_line("DELETED", short)
+
+
+def pod_event(share: Share, has_affinity: bool, kind: str, pod: Json, line: bytes | None) -> bytes:
+    """A pod on another instance's node is gone: no bind from here can be done to it any more."""
+    node = pod["spec"].get("nodeName")
+    if kind == "DELETED" or (node and not share.has_node(node)) or (pod.get("status") or {}).get("phase") in ENDED:
+        return event_line("DELETED", {"kind": "Pod", "metadata": named(pod)})
+    # (of what the rule is told, nothing keeps the ledger from granting a bind)
+    is_asked = has_affinity and not node and asks_of_nodes(pod)
+    if line and len(line) <= LONGEST and not is_asked:
+        return line + b"\n"
+    told = event_line(kind, cut(affinity.without(pod) if is_asked else pod))
+    return told if len(told) <= LONGEST else event_line(kind, stand_in(pod))
+
+
+def named(pod: Json) -> Json:
+    return {key: pod["metadata"][key] for key in OF_POD if key in pod["metadata"]}
+
+
+def asks_of_nodes(pod: Json) -> bool:
+    spec = pod["spec"]
+    return bool(spec.get("nodeSelector") or spec.get("affinity") or any(affinity.claim_of(pod, it) for it in spec.get("volumes") or []))
+
+
+def cut(pod: Json) -> Json:
+    """A pod without its labels, annotations and volumes, who manages its fields, and what its containers run."""
+    spec = without(pod["spec"], frozenset(["volumes"]))
+    for some in CONTAINERS:
+        if isinstance(spec.get(some), list):
+            spec[some] = [without(it, OF_CONTAINERS) for it in spec[some]]
+    return {**pod, "kind": "Pod", "metadata": named(pod), "spec": spec}
+
+
+def stand_in(pod: Json) -> Json:
+    """For a pod that is too long all the same: it counts as everything on its node, or isn't to be bound."""
+    node, most = pod["spec"].get("nodeName"), {"cpu": f"{EVERYTHING[0]}m", "memory": str(EVERYTHING[1])}
+    on_node = {"nodeName": node, "containers": [{"name": "c", "resources": {"requests": most}}]}
+    return {"kind": "Pod", "metadata": named(pod), "spec": on_node if node else {"schedulingGates": [{"name": "long"}]}}
