@@ -11,11 +11,11 @@ import json
 import logging
 import threading
 import time
-from typing import Any, NamedTuple
+from typing import Any, NamedTuple, Sequence
 
 from kubernetes.client.rest import ApiException
 
-from metrics import Metrics
+from ledger import Ledger
 from newest import Meant, Newest
 from pods import Pod
 from posting import FIRST_PAUSE, JSON, UNWANTED, Answer, Posts, Request
@@ -27,9 +27,10 @@ LOG = logging.getLogger("second-scheduler")
 UNDER_WAY = 512
 # How long a bind may take at the API server, in seconds, before the pod is asked what became of it.
 PATIENCE = 30.0
-# For how long after a bind was sent it may still be done, in seconds, though nobody answers: an API
-# server gives a request 60 seconds, and whatever stands before it may have held it back.
-LANDS = 75.0
+# For how long after a bind was sent it may still be done, in seconds, though nobody answers, and for
+# how long after its connection was reset: an API server gives a request 60 seconds, and whatever
+# stands before it may have held it back.
+LANDS, LASTS = 75.0, 60.0
 # The longest pause between two looks at a pod, in seconds.
 LONGEST_PAUSE = 10.0
 
@@ -64,9 +65,11 @@ class Became(enum.Enum):
 
 
 class Doubt(NamedTuple):
-    """A bind that had no good answer. `until` is up to when it may still be done, 0 where the API server said that it wasn't."""
+    """A bind that had no good answer, and its ticket in the ledger. `until` is up to when it may still be done, 0 where the API server said that
+    it wasn't."""
 
     bind: Bind
+    ticket: int
     sent: float
     until: float
     pause: float
@@ -75,9 +78,11 @@ class Doubt(NamedTuple):
 class Binders:
     """Those that bind, so many at once. Each answer goes into the inbox, as `("bind", .., Bind)`."""
 
-    def __init__(self, api: Any, way: Way, count: int, newest: Newest, metrics: Metrics, stopping: threading.Event) -> None:
-        self.api, self.newest, self.metrics, self.stopping = api, newest, metrics, stopping
-        self.posts = Posts(way, count, "binds")
+    def __init__(self, api: Any, way: Way, count: int, newest: Newest, ledger: Ledger, stopping: threading.Event) -> None:
+        self.api, self.newest, self.ledger, self.stopping = api, newest, ledger, stopping
+        # of each pod whose bind is under way its ticket in the ledger
+        self.tickets: dict[str, int] = {}
+        self.posts = Posts(way, count, "binds", self.may_send)
         self.doubts = Doubts(self, count)
 
     def bind(self, bind: Bind) -> None:
@@ -87,23 +92,41 @@ class Binders:
             meta["resourceVersion"] = bind.meant.version
         body = {"metadata": meta, "target": {"apiVersion": "v1", "kind": "Node", "name": bind.node}}
         path = f"/api/v1/namespaces/{pod.namespace}/pods/{pod.name}/binding"
-        then, is_wanted = functools.partial(self.answered, bind), functools.partial(self.newest.may_bind, bind.meant)
-        self.posts.send(Request("POST", path, json.dumps(body).encode(), JSON, PATIENCE, then, is_wanted))
+        self.posts.send(Request("POST", path, json.dumps(body).encode(), JSON, PATIENCE, functools.partial(self.answered, bind), bind))
+
+    def may_send(self, requests: Sequence[Request]) -> Sequence[bool]:
+        """(in the thread of the posts) Which are still wanted, and granted: these are sent at once, and once. (The Lease may be lost while the ledger is
+        asked.)"""
+        binds: list[Bind] = [it.about for it in requests]
+        asked = [it for it in binds if self.newest.may_bind(it.meant)]
+        for it, (ticket, why) in zip(asked, self.ledger.grant([(it.pod.uid, it.node) for it in asked])):
+            if ticket:
+                self.tickets[it.pod.uid] = ticket
+            else:
+                LOG.warning("pod %s isn't bound to %s: the ledger says: %s", it.pod, it.node, why)
+        return [it.pod.uid in self.tickets and self.newest.may_bind(it.meant) for it in binds]
 
     def answered(self, bind: Bind, answer: Answer) -> None:
         """(in the thread of the posts)"""
+        ticket, now = self.tickets.pop(bind.pod.uid, 0), time.monotonic()
         if answer.is_good:
+            self.ledger.created(bind.pod.uid, ticket)
             self.end(bind._replace(is_bound=True, seconds=answer.seconds))
         elif answer.status == UNWANTED:
             # an API server up to 1.20 would bind whatever has its name now
-            LOG.info("pod %s isn't bound to %s: one of them has changed or is gone, or the cluster isn't heard", bind.pod, bind.node)
-            self.end(bind._replace(is_posted=False))
+            LOG.info("pod %s isn't bound to %s: one of them has changed or is gone, the cluster isn't heard, or there is no room", bind.pod, bind.node)
+            bind = bind._replace(is_posted=False)
+            if ticket:
+                # (the ledger is told that it won't be done)
+                self.doubts.begin(Doubt(bind, ticket, now, 0.0, FIRST_PAUSE))
+            else:
+                self.end(bind)
         else:
             LOG.warning("pod %s can't be bound to %s: %s", bind.pod, bind.node, message(answer.fault))
-            sent = time.monotonic() - answer.seconds
+            sent = now - answer.seconds
             # (what an API server answers for want of time, or one before it that gets no answer,
             # says nothing of what is done yet)
-            self.doubts.begin(Doubt(bind, sent, 0.0 if 400 <= answer.status < 500 else sent + LANDS, FIRST_PAUSE))
+            self.doubts.begin(Doubt(bind, ticket, sent, 0.0 if 400 <= answer.status < 500 else max(sent + LANDS, now + LASTS), FIRST_PAUSE))
 
     def end(self, bind: Bind) -> None:
         self.newest.sent.discard(bind.pod.uid)
@@ -116,14 +139,15 @@ class Doubts:
     a bind that comes after it."""
 
     def __init__(self, binders: Binders, count: int) -> None:
-        self.binders, self.api, self.newest, self.stopping = binders, binders.api, binders.newest, binders.stopping
+        self.binders, self.api, self.ledger, self.stopping = binders, binders.api, binders.ledger, binders.stopping
         self.lookers = concurrent.futures.ThreadPoolExecutor(count, "look-up")
         self.later, self.count, self.bell = list[tuple[float, int, Doubt]](), itertools.count(), threading.Condition()
-        self.warned = False
+        # whether one was given up, at the end of the process, that may still be done
+        self.warned = self.is_cut_short = False
         threading.Thread(target=self.go, daemon=True, name="doubts").start()
 
     def begin(self, doubt: Doubt) -> None:
-        self.binders.metrics.trouble.doubts.inc()
+        self.ledger.metrics.trouble.doubts.inc()
         self.lookers.submit(self.look_up, doubt)
 
     def go(self) -> None:
@@ -155,40 +179,60 @@ class Doubts:
         if is_bound is None:
             self.put_off(doubt)
         else:
-            self.binders.metrics.trouble.doubts.dec()
+            self.ledger.metrics.trouble.doubts.dec()
             self.binders.end(doubt.bind._replace(is_bound=is_bound, seconds=time.monotonic() - doubt.sent))
 
     def known(self, doubt: Doubt) -> bool | None:
-        """Whether it was bound, None where that may still change."""
-        became, pod = self.ask(doubt.bind)
-        if became in (Became.BOUND, Became.ELSE):
-            return became is Became.BOUND
-        if became is Became.UNKNOWN or (time.monotonic() < doubt.until and not self.stopping.is_set()):
+        """Whether it was bound, None where that may still change. What is read once nothing can be done of the bind any more is told to the
+        ledger, whose bind ends by that; where the pod has no node, behind the fence."""
+        bind, is_over = doubt.bind, time.monotonic() >= doubt.until
+        is_to_read = is_over and self.ledger.is_to_read(bind.pod.uid, doubt.ticket, "over" if doubt.until else "refused")
+        became, pod = self.ask(bind)
+        if became is Became.UNKNOWN or (became in (Became.WAITS, Became.HIDDEN) and not is_over and not self.stopping.is_set()):
             return None
-        if not doubt.until:
-            return False
         if became is Became.HIDDEN:
-            LOG.error("pod %s: what became of its bind to %s can't be asked for, and its place is given back", doubt.bind.pod, doubt.bind.node)
-            return False
-        if not self.fence(doubt.bind, pod):
-            return None
-        became, _ = self.ask(doubt.bind)
-        return None if became is Became.UNKNOWN else became is Became.BOUND
+            LOG.error("pod %s: what became of its bind to %s can't be asked for, and its place is given back", bind.pod, bind.node)
+        elif pod and became is Became.WAITS and doubt.until:
+            if not self.fence(bind, pod):
+                return None
+            became, pod = self.ask(bind)
+            if became is Became.UNKNOWN:
+                return None
+        if is_to_read and became is not Became.HIDDEN:
+            self.ledger.was_read(bind.pod.uid, doubt.ticket, pod)
+        if became in (Became.WAITS, Became.HIDDEN) and not is_over:
+            self.is_cut_short = True
+        return became is Became.BOUND
 
-    def ask(self, bind: Bind) -> tuple[Became, dict[str, Any]]:
+    def ask(self, bind: Bind) -> tuple[Became, dict[str, Any] | None]:
+        """What became of a bind, and the pod that has the name now. (Each is read from the store: no version is asked for.)"""
         pod = bind.pod
         try:
-            now = json.loads(self.api.read_namespaced_pod(pod.name, pod.namespace, _preload_content=False, _request_timeout=(5, 30)).data)
-            if now["metadata"]["uid"] != pod.uid:
-                return Became.ELSE, now
-            node = now["spec"].get("nodeName")
-            return (Became.WAITS if not node else Became.BOUND if node == bind.node else Became.ELSE), now
+            now = self.read(pod.namespace, pod.name)
         except ApiException as other:
             if other.status in (401, 403):
                 self.warn(other)
-            return {404: Became.ELSE, 403: Became.HIDDEN}.get(other.status, Became.UNKNOWN), {}
+            return Became.HIDDEN if other.status == 403 else Became.UNKNOWN, None
         except (*AWAY, ValueError, LookupError, TypeError):
-            return Became.UNKNOWN, {}
+            return Became.UNKNOWN, None
+        if now is None or now["metadata"]["uid"] != pod.uid:
+            return Became.ELSE, now
+        node = now["spec"].get("nodeName")
+        return (Became.WAITS if not node else Became.BOUND if node == bind.node else Became.ELSE), now
+
+    def read(self, namespace: str, name: str) -> dict[str, Any] | None:
+        """The pod of this name, None where there is none. Without the right to read it by its name it is listed by it."""
+        words = {"_preload_content": False, "_request_timeout": (5, 30)}
+        try:
+            return dict(json.loads(self.api.read_namespaced_pod(name, namespace, **words).data))
+        except ApiException as other:
+            if other.status == 404:
+                return None
+            if other.status != 403:
+                raise
+            self.warn(other)
+        pods = json.loads(self.api.list_namespaced_pod(namespace, field_selector=f"metadata.name={name}", **words).data)["items"]
+        return dict(pods[0]) if pods else None
 
     def fence(self, bind: Bind, pod: dict[str, Any]) -> bool:
         """Moves the version of a pod that has no node, so that a bind that comes late is refused where that is tested. False where the pod has

@@ -25,8 +25,9 @@ from translating import EVERYTHING, PIECE, Json, batches, line_of, start, writte
 from watch import First
 
 LOG = logging.getLogger("second-scheduler")
-# For how long an answer may be waited for, in seconds, and how many may be owed before they are read.
-PATIENCE, OWED = 15.0, 256
+# For how long an answer may be waited for, in seconds; how many lines wait at most for a bind that is
+# asked for behind them, or the end of a second; and how many answers may be owed before they are read.
+PATIENCE, UNSENT, OWED = 15.0, 16, 256
 # The most bytes of an object that is told, so that a line has room for it and an order around it: one
 # of more than 2 MiB isn't read, may be a pod on a node, and shuts the ledger.
 LONGEST = 2**21 - 4096
@@ -67,33 +68,38 @@ class Ledger:
         for it in (self.hearing, self.both):
             it.register(self.output, select.POLLIN)
         self.both.register(self.input, select.POLLOUT)
-        # of each line that isn't answered yet who takes its answer, and the last of the answers
+        # the lines that are to be written next, in their order; and of each that isn't answered yet
+        # who takes its answer
+        self.unsent: list[bytes] = []
         self.owed: collections.deque[Callable[[str], None]] = collections.deque()
-        self.last = ""
         # (whoever had the Lease before has nothing under way any more: `second_scheduler` has waited
         # for that)
         self.tell([order("rested")])
 
     def tell(self, lines: Iterable[bytes], then: Callable[[str], None] | None = None) -> None:
-        """Each answer is handed to `then`, sooner or later."""
+        """Each answer is handed to `then`, sooner or later: what is told is known to whatever is asked behind it."""
         then = then or self.is_told
         with self.lock:
             for some in batches(lines):
                 self.owed.extend([then] * len(some))
-                self.exchange(b"".join(some), OWED)
+                self.unsent += some
+                if len(self.unsent) >= UNSENT:
+                    self.exchange(OWED)
 
-    def ask(self, line: bytes) -> str:
-        """Waits for the answer. Once there is a fault there is none."""
+    def ask(self, lines: Sequence[bytes]) -> list[str]:
+        """Waits for the answers. Once there is a fault each is empty."""
+        answers = list[str]()
         with self.lock:
-            self.owed.append(self.is_answered)
-            self.exchange(line, 0)
-            return "" if self.fault else self.last
+            self.owed.extend([answers.append] * len(lines))
+            self.unsent += lines
+            self.exchange(0)
+        return [""] * len(lines) if self.fault else answers
 
     def tick(self) -> None:
-        """(in the main loop) Reads the answers that are owed, and raises where there is a fault."""
+        """(in the main loop, each second) Writes what waits, reads the answers that are owed, and raises where there is a fault."""
         if self.lock.acquire(blocking=False):
             try:
-                self.exchange(b"", 0)
+                self.exchange(0)
             finally:
                 self.lock.release()
         if not self.fault and self.child.poll() is not None:
@@ -106,10 +112,10 @@ class Ledger:
 
     # Lines and answers, under the lock.
 
-    def exchange(self, lines: bytes, most: int) -> None:
-        """Writes lines, and reads answers meanwhile, so that neither side waits for the other before a full pipe; and then until no more are owed
-        than `most`."""
-        unwritten = memoryview(lines)
+    def exchange(self, most: int) -> None:
+        """Writes the lines that wait, and reads answers meanwhile, so that neither side waits for the other before a full pipe; and then until no more
+        are owed than `most`."""
+        unwritten, self.unsent = memoryview(b"".join(self.unsent)), []
         if unwritten and not self.fault:
             unwritten = unwritten[written(self.input, unwritten) :]
         while (unwritten or len(self.owed) > most) and not self.fault:
@@ -141,15 +147,14 @@ class Ledger:
         if answer not in TOLD:
             LOG.error("the ledger answers an order by: %s", answer)
 
-    def is_answered(self, answer: str) -> None:
-        self.last = answer
-
     # Binds.
 
-    def grant(self, uid: str, node: str) -> tuple[int, str]:
-        """Asks whether a pod may be bound to a node, which is asked for then at once, and no more than once: the ticket of that bind; 0 where it
-        mayn't be, and why."""
-        answer = self.ask(order("bind", uid=quoted(uid), node=quoted(node)))
+    def grant(self, asked: Sequence[tuple[str, str]]) -> list[tuple[int, str]]:
+        """Asks whether pods, by their uids, may be bound to nodes, each by a bind that is sent then, once, or ended: its ticket, 0 where it mayn't be,
+        and why."""
+        return [*map(self.granted, self.ask([order("bind", uid=quoted(uid), node=quoted(node)) for uid, node in asked]))]
+
+    def granted(self, answer: str) -> tuple[int, str]:
         if answer.startswith(GRANTED):
             return int(answer.removeprefix(GRANTED)), ""
         self.metrics.trouble.not_granted.labels(answer.rpartition(" ")[2] or "none").inc()
@@ -161,7 +166,7 @@ class Ledger:
     def is_to_read(self, uid: str, ticket: int, outcome: str) -> bool:
         """What became of a bind that had no good answer: `refused`, or `over` where nothing can be done of it any more. Whether the pod has to be
         read, from now on, and that told."""
-        return self.ask(order("answer", uid=quoted(uid), ticket=str(ticket), **{"is": quoted(outcome)})) == TO_READ
+        return self.ask([order("answer", uid=quoted(uid), ticket=str(ticket), **{"is": quoted(outcome)})]) == [TO_READ]
 
     def was_read(self, uid: str, ticket: int, pod: Json | None) -> None:
         """What the read gave of the pod's name, None where there is none."""

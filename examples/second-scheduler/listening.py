@@ -10,6 +10,7 @@ from typing import Any
 from affinity import NodeLabels
 from claims import ClaimHearing, Claims, VolumeHearing, listed_after
 from hearing import NodeHearing, PodHearing
+from ledger import Ledger
 from metrics import Metrics
 from newest import Inbox, Newest
 from seen import Reader
@@ -24,7 +25,7 @@ class Listening:
     def __init__(self, inbox: Inbox) -> None:
         self.inbox, self.watches, self.is_behind = inbox, list[Watched](), True
 
-    def begin(self, given: argparse.Namespace, api: Any, metrics: Metrics, newest: Newest, labels: NodeLabels) -> None:
+    def begin(self, given: argparse.Namespace, api: Any, metrics: Metrics, newest: Newest, labels: NodeLabels, ledger: Ledger) -> None:
         only = {"label_selector": given.nodes} if given.nodes else {}
         reader, claims = Reader(given.wsched, given.scheduler, given.read_labels), Claims(is_told=bool(given.node_affinity))
         nodes = NodeHearing(metrics, reader, newest, given.share, labels)
@@ -32,8 +33,8 @@ class Listening:
         if given.node_affinity:
             self.watches.append(Watched(api.list_persistent_volume, VolumeHearing(claims, metrics)))
             self.watches.append(Watched(api.list_persistent_volume_claim_for_all_namespaces, ClaimHearing(claims, metrics)))
-        self.watches.append(Watched(api.list_node, nodes, **only))
-        self.watches.append(Watched(listed_after(claims, api.list_pod_for_all_namespaces), pods, field_selector=PHASES))
+        self.watches.append(Watched(api.list_node, nodes, ledger.nodes, **only))
+        self.watches.append(Watched(listed_after(claims, api.list_pod_for_all_namespaces), pods, ledger.pods, field_selector=PHASES))
 
     def unheard(self) -> list[str]:
         """The kinds of which more may have happened than was heard."""

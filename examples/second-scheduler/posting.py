@@ -17,7 +17,7 @@ import socket
 import ssl
 import threading
 import time
-from typing import Callable, NamedTuple
+from typing import Any, Callable, NamedTuple, Sequence
 
 from kubernetes.client.rest import ApiException
 
@@ -55,7 +55,7 @@ class Answer(NamedTuple):
 
 
 class Request(NamedTuple):
-    """`patience` is how long it may take once it is sent, in seconds; `is_wanted` is asked at the moment at which it is."""
+    """`patience` is how long it may take once it is sent, in seconds; `about` is whoever's that sends it."""
 
     method: str
     path: str
@@ -63,7 +63,7 @@ class Request(NamedTuple):
     form: str
     patience: float
     then: Callable[[Answer], None]
-    is_wanted: Callable[[], bool] = lambda: True
+    about: Any = None
 
 
 class Line:
@@ -74,11 +74,16 @@ class Line:
         self.is_busy, self.unsent, self.read, self.began = False, b"", b"", 0.0
 
 
-class Posts:
-    """The thread, its connections and the requests that wait for one. `send` and `ask` may be called by any other thread."""
+def all_of_them(some: Sequence[Request]) -> Sequence[bool]:
+    return [True] * len(some)
 
-    def __init__(self, way: Way, most: int, name: str) -> None:
-        self.way, self.most, self.name = way, most, name
+
+class Posts:
+    """The thread, its connections and the requests that wait for one. `send` and `ask` may be called by any other thread. `wanted` says of each
+    request whether it is to be sent, at the moment at which it is."""
+
+    def __init__(self, way: Way, most: int, name: str, wanted: Callable[[Sequence[Request]], Sequence[bool]] = all_of_them) -> None:
+        self.way, self.most, self.name, self.wanted = way, most, name, wanted
         self.asked: queue.SimpleQueue[Request] = queue.SimpleQueue()
         self.opened: queue.SimpleQueue[socket.socket | Exception] = queue.SimpleQueue()
         self.waiting: collections.deque[Request] = collections.deque()
@@ -149,11 +154,12 @@ class Posts:
 
     def start_some(self, now: float) -> None:
         while self.waiting and self.idle:
-            request = self.waiting.popleft()
-            if request.is_wanted():
-                self.start(self.idle.pop(), request, now)
-            else:
-                request.then(Answer(UNWANTED, b""))
+            some = [self.waiting.popleft() for _ in range(min(len(self.waiting), len(self.idle)))]
+            for request, is_wanted in zip(some, self.wanted(some)):
+                if is_wanted:
+                    self.start(self.idle.pop(), request)
+                else:
+                    request.then(Answer(UNWANTED, b""))
         if now >= self.may_open:
             for _ in range(min(len(self.waiting), self.most - len(self.lines)) - self.opening):
                 self.opening += 1
@@ -183,8 +189,8 @@ class Posts:
             self.may_open = now + self.pause
             LOG.warning("%s: no connection to the API server: %s; again in %.1f s", self.name, made, self.pause)
 
-    def start(self, line: Line, request: Request, now: float) -> None:
-        line.request, line.is_busy, line.began = request, True, now
+    def start(self, line: Line, request: Request) -> None:
+        line.request, line.is_busy, line.began = request, True, time.monotonic()
         line.unsent = self.way.request(request.method, request.path, request.body, request.form)
         try:
             self.write(line)

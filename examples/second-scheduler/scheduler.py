@@ -20,6 +20,7 @@ from desk import Desk
 from explaining import Explaining
 from health import Health
 from itself import Itself
+from ledger import Ledger
 from listed import Listing
 from listening import Listening
 from metrics import Metrics
@@ -56,7 +57,7 @@ class Scheduler:
         self.under_way, self.began, self.last = 0, time.monotonic(), 0.0
         self.itself = Itself(given)
         self.core = Core(command(given.wsched, given.workers, given.spec), self.itself.record(), health.beat)
-        health.watch_over(self.core.kill)
+        health.watch_over(self.kill)
         self.share = given.share
         self.whose = f" of share {self.share}" if self.share.count > 1 else ""
         # up to which change of a node the main loop has heard
@@ -64,14 +65,24 @@ class Scheduler:
         pods: dict[str, Pod] = {}
         self.newest = Newest(self.inbox, pods, lambda: self.listening.is_deaf() or not may_write())
         self.telling = Telling(way, given.scheduler, given.dry_run, metrics, self.newest.waits)
-        self.binders = Binders(api, way, given.binders, self.newest, metrics, self.stopping)
+        ledger = Ledger(given.wsched, given.scheduler, metrics, given.share, bool(given.node_affinity))
+        self.binders = Binders(api, way, given.binders, self.newest, ledger, self.stopping)
         labels = NodeLabels(given.settings, given.read_labels)
         self.desk = Desk(self.core, self.telling, metrics, labels, pods, self.share)
         self.audit = Audit(self.desk, self.telling, metrics, Listing(api, self.newest, self.desk, self.telling, metrics))
         explain = [given.wsched, "explain", "--", *given.spec]
         self.explaining = Explaining(explain, self.desk, self.telling, self.inbox, self.whose, given.reasons)
-        self.listening.begin(given, api, metrics, self.newest, labels)
+        self.listening.begin(given, api, metrics, self.newest, labels, ledger)
         health.unheard = self.listening.unheard
+
+    def kill(self) -> None:
+        """Ends what it has started. (Each ends with its input too, but one that hangs.)"""
+        self.core.kill()
+        self.binders.ledger.kill()
+
+    def may_be_followed(self) -> bool:
+        """Whether nothing is under way at its end, and nothing was given up that may still be done: so the next need wait for nothing."""
+        return not self.under_way and not self.binders.doubts.is_cut_short
 
     # Decisions.
 
@@ -202,6 +213,7 @@ class Scheduler:
     def tick(self) -> None:
         self.core.tell(f'{{"op":"tick","at":{int(1000 * (time.monotonic() - self.began))}}}', lambda answer: None)
         self.core.flush()
+        self.binders.ledger.tick()
         self.desk.has_work = True
         self.desk.try_short()
         self.itself.tell(self.desk, self.telling, self.metrics)
@@ -248,6 +260,7 @@ class Scheduler:
             self.take(time.monotonic() + 0.1)
         self.telling.end(max(0.5, end - time.monotonic()))
         self.health.beat()
+        self.binders.ledger.kill()
         status = self.core.end()
         LOG.info("ended: %s; wsched's status %s", dict(self.counts), status)
         return status

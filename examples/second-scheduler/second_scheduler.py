@@ -28,18 +28,19 @@ from tools import rules
 from tools.wasm_sections import reasons_by_name
 
 import lease
+import ledger
 import rule_labels
 import serving
 import signals
 import share
 import site_settings
+import translating
 from binding import LANDS
 from core import CoreFault, command, try_on_nothing
 from health import Health
 from metrics import Metrics
 from official import NoAccount, calls_by
 from scheduler import Scheduler, end_process
-from translating import words_of
 from way import NoWay, Way
 
 LOG = logging.getLogger("second-scheduler")
@@ -177,7 +178,7 @@ class Replica:
             if self.stop.is_set():
                 self.running.stopping.set()
             status = self.running.run()
-            if self.lease and not self.running.under_way:
+            if self.lease and self.running.may_be_followed():
                 self.lease.release()
         except (CoreFault, OSError) as why:
             LOG.error("%s", why)
@@ -197,8 +198,8 @@ class Replica:
         if self.stop.is_set():
             end_process(0)
         if self.running:
-            # (its input ends with this program, and so does that of the other children)
-            self.running.core.kill()
+            # (the input of the other children ends with this program)
+            self.running.kill()
         logging.shutdown()
         try:
             os.execv(sys.executable, sys.orig_argv)
@@ -243,7 +244,8 @@ def main() -> None:
     sys.setswitchinterval(0.001)
     log_to_standard_error(given.verbose)
     # (before anything depends on it: a replica that follows would find it out only once it leads)
-    for it in (command(given.wsched, given.workers, given.spec), words_of(given.wsched, given.scheduler)):
+    words_of = (translating.words_of(given.wsched, given.scheduler), ledger.words_of(given.wsched, given.scheduler))
+    for it in (command(given.wsched, given.workers, given.spec), *words_of):
         if wrong := try_on_nothing(it):
             sys.exit(f"second_scheduler.py: wsched {it[1]}: {wrong}")
     if given.record and not os.access(os.path.dirname(given.record) or ".", os.W_OK | os.X_OK):

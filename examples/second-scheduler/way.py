@@ -10,6 +10,7 @@ import base64
 import http.client
 import socket
 import ssl
+import struct
 import time
 import urllib.parse
 import urllib.request
@@ -32,6 +33,8 @@ OPTIONS = [
     (socket.IPPROTO_TCP, socket.TCP_KEEPCNT, PROBES),
     (socket.IPPROTO_TCP, TCP_USER_TIMEOUT, UNHEARD),
 ]
+# However such a connection ends here, it is reset: nothing that it hasn't carried yet comes later.
+RESET = struct.pack("ii", 1, 0)
 # How old a token may be that a request bears, in seconds, once there is a newer one.
 RENEWED = 1.0
 
@@ -65,6 +68,7 @@ class Way:
         try:
             for level, what, value in OPTIONS:
                 sock.setsockopt(level, what, value)
+            sock.setsockopt(socket.SOL_SOCKET, socket.SO_LINGER, RESET)
             if self.tls:
                 sock = self.tls.wrap_socket(sock, server_hostname=self.name)
             sock.setblocking(False)

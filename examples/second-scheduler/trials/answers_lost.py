@@ -68,9 +68,9 @@ def bind_unanswered(site: Site) -> str:
     site.wait(lambda: len(done) == 4, 20, "four binds have no answer")
     site.pod("new")
     new = site.wait(lambda: site.place("new"), 10, "a new pod is bound meanwhile")
-    site.wait(lambda: site.placed() == 6, 110, "those that weren't bound are tried again")
+    site.wait(lambda: site.placed() == 6, 125, "those that weren't bound are tried again")
     taken = time.monotonic() - began
-    assert taken > 75, f"they were bound after {taken:.0f} s"
+    assert taken > 90, f"they were bound after {taken:.0f} s"
     asked = {it.key for it in site.server.all("get", "pods")}
     assert asked == set(silent), asked
     assert site.server.count("create", "pods/binding") == 1 + 4 + 1 + 2

@@ -18,7 +18,7 @@ def relayed(site: Site) -> str:
     program = site.folder / "relay"
     relay = pathlib.Path(__file__).parent / "relay.py"
     # (objects aren't what it is about)
-    straight = f'[ "$1" = translate ] && exec "{site.programs.wsched}" "$@"'
+    straight = f'case "$1" in translate | live) exec "{site.programs.wsched}" "$@";; esac'
     program.write_text(f'#!/bin/sh\n{straight}\nexec "{relay}" "{site.programs.wsched}" "{site.folder}" "$@"\n', encoding="utf-8")
     program.chmod(0o755)
     return str(program)

@@ -50,7 +50,7 @@ class Told:
 
     def asks(self, uid: str, node: str = "a") -> str:
         """A bind is asked for: the answer."""
-        ticket, why = self.ledger.grant(uid, node)
+        ticket, why = self.ledger.grant([(uid, node)])[0]
         return "granted" if ticket else why
 
     def end(self) -> None:
@@ -108,7 +108,7 @@ def ledger_answers(site: Site) -> str:
     pods = [it.pod(name, "600m") for name in ("first", "second")]
     for pod in pods:
         it.hears("ADDED", pod)
-    ticket, _ = it.ledger.grant("first", "a")
+    ticket, _ = it.ledger.grant([("first", "a")])[0]
     it.ledger.was_read("first", ticket, pods[0])
     assert (it.asks("first"), it.asks("second")) == ("not-waiting", "refused 6 NoRoom")
     assert it.ledger.is_to_read("first", ticket, "over") and it.asks("second") == "refused 6 NoRoom"
@@ -117,12 +117,12 @@ def ledger_answers(site: Site) -> str:
     # of another pod by that name, and of none, the one is gone
     for gave in (it.pod("anew", "600m"), None):
         it.hears("ADDED", it.pod("third", "100m"))
-        ticket, _ = it.ledger.grant("third", "a")
+        ticket, _ = it.ledger.grant([("third", "a")])[0]
         assert ticket and it.ledger.is_to_read("third", ticket, "refused")
         it.ledger.was_read("third", ticket, gave)
         assert it.asks("third") == "not-waiting"
     it.hears("ADDED", it.pod("fourth", "300m"))
-    ticket, _ = it.ledger.grant("fourth", "a")
+    ticket, _ = it.ledger.grant([("fourth", "a")])[0]
     it.ledger.created("fourth", ticket)
     assert ticket and not it.ledger.is_to_read("fourth", ticket, "over")
     it.hears("MODIFIED", it.pod("fourth", "300m", on="a"))

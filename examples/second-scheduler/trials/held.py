@@ -8,15 +8,16 @@ from trials.server import Asked
 from trials.site import Site
 from trials.store import Thing
 
-# For how long a place is kept from the sending of its bind on, in seconds.
-LANDS = 75.0
+# For how long a place is kept from the sending of its bind on, in seconds, where that is given up
+# after 30.
+LANDS = 90.0
 # How it is started so that a bind lands, or doesn't, within seconds.
 HURRIED = """
 import sys
 sys.path.insert(0, {folder!r})
 sys.argv = sys.argv[1:]
 import binding
-binding.LANDS = 3.0
+binding.LANDS = binding.LASTS = 3.0
 import second_scheduler
 second_scheduler.main()
 """
@@ -60,12 +61,12 @@ def held(site: Site) -> str:
 
 
 def held_fenced(site: Site) -> str:
-    """A bind is held back for 100 s: 75 s after it was sent the pod's version is moved, then its place is given back and the pod placed again; what
+    """A bind is held back for 110 s: 90 s after it was sent the pod's version is moved, then its place is given back and the pod placed again; what
     comes late is refused."""
     site.node("a", cpu="1")
     settled(site)
     site.server.tests_version = True
-    hold = Held(100, "first")
+    hold = Held(110, "first")
     site.server.refuse = hold
     site.pod("first", cpu="600m")
     site.wait(lambda: hold.when, 20, "the bind is under way")
@@ -117,8 +118,8 @@ def refused_late(site: Site) -> str:
 
 
 def hidden(site: Site) -> str:
-    """Pods may not be asked for, and binds are refused, one with 409, one with 503: each is given back all the same, at once and after the 3 s in which it
-    may be done, the log says which right is missing, and both pods are bound when they are tried again."""
+    """Pods may not be read by their names, and binds are refused, one with 409, one with 503: each pod is listed by its name instead, the log says which
+    right is missing, and both are bound when they are tried again, the second after the 3 s in which its bind may be done."""
     site.node("a", cpu="64")
     it = site.start(words=[sys.executable, "-c", HURRIED.format(folder=str(site.programs.client)), "second_scheduler.py"])
     site.pod("before", cpu="10m")
@@ -139,8 +140,36 @@ def hidden(site: Site) -> str:
     site.wait(lambda: site.place("of-409") and site.place("of-503"), 30, "both are bound")
     late = seen["default/of-503"][1] - seen["default/of-503"][0]
     assert late >= 3.0, f"the place of one that might be done was given back after {late:.1f} s"
-    assert 'cannot get resource "pods"' in it.log() and "of-503: what became of its bind" in it.log()
+    assert 'cannot get resource "pods"' in it.log()
+    listed = {asked.query.get("fieldSelector") for asked in site.server.all("list", "pods")}
+    assert {"metadata.name=of-409", "metadata.name=of-503"} <= listed, listed
     return f"tried again after {late:.1f} s; {site.check()}"
 
 
-TRIALS = [hidden, held, held_fenced, refused_late]
+def hidden_whole(site: Site) -> str:
+    """Pods may neither be read nor listed by their names: the place of a bind that was refused with 503 is given back after the 3 s in which it may be
+    done, and the log says so; but the ledger doesn't grant another bind of it, since nobody knows how the first ended. Others are bound."""
+    site.node("a", cpu="64")
+    it = site.start(*site.listening(), words=[sys.executable, "-c", HURRIED.format(folder=str(site.programs.client)), "second_scheduler.py"])
+    site.pod("before", cpu="10m")
+    site.wait(lambda: site.place("before"), 20, "it binds")
+    seen = list[float]()
+
+    def refuse(asked: Asked) -> "tuple[int, str] | None":
+        if asked.what == "pods" and (asked.verb == "get" or "metadata.name" in asked.query.get("fieldSelector", "")):
+            return 403, 'User "x" cannot get resource "pods"'
+        if asked.what == "pods/binding" and asked.key == "default/of-503":
+            seen.append(asked.when)
+            return 503, "not now"
+        return None
+
+    site.server.refuse = refuse
+    site.pod("of-503")
+    site.wait(lambda: value(scraped(site), "wsched_binds_not_granted_total", answer="not-waiting"), 30, "it is tried again, and not granted")
+    site.pod("other")
+    site.wait(lambda: site.place("other"), 20, "another pod is bound")
+    assert "of-503: what became of its bind" in it.log() and len(seen) == 1, it.log()[-300:]
+    return f"{len(seen)} bind of it was asked for; {site.check()}"
+
+
+TRIALS = [hidden, hidden_whole, held, held_fenced, refused_late]

@@ -1,6 +1,7 @@
 # SPDX-License-Identifier: Apache-2.0
 """More nodes than wsched has room for, and more places: it goes on, says so, and fills no node over its room."""
 import json
+import time
 
 from trials.metrics import scraped, value
 from trials.site import MIB, Site, seconds_of_line, wait_for, whom
@@ -37,7 +38,8 @@ def nodes_1001(site: Site) -> str:
 
 
 def places_150000(site: Site) -> str:
-    """150,100 placed pods: it doesn't end, a node has an event, and a pod that waits is bound to another node."""
+    """150,100 placed pods: it doesn't end, a node has an event, and nothing is bound, since the ledger has no room for each, as the log and a metric say.
+    Once 200 of them went, all are listed anew, and a pod that waits is bound."""
     names = ["left", "right", "empty"]
     for name in names:
         site.node(name, cpu="1000", memory="15Ti", pods=100_000)
@@ -48,18 +50,32 @@ def places_150000(site: Site) -> str:
         "status": {"phase": "Running"},
     }
     text = json.dumps(model)
-    site.store.bulk["pods"] = Bulk(PLACES + 100, lambda i: text.replace("@@@@@@", f"{i:06}").replace("NODE", names[i % 2]).encode())
+
+    def make(i: int) -> bytes:
+        return text.replace("@@@@@@", f"{i:06}").replace("NODE", names[i % 2]).encode()
+
+    site.store.bulk["pods"] = Bulk(PLACES + 100, make)
     it, patience = site.start(*site.listening()), 90 + 3 * PLACES * seconds_of_line(site.programs)
     wait_for(lambda: not it.runs() or len(site.server.watches) >= 2, patience, "all are listed")
     site.pod("waits")
-    took = wait_for(lambda: not it.runs() or site.place("waits"), patience, "a pod that waits is bound")
+    wait_for(lambda: not it.runs() or of_nodes(site), patience, "a node has an event")
     assert it.runs(), f"it ended with status {it.wait(0)}: {it.log().strip().splitlines()[-1][:200]}"
-    wait_for(lambda: of_nodes(site), 20, "a node has an event")
-    aside = {whom(it)["name"] for it in of_nodes(site)}
-    assert site.place("waits") not in aside, f"bound to {site.place('waits')}, whose pods aren't counted"
-    found = scraped(site)
-    assert value(found, "wsched_refused_for_room_total", kind="place") > 0, f"metrics: {found}"
-    return f"{sorted(aside)} set aside: {of_nodes(site)[0]['message'][:110]}; the pod is on {site.place('waits')} after {took:.0f} s"
+    site.wait(lambda: value(scraped(site), "wsched_binds_not_granted_total", answer="shut") > 0, patience, "its bind isn't granted")
+    found, said = scraped(site), of_nodes(site)[0]["message"][:110]
+    assert value(found, "wsched_refused_for_room_total", kind="place") > 0 and value(found, "wsched_ledger_full_total", kind="pod") > 0, found
+    assert "the ledger has no room for more pods" in it.log() and site.place("waits") is None
+    site.store.bulk["pods"] = Bulk(PLACES - 100, make)
+    began, turns = time.monotonic(), 0
+    while site.server.count("list", "pods") < 2 and time.monotonic() < began + patience:
+        # (that some went is told by their events)
+        turns += 1
+        site.pod(f"goes-{turns}", on="left")
+        site.delete_pod(f"goes-{turns}")
+        time.sleep(1)
+    wait_for(lambda: not it.runs() or len(site.server.watches) >= 2, patience, "all are listed anew")
+    site.pod("second")
+    took = site.wait(lambda: site.place("second"), patience, "a pod that waits is bound once there is room for all")
+    return f"a node was set aside: {said}; the pod was bound {took:.0f} s after the second list, on {site.place('second')}"
 
 
 TRIALS = [nodes_1001, places_150000]
