@@ -86,8 +86,8 @@ class Ended(NamedTuple):
 
 
 def run(program: str, words: list[str], given: str = "") -> Ended:
-    """Runs the program."""
-    it = subprocess.run([program, *words], input=given.encode(), capture_output=True, timeout=120, check=False)
+    """Runs the program. In what it is given `\\udcff` is the byte FF."""
+    it = subprocess.run([program, *words], input=given.encode(errors="surrogateescape"), capture_output=True, timeout=120, check=False)
     return Ended(it.returncode, it.stdout.decode(errors="replace"), it.stderr.decode(errors="replace"))
 
 
