@@ -14,11 +14,9 @@
 //! - `name_table`: `names`
 //! - `queue`: `waiting`
 //! - `book`: the rows `a_place_*` and `places_that_expire_each_by_its_bind`
-//! - `ledger`: `ledgers`
+//! - `ledger`: `ledgers`; its answers, the rows `live_*`
 //! - `desk`: `steps` by one pass, `sharing` by several, `at_once` in threads, `looks`
-//! - `choose`: `decisions`; `cases` has their nodes and pods in short; by a site's modules, and
-//!   among many nodes, tests/rows
-//! - `fleet`: `workers`
+//! - `choose`, `fleet`: `workers`; what is decided, of which nodes and by which rules, tests/rows
 //! - `binder`: `binding`; `audit`: `audits`
 #![tactic(auto)]
 
@@ -30,10 +28,6 @@ mod at_once;
 mod audits;
 #[cfg(test)]
 mod binding;
-#[cfg(test)]
-mod cases;
-#[cfg(test)]
-mod decisions;
 #[cfg(test)]
 mod ledgers;
 #[cfg(test)]

@@ -1,11 +1,13 @@
-//! Fleets at work: that each piece has its kit, and that pieces are judged at once.
+//! Fleets at work: that each piece has its kit, and that pieces are judged at once; and one kit
+//! alone.
 ghost use Rattle.std.specs.Prelude.{◌<◌, ◌≤◌};
 
 use super::kits::{Both, Counts, Tally, is_by_the_least, look, small_pod};
-use choose::{Decision, NoMemory};
+use choose::{Decision, NoMemory, Verdict, choose};
 use desk::Snapshot;
 use fleet::{Fleet, Gate, NoGate};
 use quant::Pod;
+use rules::Cause;
 use std::alloc::{AllocError, Global};
 use std::hash::RandomState;
 use std::sync::{Arc, Wait};
@@ -84,6 +86,32 @@ fn so_many_decide<R: Threads + Sync>(
     Ok(decides(rt, &mut fleet, shown, pod, &begun) && each_was_asked(&asked, &begun, kits))
 }
 
+// How often one kit is asked.
+fn count_of_one(alloc: Global) -> Result<Arc<Counts>, AllocError> {
+    let asked = Arc::new(alloc, Counts::new(alloc, 1)?)?;
+    Ok(asked)
+}
+
+// Whether one kit decides so in this thread.
+fn one_decides(alloc: Global, shown: &Snapshot, pod: &Pod) -> Result<bool, NoMemory> {
+    let asked = count_of_one(alloc)?;
+    let mut kit = Tally {
+        asked: asked.clone()?,
+        place: 0,
+    };
+    let decision = choose(alloc, shown, pod, &mut kit)?;
+    Ok(is_by_the_least(&decision) && asked.at(0) == 5)
+}
+
+// Whether the rule of one kit alone errs at each of five nodes.
+fn one_judges(alloc: Global, shown: &Snapshot, pod: &Pod) -> Result<bool, NoMemory> {
+    let asked = count_of_one(alloc)?;
+    let mut fleet = Fleet::of_one(alloc, Tally { asked, place: 0 })?;
+    fleet.judge(shown, pod, false)?;
+    let verdicts = fleet.verdicts();
+    Ok(verdicts.len() == 5 && verdicts[4] == Verdict::Errs(0, Cause::Exhausted))
+}
+
 // The first number of kits that decide otherwise.
 fn first_other<R: Threads + Sync>(
     rt: &R,
@@ -91,6 +119,9 @@ fn first_other<R: Threads + Sync>(
     shown: &Snapshot,
     pod: &Pod,
 ) -> Option<usize> {
+    if one_decides(alloc, shown, pod) != Ok(true) || one_judges(alloc, shown, pod) != Ok(true) {
+        return Some(0);
+    }
     for kits in [1, 2, 3, 64] {
         if so_many_decide(rt, alloc, shown, pod, kits) != Ok(true) {
             return Some(kits);
