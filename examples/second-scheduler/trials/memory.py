@@ -83,13 +83,13 @@ def measured(site: Site, count: int, most: int) -> str:
 
 
 def memory(site: Site) -> str:
-    """15,000 placed pods of 4 kB: the client and its three wsched together never had more than 750 MiB, most of it the ledger's tables."""
-    return measured(site, 15_000, 750)
+    """15,000 placed pods of 4 kB: the client and its three wsched together never had more than 250 MiB."""
+    return measured(site, 15_000, 250)
 
 
 def memory_whole(site: Site) -> str:
-    """149,990 placed pods of 4 kB, ten less than there is room for: the client and its three wsched together never had more than 1,100 MiB."""
-    return measured(site, 149_990, 1100)
+    """149,990 placed pods of 4 kB, ten less than there is room for: the client and its three wsched together never had more than 600 MiB."""
+    return measured(site, 149_990, 600)
 
 
 TRIALS = [memory, memory_whole]
