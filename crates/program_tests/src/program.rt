@@ -264,7 +264,7 @@ fn removes_files<R: fs::Files>(rt: &R, files: Stored) -> bool {
 }
 
 const FAULTS: &str =
-    "1 BadWords, 1 BadWords NAME of word 3, plugin r: refused instance 4 StartExhausted, plugin s: 3 Read, 5 NoPlace, line 7: 6 Uncounted";
+    "1 BadWords, 2 NoMemory, 1 BadWords NAME of word 3, plugin r: refused instance 4 StartExhausted, plugin s: 3 Read, 5 NoPlace, line 7: 6 Uncounted";
 
 fn plugin_fault() -> Option<Fault> {
     let refusal = Refusal::NotReady(InstanceFault::StartExhausted);
@@ -294,8 +294,9 @@ fn are_told(alloc: Global) -> bool {
         return false;
     };
     let text = format!(in alloc;
-        "{}, {}, {plugin}, {unread}, {}, {}",
+        "{}, {}, {}, {plugin}, {unread}, {}, {}",
         Fault::Words(WordFault::BadWords),
+        Fault::Words(WordFault::NoMemory),
         Fault::Misused(Misuse::Plugin(Part::Name, 3)),
         Fault::Run(RunFault::NoPlace),
         uncounted_fault()

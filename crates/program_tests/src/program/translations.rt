@@ -1,5 +1,5 @@
-//! A translation of objects of the Kubernetes API, in pieces and over failing devices. What words
-//! and lines come to is told by tests/rows, and what each object gives is tested in `api_objects`.
+//! A translation of objects of the Kubernetes API, in pieces and over failing devices. What words,
+//! lines and objects come to is told by tests/rows.
 use super::{Given, RUN, Want, ends, ends_in_pieces};
 use std::alloc::Global;
 use std::fs::Files;
