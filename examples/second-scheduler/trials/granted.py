@@ -34,7 +34,8 @@ class Told:
         container = {"name": "c", "command": ["x"], "resources": {"requests": {"cpu": cpu}}}
         meta = self.meta(name, labels={f"label-{i}": "x" for i in range(labels)})
         place = {"nodeName": on} if on else {}
-        return {"kind": "Pod", "metadata": meta, "spec": {"schedulerName": "wsched", "containers": [container], **place, **spec}, "status": {"phase": "Pending"}}
+        whole: Thing = {"schedulerName": "wsched", "containers": [container], **place, **spec}
+        return {"kind": "Pod", "metadata": meta, "spec": whole, "status": {"phase": "Pending"}}
 
     def lists(self, side: Any, things: "list[Thing]") -> None:
         """A list, and a watch that is open behind it."""
