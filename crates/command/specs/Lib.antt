@@ -3,6 +3,6 @@ pub mod Count
 pub mod Words
 pub mod Within
 pub mod Examples
-pub mod TranslateMisuse
+pub mod Verb
 pub mod Misuse
 pub mod inside

@@ -6,7 +6,8 @@
 //! [--binders B] [--flaky] [SPEC]...`, where a SPEC is `NAME:WEIGHT:FUEL:FILE`, or `check MODULE`,
 //! or `translate [--scheduler NAME] [--labels KEY,..] [--by-uid] [--answers]`, or `live
 //! [--scheduler NAME] [--labels KEY,..]`, or `version`. The words are read as `clap` reads them;
-//! `count` and `plugin_words` read what `clap` leaves as text.
+//! `count` and `plugin_words` read what `clap` leaves as text. `verb` has which options each command
+//! takes, by which `misuse` says what is wrong with words that ask for nothing.
 #![tactic(auto)]
 
 mod asked;
@@ -16,7 +17,7 @@ mod fault;
 mod laws;
 mod misuse;
 mod plugin_words;
-mod translate_misuse;
+mod verb;
 
 pub use asked::{LivePlan, Plan, Spec, StormPlan, TranslatePlan, Words};
 pub use command_line::{arguments, words};

@@ -1,10 +1,10 @@
 //! What is wrong with words that ask for nothing, told to whoever wrote them.
 ghost use Rattle.std.specs.Prelude.{◌≡◌, ◌<◌, length, map, drop, option_map};
-ghost use Rattle.command.specs.Misuse.{at_end, at_equals, count_named, is_hyphened, is_option, misuse_in, misuse_of, part_of, read_behind, wrong_count, wrong_other, wrong_part, wrong_plugin, wrong_word};
+ghost use Rattle.command.specs.Misuse.{at_end, at_equals, is_hyphened, is_option, misuse_in, misuse_of, part_of, read_behind, wrong_anything, wrong_behind_end, wrong_count, wrong_other, wrong_part, wrong_text, wrong_value, wrong_word};
 
 use crate::count::{Count, number_for};
 use crate::plugin_words::{cut, digits_up_to};
-use crate::translate_misuse::misuse_among;
+use crate::verb::{Verb, Wanted};
 use quant::{MAX_FUEL, MAX_WEIGHT, Name};
 use std::convert::AsStr;
 use thiserror::Error;
@@ -56,11 +56,11 @@ pub enum Misuse {
 /// What a word behind a command is read as.
 #[derive(Clone, Copy, Debug, PartialEq, Eq)]
 enum ReadAs {
-    /// An option, the end of the options, or a plugin.
+    /// An option, the end of the options, or another word.
     Anything,
     /// The value of the option before it.
-    Value(Count),
-    /// A plugin, since it stands behind the end of the options.
+    Value(Wanted),
+    /// No option, since it stands behind the end of the options.
     NoOption,
 }
 
@@ -102,24 +102,11 @@ fn at_equals(text: &str) -> Option<(&str, &str)>
     text.split_once('=')
 }
 
-// The number that an option of a storm, or of a run, asks for.
-fn count_named(is_storm: bool, option: &str) -> Option<Count>
-    ensures { result ≡ count_named is_storm option.now }
-{
-    if is_storm {
-        if option == "--cycles" {
-            return Some(Count::Cycles);
-        }
-        return (option == "--binders").then_some(Count::Binders);
-    }
-    (option == "--workers").then_some(Count::Workers)
-}
-
 // Whether a word is an option, whose value is the next word or which has none, or ends the options.
-fn is_option(is_storm: bool, word: &str) -> bool
-    ensures { result ≡ is_option is_storm word.now }
+fn is_option(verb: Verb, word: &str) -> bool
+    ensures { result ≡ is_option verb word.now }
 {
-    count_named(is_storm, word).is_some() || word == "--" || (is_storm && word == "--flaky")
+    verb.value_of(word).is_some() || verb.is_flag(word) || word == "--"
 }
 
 // What is wrong with an option's number, in the word of this number.
@@ -133,16 +120,6 @@ fn wrong_count(number: usize, count: Count, value: &str) -> Option<Misuse>
     }
 }
 
-// What is wrong with a word that is to be a plugin.
-fn wrong_plugin(number: usize, word: &str) -> Option<Misuse>
-    ensures { result ≡ wrong_plugin number word.now }
-{
-    match wrong_part(word) {
-        Some(part) => Some(Misuse::Plugin(part, number)),
-        None => None,
-    }
-}
-
 // Whether a word begins with a hyphen.
 fn is_hyphened(word: &str) -> bool
     ensures { result ≡ is_hyphened word.now }
@@ -150,49 +127,89 @@ fn is_hyphened(word: &str) -> bool
     word.as_bytes().starts_with(b"-")
 }
 
+// What is wrong with the word of this number as an option's value. `clap` takes one with a hyphen
+// in front for an option, but not a hyphen alone.
+fn wrong_value(number: usize, value: Wanted, word: &str) -> Option<Misuse>
+    ensures { result ≡ wrong_value number value word.now }
+{
+    match value {
+        Wanted::Number(count) => wrong_count(number, count, word),
+        Wanted::Name if !is_hyphened(word) || word.len() == 1 => None,
+        Wanted::Name => Some(Misuse::Scheduler(number)),
+    }
+}
+
+// What is wrong with what stands behind an option and a `=`, where any text is a name.
+fn wrong_text(number: usize, value: Wanted, text: &str) -> Option<Misuse>
+    ensures { result ≡ wrong_text number value text.now }
+{
+    match value {
+        Wanted::Number(count) => wrong_count(number, count, text),
+        Wanted::Name => None,
+    }
+}
+
+// What is wrong with a word behind the end of the options.
+fn wrong_behind_end(verb: Verb, number: usize, word: &str) -> Option<Misuse>
+    ensures { result ≡ wrong_behind_end verb number word.now }
+{
+    if !verb.takes_plugins() {
+        return Some(Misuse::Unknown(number));
+    }
+    match wrong_part(word) {
+        Some(part) => Some(Misuse::Plugin(part, number)),
+        None => None,
+    }
+}
+
 // What is wrong with a word that is no option where one could stand: `clap` takes one with a hyphen
 // in front for an option.
-fn wrong_other(number: usize, word: &str) -> Option<Misuse>
-    ensures { result ≡ wrong_other number word.now }
+fn wrong_other(verb: Verb, number: usize, word: &str) -> Option<Misuse>
+    ensures { result ≡ wrong_other verb number word.now }
 {
-    if is_hyphened(word) {
+    if verb.takes_plugins() && is_hyphened(word) {
         return Some(Misuse::Plugin(Part::Spec, number));
     }
-    wrong_plugin(number, word)
+    wrong_behind_end(verb, number, word)
+}
+
+// What is wrong with a word where an option could stand.
+fn wrong_anything(verb: Verb, number: usize, word: &str) -> Option<Misuse>
+    ensures { result ≡ wrong_anything verb number word.now }
+{
+    if is_option(verb, word) {
+        return None;
+    }
+    let Some((name, text)) = at_equals(word) else {
+        return wrong_other(verb, number, word);
+    };
+    match verb.value_of(name) {
+        Some(value) => wrong_text(number, value, text),
+        None => wrong_other(verb, number, word),
+    }
 }
 
 // What is wrong with the word of this number behind a command.
-#[tactic(auto, unfolding(crate::specs::Misuse::wrong_word))]
-fn wrong_word(is_storm: bool, number: usize, read_as: ReadAs, word: &str) -> Option<Misuse>
-    ensures { result ≡ wrong_word is_storm number read_as word.now }
+fn wrong_word(verb: Verb, number: usize, read_as: ReadAs, word: &str) -> Option<Misuse>
+    ensures { result ≡ wrong_word verb number read_as word.now }
 {
     match read_as {
-        ReadAs::Value(count) => return wrong_count(number, count, word),
-        ReadAs::NoOption => return wrong_plugin(number, word),
-        ReadAs::Anything => {}
-    }
-    if is_option(is_storm, word) {
-        return None;
-    }
-    let Some((name, value)) = at_equals(word) else {
-        return wrong_other(number, word);
-    };
-    match count_named(is_storm, name) {
-        Some(count) => wrong_count(number, count, value),
-        None => wrong_other(number, word),
+        ReadAs::Anything => wrong_anything(verb, number, word),
+        ReadAs::Value(value) => wrong_value(number, value, word),
+        ReadAs::NoOption => wrong_behind_end(verb, number, word),
     }
 }
 
 // What the word behind one that is read so is read as.
-fn read_behind(is_storm: bool, read_as: ReadAs, word: &str) -> ReadAs
-    ensures { result ≡ read_behind is_storm read_as word.now }
+fn read_behind(verb: Verb, read_as: ReadAs, word: &str) -> ReadAs
+    ensures { result ≡ read_behind verb read_as word.now }
 {
     match read_as {
         ReadAs::NoOption => ReadAs::NoOption,
         ReadAs::Value(_) => ReadAs::Anything,
         ReadAs::Anything if word == "--" => ReadAs::NoOption,
-        ReadAs::Anything => match count_named(is_storm, word) {
-            Some(count) => ReadAs::Value(count),
+        ReadAs::Anything => match verb.value_of(word) {
+            Some(value) => ReadAs::Value(value),
             None => ReadAs::Anything,
         },
     }
@@ -203,23 +220,24 @@ fn at_end(number: usize, read_as: ReadAs) -> Misuse
     ensures { result ≡ at_end number read_as }
 {
     match read_as {
-        ReadAs::Value(count) => Misuse::Number(count, number),
+        ReadAs::Value(Wanted::Number(count)) => Misuse::Number(count, number),
+        ReadAs::Value(Wanted::Name) => Misuse::Scheduler(number),
         ReadAs::Anything | ReadAs::NoOption => Misuse::Together,
     }
 }
 
 // What is wrong with the words behind a command, which is the first.
-fn misuse_behind<S: AsStr>(is_storm: bool, args: &[S]) -> Misuse
+fn misuse_behind<S: AsStr>(verb: Verb, args: &[S]) -> Misuse
     requires { 0 < length args.now }
-    ensures { result ≡ misuse_in is_storm 2 ReadAs.Anything (map S.text (drop 1 args.now)) }
+    ensures { result ≡ misuse_in verb 2 ReadAs.Anything (map S.text (drop 1 args.now)) }
 {
     let mut read_as = ReadAs::Anything;
     for at in 1..args.len() {
         let word = args[at].as_str();
-        if let Some(misuse) = wrong_word(is_storm, at + 1, read_as, word) {
+        if let Some(misuse) = wrong_word(verb, at + 1, read_as, word) {
             return misuse;
         }
-        read_as = read_behind(is_storm, read_as, word);
+        read_as = read_behind(verb, read_as, word);
     }
     at_end(args.len(), read_as)
 }
@@ -234,20 +252,9 @@ pub fn misuse_of<S: AsStr>(args: &[S]) -> Misuse
     let Some(command) = args.first() else {
         return Misuse::Command;
     };
-    if command.as_str() == "run" || command.as_str() == "explain" {
-        return misuse_behind(false, args);
+    match Verb::named(command.as_str()) {
+        Some(verb) => misuse_behind(verb, args),
+        None if command.as_str() == "check" || command.as_str() == "version" => Misuse::Together,
+        None => Misuse::Command,
     }
-    if command.as_str() == "storm" {
-        return misuse_behind(true, args);
-    }
-    if command.as_str() == "translate" {
-        return misuse_among(true, args);
-    }
-    if command.as_str() == "live" {
-        return misuse_among(false, args);
-    }
-    if command.as_str() == "check" || command.as_str() == "version" {
-        return Misuse::Together;
-    }
-    Misuse::Command
 }

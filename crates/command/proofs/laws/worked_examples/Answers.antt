@@ -2,11 +2,11 @@ use Rattle.std.proofs.Common.{refl}
 use Rattle.clap.proofs.OnLiterals.{clap_on_literals}
 use Rattle.quant.specs.Name.{is_name, is_text}
 use Rattle.command.specs.Words.{cut, meaning, spec_of}
-use Rattle.command.specs.Misuse.{at_equals, misuse_of, wrong_part, wrong_word}
+use Rattle.command.specs.Misuse.{at_equals, misuse_of, wrong_part}
 use Rattle.command.proofs.laws.worked_examples.Goals as goal
 
 pub returns : goal.returns
-unfolding clap_on_literals at_equals cut is_name is_text meaning misuse_of spec_of wrong_part wrong_word
+unfolding clap_on_literals at_equals cut is_name is_text meaning misuse_of spec_of wrong_part
 returns c = record {
   one_worker = refl;
   most_workers = refl;

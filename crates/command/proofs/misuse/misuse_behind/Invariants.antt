@@ -6,4 +6,4 @@ use Rattle.command.proofs.misuse.misuse_behind.Given as goal
 -- no word so far is wrong
 abbrev pub invariant-loop-at : goal.invariant-loop-at
 invariant-loop-at g l =
-    misuse_in l.is_storm 2 Anything (map g.S.AsStr.text (drop 1 l.args)) ≡ misuse_in l.is_storm (l.at + 1) l.read_as (map g.S.AsStr.text (drop l.at l.args))
+    misuse_in l.verb 2 Anything (map g.S.AsStr.text (drop 1 l.args)) ≡ misuse_in l.verb (l.at + 1) l.read_as (map g.S.AsStr.text (drop l.at l.args))
