@@ -17,9 +17,9 @@ use Rattle.manifest.specs.declared.fault.LineFault.TheVariants as line_fault
 use Rattle.engine.specs.Fault as run
 use Rattle.engine.specs.declared.fault.RunFault.{RunFault}
 use Rattle.engine.specs.declared.fault.RunFault.TheVariants as run_fault
-use Rattle.wmach.specs.Trap as trap
-use Rattle.wmach.specs.declared.outcome.Trap.{Trap}
-use Rattle.wmach.specs.declared.outcome.Trap.TheVariants as traps
+use Rattle.rules.specs.Trap as trap
+use Rattle.rules.specs.declared.trap.Trap.{Trap}
+use Rattle.rules.specs.declared.trap.Trap.TheVariants as traps
 use Rattle.whost.specs.Refused as instance
 use Rattle.whost.specs.declared.fault.InstanceFault.{InstanceFault}
 use Rattle.whost.specs.declared.fault.InstanceFault.TheVariants as instance_fault

@@ -6,7 +6,7 @@ use Rattle.wcode.specs.declared.fault.BinFault.TheVariants as bin_fault
 use Rattle.wbody.specs.Fault as type
 use Rattle.wbody.specs.declared.fault.TypeFault.{TypeFault}
 use Rattle.wbody.specs.declared.fault.TypeFault.TheVariants as type_fault
-use Rattle.wmach.specs.Trap as trap
+use Rattle.rules.specs.Trap as trap
 use Rattle.whost.specs.Refused as instance
 use Rattle.whost.specs.declared.fault.InstanceFault.{InstanceFault}
 use Rattle.whost.specs.declared.fault.InstanceFault.TheVariants as instance_fault

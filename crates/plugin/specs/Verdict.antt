@@ -4,31 +4,14 @@
 use Rattle.std.specs.Prelude.{ℕ, ◌==◌, nat_le, if◌then◌else◌, Some}
 use Rattle.std.specs.Int.{cast_signed, w32, w64}
 use Rattle.wcode.specs.declared.value.Value.TheVariants.{I32, I64}
-use Rattle.wmach.specs.declared.outcome.Trap.{Trap as Ended}
-use Rattle.wmach.specs.declared.outcome.Trap.TheVariants as ended
 use Rattle.wmach.specs.declared.outcome.Outcome.{Outcome}
 use Rattle.wmach.specs.declared.outcome.Outcome.TheVariants as outcome
-use Rattle.rules.specs.declared.trap.Trap.{Trap}
-use Rattle.rules.specs.declared.trap.Trap.TheVariants as trap
 use Rattle.rules.specs.declared.verdict.Rejection.TheVariants.{Unschedulable, UnschedulableAndUnresolvable}
 use Rattle.rules.specs.declared.verdict.Cause.TheVariants as cause
 use Rattle.rules.specs.declared.verdict.FilterVerdict.{FilterVerdict}
 use Rattle.rules.specs.declared.verdict.FilterVerdict.TheVariants as filter
 use Rattle.rules.specs.declared.verdict.ScoreVerdict.{ScoreVerdict}
 use Rattle.rules.specs.declared.verdict.ScoreVerdict.TheVariants as score
-
--- a trap, as it is told of a rule
-abbrev pub trap_told : Ended → Trap
-trap_told ended.Unreachable = trap.Unreachable
-trap_told ended.DivideByZero = trap.DivideByZero
-trap_told ended.IntegerOverflow = trap.IntegerOverflow
-trap_told ended.MemoryOutOfBounds = trap.MemoryOutOfBounds
-trap_told ended.UndefinedElement = trap.UndefinedElement
-trap_told ended.UninitializedElement = trap.UninitializedElement
-trap_told ended.SignatureMismatch = trap.SignatureMismatch
-trap_told ended.CallDepth = trap.CallDepth
-trap_told ended.HostOutOfBounds = trap.HostOutOfBounds
-trap_told ended.NoRecord = trap.NoRecord
 
 -- what a filter's number says
 abbrev pub code_said : (bits : ℕ) → FilterVerdict
@@ -46,13 +29,13 @@ number_said bits = if nat_le bits 100 then score.Good bits else score.Errs (caus
 -- stands for nothing that comes.
 abbrev pub filter_said : Outcome → FilterVerdict
 filter_said (outcome.Value (Some (I32 bits)) cost) = code_said bits
-filter_said (outcome.Trap name cost) = filter.Errs (cause.Trap (trap_told name))
+filter_said (outcome.Trap name cost) = filter.Errs (cause.Trap name)
 filter_said (outcome.Exhausted cost) = filter.Errs cause.Exhausted
 filter_said (outcome.Value _ cost) = filter.Errs cause.Exhausted
 
 -- what a score says by how its call ended. A score's result is an i64.
 abbrev pub score_said : Outcome → ScoreVerdict
 score_said (outcome.Value (Some (I64 bits)) cost) = number_said bits
-score_said (outcome.Trap name cost) = score.Errs (cause.Trap (trap_told name))
+score_said (outcome.Trap name cost) = score.Errs (cause.Trap name)
 score_said (outcome.Exhausted cost) = score.Errs cause.Exhausted
 score_said (outcome.Value _ cost) = score.Errs cause.Exhausted

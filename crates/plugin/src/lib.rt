@@ -28,4 +28,4 @@ pub use kit_rules::KitRules;
 pub use laws::{kits_are_alike, rules_are_calls};
 pub use plugins::{MAX_FUEL, MAX_PLUGINS, MAX_WEIGHT, Plugin, Plugins};
 pub use rules::{Cause, FilterVerdict, Rejection, Rules, ScoreVerdict, Trap};
-pub use verdict::{filter_verdict, score_verdict, trap_told};
+pub use verdict::{filter_verdict, score_verdict};

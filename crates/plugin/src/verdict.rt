@@ -3,34 +3,12 @@ ghost use Rattle.std.specs.Prelude.{◌≡◌, ◌≤◌, Some};
 ghost use Rattle.wcode.specs.declared.value.ValueType.TheVariants.{I32, I64};
 ghost use Rattle.wmach.specs.Call.{ResultFits};
 ghost use Rattle.wmach.specs.Outcome.{cost_of};
-ghost use Rattle.wmach.specs.Trap as ended;
-ghost use Rattle.rules.specs.Trap as told;
 ghost use Rattle.rules.specs.Verdict.{IsWithin};
-ghost use Rattle.plugin.specs.Verdict.{filter_said, score_said, trap_told};
+ghost use Rattle.plugin.specs.Verdict.{filter_said, score_said};
 
-use rules::{Cause, FilterVerdict, Rejection, ScoreVerdict, Trap};
+use rules::{Cause, FilterVerdict, Rejection, ScoreVerdict};
 use wcode::Value;
 use wmach::Outcome;
-
-/// The trap as it is told of a rule: the one of the same number and name.
-pub fn trap_told(trap: wmach::Trap) -> Trap
-    ensures is { result ≡ trap_told trap }
-    ensures number { told.number_of result ≡ ended.number_of trap }
-    ensures name { told.name_of result ≡ ended.name_of trap }
-{
-    match trap {
-        wmach::Trap::Unreachable => Trap::Unreachable,
-        wmach::Trap::DivideByZero => Trap::DivideByZero,
-        wmach::Trap::IntegerOverflow => Trap::IntegerOverflow,
-        wmach::Trap::MemoryOutOfBounds => Trap::MemoryOutOfBounds,
-        wmach::Trap::UndefinedElement => Trap::UndefinedElement,
-        wmach::Trap::UninitializedElement => Trap::UninitializedElement,
-        wmach::Trap::SignatureMismatch => Trap::SignatureMismatch,
-        wmach::Trap::CallDepth => Trap::CallDepth,
-        wmach::Trap::HostOutOfBounds => Trap::HostOutOfBounds,
-        wmach::Trap::NoRecord => Trap::NoRecord,
-    }
-}
 
 /// How much fuel a call used.
 pub fn fuel_used(outcome: Outcome) -> u64
@@ -55,7 +33,7 @@ pub fn filter_verdict(outcome: Outcome) -> FilterVerdict
             _ => FilterVerdict::Errs(Cause::Code(bits.cast_signed())),
         },
         Outcome::Value(_, _) => unreachable!(),
-        Outcome::Trap(trap, _) => FilterVerdict::Errs(Cause::Trap(trap_told(trap))),
+        Outcome::Trap(trap, _) => FilterVerdict::Errs(Cause::Trap(trap)),
         Outcome::Exhausted(_) => FilterVerdict::Errs(Cause::Exhausted),
     }
 }
@@ -76,7 +54,7 @@ pub fn score_verdict(outcome: Outcome) -> ScoreVerdict
             }
         }
         Outcome::Value(_, _) => unreachable!(),
-        Outcome::Trap(trap, _) => ScoreVerdict::Errs(Cause::Trap(trap_told(trap))),
+        Outcome::Trap(trap, _) => ScoreVerdict::Errs(Cause::Trap(trap)),
         Outcome::Exhausted(_) => ScoreVerdict::Errs(Cause::Exhausted),
     }
 }

@@ -7,7 +7,7 @@ use Rattle.wmach.specs.declared.export.Export.{Export}
 use Rattle.wmach.specs.declared.export.Export.TheVariants.{Filter, Score, Start}
 use Rattle.wmach.specs.declared.outcome.Outcome.{Outcome}
 use Rattle.wmach.specs.declared.outcome.Outcome.TheVariants.{Trap}
-use Rattle.wmach.specs.declared.outcome.Trap.TheVariants.{NoRecord}
+use Rattle.rules.specs.declared.trap.Trap.TheVariants.{NoRecord}
 use Rattle.wmach.specs.Call.{MachineState, Calls, first_machine, records_for, called_function, OneOutcome}
 use Rattle.wmach.specs.Configuration.{Store, Setting}
 use Rattle.wmach.specs.Outcome.{HasOutcome}

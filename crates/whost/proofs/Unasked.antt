@@ -11,7 +11,7 @@ use Rattle.wcode.specs.declared.instruction.Plain.TheVariants as instruction
 use Rattle.wcode.specs.Syntax.{Body, done, plain, block, loop, if_else, br_table}
 use Rattle.wbin.specs.Syntax.{ModuleSyntax}
 use Rattle.wtype.specs.Accepted.{host_number}
-use Rattle.wmach.specs.declared.outcome.Trap.TheVariants.{NoRecord}
+use Rattle.rules.specs.declared.trap.Trap.TheVariants.{NoRecord}
 use Rattle.wmach.specs.declared.outcome.Outcome.{Outcome}
 use Rattle.wmach.specs.declared.outcome.Outcome.TheVariants as outcome
 use Rattle.wmach.specs.Configuration.{Store, Setting, Execution, instructions, label, frame, invoke, trap, Configuration, Reduction}

@@ -13,7 +13,7 @@ use Rattle.wbody.specs.Typing.{takes_gives, call_type, function_at, of_found, pl
 use Rattle.wbody.specs.Heights.{height_by}
 use Rattle.wtype.specs.CheckedModule.{CheckedModule}
 use Rattle.wmach.specs.declared.activation.Activation.{Activation}
-use Rattle.wmach.specs.declared.outcome.Trap.TheVariants.{CallDepth}
+use Rattle.rules.specs.declared.trap.Trap.TheVariants.{CallDepth}
 use Rattle.wmach.specs.Configuration.{Store, Setting, instructions, invoke, trap, Configuration, leads_to}
 use Rattle.wmach.specs.Operands.{InRange}
 use Rattle.wmach.specs.Fits.{types_of}

@@ -21,7 +21,7 @@ use Rattle.wbody.specs.Context.{Context, is_there}
 use Rattle.wbody.specs.Typing.{PlainType, takes_gives, only_where, is_aligned, plain_type, TypeAllows, Weakened}
 use Rattle.wtype.specs.CheckedModule.{CheckedModule}
 use Rattle.wmach.specs.declared.activation.Activation.{Activation}
-use Rattle.wmach.specs.declared.outcome.Trap.TheVariants.{MemoryOutOfBounds}
+use Rattle.rules.specs.declared.trap.Trap.TheVariants.{MemoryOutOfBounds}
 use Rattle.wmach.specs.Configuration.{Store, Setting, instructions, trap, Configuration, Reduction, leads_to}
 use Rattle.wmach.specs.Operands.{InRange, value_of, width_of, with_one}
 use Rattle.wmach.specs.Access.{load_of, stored_width, stored_bytes, cap_of, minus_one}

@@ -11,7 +11,7 @@ use Rattle.wbody.specs.Heights.{height_by}
 use Rattle.wbody.specs.Branches.{plain_branches}
 use Rattle.wtype.specs.CheckedModule.{CheckedModule}
 use Rattle.wmach.specs.declared.activation.Activation.{Activation}
-use Rattle.wmach.specs.declared.outcome.Trap.{Trap}
+use Rattle.rules.specs.declared.trap.Trap.{Trap}
 use Rattle.wmach.specs.Configuration.{Store, Setting, instructions, trap, Configuration, Reduction, leads_to}
 use Rattle.wmach.specs.Operands.{InRange}
 use Rattle.wmach.specs.Fits.{types_of, StoreFits}

@@ -16,7 +16,7 @@ use Rattle.wbody.specs.Context.{Operands, Context}
 use Rattle.wbody.specs.Typing.{takes_gives, drops, selects, of_found, only_where, is_in_range, plain_type, Typed}
 use Rattle.wtype.specs.CheckedModule.{CheckedModule}
 use Rattle.wmach.specs.declared.activation.Activation.{Activation}
-use Rattle.wmach.specs.declared.outcome.Trap.TheVariants.{Unreachable}
+use Rattle.rules.specs.declared.trap.Trap.TheVariants.{Unreachable}
 use Rattle.wmach.specs.Configuration.{Store, Setting, instructions, trap, Configuration, Reduction, leads_to}
 use Rattle.wmach.specs.Operands.{InRange}
 use Rattle.wmach.specs.Fits.{types_of}

@@ -14,7 +14,7 @@ use Rattle.wbin.specs.Syntax.{Signature, FunctionSyntax, ModuleSyntax}
 use Rattle.wbody.specs.Context.{Operands, Context, at_most_one, results_of, with_label}
 use Rattle.wbody.specs.Typing.{PlainType, is_in_range, only_where, TypeAllows, PlainTyped, Typed}
 use Rattle.wtype.specs.Accepted.{Accepted, FunctionTyped}
-use Rattle.wmach.specs.declared.outcome.Trap.TheVariants.{CallDepth}
+use Rattle.rules.specs.declared.trap.Trap.TheVariants.{CallDepth}
 use Rattle.wmach.specs.Configuration.{Store, Setting, Execution, instructions, label, frame, invoke, trap, Configuration, Reduction, leads_to}
 use Rattle.wmach.specs.Operands.{InRange, topmost}
 use Rattle.wmach.specs.Host.{reduce_import}

@@ -21,8 +21,8 @@ use Rattle.wmem.specs.Memory.{page_size, pages_in, zeros}
 use Rattle.wbin.specs.declared.module.Limits.{Limits}
 use Rattle.wbin.specs.Syntax.{Signature, ModuleSyntax}
 use Rattle.wtype.specs.Accepted.{host_number}
-use Rattle.wmach.specs.declared.outcome.Trap.{Trap}
-use Rattle.wmach.specs.declared.outcome.Trap.TheVariants.{MemoryOutOfBounds}
+use Rattle.rules.specs.declared.trap.Trap.{Trap}
+use Rattle.rules.specs.declared.trap.Trap.TheVariants.{MemoryOutOfBounds}
 use Rattle.wmach.specs.Configuration.{Store, Setting, Execution, instructions, label, frame, invoke, trap, Reduction, leads_to}
 use Rattle.wmach.specs.Operands.{InRange, number_of, value_of, width_of, with_any, with_one, with_two}
 use Rattle.wmach.specs.Numeric.{converted_from, converted_to, conversion_gives, after_binary, unary_gives, binary_gives, test_gives, relation_gives}

@@ -8,7 +8,7 @@ use Rattle.wcode.specs.Syntax.{Body}
 use Rattle.wbin.specs.Syntax.{ModuleSyntax}
 use Rattle.wbody.specs.Context.{Operands, Context}
 use Rattle.wbody.specs.Typing.{PlainType, takes_gives, of_found, only_where, Rule, TypeAllows, Typed, Then}
-use Rattle.wmach.specs.declared.outcome.Trap.{Trap}
+use Rattle.rules.specs.declared.trap.Trap.{Trap}
 use Rattle.wmach.specs.Configuration.{Store, Execution, instructions, trap, Reduction, leads_to}
 use Rattle.wmach.specs.Reduction.{branching, returning}
 use Rattle.wmach.specs.Fits.{types_of, StoreTyped}

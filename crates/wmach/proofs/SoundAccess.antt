@@ -18,7 +18,7 @@ use Rattle.wbin.specs.declared.module.Limits.{Limits}
 use Rattle.wbin.specs.Syntax.{ModuleSyntax}
 use Rattle.wbody.specs.Context.{Operands, is_there}
 use Rattle.wbody.specs.Typing.{Typed}
-use Rattle.wmach.specs.declared.outcome.Trap.TheVariants.{MemoryOutOfBounds}
+use Rattle.rules.specs.declared.trap.Trap.TheVariants.{MemoryOutOfBounds}
 use Rattle.wmach.specs.Configuration.{Store, Execution, instructions, trap, Reduction, leads_to}
 use Rattle.wmach.specs.Operands.{value_of, with_one}
 use Rattle.wmach.specs.Access.{load_of, stored_bytes, with_memory, most_of, cap_of, minus_one, reduce_load, reduce_store, reduce_size, reduce_grow}

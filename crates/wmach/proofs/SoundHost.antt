@@ -11,7 +11,7 @@ use Rattle.wbin.specs.Syntax.{ModuleSyntax}
 use Rattle.wbody.specs.Context.{Operands, is_there}
 use Rattle.wbody.specs.Typing.{Typed}
 use Rattle.wtype.specs.Accepted.{ImportName, host_number}
-use Rattle.wmach.specs.declared.outcome.Trap.TheVariants.{HostOutOfBounds, NoRecord}
+use Rattle.rules.specs.declared.trap.Trap.TheVariants.{HostOutOfBounds, NoRecord}
 use Rattle.wmach.specs.Configuration.{Store, Setting, Execution, instructions, trap, Reduction, leads_to}
 use Rattle.wmach.specs.Host.{imported_names, cost_of_bytes, has_room, hand_over, hand_over_given, reduce_host, reduce_import}
 use Rattle.wmach.specs.Fits.{types_of, StoreTyped}

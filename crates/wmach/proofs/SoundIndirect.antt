@@ -10,7 +10,7 @@ use Rattle.wbin.specs.declared.module.Limits.{Limits}
 use Rattle.wbin.specs.Syntax.{Signature, ModuleSyntax}
 use Rattle.wbody.specs.Context.{Operands, at_most_one, function_types, is_there}
 use Rattle.wbody.specs.Typing.{Typed}
-use Rattle.wmach.specs.declared.outcome.Trap.TheVariants.{UndefinedElement, UninitializedElement, SignatureMismatch}
+use Rattle.rules.specs.declared.trap.Trap.TheVariants.{UndefinedElement, UninitializedElement, SignatureMismatch}
 use Rattle.wmach.specs.Configuration.{Store, Execution, invoke, trap, Reduction, leads_to}
 use Rattle.wmach.specs.Operands.{with_one}
 use Rattle.wmach.specs.Indirect.{same_result, same_signature, type_of_function, call_as, call_element, reduce_call_indirect}

@@ -15,7 +15,7 @@ use Rattle.wcode.specs.Syntax.{Body, done, plain, block, loop, if_else, br_table
 use Rattle.wbin.specs.Syntax.{ModuleSyntax}
 use Rattle.wbody.specs.Context.{Operands, Context, at_most_one, results_of, with_label, function_types, is_there}
 use Rattle.wbody.specs.Typing.{takes_gives, ends, of_found, only_where, is_in_range, function_at, call_type, is_aligned, TypeAllows, PlainTyped, BlockTyped, IfTyped, TableTyped, Typed, Then}
-use Rattle.wmach.specs.declared.outcome.Trap.TheVariants.{Unreachable}
+use Rattle.rules.specs.declared.trap.Trap.TheVariants.{Unreachable}
 use Rattle.wmach.specs.Configuration.{Store, Setting, Execution, instructions, label, leads_to}
 use Rattle.wmach.specs.Numeric.{converted_from, converted_to}
 use Rattle.wmach.specs.Plain.{reduce_plain}

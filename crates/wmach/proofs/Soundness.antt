@@ -12,7 +12,7 @@ use Rattle.wcode.specs.Syntax.{Body, done, plain, block, loop, if_else, br_table
 use Rattle.wbin.specs.Syntax.{Signature, FunctionSyntax}
 use Rattle.wbody.specs.Context.{Operands, at_most_one, body_context}
 use Rattle.wbody.specs.Typing.{ends, Typed}
-use Rattle.wmach.specs.declared.outcome.Trap.TheVariants.{CallDepth}
+use Rattle.rules.specs.declared.trap.Trap.TheVariants.{CallDepth}
 use Rattle.wmach.specs.Configuration.{Store, Setting, Execution, instructions, label, frame, invoke, trap, Reduction, leads_to}
 use Rattle.wmach.specs.Operands.{value_of}
 use Rattle.wmach.specs.Host.{reduce_import}

@@ -20,7 +20,7 @@ use Rattle.wmem.specs.Access.{reading_of, byte_count, value_read, with_bytes}
 use Rattle.wmem.specs.Memory.{page_size, pages_in, zeros}
 use Rattle.wbin.specs.Syntax.{ModuleSyntax}
 use Rattle.wbody.specs.Context.{is_there}
-use Rattle.wmach.specs.declared.outcome.Trap.TheVariants.{MemoryOutOfBounds}
+use Rattle.rules.specs.declared.trap.Trap.TheVariants.{MemoryOutOfBounds}
 use Rattle.wmach.specs.Configuration.{Store, instructions, trap, Reduction, leads_to}
 use Rattle.wmach.specs.Operands.{value_of, with_one}
 pub use Rattle.wstore.specs.Store.{most_of, cap_of}

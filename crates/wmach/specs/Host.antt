@@ -10,7 +10,7 @@ use Rattle.wbin.specs.declared.module.ImportKind.TheVariants as imported
 use Rattle.wbin.specs.Syntax.{ImportSyntax, ModuleSyntax}
 use Rattle.wbody.specs.Context.{is_there}
 use Rattle.wtype.specs.Accepted.{ImportName, host_number}
-use Rattle.wmach.specs.declared.outcome.Trap.TheVariants.{HostOutOfBounds, NoRecord}
+use Rattle.rules.specs.declared.trap.Trap.TheVariants.{HostOutOfBounds, NoRecord}
 use Rattle.wmach.specs.Configuration.{Store, Setting, instructions, trap, Reduction, leads_to}
 use Rattle.wmach.specs.Operands.{with_two}
 

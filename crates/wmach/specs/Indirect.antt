@@ -7,7 +7,7 @@ use Rattle.wcode.specs.Syntax.{Body}
 use Rattle.wbin.specs.Syntax.{Signature, ModuleSyntax}
 use Rattle.wbody.specs.Context.{function_types, is_there}
 use Rattle.wbody.specs.Pass.{same_type, same_types}
-use Rattle.wmach.specs.declared.outcome.Trap.TheVariants.{UndefinedElement, UninitializedElement, SignatureMismatch}
+use Rattle.rules.specs.declared.trap.Trap.TheVariants.{UndefinedElement, UninitializedElement, SignatureMismatch}
 use Rattle.wmach.specs.Configuration.{Store, invoke, trap, Reduction, leads_to}
 use Rattle.wmach.specs.Operands.{with_one}
 

@@ -10,5 +10,4 @@ pub mod Reduction
 pub mod Fits
 pub mod Outcome
 pub mod Call
-pub mod Trap
 pub mod inside

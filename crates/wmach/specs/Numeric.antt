@@ -20,8 +20,8 @@ use Rattle.wcode.specs.declared.operator.RelOp.TheVariants as relation
 use Rattle.wcode.specs.declared.operator.CvtOp.{CvtOp}
 use Rattle.wcode.specs.declared.operator.CvtOp.TheVariants as conversion
 use Rattle.wcode.specs.Syntax.{Body}
-use Rattle.wmach.specs.declared.outcome.Trap.{Trap}
-use Rattle.wmach.specs.declared.outcome.Trap.TheVariants.{DivideByZero, IntegerOverflow}
+use Rattle.rules.specs.declared.trap.Trap.{Trap}
+use Rattle.rules.specs.declared.trap.Trap.TheVariants.{DivideByZero, IntegerOverflow}
 use Rattle.wmach.specs.Configuration.{Store, instructions, trap, Reduction, leads_to}
 use Rattle.wmach.specs.Operands.{value_of, width_of, with_one, with_two}
 

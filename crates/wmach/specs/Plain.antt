@@ -6,7 +6,7 @@ use Rattle.wcode.specs.declared.value.Value.{Value}
 use Rattle.wcode.specs.declared.instruction.Plain.{Plain}
 use Rattle.wcode.specs.declared.instruction.Plain.TheVariants as instruction
 use Rattle.wcode.specs.Syntax.{Body, plain}
-use Rattle.wmach.specs.declared.outcome.Trap.TheVariants.{Unreachable}
+use Rattle.rules.specs.declared.trap.Trap.TheVariants.{Unreachable}
 use Rattle.wmach.specs.Configuration.{Store, Setting, instructions, invoke, trap, Reduction, leads_to}
 use Rattle.wmach.specs.Operands.{with_one}
 use Rattle.wmach.specs.Numeric.{reduce_unary, reduce_binary, reduce_test, reduce_relation, reduce_convert}

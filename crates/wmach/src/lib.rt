@@ -50,5 +50,6 @@ pub use laws::{
     one_outcome, what_a_call_leaves,
 };
 pub use machine::Machine;
-pub use outcome::{Outcome, Trap};
+pub use outcome::Outcome;
+pub use rules::Trap;
 pub use signature::same_signature;

@@ -5,7 +5,7 @@ ghost use Rattle.std.specs.Prelude.{◌≡◌, ◌<◌, ◌^◌, IfOk};
 ghost use Rattle.wmach.specs.Operands.{width_of};
 ghost use Rattle.wmach.specs.Numeric.{unary_gives, binary_gives, test_gives, relation_gives, converted_from, converted_to, conversion_gives, trap_where as trap_of};
 
-use crate::outcome::Trap;
+use rules::Trap;
 use wcode::{BinOp, CvtOp, RelOp, TestOp, UnOp, ValueType};
 use wnum::{convert as conversions, int32, int64};
 

@@ -1,75 +1,14 @@
 //! How a call ends.
 
-ghost use Rattle.std.specs.Prelude.{◌≡◌};
-
-use thiserror::Error;
+use rules::Trap;
 use wcode::Value;
-
-/// Why a call is cut off (WebAssembly Core 1.0, 4.4, where an instruction "traps").
-#[derive(Clone, Copy, PartialEq, Eq, Debug, Error)]
-pub enum Trap {
-    #[error("{}", self.name())]
-    Unreachable = 1,
-    #[error("{}", self.name())]
-    DivideByZero = 2,
-    #[error("{}", self.name())]
-    IntegerOverflow = 3,
-    #[error("{}", self.name())]
-    MemoryOutOfBounds = 4,
-    /// A place past the end of the table.
-    #[error("{}", self.name())]
-    UndefinedElement = 5,
-    /// A place of the table that has no function.
-    #[error("{}", self.name())]
-    UninitializedElement = 6,
-    /// A function of the table of another type than the one that is wanted.
-    #[error("{}", self.name())]
-    SignatureMismatch = 7,
-    /// More than 256 frames at once.
-    #[error("{}", self.name())]
-    CallDepth = 8,
-    /// A record doesn't fit into the memory from where it is wanted.
-    #[error("{}", self.name())]
-    HostOutOfBounds = 9,
-    /// A host function is called during the start function, or its record isn't given.
-    #[error("{}", self.name())]
-    NoRecord = 10,
-}
-
-impl Trap {
-    ghost use Rattle.wmach.specs.Trap.{number_of, name_of};
-
-    /// The trap's number.
-    pub fn number(self) -> u8
-        ensures { result ≡ number_of self }
-    {
-        self as u8
-    }
-
-    /// The trap's name: the variant as it is written.
-    pub fn name(self) -> &'static str
-        ensures { result.now ≡ name_of self }
-    {
-        match self {
-            Trap::Unreachable => "Unreachable",
-            Trap::DivideByZero => "DivideByZero",
-            Trap::IntegerOverflow => "IntegerOverflow",
-            Trap::MemoryOutOfBounds => "MemoryOutOfBounds",
-            Trap::UndefinedElement => "UndefinedElement",
-            Trap::UninitializedElement => "UninitializedElement",
-            Trap::SignatureMismatch => "SignatureMismatch",
-            Trap::CallDepth => "CallDepth",
-            Trap::HostOutOfBounds => "HostOutOfBounds",
-            Trap::NoRecord => "NoRecord",
-        }
-    }
-}
 
 /// How a call ended, and what it cost.
 #[derive(Clone, Copy, PartialEq, Eq, Debug)]
 pub enum Outcome {
     /// It returned its result, if it has one.
     Value(Option<Value>, u64),
+    /// It was cut off, by this trap.
     Trap(Trap, u64),
     /// What comes next would cost more than is left.
     Exhausted(u64),

@@ -6,7 +6,7 @@ use Rattle.std.proofs.lemmas.Bool.{lt-ltb, le-ltb}
 use Rattle.wcode.specs.declared.value.Value.{Value}
 use Rattle.wcode.specs.Syntax.{Body}
 use Rattle.wbin.specs.Syntax.{FunctionSyntax, Signature}
-use Rattle.wmach.specs.declared.outcome.Trap.TheVariants.{CallDepth}
+use Rattle.rules.specs.declared.trap.Trap.TheVariants.{CallDepth}
 use Rattle.wmach.specs.Configuration.{Store, Setting, Reduction, trap, leads_to}
 use Rattle.wmach.specs.Host.{reduce_import}
 use Rattle.wmach.specs.Reduction.{imported_count, most_frames, enter, reduce_invoke}

@@ -13,7 +13,7 @@ use Rattle.wmach.specs.Configuration.{instructions, trap}
 use Rattle.wmach.specs.Outcome.{values_of}
 use Rattle.std.proofs.Common.{[], Option}
 use Rattle.wcode.specs.declared.value.Value.{Value}
-use Rattle.wmach.specs.declared.outcome.Trap.{Trap}
+use Rattle.rules.specs.declared.trap.Trap.{Trap}
 
 -- a chain, and one reduction more
 chain_on : (setting : Setting) (n cost : ℕ) (from c : Configuration) (r : Reduction) → Chain setting n from cost c → next setting c ≡ Some r → Chain setting (suc n) from (cost + r.cost) r.to

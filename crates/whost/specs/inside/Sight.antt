@@ -2,7 +2,7 @@
 use Rattle.std.specs.Prelude.{ℕ, Bool, true, false, List, Option, None, if◌then◌else◌}
 use Rattle.wmach.specs.declared.outcome.Outcome.{Outcome}
 use Rattle.wmach.specs.declared.outcome.Outcome.TheVariants as outcome
-use Rattle.wmach.specs.declared.outcome.Trap.TheVariants.{NoRecord}
+use Rattle.rules.specs.declared.trap.Trap.TheVariants.{NoRecord}
 use Rattle.whost.specs.declared.records.Records.{Records}
 use Rattle.whost.specs.declared.sight.Shows.{Shows}
 use Rattle.whost.specs.Handed.{record_of, gives}

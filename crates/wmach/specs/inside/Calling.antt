@@ -5,8 +5,8 @@ use Rattle.wmem.specs.Access.{with_bytes}
 use Rattle.wstore.specs.State.{StoreState, syntax_of, with_memory}
 use Rattle.wmach.specs.declared.activation.Activation.{Activation}
 use Rattle.wmach.specs.declared.code.Code.{Code}
-use Rattle.wmach.specs.declared.outcome.Trap.{Trap}
-use Rattle.wmach.specs.declared.outcome.Trap.TheVariants.{UndefinedElement, UninitializedElement, CallDepth, NoRecord, HostOutOfBounds}
+use Rattle.rules.specs.declared.trap.Trap.{Trap}
+use Rattle.rules.specs.declared.trap.Trap.TheVariants.{UndefinedElement, UninitializedElement, CallDepth, NoRecord, HostOutOfBounds}
 use Rattle.wmach.specs.declared.shape.Shape.{Shape}
 use Rattle.wmach.specs.declared.state.State.{State}
 use Rattle.wmach.specs.declared.state.Stop.{Stop}

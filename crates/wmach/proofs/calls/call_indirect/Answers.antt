@@ -1,6 +1,6 @@
 use Rattle.std.proofs.Common.{rules, inl, inr, ◌≡◌, ◌-◌, true, false, reverse, take, drop, refl, sym, ◌∙◌, subst, arith}
 use Rattle.std.proofs.lemmas.Result.{err_from_is_err_and}
-use Rattle.wmach.specs.declared.outcome.Trap.TheVariants.{UndefinedElement, UninitializedElement, SignatureMismatch}
+use Rattle.rules.specs.declared.trap.Trap.TheVariants.{UndefinedElement, UninitializedElement, SignatureMismatch}
 use Rattle.wcode.specs.declared.value.ValueType.TheVariants.{I32}
 use Rattle.wmach.specs.Operands.{value_of}
 use Rattle.wmach.specs.inside.Running.{bytes_of, activation_of}

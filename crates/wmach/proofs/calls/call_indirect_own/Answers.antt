@@ -1,7 +1,7 @@
 use Rattle.std.proofs.Common.{rules, inl, inr, ◌≡◌, ◌≤◌, ◌-◌, true, false, length, reverse, take, drop, refl, sym, ◌∙◌, subst, arith}
 use Rattle.std.specs.Prelude.{slice_get}
 use Rattle.wcode.specs.declared.value.ValueType.TheVariants.{I32}
-use Rattle.wmach.specs.declared.outcome.Trap.TheVariants.{UndefinedElement, UninitializedElement, SignatureMismatch}
+use Rattle.rules.specs.declared.trap.Trap.TheVariants.{UndefinedElement, UninitializedElement, SignatureMismatch}
 use Rattle.wmach.specs.declared.state.Stop.TheVariants as stop
 use Rattle.wmach.specs.Operands.{value_of}
 use Rattle.wmach.specs.inside.Running.{bytes_of, activation_of, Stopped}

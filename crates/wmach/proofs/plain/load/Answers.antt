@@ -9,7 +9,7 @@ use Rattle.wmach.proofs.OverNumbers.{one_top}
 use Rattle.wmach.proofs.Stepping.{cut_off}
 use Rattle.wmach.specs.Operands.{value_of}
 use Rattle.wmach.specs.inside.Running.{activation_of, bytes_of}
-use Rattle.wmach.specs.declared.outcome.Trap.TheVariants.{MemoryOutOfBounds}
+use Rattle.rules.specs.declared.trap.Trap.TheVariants.{MemoryOutOfBounds}
 use Rattle.wmem.specs.Access.{LoadGives}
 use Rattle.wmach.proofs.plain.load.Goals as goal
 

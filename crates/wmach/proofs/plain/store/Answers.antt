@@ -9,7 +9,7 @@ use Rattle.wmach.proofs.Stepping.{cut_off}
 use Rattle.wmach.specs.inside.Machine.{On}
 use Rattle.wmach.specs.Operands.{value_of}
 use Rattle.wmach.specs.inside.Running.{activation_of, bytes_of}
-use Rattle.wmach.specs.declared.outcome.Trap.TheVariants.{MemoryOutOfBounds}
+use Rattle.rules.specs.declared.trap.Trap.TheVariants.{MemoryOutOfBounds}
 use Rattle.wmem.specs.Access.{byte_count}
 use Rattle.wmem.specs.declared.trap.Trap.TheVariants as mem_traps
 use Rattle.wstore.specs.State.{StoreGives, StoreState}

@@ -4,7 +4,7 @@ use Rattle.wmach.proofs.Arms.{spent_err}
 use Rattle.wmach.proofs.OverVariables.{over_unreachable, unreachable_spent}
 use Rattle.wmach.proofs.Stepping.{cut_off}
 use Rattle.wmach.specs.inside.Running.{activation_of, bytes_of}
-use Rattle.wmach.specs.declared.outcome.Trap.TheVariants.{Unreachable}
+use Rattle.rules.specs.declared.trap.Trap.TheVariants.{Unreachable}
 use Rattle.wmach.proofs.plain.unreachable_here.Goals as goal
 
 pub returns-in_err-left : goal.returns-in_err-left
