@@ -19,13 +19,7 @@ pub mod InRange
 pub mod RangesKept
 pub mod Ranges
 pub mod CallsLeave
-pub mod Running
-pub mod Rows
-pub mod MemoryRows
-pub mod DeepCalls
-pub mod CallRows
 pub mod FirstStore
-pub mod NumericRows
 pub mod Measure
 pub mod CallsEnd
 pub mod Nested

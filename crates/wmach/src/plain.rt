@@ -12,8 +12,8 @@ ghost use Rattle.wmach.specs.inside.Running.{Ready, Goes};
 ghost use Rattle.wmach.specs.Access.{load_of as defined_load, stored_width as defined_width};
 
 use crate::numbers::{binary_word, convert_word, relation_word, test_word, trap_where, unary_word};
-use rules::Trap;
 use crate::state::{State, Stop, push, slot, spend, topmost, write_slot};
+use rules::Trap;
 use wcode::{BinOp, CvtOp, LoadOp, MemArg, RelOp, Sign, StoreOp, TestOp, UnOp, Value, ValueType};
 use wmem::{Load, Width};
 use wstore::Store;

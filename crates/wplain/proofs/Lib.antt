@@ -1,3 +1,9 @@
 pub mod Reached
 pub mod Places
 pub mod Invoked
+pub mod Running
+pub mod Rows
+pub mod MemoryRows
+pub mod DeepCalls
+pub mod CallRows
+pub mod NumericRows

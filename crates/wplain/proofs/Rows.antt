@@ -22,7 +22,7 @@ use Rattle.rules.specs.declared.trap.Trap.TheVariants as traps
 use Rattle.wmach.specs.declared.outcome.Outcome.{Outcome}
 use Rattle.wmach.specs.declared.outcome.Outcome.TheVariants as outcome
 use Rattle.wmach.specs.Configuration.{Store, Setting}
-use Rattle.wmach.proofs.Running.{Row, row, row_of}
+use Rattle.wplain.proofs.Running.{Row, row, row_of}
 
 -- one function from nothing to an i32, with these locals and this body
 abbrev one_function : List ValueType → Body → ModuleSyntax

@@ -12,8 +12,8 @@ use Rattle.rules.specs.declared.trap.Trap.TheVariants as traps
 use Rattle.wmach.specs.declared.outcome.Outcome.{Outcome}
 use Rattle.wmach.specs.declared.outcome.Outcome.TheVariants as outcome
 use Rattle.wmach.specs.Configuration.{Store, Setting}
-use Rattle.wmach.proofs.Running.{Row, row_of}
-use Rattle.wmach.proofs.DeepCalls.{calls_itself_in, too_deep_in_blocks}
+use Rattle.wplain.proofs.Running.{Row, row_of}
+use Rattle.wplain.proofs.DeepCalls.{calls_itself_in, too_deep_in_blocks}
 
 -- a module with these functions and a table of four
 abbrev module_with : List Signature → List FunctionSyntax → Setting

@@ -22,7 +22,7 @@ use Rattle.wcode.specs.declared.instruction.Plain.TheVariants.{Unary, Binary, Te
 use Rattle.wcode.specs.Syntax.{done}
 use Rattle.wmach.specs.Configuration.{Execution, instructions, label, frame, invoke, trap, Reduction}
 use Rattle.wmach.specs.Plain.{reduce_plain}
-use Rattle.wmach.proofs.MemoryRows.{with_memory}
+use Rattle.wplain.proofs.MemoryRows.{with_memory}
 
 -- the values and the bytes that an instruction leaves
 abbrev values_in : Execution → List Value

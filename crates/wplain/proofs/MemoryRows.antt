@@ -20,7 +20,7 @@ use Rattle.wmach.specs.declared.outcome.Outcome.{Outcome}
 use Rattle.wmach.specs.declared.outcome.Outcome.TheVariants as outcome
 use Rattle.wmach.specs.Configuration.{Store, Setting, instructions, invoke, trap, Reduction, leads_to}
 use Rattle.wmach.specs.Reduction.{reduce}
-use Rattle.wmach.proofs.Running.{Row, row_of}
+use Rattle.wplain.proofs.Running.{Row, row_of}
 
 -- a module with a memory of one page and at most so many, and one function from nothing to an i32
 abbrev pub with_memory : Option ℕ → Body → Setting
