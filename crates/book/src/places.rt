@@ -80,10 +80,10 @@ impl Places {
         requires { room ≤ MAX_PLACED }
         ensures { IfOk result (λ t. t ≡ record { map = fin.empty; room = room }) }
     {
-        let by_uid = NameTable::new(alloc, keys, room)?;
-        let totals = NameTable::new(alloc, keys, room)?;
         let finishes = Finishes::new(alloc, room)?;
         let overdue = Overdue::new(alloc, room)?;
+        let by_uid = NameTable::new(alloc, keys, room)?;
+        let totals = NameTable::new(alloc, keys, room)?;
         Ok(Places {
             by_uid,
             totals,
