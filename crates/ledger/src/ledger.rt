@@ -67,9 +67,9 @@ impl Ledger {
         requires { room ≤ 1000000 }
         ensures { IfOk result (λ ledger. ledger ≡ opening limits room) }
     {
-        let book = Book::new(alloc, keys, limits)?;
-        let pods = NameTable::new(alloc, keys, room)?;
         let nodes = NameTable::new(alloc, keys, limits.nodes)?;
+        let pods = NameTable::new(alloc, keys, room)?;
+        let book = Book::new(alloc, keys, limits)?;
         Ok(Ledger {
             book,
             pods,

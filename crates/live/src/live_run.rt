@@ -68,20 +68,42 @@ fn live_lines<R: Source, W: Sink>(
     ensures { IsStopped (site_of site.now) (use_of R.remaining R.failure_count source.old source.new)
         (use_of W.written W.failure_count out.old out.new) result }
 {
-    let mut ledger = first_ledger(alloc, keys)?;
-    let mut reader = LineReader::new(alloc)?;
-    let mut line = Vec::with_capacity(alloc, MAX_KEPT)?;
     let mut waits = Vec::new(alloc);
-    answer_lines(
+    let mut line = Vec::with_capacity(alloc, MAX_KEPT)?;
+    let mut reader = LineReader::new(alloc)?;
+    lines_by_a_ledger(
         alloc,
+        keys,
         site,
-        &mut ledger,
         &mut reader,
         &mut line,
         &mut waits,
         source,
         out,
     )
+}
+
+// Answers the lines of a source by a ledger of its own, with a reader of which nothing was read and
+// room for a line and for what waits.
+fn lines_by_a_ledger<R: Source, W: Sink>(
+    alloc: Global,
+    keys: Option<RandomState>,
+    site: &Site<'_>,
+    reader: &mut LineReader,
+    line: &mut Vec<u8>,
+    waits: &mut Vec<u8>,
+    source: &mut R,
+    out: &mut W,
+) -> Result<(), RunFault>
+    requires reads { R.failure_count source.old < 10 ^ 18 }
+    requires writes { W.failure_count out.old < 10 ^ 18 }
+    requires none { reader.old ≡ [] }
+    requires nothing { waits.old.items ≡ [] }
+    ensures { IsStopped (site_of site.now) (use_of R.remaining R.failure_count source.old source.new)
+        (use_of W.written W.failure_count out.old out.new) result }
+{
+    let mut ledger = first_ledger(alloc, keys)?;
+    answer_lines(alloc, site, &mut ledger, reader, line, waits, source, out)
 }
 
 // Answers the lines of a source by a ledger to which nothing was told, with a reader of which
