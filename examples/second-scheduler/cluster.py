@@ -18,7 +18,8 @@ from trials.site import Programs
 
 Thing = dict[str, Any]
 HOME = pathlib.Path(os.environ.get("CLUSTER_HOME") or pathlib.Path(os.environ.get("XDG_CACHE_HOME") or "~/.cache").expanduser() / "wsched-cluster")
-API, ETCD, ETCD_PEER, SCHEDULER = 26443, 22379, 22380, 20251
+# (CLUSTER_PORTS moves each port by so many, for a second one on this machine)
+API, ETCD, ETCD_PEER, SCHEDULER = (it + int(os.environ.get("CLUSTER_PORTS", "0")) for it in (26443, 22379, 22380, 20251))
 ACCOUNT = "system:serviceaccount:kube-system:wsched"
 # The test's own user, which may do everything, and the account of deploy.yaml, which may do what
 # its roles say.
@@ -40,6 +41,8 @@ class Cluster:
     def __init__(self, folder: pathlib.Path, programs: Programs, audited: bool = True) -> None:
         self.folder, self.programs, self.audited = folder, programs, audited
         self.own: dict[str, subprocess.Popen[bytes]] = {}
+        # words of the API server's besides
+        self.more: dict[str, object] = {}
         for port in (API, ETCD, ETCD_PEER, SCHEDULER):
             with socket.socket() as it:
                 assert it.connect_ex(("127.0.0.1", port)), f"port {port} of this machine is taken"
@@ -126,6 +129,7 @@ class Cluster:
         }
         if self.audited:
             words |= {"audit-policy-file": self.folder / "policy.json", "audit-log-path": self.folder / "audit.log"}
+        words |= self.more
         self.run("api", HOME / "bin" / "kube-apiserver", *(f"--{name}={value}" for name, value in words.items()))
         end = time.monotonic() + 120
         while True:
