@@ -9,7 +9,7 @@ import dataclasses
 import time
 from typing import Iterator, Optional, TypeVar
 
-from trials.between import KINDS, Between, Sent
+from trials.between import KINDS, MOST, Between, Sent
 from trials.store import Change, Thing
 from trials.watcher import quantity
 
@@ -89,8 +89,8 @@ class Judge:
         # of each pod that waits: what it takes, and since when it has had room
         self.waits: dict[str, tuple[str, int]] = {}
         self.since: dict[str, tuple[float, float]] = {}
-        self.open: list[Sent] = []
-        self.taken = 0
+        # the binds that may still be done, and of each pod the last; and how many were looked at
+        self.open, self.last, self.taken = list[Sent](), dict[str, Sent](), 0
         self.wrong, self.counts = list[str](), collections.Counter[str]()
         self.longest, self.longest_heard, self.latest = 0.0, 0.0, 0.0
 
@@ -201,13 +201,13 @@ class Judge:
         """Notes of each pod that waits whether there is room for it."""
         binds = self.between.binds
         while self.taken < len(binds) and binds[self.taken].sent <= now:
-            self.open.append(binds[self.taken])
+            self.asked(binds[self.taken])
             self.taken += 1
         self.open = [it for it in self.open if not it.is_landed and now < until(it, now)]
-        asked, free = {it.uid for it in self.open}, self.free()
+        sent, free = {it.uid for it in self.open}, self.free()
         heard = self.clock.heard_by(now)
         for uid, (key, cpu) in self.waits.items():
-            if uid in asked or not any(cpu <= it for it in free):
+            if uid in sent or not any(cpu <= it for it in free):
                 self.since.pop(uid, None)
                 continue
             since, heard_since = self.since.setdefault(uid, (now, heard))
@@ -215,6 +215,14 @@ class Judge:
             if now - since > WAITS or heard - heard_since > HEARD_WAITS:
                 self.wrong.append(f"{key} had room for {now - since:.0f} s, {heard - heard_since:.0f} of them with a scheduler that hears, and waits")
                 self.since[uid] = now, heard
+
+    def asked(self, it: Sent) -> None:
+        """A bind was sent: no earlier one of its pod may have been done, or may still be."""
+        last = self.last.get(it.uid)
+        if last and not (last.answered and last.answered <= it.sent and 400 <= last.told < 500) and (it.sent < last.sent + MOST or last.told == 201):
+            self.wrong.append(f"{it.key} was to be bound again {it.sent - last.sent:.1f} s after a bind that was answered with {last.told}")
+        self.last[it.uid] = it
+        self.open.append(it)
 
     def free(self) -> list[int]:
         """What is free of each node that may be used, where a pod more has room: what may still be bound counts."""

@@ -130,7 +130,7 @@ class Run:
         assert not wrong, f"{len(wrong)} wrong: {'; '.join(wrong[:5])}; {self.shown()}"
         assert not self.judge.waits, f"{len(self.judge.waits)} wait though there is room: {[*self.judge.waits.values()][:5]}; {self.shown()}"
         assert bound > 5 * minutes(), f"it hardly binds: {self.shown()}"
-        assert not self.program.counts()["tracebacks"], f"a traceback: {self.shown()}"
+        assert self.program.it.runs() and not self.program.counts()["tracebacks"], f"the client ended, or has a traceback: {self.shown()}"
         return self.shown()
 
 

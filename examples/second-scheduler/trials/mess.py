@@ -64,10 +64,9 @@ class There:
         if it.after:
             kept[name] = it.after
 
-    def some(self, waits: Optional[bool] = None, own: bool = False) -> list[str]:
+    def some(self, waits: Optional[bool] = None) -> list[str]:
         """The pods that wait, or don't."""
-        found = [(name, it) for name, it in list(self.pods.items()) if not own or not name.startswith(FOREIGN)]
-        return [name for name, it in found if waits is None or waits == ("nodeName" not in it["spec"])]
+        return [name for name, it in self.pods.items() if waits is None or waits == ("nodeName" not in it["spec"])]
 
 
 class Program:
