@@ -66,13 +66,14 @@ class Became(enum.Enum):
 
 class Doubt(NamedTuple):
     """A bind that had no good answer, and its ticket in the ledger. `until` is up to when it may still be done, 0 where the API server said that
-    it wasn't."""
+    it wasn't. Once its place was given back it is asked for the ledger's sake alone."""
 
     bind: Bind
     ticket: int
     sent: float
     until: float
     pause: float
+    is_given_back: bool = False
 
 
 class Binders:
@@ -178,7 +179,7 @@ class Doubts:
             is_bound = None
         if is_bound is None:
             self.put_off(doubt)
-        else:
+        elif not doubt.is_given_back:
             self.ledger.metrics.trouble.doubts.dec()
             self.binders.end(doubt.bind._replace(is_bound=is_bound, seconds=time.monotonic() - doubt.sent))
 
@@ -191,7 +192,12 @@ class Doubts:
         if became is Became.UNKNOWN or (became in (Became.WAITS, Became.HIDDEN) and not is_over and not self.stopping.is_set()):
             return None
         if became is Became.HIDDEN:
-            LOG.error("pod %s: what became of its bind to %s can't be asked for, and its place is given back", bind.pod, bind.node)
+            if not doubt.is_given_back:
+                LOG.error("pod %s: what became of its bind to %s can't be asked for, and its place is given back", bind.pod, bind.node)
+            if is_to_read and not self.stopping.is_set():
+                # (the right may come: an API server that has just been started refuses what it allows
+                # a moment later)
+                self.put_off(doubt._replace(is_given_back=True))
         elif pod and became is Became.WAITS and doubt.until:
             if not self.fence(bind, pod):
                 return None

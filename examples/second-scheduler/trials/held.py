@@ -172,4 +172,28 @@ def hidden_whole(site: Site) -> str:
     return f"{len(seen)} bind of it was asked for; {site.check()}"
 
 
-TRIALS = [hidden, hidden_whole, held, held_fenced, refused_late]
+def hidden_briefly(site: Site) -> str:
+    """Pods may neither be read nor listed by their names for 6 s, as where an API server has just been started and hasn't read its roles yet, when it is
+    to be known what became of a bind that was refused with 503, and of one with 409: both pods are bound when that is known."""
+    site.node("a", cpu="64")
+    site.start(words=[sys.executable, "-c", HURRIED.format(folder=str(site.programs.client)), "second_scheduler.py"])
+    site.pod("before", cpu="10m")
+    site.wait(lambda: site.place("before"), 20, "it binds")
+    seen, hides = dict[str, list[float]](), time.monotonic() + 6.0
+
+    def refuse(asked: Asked) -> "tuple[int, str] | None":
+        if time.monotonic() < hides and asked.what == "pods" and (asked.verb == "get" or "metadata.name" in asked.query.get("fieldSelector", "")):
+            return 403, 'User "x" cannot get resource "pods"'
+        if asked.what == "pods/binding":
+            seen.setdefault(asked.key, []).append(asked.when)
+            return (int(asked.key[-3:]), "not now") if len(seen[asked.key]) == 1 else None
+        return None
+
+    site.server.refuse = refuse
+    for status in (409, 503):
+        site.pod(f"of-{status}")
+    took = site.wait(lambda: site.place("of-409") and site.place("of-503"), 40, f"both are bound: {site.schedulers[0].log()[-400:]}")
+    return f"both bound after {took:.1f} s; {site.check()}"
+
+
+TRIALS = [hidden, hidden_briefly, hidden_whole, held, held_fenced, refused_late]

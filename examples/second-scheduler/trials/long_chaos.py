@@ -15,7 +15,7 @@ import signal
 import threading
 import time
 import traceback
-from typing import Callable
+from typing import Callable, Optional
 
 import cluster
 from trials.between import KINDS
@@ -59,8 +59,8 @@ class Run:
         self.clock = Clock(side.between)
         self.mess = Mess(side, self.program, self.clock, random.Random(self.seed), OWN)
         self.judge, self.judged = Judge(self.clock, frozenset([*OWN, *full]), self.mess.killed), 0
-        self.began = time.monotonic()
-        self.said = self.began
+        self.began = self.said = time.monotonic()
+        self.thread: Optional[threading.Thread] = None
 
     def follow(self, seconds: float) -> None:
         """Judges what happens, for so long."""
@@ -113,11 +113,18 @@ class Run:
         said += f"; {it.latest:.0f} s the latest bind; with room the longest wait {it.longest:.0f} s, {it.longest_heard:.0f} of them heard; heard {heard:.0f} %"
         return f"seed {self.seed}, {len(it.waits)} wait, {len(self.wrong())} wrong {self.wrong()[:3]}; {said}"
 
+    def end(self) -> None:
+        """Ends the mess, and the scheduler that it has started last."""
+        self.mess.stop.set()
+        if self.thread:
+            self.thread.join(180)
+        self.program.it.end(signal.SIGKILL)
+
     def all(self) -> str:
         """All of it: the mess, what is under way behind it, and room for all."""
-        mess = threading.Thread(target=self.mess.go_on, args=(time.monotonic() + 60 * minutes(),), daemon=True)
-        mess.start()
-        while mess.is_alive():
+        self.thread = threading.Thread(target=self.mess.go_on, args=(time.monotonic() + 60 * minutes(),), daemon=True)
+        self.thread.start()
+        while self.thread.is_alive():
             self.follow(1)
         assert self.mess.is_over, f"the mess ended by a fault: {self.shown()}"
         # (what is held back has come by then, and what was in doubt is known)
@@ -162,8 +169,7 @@ def ended(side: Side, programs: Programs, close: Callable[[], None]) -> str:
         return run.all()
     finally:
         if run:
-            run.mess.is_over = True
-            run.program.it.end(signal.SIGKILL)
+            run.end()
         side.close()
         close()
 

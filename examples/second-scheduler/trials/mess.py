@@ -113,7 +113,7 @@ class Mess:
         self.shut_until = self.hold_next = 0.0
         self.held = threading.Event()
         self.killed, self.wrong = list[float](), list[str]()
-        self.is_over = False
+        self.is_over, self.stop = False, threading.Event()
         self.steps: list[tuple[int, Callable[[], None]]] = [
             (240, self.come), (120, self.go), (24, self.finish), (42, self.foreign), (24, self.cordon), (30, self.uncordon), (42, self.namesake),
             (10, self.anew), (3, self.keep_back), (1, self.shut_some), (20, self.change_standing),
@@ -181,12 +181,12 @@ class Mess:
     # On and on.
 
     def go_on(self, end: float) -> None:
-        """Until then."""
+        """Until then, or until it is to stop."""
         what = [step for many, step in self.steps for _ in range(many)]
         heavy = time.monotonic() + LEAST
         queue: list[Callable[[], None]] = []
         was_heard = True
-        while time.monotonic() < end:
+        while time.monotonic() < end and not self.stop.is_set():
             is_heard = self.between.is_heard(time.monotonic(), SETTLED)
             if time.monotonic() >= heavy and (is_heard or was_heard and self.dice.random() < UNHEARD):
                 # (each kind as often as any other; no two in one rest)
