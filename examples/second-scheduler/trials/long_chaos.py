@@ -50,8 +50,9 @@ class Run:
         for name in SHARED:
             side.make_node(name, 4000, 110)
         full = [f"{STANDING}{i}" for i in range(-(-stand // A_NODE))]
-        for name in full:
-            side.make_node(name, 10 * A_NODE, A_NODE)
+        for i, name in enumerate(full):
+            many = min(A_NODE, stand - i * A_NODE)
+            side.make_node(name, 10 * many, many)
         side.stand([(f"{STANDS}{i}", full[i // A_NODE]) for i in range(stand)], 10)
         env = {key: value for key, value in os.environ.items() if not key.startswith("KUBERNETES_")} | {"PYTHONDONTWRITEBYTECODE": "1"}
         words = [str(programs.client / "second_scheduler.py"), "--wsched", programs.wsched]

@@ -25,6 +25,8 @@ STANDS, FOREIGN, STANDING = "standing-", "foreign-", "full-"
 HOLDS = (1, 4, 20, 34, 50, 62, 70)
 # How long it is between two kills, lists and the like, in seconds, in the mean and at least.
 PAUSE, LEAST = float(os.environ.get("CHAOS_PAUSE", "200")), 45.0
+# For how long no bind goes wrong before an end at which none is in doubt, in seconds.
+CALM = 110.0
 # How likely one comes at a time while a scheduler rests, or lists.
 UNHEARD = 0.0004
 # What the client's log says.
@@ -111,6 +113,8 @@ class Mess:
         self.there, self.names = There(side), 0
         self.shut: tuple[str, ...] = ()
         self.shut_until = self.hold_next = 0.0
+        # when the client is to be ended, where no bind goes wrong until then
+        self.calm_until = 0.0
         self.held = threading.Event()
         self.killed, self.wrong = list[float](), list[str]()
         self.is_over, self.stop = False, threading.Event()
@@ -119,7 +123,7 @@ class Mess:
             (10, self.anew), (3, self.keep_back), (1, self.shut_some), (20, self.change_standing),
         ]
         self.heavy: list[Callable[[], None]] = [
-            self.kill, self.kill_held, self.kill_held, self.kill_ledger, self.kill_core, self.end_well, self.list_anew,
+            self.kill, self.kill_held, self.kill_held, self.kill_ledger, self.kill_core, self.end_well, self.calm_down, self.list_anew,
             *([self.kill_server] * 2 if side.has_server else []),
         ]
         self.between.fate = self.fate
@@ -139,7 +143,7 @@ class Mess:
             return Fate(refuse=TOO_MANY)
         if asked.verb == "list" and asked.what == "pods" and "continue" in asked.query:
             return self.page()
-        return self.of_bind() if asked.what == "pods/binding" else Fate()
+        return self.of_bind() if asked.what == "pods/binding" and not self.calm_until else Fate()
 
     def page(self) -> Fate:
         """A further page of a list."""
@@ -188,7 +192,10 @@ class Mess:
         was_heard = True
         while time.monotonic() < end and not self.stop.is_set():
             is_heard = self.between.is_heard(time.monotonic(), SETTLED)
-            if time.monotonic() >= heavy and (is_heard or was_heard and self.dice.random() < UNHEARD):
+            if self.calm_until:
+                if time.monotonic() >= self.calm_until:
+                    self.attempt(self.end_calm)
+            elif time.monotonic() >= heavy and (is_heard or was_heard and self.dice.random() < UNHEARD):
                 # (each kind as often as any other; no two in one rest)
                 queue, was_heard = queue or self.dice.sample(self.heavy, len(self.heavy)), is_heard
                 self.attempt(queue.pop())
@@ -345,6 +352,15 @@ class Mess:
         if status != 0:
             self.wrong.append(f"a good end has status {status}")
         self.program.start("a good end")
+
+    def calm_down(self) -> None:
+        """The same when nothing is under way, so that the Lease is given back: no bind goes wrong until then."""
+        self.calm_until = time.monotonic() + CALM
+
+    def end_calm(self) -> None:
+        """And then."""
+        self.calm_until = 0.0
+        self.end_well()
 
     def kill_server(self) -> None:
         """The API server is killed, and started anew."""
