@@ -12,14 +12,12 @@ import re
 import select
 import socket
 import ssl
-import struct
 import threading
 import time
-import urllib.parse
 from typing import Callable, Optional
 
-from trials.answers import refusal, resource
-from trials.server import CUT, RESET, SILENT, Asked
+from trials.answers import refusal
+from trials.server import RESET, SILENT, Asked, Speaking
 
 GONE, KINDS = "gone", ("nodes", "pods")
 VERSION = re.compile(rb'"resourceVersion": ?"([0-9]+)"')
@@ -147,30 +145,18 @@ class Between:
         return now - max(newest, self.unheard) >= settled
 
 
-class Line(http.server.BaseHTTPRequestHandler):
+class Line(Speaking):
     """One client's connection."""
 
-    protocol_version, wbufsize = "HTTP/1.1", -1
     between: Between
-    close_connection = False
-    disable_nagle_algorithm = True
-
-    def log_message(self, format: str, *args: object) -> None:  # pylint: disable=redefined-builtin
-        """Nothing is logged."""
 
     def answer(self) -> None:
         """Answers a request of any method."""
-        path, _, query = self.path.partition("?")
-        body = self.rfile.read(int(self.headers.get("Content-Length") or 0))
-        given = {key: values[-1] for key, values in urllib.parse.parse_qs(query, keep_blank_values=True).items()}
-        what, key = resource(path)
-        verb = {"GET": "get" if "/" in key or what == "nodes" and key else "list", "POST": "create", "PUT": "update"}.get(self.command, self.command.lower())
-        verb = "watch" if verb == "list" and given.get("watch") in ("true", "True", "1") else verb
-        asked = Asked(verb, what, key, given, json.loads(body) if what == "pods/binding" else {}, time.monotonic())
+        asked, body = self.asked_for()
         try:
-            if verb == "watch":
+            if asked.verb == "watch":
                 self.watch(asked)
-            elif what == "pods/binding":
+            elif asked.what == "pods/binding":
                 self.bind(asked, body)
             else:
                 self.once(asked, body)
@@ -205,11 +191,9 @@ class Line(http.server.BaseHTTPRequestHandler):
         self.say(status, json.dumps(refusal(status, message)).encode())
 
     def reset(self) -> None:
-        """Resets the connection."""
-        self.close_connection = True
+        """Resets the connection, if it is there."""
         try:
-            self.connection.setsockopt(socket.SOL_SOCKET, socket.SO_LINGER, struct.pack("ii", 1, 0))
-            self.connection.close()
+            super().reset()
         except OSError:
             pass
 
@@ -272,11 +256,7 @@ class Line(http.server.BaseHTTPRequestHandler):
             answer = line.getresponse()
             if answer.status != 200:
                 return self.say(answer.status, answer.read())
-            self.send_response(200)
-            self.send_header("Content-Type", "application/json")
-            self.send_header("Transfer-Encoding", "chunked")
-            self.end_headers()
-            self.wfile.flush()
+            self.begin_watch()
             watch = Open(asked.what, line, time.monotonic())
             self.between.watches[id(watch)] = watch
             threading.Thread(target=self.see_end, args=(watch,), daemon=True).start()
@@ -318,20 +298,3 @@ class Line(http.server.BaseHTTPRequestHandler):
             found = VERSION.search(text)
             if found:
                 self.between.told[watch.kind, int(found[1])] = time.monotonic(), watch.since
-
-    def chunk(self, some: bytes) -> None:
-        """A chunk of an answer (RFC 9112, section 7.1); the empty one is the last."""
-        self.wfile.write(b"%x\r\n%s\r\n" % (len(some), some))
-        self.wfile.flush()
-
-    def break_off(self, how: str) -> None:
-        """Ends the connection in no good way."""
-        self.close_connection = True
-        if how == CUT:
-            self.wfile.write(b'40\r\n{"type": "MODIF')
-            self.wfile.flush()
-        elif how == GONE:
-            self.chunk(f"{json.dumps({'type': 'ERROR', 'object': refusal(410, 'too old resource version')})}\n".encode())
-            self.chunk(b"")
-        else:
-            self.reset()

@@ -133,13 +133,68 @@ class Watch:
     stop: str = ""
 
 
-class Connection(http.server.BaseHTTPRequestHandler):
-    """One client's connection."""
+class Speaking(http.server.BaseHTTPRequestHandler):
+    """A connection of a client's to an API server: what it asks for, and how watches are told and broken off."""
 
     protocol_version, wbufsize = "HTTP/1.1", -1
-    server_stub: Server
     close_connection = False
     disable_nagle_algorithm = True
+
+    def log_message(self, format: str, *args: Any) -> None:  # pylint: disable=redefined-builtin
+        """Nothing is logged: the requests are noted."""
+
+    def asked_for(self) -> tuple[Asked, bytes]:
+        """What is asked for, and the body of the request."""
+        path, _, query = self.path.partition("?")
+        body = self.rfile.read(int(self.headers.get("Content-Length") or 0))
+        given = {key: values[-1] for key, values in urllib.parse.parse_qs(query, keep_blank_values=True).items()}
+        what, key = resource(path)
+        verb = {"GET": "get" if "/" in key or what == "nodes" and key else "list", "POST": "create", "PUT": "update"}.get(self.command, self.command.lower())
+        verb = "watch" if verb == "list" and given.get("watch") in ("true", "True", "1") else verb
+        return Asked(verb, what, key, given, json.loads(body) if body else {}, time.monotonic(), self.headers.get("Authorization") or ""), body
+
+    def begin_watch(self) -> None:
+        """The head of a watch's answer."""
+        self.send_response(200)
+        self.send_header("Content-Type", "application/json")
+        self.send_header("Transfer-Encoding", "chunked")
+        self.end_headers()
+        self.wfile.flush()
+
+    def chunk(self, some: bytes) -> None:
+        """A chunk of an answer (RFC 9112, section 7.1); the empty one is the last."""
+        self.wfile.write(b"%x\r\n%s\r\n" % (len(some), some))
+        self.wfile.flush()
+
+    def reset(self) -> None:
+        """Resets the connection."""
+        self.close_connection = True
+        self.connection.setsockopt(socket.SOL_SOCKET, socket.SO_LINGER, struct.pack("ii", 1, 0))
+        self.connection.close()
+
+    def break_off(self, how: str) -> None:
+        """Ends the connection in no good way."""
+        self.close_connection = True
+        if how == CUT:
+            self.wfile.write(b'40\r\n{"type": "MODIF')
+            self.wfile.flush()
+        elif how == SILENT:
+            # in this mode a socket that is closed tells its other end nothing, as a machine does
+            # that has lost its power
+            self.connection.setsockopt(socket.IPPROTO_TCP, TCP_REPAIR, 1)
+            self.connection.close()
+        elif how == RESET:
+            self.reset()
+        else:
+            code = {"type": "ERROR", "object": refusal(410, "too old resource version")}
+            self.chunk(f"{json.dumps(code)}\n".encode())
+            self.chunk(b"")
+
+
+class Connection(Speaking):
+    """One client's connection."""
+
+    server_stub: Server
     is_asked = False
 
     def setup(self) -> None:
@@ -152,31 +207,22 @@ class Connection(http.server.BaseHTTPRequestHandler):
         self.server_stub.connections.discard(self)
         super().finish()
 
-    def log_message(self, format: str, *args: Any) -> None:  # pylint: disable=redefined-builtin
-        """Nothing is logged: the requests are noted."""
-
     def answer(self) -> None:
         """Answers a request of any method."""
         self.is_asked = True
-        path, _, query = self.path.partition("?")
-        body = self.rfile.read(int(self.headers.get("Content-Length") or 0))
-        given = {key: values[-1] for key, values in urllib.parse.parse_qs(query, keep_blank_values=True).items()}
-        what, key = resource(path)
-        verb = {"GET": "get" if "/" in key or what == "nodes" and key else "list", "POST": "create", "PUT": "update"}.get(self.command, self.command.lower())
-        verb = "watch" if verb == "list" and given.get("watch") in ("true", "True", "1") else verb
-        asked = Asked(verb, what, key, given, json.loads(body) if body else {}, time.monotonic(), self.headers.get("Authorization") or "")
+        asked, _ = self.asked_for()
         with self.server_stub.lock:
             self.server_stub.asked.append(asked)
         try:
             refused = self.server_stub.refuse(asked)
             if refused:
                 raise Conflict(*refused)
-            if path.strip("/") == "version":
+            if self.path.partition("?")[0].strip("/") == "version":
                 self.say(asked, 200, json.dumps({"major": "1", "minor": self.server_stub.minor}).encode())
-            elif verb == "watch":
+            elif asked.verb == "watch":
                 self.watch(asked)
             else:
-                self.say(asked, 201 if verb == "create" else 200, self.done(asked))
+                self.say(asked, 201 if asked.verb == "create" else 200, self.done(asked))
         except Conflict as why:
             self.say(asked, why.status, json.dumps(refusal(why.status, why.message)).encode())
         self.is_asked = False
@@ -241,11 +287,7 @@ class Connection(http.server.BaseHTTPRequestHandler):
         version, test = int(asked.query.get("resourceVersion") or stub.store.version()), wanted(asked.query)
         stub.store.since(version)
         asked.status = 200
-        self.send_response(200)
-        self.send_header("Content-Type", "application/json")
-        self.send_header("Transfer-Encoding", "chunked")
-        self.end_headers()
-        self.wfile.flush()
+        self.begin_watch()
         stub.watches[id(watch)] = watch
         try:
             end = time.monotonic() + min(stub.watch_lasts, float(asked.query.get("timeoutSeconds") or 3600))
@@ -273,30 +315,6 @@ class Connection(http.server.BaseHTTPRequestHandler):
                 self.chunk("".join(f"{json.dumps(it)}\n" for it in lines).encode())
             if time.monotonic() >= end:
                 return self.chunk(b"")
-
-    def chunk(self, some: bytes) -> None:
-        """A chunk of an answer (RFC 9112, section 7.1); the empty one is the last."""
-        self.wfile.write(b"%x\r\n%s\r\n" % (len(some), some))
-        self.wfile.flush()
-
-    def break_off(self, how: str) -> None:
-        """Ends the connection in no good way."""
-        self.close_connection = True
-        if how == CUT:
-            self.wfile.write(b'40\r\n{"type": "MODIF')
-            self.wfile.flush()
-        elif how == SILENT:
-            # in this mode a socket that is closed tells its other end nothing, as a machine does
-            # that has lost its power
-            self.connection.setsockopt(socket.IPPROTO_TCP, TCP_REPAIR, 1)
-            self.connection.close()
-        elif how == RESET:
-            self.connection.setsockopt(socket.SOL_SOCKET, socket.SO_LINGER, struct.pack("ii", 1, 0))
-            self.connection.close()
-        else:
-            code = {"type": "ERROR", "object": refusal(410, "too old resource version")}
-            self.chunk(f"{json.dumps(code)}\n".encode())
-            self.chunk(b"")
 
 
 def bind(stub: Server, asked: Asked) -> None:
