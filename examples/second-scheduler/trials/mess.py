@@ -141,12 +141,15 @@ class Mess:
             return Fate()
         if asked.verb == "watch" and asked.what in self.shut and time.monotonic() < self.shut_until:
             return Fate(refuse=TOO_MANY)
-        if asked.verb == "list" and asked.what == "pods" and "continue" in asked.query:
-            return self.page()
+        if asked.verb == "list" and asked.what == "pods" and "limit" in asked.query:
+            return self.page("continue" in asked.query)
         return self.of_bind() if asked.what == "pods/binding" and not self.calm_until else Fate()
 
-    def page(self) -> Fate:
-        """A further page of a list."""
+    def page(self, is_further: bool) -> Fate:
+        """A page of a list."""
+        if not is_further:
+            self.did("lists of pods")
+            return Fate()
         self.did("pages behind a change")
         try:
             self.change_standing()
