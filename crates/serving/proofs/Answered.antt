@@ -2,11 +2,12 @@
 use Rattle.std.proofs.Common.{◌≡◌, ℕ, List, Option, Some, None, Result, Ok, Err, inl, inr, refl, sym, subst, arith}
 use Rattle.std.specs.Prelude.{IfErr}
 use Rattle.engine.specs.Device.{DeviceUse}
-use Rattle.command.specs.Words.{Asked, asked_by, run, explain, check, storm, translate, live, version}
+use Rattle.command.specs.Misuse.{misuse_of}
+use Rattle.command.specs.Words.{Asked, asked_by, meaning, run, explain, check, storm, translate, live, version}
 use Rattle.command.specs.declared.fault.WordFault.{WordFault}
 use Rattle.command.specs.declared.fault.WordFault.TheVariants as word_fault
 use Rattle.fault_line.specs.declared.fault.Fault.{Fault}
-use Rattle.fault_line.specs.declared.fault.Fault.TheVariants.{Words}
+use Rattle.fault_line.specs.declared.fault.Fault.TheVariants.{Words, Misused}
 use Rattle.fault_line.specs.Fault.{status_of}
 use Rattle.serving.specs.Answer.{FilesUse, IsAnswer, IsDone}
 use Rattle.serving.specs.Run.{TellsFault, told_of}
@@ -85,6 +86,14 @@ module _ (Unkeyed : Type 0) (files : FilesUse) (source out err : DeviceUse) (end
     unopened = h.unopened;
     unread = h.unread;
   }
+
+  -- words that could be read are answered as their texts are
+  pub of_words : {V : Type 0} (texts : V → List (List ℕ)) (args : Result V WordFault) (words : V) (given : List (List ℕ)) → args ≡ Ok words → given ≡ texts words
+      → IsAnswer (λ (l : List (List ℕ)). l) (Ok given) Unkeyed files source out err ended → IsAnswer texts args Unkeyed files source out err ended
+  of_words texts args words given is same it = subst (λ a. IsAnswer texts a Unkeyed files source out err ended) (sym is) (record {
+    done = subst (λ l. IsDone (meaning l) (Misused (misuse_of l)) Unkeyed files source out err ended) same it.done;
+    unread = tt;
+  })
 
   module _ {V : Type 0} (texts : V → List (List ℕ)) (args : Result V WordFault) where
     -- the words could be read, and what they ask for is done

@@ -1,5 +1,5 @@
 //! What the program does, from its words to its exit status.
-ghost use Rattle.std.specs.Prelude.{◌≡◌, ◌^◌, ◌<◌, None, map};
+ghost use Rattle.std.specs.Prelude.{◌≡◌, ◌^◌, ◌<◌, ℕ, List, None, Ok, map};
 ghost use Rattle.engine.specs.Device.{use_of};
 ghost use Rattle.serving.specs.Answer.{IsAnswer, files_of};
 
@@ -53,27 +53,58 @@ pub fn answer<
         (use_of E.written E.failure_count err.old err.new) result }
 {
     match args {
-        Ok(args) => match words(alloc, args.as_slice()) {
-            Ok(Words::Run(plan)) => {
-                serve_plan(rt, alloc, keys, &plan, false, files, source, out, err)
-            }
-            Ok(Words::Explain(plan)) => {
-                serve_plan(rt, alloc, keys, &plan, true, files, source, out, err)
-            }
-            Ok(Words::Storm(plan)) => storm_plan(rt, alloc, keys, &plan, files, source, out, err),
-            Ok(Words::Check(file)) => check_file(alloc, file, files, out, err),
-            Ok(Words::Translate(plan)) => serve_translation(alloc, &plan, source, out, err),
-            Ok(Words::Live(plan)) => {
-                let site = Site {
-                    scheduler: plan.scheduler,
-                    labels: plan.labels,
-                };
-                serve_live(alloc, keys, &site, source, out, err)
-            }
-            Ok(Words::Version) => tell_version(out, err),
-            Err(WordFault::BadWords) => report(Fault::Misused(misuse_of(args.as_slice())), err),
-            Err(WordFault::NoMemory) => report(Fault::Words(WordFault::NoMemory), err),
-        },
+        Ok(args) => answer_words(rt, alloc, args.as_slice(), keys, files, source, out, err),
         Err(unread) => report(Fault::Words(unread), err),
+    }
+}
+
+// Does what these words ask for.
+fn answer_words<
+    T: Wait + Threads + Copy + Send + Sync + 'static,
+    S: AsStr,
+    F: Files,
+    R: Source,
+    W: Sink,
+    E: Sink,
+>(
+    rt: &T,
+    alloc: Global,
+    args: &[S],
+    keys: Option<RandomState>,
+    files: &mut F,
+    source: &mut R,
+    out: &mut W,
+    err: &mut E,
+) -> u8
+    requires opens { F.failure_count files.old < 10 ^ 18 }
+    requires reads { R.failure_count source.old < 10 ^ 18 }
+    requires writes { W.failure_count out.old < 10 ^ 18 }
+    requires tells { E.failure_count err.old < 10 ^ 18 }
+    requires finite { R.bytes_left source.old < 2 ^ 64 }
+    ensures { IsAnswer (λ (given : List (List ℕ)). given) (Ok (map S.text args.now)) (keys ≡ None)
+        (files_of F.contents F.failure_count files.old files.new)
+        (use_of R.remaining R.failure_count source.old source.new) (use_of W.written W.failure_count out.old out.new)
+        (use_of E.written E.failure_count err.old err.new) result }
+{
+    match words(alloc, args) {
+        Ok(Words::Run(plan)) => {
+            serve_plan(rt, alloc, keys, &plan, false, files, source, out, err)
+        }
+        Ok(Words::Explain(plan)) => {
+            serve_plan(rt, alloc, keys, &plan, true, files, source, out, err)
+        }
+        Ok(Words::Storm(plan)) => storm_plan(rt, alloc, keys, &plan, files, source, out, err),
+        Ok(Words::Check(file)) => check_file(alloc, file, files, out, err),
+        Ok(Words::Translate(plan)) => serve_translation(alloc, &plan, source, out, err),
+        Ok(Words::Live(plan)) => {
+            let site = Site {
+                scheduler: plan.scheduler,
+                labels: plan.labels,
+            };
+            serve_live(alloc, keys, &site, source, out, err)
+        }
+        Ok(Words::Version) => tell_version(out, err),
+        Err(WordFault::BadWords) => report(Fault::Misused(misuse_of(args)), err),
+        Err(WordFault::NoMemory) => report(Fault::Words(WordFault::NoMemory), err),
     }
 }
