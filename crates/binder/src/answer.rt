@@ -6,7 +6,7 @@ use crate::job::Bind;
 use quant::Name;
 
 /// The answer to a bind.
-#[derive(Clone, Copy, Debug, PartialEq, Eq)]
+#[derive(Clone, Copy, PartialEq, Eq)]
 pub enum BindAnswer {
     /// The cluster took the bind.
     Done,
@@ -15,7 +15,7 @@ pub enum BindAnswer {
 }
 
 /// How many binds a binder was asked for, how many of them were done, and which was the last.
-#[derive(Debug, Drop)]
+#[derive(Drop)]
 pub struct Tally {
     /// The binds that were asked for.
     pub asked: u64,

@@ -14,7 +14,7 @@ use std::sync::Wait;
 pub const MAX_BINDS: u64 = 1_000_000_000_000_000_000;
 
 /// There was no memory to report a bind.
-#[derive(Debug, Drop)]
+#[derive(Drop)]
 pub struct Unreported {
     /// The step that reports it. It wasn't applied, and is the caller's to apply.
     pub step: Step,

@@ -2,7 +2,7 @@
 use quant::{Name, Ticket};
 
 /// What a binder is told: a pod, and where it is placed.
-#[derive(Debug, Drop)]
+#[derive(Drop)]
 pub struct Bind {
     /// The pod.
     pub uid: Name,
@@ -11,7 +11,7 @@ pub struct Bind {
 }
 
 /// A pod whose place is assumed, which the cluster is to be told.
-#[derive(Debug, Drop)]
+#[derive(Drop)]
 pub struct Job {
     /// The pod.
     pub uid: Name,

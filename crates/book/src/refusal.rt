@@ -3,7 +3,7 @@ ghost use Rattle.std.specs.Prelude.{◌≡◌};
 ghost use Rattle.book.specs.Refusal.{number_of, name_of};
 
 /// A refusal of a step. It changes nothing but the caller's count of calls.
-#[derive(Clone, Copy, Debug, PartialEq, Eq)]
+#[derive(Clone, Copy, PartialEq, Eq)]
 pub enum Refusal {
     /// The event's version is at or below that of the last accepted event.
     Old,

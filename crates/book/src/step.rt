@@ -4,7 +4,7 @@ use quant::{Event, Moment, Name, Request, SharedPod, Ticket};
 
 /// A step that touches the version, the nodes, the places or the tickets, with what its tests need
 /// of the queue.
-#[derive(Debug, Drop)]
+#[derive(Drop)]
 pub enum ClusterStep {
     /// The watch tells this.
     Event {
@@ -47,7 +47,7 @@ pub enum ClusterStep {
 }
 
 /// What the queue has of a pod that a pass wants to place.
-#[derive(Clone, Copy, Debug, PartialEq, Eq)]
+#[derive(Clone, Copy, PartialEq, Eq)]
 pub enum Entry {
     /// No entry.
     Missing,
@@ -58,7 +58,7 @@ pub enum Entry {
 }
 
 /// The answer to a step.
-#[derive(Debug, Drop)]
+#[derive(Drop)]
 pub enum Reply {
     /// The step was done.
     Done,

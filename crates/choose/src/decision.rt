@@ -3,7 +3,7 @@ use quant::Name;
 use rules::{Cause, Rejection};
 
 /// The first reason for which a node isn't for a pod.
-#[derive(Clone, Copy, PartialEq, Eq, Debug)]
+#[derive(Clone, Copy, PartialEq, Eq)]
 pub enum Reason {
     /// It is marked unschedulable.
     Marked,
@@ -22,7 +22,7 @@ pub enum Reason {
 }
 
 /// What is decided of a node.
-#[derive(Clone, Copy, PartialEq, Eq, Debug)]
+#[derive(Clone, Copy, PartialEq, Eq)]
 pub enum Verdict {
     /// A built-in filter rejects it.
     Rejected(Reason),
@@ -41,7 +41,7 @@ pub enum Verdict {
 pub const UNJUDGED: Verdict = Verdict::Rejected(Reason::Marked);
 
 /// How many nodes were rejected for each first reason.
-#[derive(Clone, Copy, PartialEq, Eq, Debug)]
+#[derive(Clone, Copy, PartialEq, Eq)]
 pub struct Counts {
     pub marked: usize,
     pub taint: usize,
@@ -55,7 +55,7 @@ pub struct Counts {
 }
 
 /// What is decided of a pod.
-#[derive(PartialEq, Eq, Debug, Drop)]
+#[derive(PartialEq, Eq, Drop)]
 pub enum Decision {
     /// The node that the pod goes to, and its total.
     Node(Name, u32),

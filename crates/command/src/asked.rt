@@ -3,7 +3,7 @@
 use quant::Name;
 
 /// A plugin, as the words configure it.
-#[derive(Debug, PartialEq, Eq, Drop)]
+#[derive(Drop)]
 pub struct Spec<'a> {
     /// Its name, which no other plugin of the words has.
     pub name: Name,
@@ -16,7 +16,7 @@ pub struct Spec<'a> {
 }
 
 /// A run, as the words ask for it.
-#[derive(Debug, PartialEq, Eq, Drop)]
+#[derive(Drop)]
 pub struct Plan<'a> {
     /// How many workers decide, 1 to 64.
     pub workers: usize,
@@ -25,7 +25,7 @@ pub struct Plan<'a> {
 }
 
 /// A storm, as the words ask for it.
-#[derive(Debug, PartialEq, Eq, Drop)]
+#[derive(Drop)]
 pub struct StormPlan<'a> {
     /// How many threads run cycles, 1 to 8.
     pub cycles: usize,
@@ -38,7 +38,7 @@ pub struct StormPlan<'a> {
 }
 
 /// A translation, as the words ask for it.
-#[derive(Debug, PartialEq, Eq, Drop)]
+#[derive(Drop)]
 pub struct TranslatePlan<'a> {
     /// The name of the scheduler whose pods are told.
     pub scheduler: &'a str,
@@ -52,7 +52,7 @@ pub struct TranslatePlan<'a> {
 }
 
 /// A ledger that is told what the API server tells, as the words ask for it.
-#[derive(Debug, PartialEq, Eq, Drop)]
+#[derive(Drop)]
 pub struct LivePlan<'a> {
     /// The name of the scheduler whose pods wait.
     pub scheduler: &'a str,
@@ -62,7 +62,7 @@ pub struct LivePlan<'a> {
 }
 
 /// What the program is asked to do.
-#[derive(Debug, PartialEq, Eq, Drop)]
+#[derive(Drop)]
 pub enum Words<'a> {
     /// To read a script from standard input, and to write the answers to standard output.
     Run(Plan<'a>),

@@ -54,7 +54,7 @@ pub enum Misuse {
 }
 
 /// What a word behind a command is read as.
-#[derive(Clone, Copy, Debug, PartialEq, Eq)]
+#[derive(Clone, Copy, PartialEq, Eq)]
 enum ReadAs {
     /// An option, the end of the options, or another word.
     Anything,

@@ -7,7 +7,7 @@ use queue::Failure;
 use std::alloc::AllocError;
 
 /// A step.
-#[derive(Debug, Drop)]
+#[derive(Drop)]
 pub enum Step {
     /// The watch tells this.
     Event(Event),
@@ -126,7 +126,7 @@ fn share_event(event: &Event) -> Result<Event, AllocError>
 }
 
 /// The desk's numbers.
-#[derive(Clone, Copy, Debug, PartialEq, Eq)]
+#[derive(Clone, Copy, PartialEq, Eq)]
 pub struct Counts {
     /// Pods whose place the cluster told.
     pub bound: usize,
@@ -147,7 +147,7 @@ pub struct Counts {
 }
 
 /// The answer to a step.
-#[derive(Debug, Drop)]
+#[derive(Drop)]
 pub enum Reply {
     /// The step was done.
     Done,

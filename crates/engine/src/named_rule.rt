@@ -2,7 +2,7 @@
 use quant::Name;
 
 /// A rule's name, and how much its scores count.
-#[derive(Debug, Drop)]
+#[derive(Drop)]
 pub struct NamedRule {
     pub name: Name,
     pub weight: u8,

@@ -14,7 +14,7 @@ use std::sync::Wait;
 use std::thread::Threads;
 
 /// What a cycle came to.
-#[derive(Debug, Drop)]
+#[derive(Drop)]
 pub enum Cycled {
     /// No pod waits to be popped.
     Idle,
@@ -46,7 +46,7 @@ pub enum Cycled {
 
 /// A cycle was cut short for want of memory. Where a pod was popped and could not be failed either,
 /// it is told: it stays in flight for the pass, which may fail it later.
-#[derive(Debug, Drop, PartialEq, Eq)]
+#[derive(Drop, PartialEq, Eq)]
 pub struct CutShort {
     /// The pod that is still in flight.
     pub held: Option<Name>,

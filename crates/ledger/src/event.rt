@@ -3,14 +3,14 @@ use book::Refusal;
 use quant::{Name, Request, SharedNode, Ticket, Version};
 
 /// A kind of objects, which the API server lists and watches apart from the other.
-#[derive(Clone, Copy, Debug, PartialEq, Eq)]
+#[derive(Clone, Copy)]
 pub enum Kind {
     Nodes,
     Pods,
 }
 
 /// What became of a bind that was asked for.
-#[derive(Clone, Copy, Debug, PartialEq, Eq)]
+#[derive(Clone, Copy, PartialEq, Eq)]
 pub enum Outcome {
     /// The server bound the pod.
     Created,
@@ -21,7 +21,7 @@ pub enum Outcome {
 }
 
 /// What a read says of a pod that was asked about.
-#[derive(Debug, Drop)]
+#[derive(Drop)]
 pub enum Said {
     /// It has no node.
     Waits,
@@ -39,7 +39,7 @@ pub enum Said {
 }
 
 /// What is told of a cluster, or asked. A version is the object's own, which rises as it changes.
-#[derive(Debug, Drop)]
+#[derive(Drop)]
 pub enum Event {
     /// A list of all objects of a kind begins: what stands in it is told as if it were new.
     ListBegins(Kind),
@@ -127,7 +127,7 @@ pub enum Event {
 }
 
 /// What a ledger answers.
-#[derive(Clone, Copy, Debug, PartialEq, Eq)]
+#[derive(Clone, Copy, PartialEq, Eq)]
 pub enum Answer {
     /// It was taken.
     Told,

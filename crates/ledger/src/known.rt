@@ -2,7 +2,7 @@
 use quant::{Request, Ticket, Version};
 
 /// How sure it is what became of a bind that was asked for.
-#[derive(Clone, Copy, Debug, PartialEq, Eq)]
+#[derive(Clone, Copy, PartialEq, Eq)]
 pub enum Asking {
     /// No answer is known.
     Sent,
@@ -13,7 +13,7 @@ pub enum Asking {
 }
 
 /// Where a pod stands.
-#[derive(Clone, Copy, Debug, PartialEq, Eq)]
+#[derive(Clone, Copy)]
 pub enum Stage {
     /// It has no node, and asks for this.
     Waits(Request),
@@ -31,7 +31,7 @@ pub enum Stage {
 }
 
 /// What was last told of a pod.
-#[derive(Clone, Copy, Debug, PartialEq, Eq)]
+#[derive(Clone, Copy)]
 pub struct Known {
     /// The pod's version.
     pub version: Version,
@@ -44,7 +44,7 @@ pub struct Known {
 }
 
 /// When a node's row was told.
-#[derive(Clone, Copy, Debug, PartialEq, Eq)]
+#[derive(Clone, Copy)]
 pub struct Seen {
     /// The node's version.
     pub version: Version,
@@ -53,7 +53,7 @@ pub struct Seen {
 }
 
 /// What is heard of a kind of objects.
-#[derive(Clone, Copy, Debug, PartialEq, Eq)]
+#[derive(Clone, Copy)]
 pub struct Heard {
     /// How many lists have begun.
     pub lists: u64,
@@ -69,7 +69,7 @@ pub struct Heard {
 }
 
 /// Whether pods on nodes were left out, for want of room.
-#[derive(Clone, Copy, Debug, PartialEq, Eq)]
+#[derive(Clone, Copy)]
 pub struct LeftOut {
     /// Whether one was, and no list has ended since that had room for each.
     pub any: bool,

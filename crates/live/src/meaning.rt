@@ -13,7 +13,7 @@ use serde_json::Value;
 use std::alloc::{AllocError, Global};
 
 /// What a line tells a ledger, or asks of it.
-#[derive(Debug, Drop)]
+#[derive(Drop)]
 pub(crate) enum Meaning {
     /// This.
     Tells(Event),

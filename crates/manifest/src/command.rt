@@ -2,7 +2,7 @@
 use quant::{Event, Moment, Name, SharedPod, Ticket};
 
 /// What a line asks for.
-#[derive(Debug, Drop)]
+#[derive(Drop)]
 pub enum Command {
     /// What the cluster's watch tells.
     Event(Event),
@@ -31,7 +31,7 @@ pub enum Command {
 }
 
 /// What is asked of the rules.
-#[derive(Debug, Drop)]
+#[derive(Drop)]
 pub struct Question {
     /// The pod for which they are asked.
     pub pod: SharedPod,

@@ -1,7 +1,7 @@
 //! What an event of the watch tells of an object.
 
 /// What has come of an object.
-#[derive(Clone, Copy, Debug, PartialEq, Eq)]
+#[derive(Clone, Copy, PartialEq, Eq)]
 pub enum Change {
     /// It is there.
     There,

@@ -17,7 +17,7 @@ use std::alloc::Global;
 pub(crate) const MAX_LISTED: usize = 65_536;
 
 /// A container of a pod.
-#[derive(Clone, Copy, Debug, PartialEq, Eq)]
+#[derive(Clone, Copy, PartialEq, Eq)]
 pub(crate) struct Container {
     /// What it asks for.
     pub request: Request,

@@ -21,7 +21,7 @@ use quant::{Event, Name, Version};
 use serde_json::Value;
 
 /// A kind of object.
-#[derive(Clone, Copy, Debug, PartialEq, Eq)]
+#[derive(Clone, Copy, PartialEq, Eq)]
 pub(crate) enum Kind {
     /// A node.
     Node,

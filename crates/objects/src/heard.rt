@@ -27,7 +27,7 @@ use std::alloc::{AllocError, Global};
 const MAX_DIGITS: usize = 18;
 
 /// What an object of the API, or an event of its watch, tells as of the object's own version.
-#[derive(Debug, Drop)]
+#[derive(Drop)]
 pub enum Heard {
     /// What a script's line tells of it.
     Event(Event),

@@ -1,7 +1,7 @@
 //! Whose pods a script is to place, and what its rules read.
 
 /// Whose pods a script is to place, and what its rules read.
-#[derive(Clone, Copy, Debug, PartialEq, Eq)]
+#[derive(Clone, Copy, PartialEq, Eq)]
 pub struct Site<'a> {
     /// The scheduler whose pods are told. A pod that names none is for `default-scheduler`.
     pub scheduler: &'a str,

@@ -22,7 +22,7 @@ use std::alloc::{AllocError, Global};
 pub const MAX_OBJECT: usize = 2_097_152;
 
 /// What a line of the API gives a script.
-#[derive(Debug, Drop)]
+#[derive(Drop)]
 pub struct Translation {
     /// The script's line, without its newline. It is empty where the object gives none.
     pub line: Vec<u8>,

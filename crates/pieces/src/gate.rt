@@ -9,7 +9,7 @@ pub trait Gate {
 }
 
 /// A gate that holds nothing up.
-#[derive(Clone, Copy, Debug, Default, Drop)]
+#[derive(Clone, Copy, Default, Drop)]
 pub struct NoGate;
 
 impl Gate for NoGate {

@@ -16,7 +16,7 @@ use std::ops::Deref;
 use std::sync::Arc;
 
 /// A node's row, which many may own. Contracts see the row, and not where it lies in memory.
-#[derive(Debug, Drop)]
+#[derive(Drop)]
 pub struct SharedNode {
     row: Arc<SharedRow>,
 }
@@ -34,7 +34,7 @@ impl Model for SharedNode {
 }
 
 /// A pod's row, which many may own. Contracts see the row, and not where it lies in memory.
-#[derive(Debug, Drop)]
+#[derive(Drop)]
 pub struct SharedPod {
     row: Arc<Pod>,
 }
@@ -128,7 +128,7 @@ impl Deref for SharedPod {
 }
 
 /// What a cluster's watch tells. Each event carries the version at which it came, 1 to 10^18.
-#[derive(Debug, Drop)]
+#[derive(Drop)]
 pub enum Event {
     /// A node is there, with this row, or its row has changed to this one.
     NodeSet {

@@ -7,7 +7,7 @@ use crate::taint::{Taint, Toleration};
 use arrayvec::ArrayVec;
 
 /// A label of a node or a pod.
-#[derive(Debug, Default, Drop, Clone, PartialEq, Eq, Hash)]
+#[derive(Default, Drop, Clone, PartialEq, Eq, Hash)]
 pub struct Label {
     /// The label's key.
     pub key: Name,
@@ -16,7 +16,7 @@ pub struct Label {
 }
 
 /// A node, as the last watch event tells it.
-#[derive(Debug, Drop, PartialEq, Eq)]
+#[derive(Drop)]
 pub struct Node {
     /// The node's name.
     pub name: Name,
@@ -31,7 +31,7 @@ pub struct Node {
 }
 
 /// A pod that waits for a place.
-#[derive(Debug, Drop, PartialEq, Eq)]
+#[derive(Drop)]
 pub struct Pod {
     /// What tells the pod from every other, at all times.
     pub uid: Name,

@@ -13,7 +13,7 @@ use std::alloc::{AllocError, Global};
 
 /// A row, and all that it tells once more in front of it: its name and labels, and its taints, as
 /// texts with their lengths. What is compared lies together; the row itself is kilobytes large.
-#[derive(Debug, Drop)]
+#[derive(Drop)]
 pub(crate) struct SharedRow {
     allocatable: Res,
     unschedulable: bool,

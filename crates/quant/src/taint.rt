@@ -3,7 +3,7 @@
 use crate::name::{Name, Text};
 
 /// What a taint does to a pod that does not tolerate it.
-#[derive(Clone, Copy, Debug, Default, PartialEq, Eq, Hash)]
+#[derive(Clone, Copy, Default, PartialEq, Eq, Hash)]
 pub enum Effect {
     /// The pod is not placed on the node.
     #[default]
@@ -15,7 +15,7 @@ pub enum Effect {
 }
 
 /// A mark on a node that keeps off pods which do not tolerate it.
-#[derive(Debug, Default, Drop, Clone, PartialEq, Eq, Hash)]
+#[derive(Default, Drop, Clone, PartialEq, Eq, Hash)]
 pub struct Taint {
     /// What the taint is about.
     pub key: Name,
@@ -26,7 +26,7 @@ pub struct Taint {
 }
 
 /// How a toleration's value is compared with a taint's.
-#[derive(Clone, Copy, Debug, Default, PartialEq, Eq, Hash)]
+#[derive(Clone, Copy, Default, PartialEq, Eq, Hash)]
 pub enum Operator {
     /// The values are equal.
     #[default]
@@ -36,7 +36,7 @@ pub enum Operator {
 }
 
 /// A pod's leave to stand on nodes with certain taints.
-#[derive(Debug, Default, Drop, Clone, PartialEq, Eq, Hash)]
+#[derive(Default, Drop, Clone, PartialEq, Eq, Hash)]
 pub struct Toleration {
     /// The taint's key. An empty key, with `Exists`, stands for every key.
     pub key: Text,

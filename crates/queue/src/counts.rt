@@ -6,7 +6,7 @@ ghost use Rattle.queue.specs.inside.Slots.{counted, total_of};
 use crate::state::State;
 
 /// The number of entries in each state.
-#[derive(Clone, Copy, Debug, Default, PartialEq, Eq)]
+#[derive(Clone, Copy, Default, PartialEq, Eq)]
 pub struct Counts {
     /// Those that wait to be popped.
     pub active: usize,

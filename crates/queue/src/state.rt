@@ -5,11 +5,11 @@ ghost use Rattle.queue.specs.Entry.{is_active, is_in_flight, is_in_flight_for};
 use quant::Moment;
 
 /// The number of a pass, which tells one user of the queue from another.
-#[derive(Clone, Copy, Debug, PartialEq, Eq)]
+#[derive(Clone, Copy, PartialEq, Eq)]
 pub struct PassNumber(pub u64);
 
 /// Where a pod stands in the queue.
-#[derive(Clone, Copy, Debug, PartialEq, Eq)]
+#[derive(Clone, Copy, PartialEq, Eq)]
 pub enum State {
     /// It waits to be popped.
     Active,
@@ -27,7 +27,7 @@ pub enum State {
 }
 
 /// How an attempt at a pod failed.
-#[derive(Clone, Copy, Debug, PartialEq, Eq)]
+#[derive(Clone, Copy, PartialEq, Eq)]
 pub enum Failure {
     /// No node would take it.
     Unschedulable,

@@ -2,7 +2,7 @@
 use crate::trap::Trap;
 
 /// Why a rule keeps a pod off a node (the names of the Kubernetes page "Scheduling Framework").
-#[derive(Clone, Copy, PartialEq, Eq, Debug)]
+#[derive(Clone, Copy, PartialEq, Eq)]
 pub enum Rejection {
     /// The pod may not stand here now.
     Unschedulable,
@@ -24,7 +24,7 @@ pub enum Cause {
 }
 
 /// What a rule's filter says of a node.
-#[derive(Clone, Copy, PartialEq, Eq, Debug)]
+#[derive(Clone, Copy, PartialEq, Eq)]
 pub enum FilterVerdict {
     Passes,
     Rejects(Rejection),
@@ -32,7 +32,7 @@ pub enum FilterVerdict {
 }
 
 /// What a rule's score says of a node.
-#[derive(Clone, Copy, PartialEq, Eq, Debug)]
+#[derive(Clone, Copy, PartialEq, Eq)]
 pub enum ScoreVerdict {
     /// A score from 0 to 100.
     Good(u8),

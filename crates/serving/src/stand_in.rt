@@ -17,7 +17,7 @@ use storm::{OneKit, storm};
 
 /// A binder that tells no cluster. Each bind that it is asked for is done, but where it is flaky
 /// every third one fails.
-#[derive(Debug, Drop)]
+#[derive(Drop)]
 pub struct StandIn {
     is_flaky: bool,
     tally: Tally,

@@ -13,7 +13,7 @@ use wcode::BinFault;
 use wtype::{Checked, TypeFault, validate};
 
 /// What is found of a module.
-#[derive(Clone, Copy, Debug, PartialEq, Eq)]
+#[derive(Clone, Copy, PartialEq, Eq)]
 pub enum Verdict {
     /// The module is accepted.
     Accepted,
@@ -34,7 +34,7 @@ impl Verdict {
 }
 
 /// Why no accepted module was had from bytes.
-#[derive(Clone, Copy, Debug, PartialEq, Eq)]
+#[derive(Clone, Copy, PartialEq, Eq)]
 pub enum Unaccepted {
     /// They deserve none.
     Refused(Refusal),

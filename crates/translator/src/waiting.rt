@@ -16,7 +16,7 @@ use std::alloc::{AllocError, Global};
 const MAX_WAITING: usize = 65_536;
 
 /// Why a translation ends early.
-#[derive(Debug, PartialEq, Eq, Drop)]
+#[derive(PartialEq, Eq, Drop)]
 pub(crate) enum Stopped {
     /// By this fault, which is to be told.
     By(Fault),

@@ -7,7 +7,7 @@ use std::marker::Model;
 use wcode::{Block, ValueType};
 
 /// What a function takes, and what it gives, if anything.
-#[derive(Debug, Drop)]
+#[derive(Drop)]
 pub struct FunctionType {
     pub parameters: Vec<ValueType>,
     pub result: Option<ValueType>,
@@ -15,21 +15,21 @@ pub struct FunctionType {
 
 /// The size at first, and the greatest one, if there is one: in pages of 65,536 bytes for a memory,
 /// in elements for a table.
-#[derive(Clone, Copy, PartialEq, Eq, Debug)]
+#[derive(Clone, Copy, PartialEq, Eq)]
 pub struct Limits {
     pub least: u32,
     pub most: Option<u32>,
 }
 
 /// What a global holds, and whether it can be written.
-#[derive(Clone, Copy, PartialEq, Eq, Debug)]
+#[derive(Clone, Copy, PartialEq, Eq)]
 pub struct GlobalType {
     pub value: ValueType,
     pub mutable: bool,
 }
 
 /// What kind of thing is imported: a function with the index of its type, or another with its type.
-#[derive(Clone, Copy, PartialEq, Eq, Debug)]
+#[derive(Clone, Copy)]
 pub enum ImportKind {
     Function(u32),
     Table(Limits),
@@ -38,7 +38,7 @@ pub enum ImportKind {
 }
 
 /// An import: the names, in UTF-8, of a module and of a thing in it.
-#[derive(Debug, Drop)]
+#[derive(Drop)]
 pub struct Import {
     pub module: Vec<u8>,
     pub name: Vec<u8>,
@@ -46,7 +46,7 @@ pub struct Import {
 }
 
 /// As many locals of one type. Runs of one function may have more than 2^32 locals in all.
-#[derive(Clone, Copy, PartialEq, Eq, Debug)]
+#[derive(Clone, Copy, PartialEq, Eq)]
 pub struct LocalRun {
     pub count: u32,
     pub value: ValueType,
@@ -54,7 +54,7 @@ pub struct LocalRun {
 
 /// An expression in the module's bytes: the place of its first opcode, and the place behind the
 /// `end` that closes it.
-#[derive(Clone, Copy, PartialEq, Eq, Debug)]
+#[derive(Clone, Copy, PartialEq, Eq)]
 pub struct Place {
     pub begin: usize,
     pub end: usize,
@@ -62,7 +62,7 @@ pub struct Place {
 
 /// A function without its type: its locals behind the parameters, where its body is, and the blocks
 /// of the body in the order of the opcodes that open them.
-#[derive(Debug, Drop)]
+#[derive(Drop)]
 pub struct FunctionCode {
     pub locals: Vec<LocalRun>,
     pub body: Place,
@@ -70,14 +70,14 @@ pub struct FunctionCode {
 }
 
 /// A global of the module, and where the expression of its first value is.
-#[derive(Clone, Copy, PartialEq, Eq, Debug)]
+#[derive(Clone, Copy, PartialEq, Eq)]
 pub struct GlobalVariable {
     pub kind: GlobalType,
     pub first: Place,
 }
 
 /// What kind of thing is exported.
-#[derive(Clone, Copy, PartialEq, Eq, Debug)]
+#[derive(Clone, Copy, PartialEq, Eq)]
 pub enum ExportKind {
     Function,
     Table,
@@ -87,7 +87,7 @@ pub enum ExportKind {
 
 /// An export: its name, in UTF-8, and the index of the thing. Functions count the imported ones
 /// first.
-#[derive(Debug, Drop)]
+#[derive(Drop)]
 pub struct Export {
     pub name: Vec<u8>,
     pub kind: ExportKind,
@@ -95,7 +95,7 @@ pub struct Export {
 }
 
 /// Indices of functions that are written into a table, from the offset that an expression gives.
-#[derive(Debug, Drop)]
+#[derive(Drop)]
 pub struct ElementSegment {
     pub table: u32,
     pub offset: Place,
@@ -104,7 +104,7 @@ pub struct ElementSegment {
 
 /// Bytes that are written into a memory, from the offset that an expression gives: those of the
 /// module from `contents.begin` to `contents.end`.
-#[derive(Clone, Copy, PartialEq, Eq, Debug)]
+#[derive(Clone, Copy, PartialEq, Eq)]
 pub struct DataSegment {
     pub memory: u32,
     pub offset: Place,
@@ -114,7 +114,7 @@ pub struct DataSegment {
 /// What a module has, section by section. There are as many signatures, the indices of the
 /// functions' types, as codes. `start` is the index of the function that runs first, if there is
 /// one.
-#[derive(Debug, Drop)]
+#[derive(Drop)]
 pub struct Tables {
     pub types: Vec<FunctionType>,
     pub imports: Vec<Import>,

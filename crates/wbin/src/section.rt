@@ -51,7 +51,7 @@ impl SectionId {
 
 /// A section: its number, the place of its number's byte, and the places where its contents begin
 /// and end.
-#[derive(Clone, Copy, Debug)]
+#[derive(Clone, Copy)]
 pub struct Stretch {
     pub id: u8,
     pub at: usize,

@@ -5,7 +5,7 @@ use crate::value::{BlockType, Value, ValueType};
 
 /// What a load or store adds to its operand: 2 to the power `align` is the alignment that it hints
 /// at, and `offset` is added to the address.
-#[derive(Clone, Copy, PartialEq, Eq, Debug)]
+#[derive(Clone, Copy, PartialEq, Eq)]
 pub struct MemArg {
     pub align: u32,
     pub offset: u32,
@@ -13,7 +13,7 @@ pub struct MemArg {
 
 /// An instruction with no instructions and no list of labels in it. A label counts the blocks
 /// outwards, from 0.
-#[derive(Clone, Copy, PartialEq, Eq, Debug)]
+#[derive(Clone, Copy)]
 pub enum Plain {
     Unreachable,
     Nop,
@@ -46,7 +46,7 @@ pub enum Plain {
 }
 
 /// One instruction as it stands in the bytes, without its nested body, or what ends a body.
-#[derive(Clone, Copy, PartialEq, Eq, Debug)]
+#[derive(Clone, Copy)]
 pub enum Op {
     Plain(Plain),
     Block(BlockType),
@@ -59,7 +59,7 @@ pub enum Op {
 }
 
 /// An instruction with its nested bodies. An `if` without `else` has an empty second body.
-#[derive(Debug, Drop)]
+#[derive(Drop)]
 pub enum Instr {
     Plain(Plain),
     Block(BlockType, Vec<Instr>),

@@ -4,14 +4,14 @@ ghost use Rattle.std.specs.Prelude.{◌≡◌};
 ghost use Rattle.wcode.specs.Operators.{type_of, type_bytes};
 
 /// The type of a value. Floats have no type here.
-#[derive(Clone, Copy, PartialEq, Eq, Debug)]
+#[derive(Clone, Copy, PartialEq, Eq)]
 pub enum ValueType {
     I32,
     I64,
 }
 
 /// The type of a block: no result, or one.
-#[derive(Clone, Copy, PartialEq, Eq, Debug)]
+#[derive(Clone, Copy, PartialEq, Eq)]
 pub enum BlockType {
     Empty,
     Result(ValueType),

@@ -44,7 +44,7 @@ fn operator_code(operator: Operator) -> u8
 
 /// A record: at most 8,192 bytes, all of whose room it has from the start. It is kilobytes large,
 /// so it is written in place and not moved about.
-#[derive(Debug, Drop)]
+#[derive(Drop)]
 pub struct Record {
     bytes: ArrayVec<u8, RECORD_SIZE>,
 }

@@ -9,7 +9,7 @@ use quant::{Node, Pod, Res};
 use wmach::Host;
 
 /// A record in versions 1, 2 and 3.
-#[derive(Debug, Drop)]
+#[derive(Drop)]
 pub struct Versions {
     first: Record,
     second: Record,
@@ -55,7 +55,7 @@ impl Versions {
 
 /// The records of a pod and those of a node. Each is kilobytes large and is written in place, the
 /// pod's once a decision and the node's once a node.
-#[derive(Debug, Drop)]
+#[derive(Drop)]
 pub struct Records {
     pod: Versions,
     node: Versions,

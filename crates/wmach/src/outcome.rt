@@ -4,7 +4,7 @@ use rules::Trap;
 use wcode::Value;
 
 /// How a call ended, and what it cost.
-#[derive(Clone, Copy, PartialEq, Eq, Debug)]
+#[derive(Clone, Copy)]
 pub enum Outcome {
     /// It returned its result, if it has one.
     Value(Option<Value>, u64),
