@@ -1,6 +1,6 @@
 //! What the program's words ask for.
-ghost use Rattle.std.specs.Prelude.{◌≡◌, ◌≤◌, Some, None, Err, true, false, map, option_map, IfErr, IfOk};
-ghost use Rattle.clap.specs.Words.{app_of, found_of, rows_of, rule_of, subcommand_of, subcommand_rows_of, with_rule, with_subcommand};
+ghost use Rattle.std.specs.Prelude.{◌≡◌, ◌≤◌, Some, None, Err, true, false, map, option_map, IfErr, IfOk, IsOk};
+ghost use Rattle.clap.specs.Words.{app_of, new_app, found_of, rows_of, rule_of, subcommand_of, subcommand_rows_of, with_rule, with_subcommand};
 ghost use Rattle.command.specs.Count.{most_of};
 ghost use Rattle.command.specs.Words.{are_taken, asked_of, check_command, command_line, file_rule, flag_rule, found, is_told, labels_found, meaning, number_found, option_rule, plan_found, program, run_command, scheduler_found, specs_found, specs_rule, storm_command, storm_found, storm_planned, syntax_of, translate_command, translate_found, translate_planned, live_command, live_found, live_planned, version_command};
 ghost use Rattle.command.specs.inside.Words.{IsLocal, planned};
@@ -49,6 +49,14 @@ fn module<'a>(alloc: Global) -> Arg<'a>
     Arg::new(alloc, "MODULE").required(true)
 }
 
+// A command of this name, behind which nothing stands.
+fn bare_command<'a>(alloc: Global, name: &'a str) -> Command<'a>
+    ensures shape { app_of result ≡ new_app name.entry.now }
+    ensures local { IsLocal result }
+{
+    Command::new(alloc, name)
+}
+
 // A command with one argument more. Of all that `clap` says of it this is what is needed here.
 fn with_argument<'a>(command: Command<'a>, argument: Arg<'a>) -> Result<Command<'a>, AllocError>
     requires { argument.global ≡ false }
@@ -58,12 +66,17 @@ fn with_argument<'a>(command: Command<'a>, argument: Arg<'a>) -> Result<Command<
     command.arg(argument)
 }
 
-// A command with one command more below it.
-fn with_command<'a>(command: Command<'a>, below: Command<'a>) -> Result<Command<'a>, AllocError>
-    requires { IsLocal below }
-    ensures { IfOk result (λ new. app_of new ≡ with_subcommand (app_of command.entry) (app_of below.entry).top) }
+// A command with one command more below it, where there was memory to make that one. It is taken as
+// it was made, so that the command above is let go in this one place.
+fn with_command<'a>(
+    command: Command<'a>,
+    below: Result<Command<'a>, AllocError>,
+) -> Result<Command<'a>, AllocError>
+    requires { IfOk below IsLocal }
+    ensures { IfOk result (λ new. IsOk below.entry
+        × IfOk below.entry (λ below. app_of new ≡ with_subcommand (app_of command.entry) (app_of below).top)) }
 {
-    command.subcommand(below)
+    command.subcommand(below?)
 }
 
 // A command of this name that asks for a run: `run` or `explain`.
@@ -71,7 +84,7 @@ fn run_command<'a>(alloc: Global, name: &'a str) -> Result<Command<'a>, AllocErr
     ensures shape { IfOk result (λ command. app_of command ≡ run_command name.entry.now) }
     ensures local { IfOk result IsLocal }
 {
-    let run = Command::new(alloc, name);
+    let run = bare_command(alloc, name);
     let run = with_argument(run, option(alloc, "workers"))?;
     with_argument(run, plugins(alloc))
 }
@@ -81,7 +94,7 @@ fn storm_command<'a>(alloc: Global) -> Result<Command<'a>, AllocError>
     ensures shape { IfOk result (λ command. app_of command ≡ storm_command) }
     ensures local { IfOk result IsLocal }
 {
-    let storm = Command::new(alloc, "storm");
+    let storm = bare_command(alloc, "storm");
     let storm = with_argument(storm, option(alloc, "cycles"))?;
     let storm = with_argument(storm, option(alloc, "binders"))?;
     let storm = with_argument(storm, flag(alloc, "flaky"))?;
@@ -93,7 +106,7 @@ fn check_command<'a>(alloc: Global) -> Result<Command<'a>, AllocError>
     ensures shape { IfOk result (λ command. app_of command ≡ check_command) }
     ensures local { IfOk result IsLocal }
 {
-    with_argument(Command::new(alloc, "check"), module(alloc))
+    with_argument(bare_command(alloc, "check"), module(alloc))
 }
 
 // The command `translate`.
@@ -101,7 +114,7 @@ fn translate_command<'a>(alloc: Global) -> Result<Command<'a>, AllocError>
     ensures shape { IfOk result (λ command. app_of command ≡ translate_command) }
     ensures local { IfOk result IsLocal }
 {
-    let translate = Command::new(alloc, "translate");
+    let translate = bare_command(alloc, "translate");
     let translate = with_argument(translate, option(alloc, "scheduler"))?;
     let translate = with_argument(translate, option(alloc, "labels"))?;
     let translate = with_argument(translate, flag(alloc, "by-uid"))?;
@@ -113,7 +126,7 @@ fn live_command<'a>(alloc: Global) -> Result<Command<'a>, AllocError>
     ensures shape { IfOk result (λ command. app_of command ≡ live_command) }
     ensures local { IfOk result IsLocal }
 {
-    let live = Command::new(alloc, "live");
+    let live = bare_command(alloc, "live");
     let live = with_argument(live, option(alloc, "scheduler"))?;
     with_argument(live, option(alloc, "labels"))
 }
@@ -123,7 +136,7 @@ fn version_command<'a>(alloc: Global) -> Command<'a>
     ensures shape { app_of result ≡ version_command }
     ensures local { IsLocal result }
 {
-    Command::new(alloc, "version")
+    bare_command(alloc, "version")
 }
 
 // The program, of which one of its commands is wanted.
@@ -141,19 +154,13 @@ fn program<'a>(alloc: Global) -> Command<'a>
 fn command_line<'a>(alloc: Global) -> Result<Command<'a>, AllocError>
     ensures { IfOk result (λ command. app_of command ≡ command_line) }
 {
-    let run = run_command(alloc, "run")?;
-    let line = with_command(program(alloc), run)?;
-    let explain = run_command(alloc, "explain")?;
-    let line = with_command(line, explain)?;
-    let storm = storm_command(alloc)?;
-    let line = with_command(line, storm)?;
-    let check = check_command(alloc)?;
-    let line = with_command(line, check)?;
-    let translate = translate_command(alloc)?;
-    let line = with_command(line, translate)?;
-    let live = live_command(alloc)?;
-    let line = with_command(line, live)?;
-    with_command(line, version_command(alloc))
+    let line = with_command(program(alloc), run_command(alloc, "run"))?;
+    let line = with_command(line, run_command(alloc, "explain"))?;
+    let line = with_command(line, storm_command(alloc))?;
+    let line = with_command(line, check_command(alloc))?;
+    let line = with_command(line, translate_command(alloc))?;
+    let line = with_command(line, live_command(alloc))?;
+    with_command(line, Ok(version_command(alloc)))
 }
 
 // The plugins that were found behind a command.
