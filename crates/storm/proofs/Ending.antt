@@ -22,7 +22,7 @@ use Rattle.crew.specs.Crew.{Each, IsDumped, enlisted}
 use Rattle.storm.specs.inside.Stages.{HasFed, HasReported, HasScheduled, IsIdle}
 use Rattle.watch_script.specs.Script.{first_storm_fault}
 use Rattle.storm.specs.Storm.{IsStorm, IsAudit, Storms, AreOfScript, IsStormRun, desk_for, storm_text}
-use Rattle.storm.specs.inside.Ending.{IsWorked, HasEnded}
+use Rattle.storm.specs.inside.Ending.{IsWorked, HasEnded, IsStormOf}
 use Rattle.crew.proofs.Going.{begins_trans, goes_begins}
 use Rattle.storm.proofs.Closing.{closing, closing_looked}
 use Rattle.crew.proofs.Enlisting.{enlisted_length}
@@ -106,6 +106,35 @@ storms rules deciders binders desk fed counts rows clerk last book answer Wrote 
     subst (λ (x : Desk). (s : IsStorm rules deciders x fed rows counts) × IsAudit x s.looked rows answer) ended.desk_is
     (ended.storm, audited desk clerk last book ended.storm.looked rows answer ended.knows closed says) in
     record { rows = rows; counts = counts; storm = both.0; audit = both.1; wrote = wrote }
+
+-- A desk was closed that a storm had ended on, and what was dumped was audited by its book and told.
+pub told_storm : {D : Type 0} (rules : D → RuleSet) (deciders : List D) (binders : ℕ) (desk : Desk) (fed : List Step) (counts : Counts) (rows : List Shown) (clerk last : Pass) (book : Cluster) (sink : DeviceUse) (result : Result Bool RunFault)
+    → HasEnded rules deciders binders desk fed counts rows clerk → Closed desk clerk last book
+    → IfOk result (λ answer. IsTrue answer ↔ ShowsSums rows book.places) → IfOk result (λ answer. Appends sink.old sink.new (storm_text rows counts answer))
+    → (result ≡ Err Write → (answer : Bool) × (IsTrue answer ↔ ShowsSums rows book.places) × AppendsFront sink.old sink.new (storm_text rows counts answer))
+    → OnErr result (result ≢ Err Write → sink.IsUntouched) → IfErr result (λ e. (e ≡ NoMemory) ⊎ (e ≡ Write))
+    → (result ≡ Err Write → sink.failures_old < sink.failures_new) → (result ≢ Err Write → sink.failures_new ≡ sink.failures_old)
+    → IsStormOf rules deciders binders fed sink result
+told_storm rules deciders binders desk fed counts rows clerk last book sink (Ok answer) over closed says wrote front quiet faults write write_told = record {
+  storm = storms rules deciders binders desk fed counts rows clerk last book answer (Appends sink.old sink.new) over closed says wrote;
+  front = λ is. cc;
+  quiet = tt;
+  faults = tt;
+  write = write;
+  write_told = write_told;
+}
+told_storm rules deciders binders desk fed counts rows clerk last book sink (Err e) over closed says wrote front quiet faults write write_told = record {
+  storm = tt;
+  front = λ failed. let told = front failed in
+      (told.0, storms rules deciders binders desk fed counts rows clerk last book told.0 (AppendsFront sink.old sink.new) over closed told.1 told.2);
+  quiet = quiet;
+  faults = elim faults [
+    | inl none ↦ inl none
+    | inr failed ↦ inr (inr failed)
+  ];
+  write = write;
+  write_told = write_told;
+}
 
 -- ---- the run
 

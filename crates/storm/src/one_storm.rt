@@ -1,10 +1,12 @@
 //! A storm from its script to its audit.
-ghost use Rattle.std.specs.Prelude.{◌≡◌, ◌≢◌, ◌+◌, ◌<◌, ◌^◌, ◌⊎◌, ◌∷◌, [], Bool, Err, IfOk, IfErr, OnOk, OnErr, length, vec_len};
+ghost use Rattle.std.specs.Prelude.{◌≡◌, ◌≢◌, ◌↔◌, ◌+◌, ◌<◌, ◌^◌, ◌⊎◌, ◌∷◌, [], Bool, Err, IfOk, IfErr, OnOk, OnErr, length, vec_len};
+ghost use Rattle.std.specs.Bool.{IsTrue};
 ghost use Rattle.std.specs.List.{All};
 ghost use Rattle.std.specs.Io.KnownBytes.{Appends};
 ghost use Rattle.desk.specs.Caller.{IsTimely};
 ghost use Rattle.desk.specs.Shared.{IsPassOf};
 ghost use Rattle.choose.specs.Kits.{rules_of};
+ghost use Rattle.audit.specs.Audit.{ShowsSums};
 ghost use Rattle.engine.specs.Answers.{limits};
 ghost use Rattle.engine.specs.Device.{use_of, AppendsFront};
 ghost use Rattle.crew.specs.Made.{newcomer};
@@ -15,6 +17,7 @@ ghost use Rattle.storm.specs.Storm.{IsStormRun, storm_text};
 use crate::stages::{Stage, work};
 use audit::audit;
 use binder::Binder;
+use book::Book;
 use choose::Decider;
 use crew::{Bell, FEEDERS, Worker, all_done, enlist, take_dump};
 use crossbeam_channel::unbounded;
@@ -186,6 +189,31 @@ fn tell<W: Sink>(
     Ok(())
 }
 
+// Audits what a dump shows by the book of the desk, writes both, and answers what the audit said.
+fn audit_and_tell<R: Threads + Sync, W: Sink>(
+    rt: &R,
+    alloc: Global,
+    shown: &Snapshot,
+    counts: Counts,
+    book: &Book,
+    sink: &mut W,
+) -> Result<bool, RunFault>
+    requires { W.failure_count sink.old < 10 ^ 18 }
+    ensures says { IfOk result (λ answer. IsTrue answer ↔ ShowsSums shown.now book.now.places) }
+    ensures wrote { IfOk result (λ answer. Appends (W.written sink.old) (W.written sink.new)
+        (storm_text shown.now counts answer)) }
+    ensures front { result ≡ Err RunFault.Write → (answer : Bool) × (IsTrue answer ↔ ShowsSums shown.now book.now.places)
+        × AppendsFront (W.written sink.old) (W.written sink.new) (storm_text shown.now counts answer) }
+    ensures quiet { OnErr result (result ≢ Err RunFault.Write → sink.new ≡ sink.old) }
+    ensures faults { IfErr result (λ e. (e ≡ RunFault.NoMemory) ⊎ (e ≡ RunFault.Write)) }
+    ensures write { result ≡ Err RunFault.Write → W.failure_count sink.old < W.failure_count sink.new }
+    ensures write_told { result ≢ Err RunFault.Write → W.failure_count sink.new ≡ W.failure_count sink.old }
+{
+    let is_right = audit(rt, alloc, shown, book)?;
+    tell(alloc, shown, counts, is_right, sink)?;
+    Ok(is_right)
+}
+
 // A storm of these steps on a new desk, which it ends.
 fn storm_on<
     J: Naming + Send + Sync,
@@ -221,9 +249,7 @@ fn storm_on<
         }
         Ok((mut clerk, counts, shown)) => {
             let book = desk.close(rt, &mut clerk);
-            let is_right = audit(rt, alloc, &shown, &book)?;
-            tell(alloc, &shown, counts, is_right, sink)?;
-            Ok(is_right)
+            audit_and_tell(rt, alloc, &shown, counts, &book, sink)
         }
     }
 }
