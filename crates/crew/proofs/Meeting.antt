@@ -8,11 +8,11 @@ use Rattle.desk.specs.declared.step.Step.TheVariants as steps
 use Rattle.desk.specs.declared.step.Counts.{Counts}
 use Rattle.desk.specs.declared.step.Reply.TheVariants as replies
 use Rattle.desk.specs.History.{Call, Legal, GoesOn, call}
-use Rattle.desk.specs.Shared.{Pass, Desk, IsAhead, IsApplied, IsLooked, Met}
+use Rattle.desk.specs.Shared.{Pass, Desk, IsAhead, IsApplied, IsLooked, IsPassOf, Met}
 use Rattle.desk.specs.Shown.{Shown}
 use Rattle.crew.specs.declared.worker.Worker.{Worker}
 use Rattle.crew.specs.Made.{BeginsWith, IsInformed, Makes}
-use Rattle.crew.specs.Crew.{HasMet, HaveMet, IsDumped}
+use Rattle.crew.specs.Crew.{ArePassesOf, HasMet, HaveMet, IsDumped}
 use Rattle.crew.specs.inside.Meeting.{HaveMetFirst}
 use Rattle.crew.proofs.Going.{begins_refl, begins_trans, goes_begins, goes_refl, goes_trans, sandwich, informed_later, informed_trans, applied_later, makes_none, makes_more, makes_told}
 
@@ -54,6 +54,16 @@ module _ {J T : Type 0} (desk : Desk) (p q : Pass) (ws ws' : List (Worker J T)) 
   -- who meets others knows no less, and made no call
   pub met_informed : HaveMet desk p ws q ws' → IsInformed p q
   met_informed m = (m.caller, m.goes_on)
+
+  -- it stays a pass of the desk
+  pub met_stays : HaveMet desk p ws q ws' → IsPassOf p desk → IsPassOf q desk
+  met_stays m of = subst (λ (k : Caller). k.number < desk.handed) (sym m.caller) of
+
+  -- and so do those of the others
+  pub met_stay : HaveMet desk p ws q ws' → ArePassesOf desk ws → ArePassesOf desk ws'
+  met_stay m of i d lt =
+      let lt' : i < length ws = subst (λ n. i < n) m.each.0 lt in
+      subst (λ (w : Worker J T). IsPassOf w.pass desk) (sym (m.each.1 i d lt').same) (of i d lt')
 
 module _ {J D B : Type 0} (desk : Desk) (k0 k1 k2 k3 k4 k5 k6 k7 k8 : Pass) (f1 f2 f3 : List (Worker J (Unit {0}))) (c1 c2 c3 : List (Worker J D)) (r1 r2 r3 : List (Worker J B)) (counts : Counts) (rows : List Shown) where
   pub dumped : HaveMet desk k0 f1 k1 f2 → HaveMet desk k1 c1 k2 c2 → HaveMet desk k2 r1 k3 r2 → IsApplied desk k3 steps.Count (replies.Counts counts) k4 → IsLooked desk k4 rows k5

@@ -1,5 +1,22 @@
-use Rattle.crew.proofs.Meeting.{dumped}
+use Rattle.crew.proofs.Meeting.{dumped, met_stay, met_stays}
 use Rattle.crew.proofs.clerk.take_dump.Goals as goal
+
+-- ---- all are passes of the desk whenever they meet
+
+pub meet_each-requires-2-clause-clerk : goal.meet_each-requires-2-clause-clerk
+meet_each-requires-2-clause-clerk g c = met_stays _ _ _ _ _ c.meet_each.ensures c.requires.clerk
+
+pub meet_each-requires-3-clause-clerk : goal.meet_each-requires-3-clause-clerk
+meet_each-requires-3-clause-clerk g c = met_stays _ _ _ _ _ c.meet_each-2.ensures (met_stays _ _ _ _ _ c.meet_each.ensures c.requires.clerk)
+
+pub meet_each-requires-4-clause-workers : goal.meet_each-requires-4-clause-workers
+meet_each-requires-4-clause-workers g c = met_stay _ _ _ _ _ c.meet_each.ensures c.requires.feeders
+
+pub meet_each-requires-5-clause-workers : goal.meet_each-requires-5-clause-workers
+meet_each-requires-5-clause-workers g c = met_stay _ _ _ _ _ c.meet_each-2.ensures c.requires.cyclers
+
+pub meet_each-requires-6-clause-workers : goal.meet_each-requires-6-clause-workers
+meet_each-requires-6-clause-workers g c = met_stay _ _ _ _ _ c.meet_each-3.ensures c.requires.reporters
 
 -- what each of the others had made when it was met first is all that it made
 pub returns-clause-dumped : goal.returns-clause-dumped

@@ -1,0 +1,6 @@
+use Rattle.crew.proofs.Answering.{more_reports}
+use Rattle.crew.proofs.binding.bind_all.Goals as goal
+
+-- a job more was reported
+pub loop-preserved : goal.loop-preserved
+loop-preserved g c = (tt, tt, more_reports _ _ _ c.loop.invariant.2 c.report.ensures.reports)
