@@ -71,12 +71,12 @@ impl Machine {
         ensures { IfOk result (λ m. m ≡ first_machine (arc_value checked).content) }
     {
         is_checked(&checked);
-        let store = Store::new(alloc, checked.clone()?)?;
         let shapes = shapes_of(alloc, checked.module())?;
         let records = records_of(alloc, checked.module())?;
         let widest = widest_frame(shapes.as_slice(), checked.notes());
         let slots = vec![in alloc; 0; MOST_FRAMES * widest]?;
         let waiting = Vec::with_capacity(alloc, MOST_FRAMES)?;
+        let store = Store::new(alloc, checked.clone()?)?;
         Ok(Machine {
             checked,
             store,
