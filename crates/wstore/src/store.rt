@@ -71,10 +71,10 @@ impl Store {
         let module = checked.module();
         let tables = module.tables();
         let memories = tables.memories.as_slice();
-        let memory = Memory::new(alloc, least(memories), cap(memories))?;
+        let table = Kept::new(alloc, empty_table(alloc, tables.tables.as_slice())?)?;
         let words = first_words(alloc, module, tables.globals.as_slice())?;
         let globals = Kept::new(alloc, words)?;
-        let table = Kept::new(alloc, empty_table(alloc, tables.tables.as_slice())?)?;
+        let memory = Memory::new(alloc, least(memories), cap(memories))?;
         Ok(Store {
             checked,
             memory,
