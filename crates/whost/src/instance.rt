@@ -3,7 +3,7 @@ ghost use Rattle.std.specs.Prelude.{◌≡◌, ◌≢◌, ◌≤◌, ◌↔◌, 
 ghost use Rattle.std.specs.Arc.{arc_value};
 ghost use Rattle.wbin.specs.Syntax.{module_of};
 ghost use Rattle.wstore.specs.Fits.{StoreFits};
-ghost use Rattle.wmach.specs.Call.{called_function, result_type, ResultFits};
+ghost use Rattle.wmach.specs.Call.{called_function, first_machine, result_type, ResultFits};
 ghost use Rattle.wmach.specs.Outcome.{cost_of};
 ghost use Rattle.whost.specs.Image.{IsImage};
 ghost use Rattle.whost.specs.Refused.{WhyRefused};
@@ -49,6 +49,22 @@ fn wants_record(outcome: Outcome) -> bool
     matches!(outcome, Outcome::Trap(Trap::NoRecord, _))
 }
 
+// Writes the segments of a new machine, runs its start function and keeps what its store is then. It
+// borrows the machine, which is dropped where one of these fails, so that the drop is proved once.
+fn instantiate(machine: &mut Machine, fuel: u64) -> Result<(), InstanceFault>
+    requires { machine.old ≡ first_machine machine.old.content }
+    ensures content { machine.new.content ≡ machine.old.content }
+    ensures image { IfOk result (λ _. IsImage (module_of machine.old.content) fuel machine.new.image) }
+    ensures store { IfOk result (λ _. machine.new.store ≡ machine.new.image) }
+    ensures refused { IfErr result (WhyRefused (module_of machine.old.content) fuel) }
+{
+    test_bounds(machine)?;
+    write_segments(machine);
+    start(machine, fuel)?;
+    machine.keep();
+    Ok(())
+}
+
 impl Instance {
     /// An instance of the module, whose start function has so much fuel. The bounds of all element
     /// segments are tested, then those of all data segments, and only then anything is written.
@@ -66,10 +82,7 @@ impl Instance {
         let Ok(mut machine) = Machine::new(alloc, checked) else {
             return Err(InstanceFault::NoMemory);
         };
-        test_bounds(&machine)?;
-        write_segments(&mut machine);
-        start(&mut machine, fuel)?;
-        machine.keep();
+        instantiate(&mut machine, fuel)?;
         Ok(Instance { machine })
     }
 
