@@ -89,13 +89,13 @@ impl Member {
         ensures at_image { IfOk result IsAtImage }
         ensures refused { IfErr result (WhyRefused (module_of (arc_value checked).content) fuel) }
     {
-        let instance = Instance::new(alloc, checked, fuel)?;
         let Ok(filter) = Said::new(alloc) else {
             return Err(InstanceFault::NoMemory);
         };
         let Ok(score) = Said::new(alloc) else {
             return Err(InstanceFault::NoMemory);
         };
+        let instance = Instance::new(alloc, checked, fuel)?;
         Ok(Member {
             weight,
             fuel,
