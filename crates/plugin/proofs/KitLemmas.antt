@@ -60,6 +60,13 @@ weight_at kit place weight below is =
     ∙ ap (λ (o : Option Ready). option_map (λ p. p.weight) o) at.1
     ∙ ap Some (sym at.2)
 
+-- what holds of the instance that was read at a place is so of the one there
+pub so_there : (P : InstanceState → Type 0) (place : ℕ) (old items : List InstanceState) (i : InstanceState) → place < length old → items ≡ old → i ≡ get_or items place i
+    → P i → IfSome (slice_get old place) P
+so_there P place old items i below same is so =
+    let there : slice_get old place ≡ Some i = slice_get_read old (length old) place i refl below (subst (λ (kit : List InstanceState). i ≡ get_or kit place i) same is) in
+    subst (λ (at : Option InstanceState). IfSome at P) (sym there) so
+
 -- an instance that was asked
 pub only_its_store : (place : ℕ) (old items : List InstanceState) (i new : InstanceState) → place < length old → items ≡ old → i ≡ get_or items place i
     → new ≡ record i { store = new.store } → OnlyItsStore place old (slice_set items place new)

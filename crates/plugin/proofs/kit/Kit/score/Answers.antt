@@ -1,6 +1,12 @@
-use Rattle.std.proofs.Common.{rules}
-use Rattle.plugin.proofs.KitLemmas.{only_its_store}
+use Rattle.plugin.specs.Kit.{InstanceState, ScoreSays}
+use Rattle.plugin.proofs.KitLemmas.{only_its_store, so_there}
 use Rattle.plugin.proofs.kit.Kit.score.Goals as goal
 
+pub returns-clause-says : goal.returns-clause-says
+returns-clause-says c =
+    so_there (λ (i : InstanceState). ScoreSays i.ready c.args.records.now c.score.result) c.args.place c.args.self.now c.self.inside.members.items c.index_mut.result.now
+    c.requires c.self.view_is c.index_mut.ensures.value c.score.ensures.says
+
 pub returns-clause-others : goal.returns-clause-others
-returns-clause-others c = search (rules, only_its_store)
+returns-clause-others c =
+    only_its_store c.args.place c.args.self.now c.self.inside.members.items c.index_mut.result.now _ c.requires c.self.view_is c.index_mut.ensures.value c.score.ensures.stays
