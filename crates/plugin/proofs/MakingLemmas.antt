@@ -1,5 +1,5 @@
 -- How a kit is made, plugin by plugin.
-use Rattle.std.proofs.Common.{◌≡◌, ℕ, zero, suc, ◌+◌, ◌<◌, ◌≤◌, List, [], ◌∷◌, ◌++◌, length, take, Option, Some, IfSome, Result, Ok, Err, OnOk, slice_get, All, sym, subst, arith, add-one}
+use Rattle.std.proofs.Common.{◌≡◌, ℕ, zero, suc, ◌+◌, ◌<◌, ◌≤◌, List, [], ◌∷◌, ◌++◌, length, take, Option, Some, IfSome, slice_get, All, sym, subst, arith, add-one}
 use Rattle.std.specs.List.{AllZip}
 use Rattle.std.proofs.lemmas.List.{map-append, length-map, length-take}
 use Rattle.std.proofs.lemmas.List.Elements.{All-nil, All-cons, All-push}
@@ -75,8 +75,3 @@ all_instances plugins kit i most zip weights =
 pub some_plugin : (plugins : List Configured) (kit : List InstanceState) (i : ℕ) → AllZip IsReadyOf (take i plugins) (ready_parts kit) → 0 < length kit → 0 < length plugins
 some_plugin plugins kit i zip some =
     omega (arith, some, AllZip-long IsReadyOf (take i plugins) (ready_parts kit) zip, length-map kit (λ (i : InstanceState). i.ready), length-take i plugins)
-
--- what follows from what holds where there is no error
-pub on_ok_more : {T E : Type 0} (r : Result T E) (P Q : Type 0) → (P → Q) → OnOk r P → OnOk r Q
-on_ok_more (Ok x) P Q more holds = more holds
-on_ok_more (Err e) P Q more holds = tt

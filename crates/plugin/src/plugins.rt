@@ -198,20 +198,14 @@ fn made(alloc: Global, entry: &Entry, members: &mut Vec<Member>) -> Result<(), I
         members.new.items) }
     ensures refused { IfErr result (WhyRefused (module_of (arc_value entry.now.checked).content) entry.now.fuel) }
 {
+    // Room comes first: so a member that was made needn't be dropped.
+    if members.reserve(1).is_err() {
+        return Err(InstanceFault::NoMemory);
+    }
     let Ok(checked) = entry.checked.clone() else {
         return Err(InstanceFault::NoMemory);
     };
     let member = Member::new(alloc, entry.weight, entry.fuel, checked)?;
-    join(members, member)
-}
-
-// Puts a member behind the others.
-fn join(members: &mut Vec<Member>, member: Member) -> Result<(), InstanceFault>
-    ensures joined { OnOk result (members.new.items ≡ members.old.items ++ member ∷ []) }
-    ensures refused { IfErr result (λ fault. fault ≡ InstanceFault.NoMemory) }
-{
-    if members.push(member).is_err() {
-        return Err(InstanceFault::NoMemory);
-    }
+    members.push_reserved(member);
     Ok(())
 }
