@@ -165,3 +165,15 @@ counts_differ s c bytes signatures codes h k no_more functions f =
 pub module_is : (bytes copy : List ℕ) (t : Tables) (m : ModuleParts) → copy ≡ bytes → m.bytes ≡ copy → m.tables ≡ t → Stands bytes t → Spells bytes (module_of m)
 module_is bytes copy t m e f g h =
     subst (λ b. Spells bytes (syntax_in b m.tables)) (sym (f ∙ e)) (subst (λ x. Spells bytes (syntax_in bytes x)) (sym g) h.spelled)
+
+-- where what every module has of the sections isn't read, nothing is assembled
+pub not_read : {B : Type 0} (Is : B → Type 0) (bytes : List ℕ) (sections : List Section) (fault : Option BinFault) (r : Result Tables BinFault) (e y : BinFault) → r ≡ Err y → y ≡ e
+    → (e ≢ NoMemory → (x : B) → Is x → ⊥) → ((m : ModuleSyntax) → Assembles sections m → (x : B) × Is x) → AssemblesTo bytes sections fault r
+unfolding AssemblesTo
+not_read Is bytes sections fault r e y failed same none has =
+    subst (AssemblesTo bytes sections fault) (sym (failed ∙ ap (λ (x : BinFault). Err x) same)) (λ other sound m a. none other (has m a).0 (has m a).1)
+
+-- nor where there is a fault
+pub faulty : (bytes : List ℕ) (sections : List Section) (fault : Option BinFault) (r : Result Tables BinFault) (e y : BinFault) → r ≡ Err y → fault ≡ Some e → AssemblesTo bytes sections fault r
+unfolding AssemblesTo
+faulty bytes sections fault r e y failed there = subst (AssemblesTo bytes sections fault) (sym failed) (λ other sound m a. absurd (cc))

@@ -1,10 +1,98 @@
 use Rattle.std.proofs.Common.{◌≡◌, map, length, subst, arith}
 use Rattle.std.proofs.lemmas.List.{map-id}
-use Rattle.wbin.specs.Grammar.{Lists, contents_of, SpellsTableType, SpellsLimits}
+use Rattle.std.proofs.lemmas.Result.{err_from_is_err_and}
+use Rattle.wcode.specs.Grammar.{SpellsIndex}
+use Rattle.wbin.specs.Grammar.{Lists, Starts, contents_of, SpellsFunctionType, SpellsImport, SpellsTableType, SpellsLimits, SpellsGlobal, SpellsExport, SpellsElement, SpellsData, SpellsCode}
 use Rattle.wbin.specs.inside.Outline.{section_of}
 use Rattle.wbin.specs.inside.Decoded.{ReadsWhole, AssemblesTo}
-use Rattle.wbin.proofs.Modules.{functions_listed, counts_differ}
+use Rattle.wbin.proofs.Modules.{functions_listed, counts_differ, not_read, faulty}
 use Rattle.wbin.proofs.decoder.assemble.Goals as goal
+
+-- ---- what isn't read
+
+pub returns-in_err-types : goal.returns-in_err-types
+unfolding ReadsWhole
+returns-in_err-types c =
+    let sections = map (section_of c.args.bytes.now) c.args.sections.now in
+    let p = err_from_is_err_and c.from_residual.result c.from_residual.ensures.1 in
+    not_read (Lists SpellsFunctionType (contents_of 1 sections)) c.args.bytes.now sections c.args.fault c.from_residual.result c.in_err-types.field-0.0 p.0 p.1 p.2 c.in_err-types.ensures.read (λ m a. (m.types, a.types))
+
+pub returns-in_err-imports : goal.returns-in_err-imports
+unfolding ReadsWhole
+returns-in_err-imports c =
+    let sections = map (section_of c.args.bytes.now) c.args.sections.now in
+    let p = err_from_is_err_and c.from_residual-in_err-imports.result c.from_residual-in_err-imports.ensures.1 in
+    not_read (Lists SpellsImport (contents_of 2 sections)) c.args.bytes.now sections c.args.fault c.from_residual-in_err-imports.result c.in_err-imports.field-0.0 p.0 p.1 p.2 c.in_err-imports.ensures.read (λ m a. (m.imports, a.imports))
+
+pub returns-in_err-signatures : goal.returns-in_err-signatures
+unfolding ReadsWhole
+returns-in_err-signatures c =
+    let sections = map (section_of c.args.bytes.now) c.args.sections.now in
+    let p = err_from_is_err_and c.from_residual-in_err-signatures.result c.from_residual-in_err-signatures.ensures.1 in
+    not_read (Lists SpellsIndex (contents_of 3 sections)) c.args.bytes.now sections c.args.fault c.from_residual-in_err-signatures.result c.in_err-signatures.field-0.0 p.0 p.1 p.2 c.in_err-signatures.ensures.read (λ m a. (a.functions.indices, a.functions.types_listed))
+
+pub returns-in_err-tables : goal.returns-in_err-tables
+unfolding ReadsWhole
+returns-in_err-tables c =
+    let sections = map (section_of c.args.bytes.now) c.args.sections.now in
+    let p = err_from_is_err_and c.from_residual-in_err-tables.result c.from_residual-in_err-tables.ensures.1 in
+    not_read (Lists SpellsTableType (contents_of 4 sections)) c.args.bytes.now sections c.args.fault c.from_residual-in_err-tables.result c.in_err-tables.field-0.0 p.0 p.1 p.2 c.in_err-tables.ensures.read (λ m a. (m.tables, a.tables))
+
+pub returns-in_err-memories : goal.returns-in_err-memories
+unfolding ReadsWhole
+returns-in_err-memories c =
+    let sections = map (section_of c.args.bytes.now) c.args.sections.now in
+    let p = err_from_is_err_and c.from_residual-in_err-memories.result c.from_residual-in_err-memories.ensures.1 in
+    not_read (Lists SpellsLimits (contents_of 5 sections)) c.args.bytes.now sections c.args.fault c.from_residual-in_err-memories.result c.in_err-memories.field-0.0 p.0 p.1 p.2 c.in_err-memories.ensures.read (λ m a. (m.memories, a.memories))
+
+pub returns-in_err-globals : goal.returns-in_err-globals
+unfolding ReadsWhole
+returns-in_err-globals c =
+    let sections = map (section_of c.args.bytes.now) c.args.sections.now in
+    let p = err_from_is_err_and c.from_residual-in_err-globals.result c.from_residual-in_err-globals.ensures.1 in
+    not_read (Lists SpellsGlobal (contents_of 6 sections)) c.args.bytes.now sections c.args.fault c.from_residual-in_err-globals.result c.in_err-globals.field-0.0 p.0 p.1 p.2 c.in_err-globals.ensures.read (λ m a. (m.globals, a.globals))
+
+pub returns-in_err-exports : goal.returns-in_err-exports
+unfolding ReadsWhole
+returns-in_err-exports c =
+    let sections = map (section_of c.args.bytes.now) c.args.sections.now in
+    let p = err_from_is_err_and c.from_residual-in_err-exports.result c.from_residual-in_err-exports.ensures.1 in
+    not_read (Lists SpellsExport (contents_of 7 sections)) c.args.bytes.now sections c.args.fault c.from_residual-in_err-exports.result c.in_err-exports.field-0.0 p.0 p.1 p.2 c.in_err-exports.ensures.read (λ m a. (m.exports, a.exports))
+
+pub returns-in_err-start : goal.returns-in_err-start
+unfolding ReadsWhole
+returns-in_err-start c =
+    let sections = map (section_of c.args.bytes.now) c.args.sections.now in
+    let p = err_from_is_err_and c.from_residual-in_err-start.result c.from_residual-in_err-start.ensures.1 in
+    not_read (Starts (contents_of 8 sections)) c.args.bytes.now sections c.args.fault c.from_residual-in_err-start.result c.in_err-start.field-0.0 p.0 p.1 p.2 c.in_err-start.ensures (λ m a. (m.start, a.start))
+
+pub returns-in_err-element_segments : goal.returns-in_err-element_segments
+unfolding ReadsWhole
+returns-in_err-element_segments c =
+    let sections = map (section_of c.args.bytes.now) c.args.sections.now in
+    let p = err_from_is_err_and c.from_residual-in_err-element_segments.result c.from_residual-in_err-element_segments.ensures.1 in
+    not_read (Lists SpellsElement (contents_of 9 sections)) c.args.bytes.now sections c.args.fault c.from_residual-in_err-element_segments.result c.in_err-element_segments.field-0.0 p.0 p.1 p.2 c.in_err-element_segments.ensures.read (λ m a. (m.element_segments, a.element_segments))
+
+pub returns-in_err-codes : goal.returns-in_err-codes
+unfolding ReadsWhole
+returns-in_err-codes c =
+    let sections = map (section_of c.args.bytes.now) c.args.sections.now in
+    let p = err_from_is_err_and c.from_residual-in_err-codes.result c.from_residual-in_err-codes.ensures.1 in
+    not_read (Lists SpellsCode (contents_of 10 sections)) c.args.bytes.now sections c.args.fault c.from_residual-in_err-codes.result c.in_err-codes.field-0.0 p.0 p.1 p.2 c.in_err-codes.ensures.read (λ m a. (a.functions.bodies, a.functions.bodies_listed))
+
+pub returns-in_err-data_segments : goal.returns-in_err-data_segments
+unfolding ReadsWhole
+returns-in_err-data_segments c =
+    let sections = map (section_of c.args.bytes.now) c.args.sections.now in
+    let p = err_from_is_err_and c.from_residual-in_err-data_segments.result c.from_residual-in_err-data_segments.ensures.1 in
+    not_read (Lists SpellsData (contents_of 11 sections)) c.args.bytes.now sections c.args.fault c.from_residual-in_err-data_segments.result c.in_err-data_segments.field-0.0 p.0 p.1 p.2 c.in_err-data_segments.ensures.read (λ m a. (m.data_segments, a.data_segments))
+
+pub returns-in_err-no_fault : goal.returns-in_err-no_fault
+returns-in_err-no_fault c =
+    let p = err_from_is_err_and c.from_residual-in_err-no_fault.result c.from_residual-in_err-no_fault.ensures.1 in
+    faulty c.args.bytes.now (map (section_of c.args.bytes.now) c.args.sections.now) c.args.fault c.from_residual-in_err-no_fault.result c.in_err-no_fault.field-0.0 p.0 p.1 c.in_err-no_fault.ensures.some
+
+-- ---- what is read
 
 pub returns-then-len : goal.returns-then-len
 unfolding ReadsWhole AssemblesTo
