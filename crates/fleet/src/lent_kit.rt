@@ -213,8 +213,16 @@ pub fn judge_said<J: Site, K: Rules, G: Gate>(
     judge_asked(order.asked(), gate, piece, kit, verdicts);
 }
 
+// How many places a piece has.
+fn places_of<J: Site>(order: &Order<J>, piece: usize) -> usize
+    requires few { order.now.pieces ≤ 64 }
+    requires there { piece + 1 ≤ order.now.pieces }
+    ensures { ArePieces (length order.now.snapshot) order.now.pieces piece 1 result }
+{
+    order.begin(piece + 1) - order.begin(piece)
+}
+
 /// Sends each helper its piece, from the second piece on.
-#[tactic(auto, using(pieces::proofs::Cutting::begins_rise))]
 pub fn send_all<J: Site, K: Rules + Drop, R: Wait>(
     rt: &R,
     alloc: Global,
@@ -227,7 +235,7 @@ pub fn send_all<J: Site, K: Rules + Drop, R: Wait>(
 {
     for at in 0..helpers.len() {
         let piece = at + 1;
-        let places = order.begin(piece + 1) - order.begin(piece);
+        let places = places_of(&**order, piece);
         helpers[at].send(rt, alloc, order, piece, places);
     }
 }
@@ -254,7 +262,7 @@ pub fn collect<J: Site, K: Rules + Drop, R: Wait, G: Gate>(
         helpers[0].fill(rt, order, gate, home, first, verdicts);
         return;
     }
-    let at = order.begin(first + 1) - order.begin(first);
+    let at = places_of(order, first);
     let (mine, behind) = helpers.split_at_mut(1);
     let (here, there) = verdicts.split_at_mut(at);
     mine[0].fill(rt, order, gate, home, first, here);

@@ -150,46 +150,18 @@ impl<J: Site, K: Rules + Drop, G: Gate + Drop> Pool<J, K, G> {
         ensures kits { self.new.kits ≡ self.old.kits }
     {
         self.verdicts.resize(snapshot.rows().len(), UNJUDGED)?;
-        let many = many.min(self.helpers.len());
-        if many == 0 {
-            return Ok(choose_here(
-                &snapshot,
-                pod,
-                &*self.gate,
-                &mut self.home,
-                self.verdicts.as_mut_slice(),
-            ));
-        }
-        let asked = Asked {
-            snapshot,
-            pod: pod.share()?,
-            pieces: many + 1,
-        };
-        let order = match self.history.add(asked) {
-            Ok(order) => order,
-            Err(asked) => {
-                return Ok(choose_here(
-                    &asked.snapshot,
-                    &asked.pod,
-                    &*self.gate,
-                    &mut self.home,
-                    self.verdicts.as_mut_slice(),
-                ));
-            }
-        };
-        let Ok(order) = Arc::new(self.alloc, order) else {
-            return Err(NoMemory);
-        };
-        Ok(choose_there(
+        decide_with(
             rt,
             self.alloc,
-            &order,
             &*self.gate,
             &mut self.home,
             self.helpers.as_mut_slice(),
+            &mut self.history,
+            snapshot,
+            pod,
             many,
             self.verdicts.as_mut_slice(),
-        ))
+        )
     }
 
     // How many workers do the work on so many nodes sooner than the caller alone: they must be
@@ -331,6 +303,50 @@ where
         }
     }
     Ok(helpers)
+}
+
+// Where a pod goes, by the first kit and so many of the others, or all of them where there aren't so
+// many: all that a pool lends for it, so that what holds of the pool is proved at one end and not
+// at each of these.
+fn decide_with<J: Site, K: Rules + Drop, G: Gate, R: Wait>(
+    rt: &R,
+    alloc: Global,
+    gate: &G,
+    home: &mut K,
+    helpers: &mut [Helper<J, K>],
+    history: &mut History<J>,
+    snapshot: Snapshot,
+    pod: &SharedPod,
+    many: usize,
+    verdicts: &mut [Verdict],
+) -> Result<Decision, NoMemory>
+    requires few { length helpers.old < 64 }
+    requires places { length verdicts.old ≡ length snapshot }
+    requires speaks { SpeaksFor J.Says (K.answers home.old) }
+    ensures chosen { IfOk result (Choice (K.answers home.old) snapshot pod.now) }
+    ensures judged { OnOk result (AreVerdicts (K.answers home.old) pod.now snapshot verdicts.new) }
+    ensures stays { home.new ≡ home.old }
+    ensures length { length helpers.new ≡ length helpers.old }
+{
+    let many = many.min(helpers.len());
+    if many == 0 {
+        return Ok(choose_here(&snapshot, pod, gate, home, verdicts));
+    }
+    let asked = Asked {
+        snapshot,
+        pod: pod.share()?,
+        pieces: many + 1,
+    };
+    let order = match history.add(asked) {
+        Ok(order) => order,
+        Err(asked) => {
+            return Ok(choose_here(&asked.snapshot, &asked.pod, gate, home, verdicts));
+        }
+    };
+    let Ok(order) = Arc::new(alloc, order) else {
+        return Err(NoMemory);
+    };
+    Ok(choose_there(rt, alloc, &order, gate, home, helpers, many, verdicts))
 }
 
 // The choice with the first kit alone.

@@ -9,7 +9,7 @@ use Rattle.fleet.proofs.lent_kit.+collect.Goals as goal
 pub split_at_mut-here-requires : goal.split_at_mut-here-requires
 split_at_mut-here-requires g t c =
     let within = front_within (length c.args.order.now.snapshot) c.args.order.now.pieces c.args.first (length c.args.helpers.now) 1 (length c.args.verdicts.now) (omega (arith, c.requires.pieces.some)) c.requires.pieces in
-    omega (arith, within, c.begin.ensures.place, c.begin-2.ensures.place)
+    omega (arith, within, c.places_of-at.ensures.all)
 
 pub collect-requires : goal.collect-requires
 collect-requires g t c κs within =
@@ -18,7 +18,7 @@ collect-requires g t c κs within =
     let many : ℕ = length c.args.helpers.now in
     let kits : length c.split_at_mut-mine.result.1.now ≡ many - 1 = omega (arith, c.split_at_mut-mine.ensures.back_len) in
     let places : length c.split_at_mut-here.result.1.now ≡ length c.args.verdicts.now - places_of nodes pieces c.args.first 1 =
-    omega (arith, c.split_at_mut-here.ensures.back_len, c.begin.ensures.place, c.begin-2.ensures.place) in (
+    omega (arith, c.split_at_mut-here.ensures.back_len, c.places_of-at.ensures.all) in (
       omega (arith, kits, c.requires.pieces.some),
       (
         within.0,

@@ -1,6 +1,5 @@
-use Rattle.std.proofs.Common.{rules, ◌≡◌, map}
+use Rattle.std.proofs.Common.{◌∙◌, ap, subst}
 use Rattle.std.specs.Arc.{arc_value}
-use Rattle.desk.specs.Shown.{shown}
 use Rattle.choose.specs.Choice.{AreVerdicts}
 use Rattle.fleet.proofs.Collecting.{choice_is}
 use Rattle.fleet.proofs.pool.choose_there.Goals as goal
@@ -9,6 +8,11 @@ pub returns-clause-chosen : goal.returns-clause-chosen
 returns-clause-chosen g c =
     let asked = arc_value c.args.order.now in
     let kit = g.K.Rules.answers c.args.home.now in
-    let rows : map shown c.rows.result.now ≡ asked.snapshot = search rules in
-    let are : AreVerdicts kit asked.pod asked.snapshot c.judge_and_collect.new.verdicts = search rules in
-    choice_is kit c.rows.result.now asked.snapshot asked.pod c.judge_and_collect.new.verdicts _ rows are c.decide.ensures
+    let made = c.judge_and_collect.new.verdicts in
+    choice_is kit c.rows.result.now asked.snapshot asked.pod made _
+    (c.rows.ensures ∙ ap (λ a. a.snapshot) (c.asked.ensures ∙ c.deref-2.ensures))
+    (subst (λ a. AreVerdicts kit a.pod a.snapshot made) c.deref.ensures c.judge_and_collect.ensures.are) c.decide.ensures
+
+pub returns-clause-judged : goal.returns-clause-judged
+returns-clause-judged g c =
+    subst (λ a. AreVerdicts (g.K.Rules.answers c.args.home.now) a.pod a.snapshot c.judge_and_collect.new.verdicts) c.deref.ensures c.judge_and_collect.ensures.are
