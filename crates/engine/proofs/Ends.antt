@@ -1,5 +1,5 @@
 -- A run keeps its promise at each of its ends.
-use Rattle.std.proofs.Common.{◌≡◌, ◌⊎◌, ◌∙◌, ◌+◌, ◌<◌, ℕ, [], Option, Some, None, Result, Ok, Err, IfSome, IfErr, OnOk, OnErr, inl, inr, refl, sym, subst, ap, arith}
+use Rattle.std.proofs.Common.{◌≡◌, ◌≢◌, ◌⊎◌, ◌∙◌, ◌+◌, ◌<◌, ℕ, [], Option, Some, None, Result, Ok, Err, IfSome, IfErr, OnOk, OnErr, inl, inr, refl, sym, subst, ap, arith}
 use Rattle.engine.specs.Telling.{Telling}
 use Rattle.manifest.specs.declared.fault.LineFault.{LineFault}
 use Rattle.rules.specs.RuleSet.{RuleSet}
@@ -23,6 +23,29 @@ module _ (rules : RuleSet) (telling : Telling) (source sink : DeviceUse) where
   -- all of it up to a faulty line
   abbrev pub UpTo : ℕ → LineFault → Type 0
   UpTo number fault = IfSome source.old (λ script. (first_fault script ≡ Some (number, fault)) × WritesOutput rules telling script sink.old sink.new)
+
+-- ---- where there was a place, want of one is no end
+
+pub placed-write : {T : Type 0} (result : Result T RunFault) → IfErr result (λ e. e ≡ Write) → result ≢ Err NoPlace
+placed-write (Ok x) what eq = cc
+placed-write (Err e) what eq = cc
+
+pub placed-by_write : {T : Type 0} (result : Result T RunFault) (e : RunFault) → result ≡ Err e → e ≡ Write → result ≢ Err NoPlace
+placed-by_write result e is what eq = cc
+
+pub placed-no_memory : {T : Type 0} (result : Result T RunFault) (e : RunFault) → result ≡ Err e → e ≡ NoMemory → result ≢ Err NoPlace
+placed-no_memory result e is what eq = cc
+
+pub placed-unread : {T : Type 0} (result : Result T RunFault) (e : RunFault) → result ≡ Err e → (e ≡ Read) ⊎ (e ≡ NoMemory) → result ≢ Err NoPlace
+placed-unread result e is (inl what) eq = cc
+placed-unread result e is (inr what) eq = cc
+
+pub placed-line : {T : Type 0} (result : Result T RunFault) (e : RunFault) (number : ℕ) (says : Result (Option Command) LineFault) → result ≡ Err e → IsLineFault number says e → result ≢ Err NoPlace
+placed-line result (Line n f) number says is what eq = cc
+placed-line result NoMemory number says is what eq = cc
+placed-line result Read number says is what eq = absurd what
+placed-line result Write number says is what eq = absurd what
+placed-line result NoPlace number says is what eq = absurd what
 
 module _ {T : Type 0} (rules : RuleSet) (telling : Telling) (source sink : DeviceUse) where
   -- memory was wanting

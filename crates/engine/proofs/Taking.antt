@@ -1,7 +1,7 @@
 -- A line, as it is taken off a source in pieces.
-use Rattle.std.proofs.Common.{◌≡◌, ℕ, zero, suc, ◌<◌, ◌≤◌, Bool, true, false, cond, eqb, ltb, List, [], ◌∷◌, ◌++◌, length, take, Option, Some, None, refl, sym, subst, ap, ◌∙◌, arith, append_assoc}
+use Rattle.std.proofs.Common.{◌≡◌, ℕ, zero, suc, ◌+◌, ◌<◌, ◌≤◌, Bool, true, false, cond, eqb, ltb, List, [], ◌∷◌, ◌++◌, length, take, Option, Some, None, refl, sym, subst, ap, ◌∙◌, arith, append_assoc}
 use Rattle.std.proofs.KnownBytes.{Consumes-trans, Consumes-nil}
-use Rattle.std.proofs.lemmas.Bool.{ltb-true, lt-ltb, ne_eqb}
+use Rattle.std.proofs.lemmas.Bool.{false≢true, ltb-true, lt-ltb, ne_eqb}
 use Rattle.std.proofs.lemmas.List.{length-append, length-take, append-nil}
 use Rattle.std.proofs.lemmas.List.Elements.{All-append}
 use Rattle.std.proofs.lemmas.List.Splits.{slice_split_at, slice_split_none}
@@ -134,6 +134,18 @@ TakesFront-last most first rest now line begun taken begins ended so_far =
     let read : Consumes first (prepend_known [] rest) taken = subst (λ t. Consumes first (prepend_known t rest) taken) ended.0 so_far.consumed in
     let line_taken : TakesFront most first (prepend_known [] rest) line = last_whole most first rest line taken so_far.is_line so_far.kept_is some ended.1 read in
     subst (λ t. TakesFront most first (prepend_known t rest) line) (sym ended.0) line_taken
+
+-- no line was begun where nothing was taken of one
+pub nothing_taken : (most : ℕ) (first now : Option (List ℕ)) (line : List ℕ) (begun : Bool) (taken : List ℕ) → begun ≡ false → IsTaken most first now line begun taken → Consumes first now []
+nothing_taken most first now line begun [] none so_far = so_far.consumed
+nothing_taken most first now line begun (x ∷ xs) none so_far =
+    let some : begun ≡ true = so_far.begun_is ∙ lt-ltb 0 (length (x ∷ xs)) (omega arith) in
+    absurd (false≢true (sym none ∙ some))
+
+-- behind a newline less is left
+pub less_left : (taken left bytes most : ℕ) (old new piece : List ℕ) → TakesPiece true old new piece → taken + left ≤ most → bytes + length old ≤ left → bytes + length new < most
+less_left taken left bytes most old new piece cut so_far read =
+    omega (arith, ap length cut, length-append piece (10 ∷ new), so_far, read)
 
 -- Nothing waits where what was left has no newline. So nothing waits behind a piece without a
 -- newline: it is what was left, or nothing was.
