@@ -35,3 +35,10 @@ returns c w st r h q =
     let same : c.slot-number.result ≡ g.word = some_same (sym c.slot-number.ensures ∙ there) in
     let room = room_above r s w slots st h s.top 1 g.word h.top on in
     pushed r s w slots st h c.args.next s.cursor c.push-top.result c.in_ok-left.left 1 g.word (take s.top slots) c.push-top.new.slots st (omega arith) c.in_ok-left.ensures.some on (c.push-top.ensures.slots ∙ ap (λ n. take s.top slots ++ n ∷ []) same) (omega (arith, c.push-top.ensures.top, c.push-top.ensures.long, room)) c.push-top.ensures.long refl refl
+
+pub overflow_add-state : goal.overflow_add-state
+overflow_add-state c =
+    let w = c.requires.0 in let st = c.requires.1 in let q = c.requires.2 in let r = q.run in let h = q.at in let s = c.args.state in let slots = c.args.slots.now in
+    let g = get_here r.setting (bytes_of r) r.checked r.start h.spent (activation_of s) w (take s.top slots) st.current h.on c.args.x (drop c.args.next (bytes_of r)) q.reads.spelled in
+    let less = slice_get_within slots (s.base + c.args.x) g.word (in_use s.top (s.base + c.args.x) slots g.word g.there) in
+    omega (arith, less)

@@ -34,3 +34,9 @@ returns c w st r h q =
     let now = ap (λ l. take (s.top - 1) l) c.write_slot.ensures ∙ written_in_use (s.top - 1) (s.base + c.args.x) slots c.topmost-number.result in
     let long = ap length c.write_slot.ensures ∙ length_set slots (s.base + c.args.x) c.topmost-number.result in
     moved r s w slots st h c.args.next s.cursor (s.top - 1) c.in_ok-left.left 1 c.write_slot.new.slots st (omega arith) c.in_ok-left.ensures.some (subst (λ l. On r.setting (bytes_of r) r.checked r.start (h.spent + 1) (went (activation_of s) c.args.next s.cursor) w l st.current) (sym now) on) (let t = h.top in omega (arith, t, long)) long refl refl
+
+pub overflow_add-state : goal.overflow_add-state
+overflow_add-state c =
+    let w = c.requires.0 in let st = c.requires.1 in let q = c.requires.2 in let r = q.run in let h = q.at in let s = c.args.state in let slots = c.args.slots.now in
+    let g = set_here r.setting (bytes_of r) r.checked r.start h.spent (activation_of s) w (take s.top slots) st.current h.on c.args.x (drop c.args.next (bytes_of r)) q.reads.spelled in let less = g.less in let used = used_long r s w slots st h in
+    let t = h.top in omega (arith, less, used, t)
