@@ -85,10 +85,28 @@ pub fn validate(alloc: Global, decoded: Module) -> Result<Checked, TypeFault>
     ensures refused { IfErr result (WhyRefused (module_of decoded)) }
     ensures whole { Accepted (module_of decoded) → IfErr result (λ fault. fault ≡ TypeFault.NoMemory) }
 {
-    if !imports_right(&decoded) {
+    let (notes, called) = accept(alloc, &decoded)?;
+    Ok(Checked {
+        module: decoded,
+        notes,
+        called,
+    })
+}
+
+// What is kept of an acceptable module, or why it isn't one. It borrows the module, which is given
+// up at a fault, so that its drop is proved once.
+fn accept(alloc: Global, decoded: &Module) -> Result<(Vec<Notes>, Called), TypeFault>
+    ensures accepted { IfOk result (λ kept. Accepted (module_of decoded.now)) }
+    ensures notes { IfOk result (λ kept. NotesAgree decoded.now kept.0.items) }
+    ensures filter { IfOk result (λ kept. kept.1.filter ≡ index_named filter_name (module_of decoded.now)) }
+    ensures score { IfOk result (λ kept. kept.1.score ≡ index_named score_name (module_of decoded.now)) }
+    ensures refused { IfErr result (WhyRefused (module_of decoded.now)) }
+    ensures whole { Accepted (module_of decoded.now) → IfErr result (λ fault. fault ≡ TypeFault.NoMemory) }
+{
+    if !imports_right(decoded) {
         return Err(TypeFault::BadImport);
     }
-    match are_kept(alloc, &decoded) {
+    match are_kept(alloc, decoded) {
         Ok(true) => {}
         Ok(false) => {
             return Err(TypeFault::Untyped {
@@ -98,16 +116,12 @@ pub fn validate(alloc: Global, decoded: Module) -> Result<Checked, TypeFault>
         }
         Err(_) => return Err(TypeFault::NoMemory),
     }
-    let notes = type_bodies(alloc, &decoded)?;
-    let Some(called) = find_called(&decoded) else {
+    let notes = type_bodies(alloc, decoded)?;
+    let Some(called) = find_called(decoded) else {
         return Err(TypeFault::BadExport);
     };
-    if !is_small(&decoded, notes.as_slice()) {
+    if !is_small(decoded, notes.as_slice()) {
         return Err(TypeFault::OverLimit);
     }
-    Ok(Checked {
-        module: decoded,
-        notes,
-        called,
-    })
+    Ok((notes, called))
 }
