@@ -1,18 +1,19 @@
 -- What becomes of the rows of an index where a slot leaves, changes and enters.
-use Rattle.std.proofs.Common.{◌≡◌, ℕ, ◌<◌, Bool, true, false, zero, suc, ⊎_elim, List, [], length, replicate, set, arith, refl, sym, ap, ◌∙◌, subst}
+use Rattle.std.proofs.Common.{◌≡◌, ℕ, ◌<◌, ◌≤◌, Bool, true, false, zero, suc, ⊎_elim, List, [], length, replicate, set, arith, refl, sym, ap, ◌∙◌, subst}
 use Rattle.std.specs.Prelude.{◌≢◌, Option, None, Some, IsSome, option_map}
 use Rattle.std.specs.Option.{option_map_or, option_cmp}
 use Rattle.std.specs.Ordering.{is_lt}
-use Rattle.std.proofs.lemmas.List.{get_or-set_other, length-set, length-replicate}
+use Rattle.std.proofs.lemmas.Bool.{cases_lt}
+use Rattle.std.proofs.lemmas.List.{get_or_past, get_or-set_other, length-set, length-replicate}
 use Rattle.name_table.specs.Slots.{entry_in}
 use Rattle.queue.specs.declared.state.State.{State}
 use Rattle.queue.specs.declared.state.State.TheVariants.{Active, Backoff, Unschedulable, InFlight}
 use Rattle.queue.specs.declared.state.PassNumber.{PassNumber}
 use Rattle.quant.specs.declared.amount.Moment.{Moment}
 use Rattle.queue.specs.declared.index.Index.{Index}
-use Rattle.queue.specs.Entry.{Entry, is_active, is_backoff, is_unschedulable}
+use Rattle.queue.specs.Entry.{Entry, is_active, is_backoff, is_unschedulable, is_in_flight}
 use Rattle.queue.specs.inside.Row.{SlotRow, at, IsIn, IsWithout, IsWith}
-use Rattle.queue.specs.inside.Heap.{Pods, wait_cmp, item_in, goes_before, IsHeap}
+use Rattle.queue.specs.inside.Heap.{Pods, wait_cmp, item_in, goes_before, AllThere, IsHeap}
 use Rattle.queue.specs.inside.Index.{state_in, stands_in, is_unmarked, Lists, ListsBut, IsIndex, IsIndexBut}
 use Rattle.queue.proofs.Rows.{same_or_not}
 use Rattle.queue.proofs.Heaps.{Kept}
@@ -127,6 +128,34 @@ emptied pods index s none but =
 -- a test of where the pod in a slot stands
 pub stands_as : (test : State → Bool) (pods : Pods) (s : ℕ) (state kind : State) → state_in pods s ≡ Some state → state ≡ kind → stands_in test pods s ≡ test kind
 stands_as test pods s state kind there is = ap (λ (o : Option State). option_map_or test o false) (there ∙ ap (λ (t : State). Some t) is)
+
+-- the state of what a slot has
+pub state_of : (o : Option Kept) (value : Entry) → option_map (λ (e : Kept). e.value) o ≡ Some value → option_map (λ (e : Kept). e.value.state) o ≡ Some value.state
+state_of None value is = cc
+state_of (Some e) value is = let same : e.value ≡ value = cc in ap (λ (v : Entry). Some v.state) same
+
+-- where its state is known, there is a pod
+pub filled : (o : Option Kept) (state : State) → option_map (λ (e : Kept). e.value.state) o ≡ Some state → IsSome o
+filled None state is = cc
+filled (Some e) state is = refl
+
+-- a slot that has a pod is one of the slots
+pub slot_there : (pods : Pods) (s : ℕ) (state : State) → state_in pods s ≡ Some state → s < length pods
+slot_there pods s state there =
+    ⊎_elim (λ (low : s < length pods). low)
+    (λ (high : length pods ≤ s).
+    let none : state_in pods s ≡ None = ap (option_map (λ (e : Kept). e.value.state)) (get_or_past pods s None high) in
+    let both : None ≡ Some state = sym none ∙ there in
+    absurd (cc))
+    (cases_lt s (length pods))
+
+-- there is a pod in each slot of a row
+pub all_there : (test : State → Bool) (pods : Pods) (row : SlotRow) → ((t : ℕ) → IsIn row.slots t → stands_in test pods t ≡ true) → AllThere pods row.slots
+all_there test pods row there = λ t is. there_if test (entry_in pods t) (there t is)
+
+-- one that isn't in flight doesn't stand there
+pub grounded : (state kind : State) → state ≡ kind → is_in_flight kind ≡ false → is_in_flight state ≡ true → ⊥
+grounded state kind is rests flies = let both : true ≡ false = sym flies ∙ ap is_in_flight is ∙ rests in cc
 
 -- an active slot leaves
 pub leaves_active : (pods : Pods) (index : Index) (new : SlotRow) (s : ℕ) (state : State) → IsIndex pods index → state_in pods s ≡ Some state → state ≡ Active → IsWithout index.active.slots new.slots s → new.room ≡ index.active.room → IsHeap pods new.slots → IsIndexBut pods (record index { active = new }) s

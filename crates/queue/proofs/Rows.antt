@@ -1,10 +1,13 @@
 -- What becomes of a row of slots.
 use Rattle.std.proofs.Common.{◌≡◌, ℕ, ◌+◌, ◌<◌, ◌≤◌, ◌⊎◌, inl, inr, ⊎_elim, List, ◌++◌, length, take, drop, arith, sym, ap, ◌∙◌, subst}
-use Rattle.std.specs.Prelude.{◌≢◌}
+use Rattle.std.specs.Prelude.{◌≢◌, Vec}
+use Rattle.std.specs.Global.{Global}
+use Rattle.std.specs.Vec.{with_items}
 use Rattle.std.proofs.lemmas.Bool.{cases_lt}
-use Rattle.std.proofs.lemmas.List.{length-take, length-take-le, get_or-take}
+use Rattle.std.proofs.lemmas.List.{length-take, length-take-le, get_or_past, get_or-take, with_items_is}
 use Rattle.std.proofs.Math.Seq.{take-append_seam}
-use Rattle.queue.specs.inside.Row.{at, IsIn, IsSwapped, IsPushed, HasSame, IsWithout, IsWith}
+use Rattle.quant.specs.declared.limits.TheConstants.{MAX_QUEUED}
+use Rattle.queue.specs.inside.Row.{at, IsIn, IsSwapped, IsPushed, HasSame, IsWithout, IsWith, IsInverse, IsRow}
 
 -- two places are one, or not
 pub same_or_not : (a b : ℕ) → (a ≡ b) ⊎ (a ≢ b)
@@ -25,6 +28,13 @@ behind slots len place s within is out =
     (λ (high : len ≤ place). high)
     (cases_lt place len)
 
+-- and there is room for it
+pub stands_behind : (slots places : List ℕ) (len place s : ℕ) → IsInverse slots places → s < length slots → place ≡ at places s → len ≤ length slots → (IsIn (take len slots) s → ⊥)
+    → (at slots place ≡ s) × (len ≤ place) × (place < length slots)
+stands_behind slots places len place s inverse slot read within out =
+    let is : at slots place ≡ s = ap (at slots) read ∙ inverse.stands s slot in
+    (is, behind slots len place s within is out, subst (λ (k : ℕ). k < length slots) (sym read) (inverse.place_at s slot))
+
 -- one that stood behind the row now stands at its end
 pub pushed : (xs slots ws : List ℕ) (n len place s : ℕ) → take len slots ≡ xs → n ≡ length slots → len < n → IsSwapped slots ws len place → at slots place ≡ s → len ≤ place → IsPushed xs (take (len + 1) (take n (ws ++ drop (length ws) slots))) s
 pushed xs slots ws n len place s old full room w is high =
@@ -37,6 +47,30 @@ pushed xs slots ws n len place s old full room w is high =
           let short : k < len = omega (arith, length-take len slots) in
           get_or-take (len + 1) ws k 0 (omega arith) ∙ w.others k (omega arith) (omega arith) ∙ sym (get_or-take len slots k 0 short);
     })
+
+-- the front of two rows of which two slots changed places there
+pub front_swapped : (xs ws : List ℕ) (len i j : ℕ) → len ≤ length xs → i < len → j < len → IsSwapped xs ws i j → IsSwapped (take len xs) (take len ws) i j
+front_swapped xs ws len i j fits first second w = record {
+  len = length-take-le len ws (omega (arith, w.len)) ∙ sym (length-take-le len xs fits);
+  first = get_or-take len ws i 0 first ∙ w.first ∙ sym (get_or-take len xs j 0 second);
+  second = get_or-take len ws j 0 second ∙ w.second ∙ sym (get_or-take len xs i 0 first);
+  others = λ k u v. ⊎_elim
+      (λ (low : k < len). get_or-take len ws k 0 low ∙ w.others k u v ∙ sym (get_or-take len xs k 0 low))
+      (λ (high : len ≤ k). get_or_past (take len ws) k 0 (omega (arith, length-take len ws)) ∙ sym (get_or_past (take len xs) k 0 (omega (arith, length-take len xs))))
+      (cases_lt k len);
+}
+
+-- a slot of the front is one of all
+pub in_front : (xs slots : List ℕ) (len i : ℕ) → take len slots ≡ xs → len ≤ length slots → i < length xs → i < len
+in_front xs slots len i is fits inside = omega (arith, ap length is, length-take-le len slots fits)
+
+-- what was written over a row's parts is a row where it's inverse
+pub row_written : (slots places : Vec ℕ Global) (ws vs : List ℕ) (len : ℕ) → length ws ≡ slots.len → length vs ≡ places.len → IsInverse ws vs → len ≤ slots.len → slots.len ≤ MAX_QUEUED → IsRow (with_items slots ws) (with_items places vs) len
+row_written slots places ws vs len as_many known inverse within few = record {
+  inverse = subst (λ l. IsInverse l (with_items places vs).items) (sym (with_items_is slots ws as_many)) (subst (λ l. IsInverse ws l) (sym (with_items_is places vs known)) inverse);
+  within = within;
+  few = few;
+}
 
 -- a slot of the row stands at one of two places that change, or elsewhere
 moved_in : (xs ys : List ℕ) (i j s : ℕ) → IsSwapped xs ys i j → i < length xs → j < length xs → IsIn xs s → IsIn ys s

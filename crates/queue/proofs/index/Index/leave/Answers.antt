@@ -1,6 +1,8 @@
-use Rattle.std.proofs.Common.{ap, ◌∙◌}
+use Rattle.std.proofs.Common.{refl, ap, ◌∙◌}
 use Rattle.queue.specs.declared.state.State.TheVariants.{InFlight}
-use Rattle.queue.proofs.Indexes.{leaves_active, leaves_backoff, leaves_unschedulable, leaves_unmarked}
+use Rattle.queue.specs.Entry.{is_active, is_backoff, is_unschedulable}
+use Rattle.queue.specs.inside.Index.{is_unmarked}
+use Rattle.queue.proofs.Indexes.{all_there, grounded, leaves_active, leaves_backoff, leaves_marked, leaves_unschedulable, leaves_unmarked, stands_as}
 use Rattle.queue.proofs.index.Index.leave.Goals as goal
 
 pub returns-in-Active-clause-index : goal.returns-in-Active-clause-index
@@ -16,3 +18,49 @@ pub returns-in-InFlight-default-false-clause-index : goal.returns-in-InFlight-de
 returns-in-InFlight-default-false-clause-index c =
     leaves_unmarked c.args.pods.now c.args.self.now c.take.new.self c.args.slot c.args.state c.in-InFlight-default-false.pass c.requires.index c.requires.state
     (c.in-InFlight-default-false.is ∙ ap (InFlight c.in-InFlight-default-false.pass) c.in-InFlight-default-false.moved-test) c.take.ensures.without c.take.ensures.room
+
+pub returns-in-InFlight-default-true-clause-index : goal.returns-in-InFlight-default-true-clause-index
+returns-in-InFlight-default-true-clause-index c =
+    leaves_marked c.args.pods.now c.args.self.now c.args.slot c.args.state c.in-InFlight-default-true.pass c.requires.index c.requires.state
+    (c.in-InFlight-default-true.is ∙ ap (InFlight c.in-InFlight-default-true.pass) c.in-InFlight-default-true.moved-test)
+
+pub remove-requires-clause-here : goal.remove-requires-clause-here
+remove-requires-clause-here c = c.requires.index.active.all c.args.slot (stands_as is_active c.args.pods.now c.args.slot c.args.state _ c.requires.state c.in-Active.is)
+
+pub remove-requires-clause-there : goal.remove-requires-clause-there
+remove-requires-clause-there c = all_there is_active c.args.pods.now c.args.self.now.active c.requires.index.active.there
+
+pub remove-requires-clause-heap : goal.remove-requires-clause-heap
+remove-requires-clause-heap c = c.requires.index.by_order
+
+pub returns-in-Active-clause-none : goal.returns-in-Active-clause-none
+returns-in-Active-clause-none c = λ flies. absurd (grounded c.args.state _ c.in-Active.is refl flies)
+
+pub remove-requires-in-Backoff-clause-here : goal.remove-requires-in-Backoff-clause-here
+remove-requires-in-Backoff-clause-here c = c.requires.index.backoff.all c.args.slot (stands_as is_backoff c.args.pods.now c.args.slot c.args.state _ c.requires.state c.in-Backoff.is)
+
+pub remove-requires-in-Backoff-clause-there : goal.remove-requires-in-Backoff-clause-there
+remove-requires-in-Backoff-clause-there c = all_there is_backoff c.args.pods.now c.args.self.now.backoff c.requires.index.backoff.there
+
+pub remove-requires-in-Backoff-clause-heap : goal.remove-requires-in-Backoff-clause-heap
+remove-requires-in-Backoff-clause-heap c = c.requires.index.by_end
+
+pub returns-in-Backoff-clause-none : goal.returns-in-Backoff-clause-none
+returns-in-Backoff-clause-none c = λ flies. absurd (grounded c.args.state _ c.in-Backoff.is refl flies)
+
+pub remove-requires-in-Unschedulable-clause-here : goal.remove-requires-in-Unschedulable-clause-here
+remove-requires-in-Unschedulable-clause-here c = c.requires.index.unschedulable.all c.args.slot (stands_as is_unschedulable c.args.pods.now c.args.slot c.args.state _ c.requires.state c.in-Unschedulable.is)
+
+pub remove-requires-in-Unschedulable-clause-there : goal.remove-requires-in-Unschedulable-clause-there
+remove-requires-in-Unschedulable-clause-there c = all_there is_unschedulable c.args.pods.now c.args.self.now.unschedulable c.requires.index.unschedulable.there
+
+pub remove-requires-in-Unschedulable-clause-heap : goal.remove-requires-in-Unschedulable-clause-heap
+remove-requires-in-Unschedulable-clause-heap c = c.requires.index.by_failure
+
+pub returns-in-Unschedulable-clause-none : goal.returns-in-Unschedulable-clause-none
+returns-in-Unschedulable-clause-none c = λ flies. absurd (grounded c.args.state _ c.in-Unschedulable.is refl flies)
+
+pub take-requires : goal.take-requires
+take-requires c =
+    c.requires.index.unmarked.all c.args.slot
+    (stands_as is_unmarked c.args.pods.now c.args.slot c.args.state _ c.requires.state (c.in-InFlight-default-false.is ∙ ap (InFlight c.in-InFlight-default-false.pass) c.in-InFlight-default-false.moved-test))
