@@ -8,8 +8,8 @@ use Rattle.command.proofs.command_line.command_line.Goals as goal
 -- A command that was made, of which it is known what it is, stands below another.
 added : {C E : Type 0} (below : Result C E) (app : C → App) (line line' new of : App)
     → IsOk below × IfOk below (λ b. new ≡ with_subcommand line (app b).top) → IfOk below (λ b. app b ≡ of) → line ≡ line' → new ≡ with_subcommand line' of.top
-added (Ok b) app line line' new of (_ , h) is same = h ∙ ap (λ (a : App). with_subcommand line a.top) is ∙ ap (λ (l : App). with_subcommand l of.top) same
-added (Err e) app line line' new of (ok , _) is same = absurd (true≢false (sym ok))
+added (Ok b) app line line' new of (_, h) is same = h ∙ ap (λ (a : App). with_subcommand line a.top) is ∙ ap (λ (l : App). with_subcommand l of.top) same
+added (Err e) app line line' new of (ok, _) is same = absurd (true≢false (sym ok))
 
 pub returns : goal.returns
 returns c =
