@@ -202,7 +202,8 @@ fn audit_and_tell<R: Threads + Sync, W: Sink>(
     ensures says { IfOk result (λ answer. IsTrue answer ↔ ShowsSums shown.now book.now.places) }
     ensures wrote { IfOk result (λ answer. Appends (W.written sink.old) (W.written sink.new)
         (storm_text shown.now counts answer)) }
-    ensures front { result ≡ Err RunFault.Write → (answer : Bool) × (IsTrue answer ↔ ShowsSums shown.now book.now.places)
+    ensures front { result ≡ Err RunFault.Write → (answer : Bool)
+        × (IsTrue answer ↔ ShowsSums shown.now book.now.places)
         × AppendsFront (W.written sink.old) (W.written sink.new) (storm_text shown.now counts answer) }
     ensures quiet { OnErr result (result ≢ Err RunFault.Write → sink.new ≡ sink.old) }
     ensures faults { IfErr result (λ e. (e ≡ RunFault.NoMemory) ⊎ (e ≡ RunFault.Write)) }
