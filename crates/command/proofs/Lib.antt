@@ -1,3 +1,4 @@
+mod BuiltLemmas
 pub mod FoundLemmas
 pub mod NumberLemmas
 pub mod SpecLemmas

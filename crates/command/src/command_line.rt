@@ -57,26 +57,32 @@ fn bare_command<'a>(alloc: Global, name: &'a str) -> Command<'a>
     Command::new(alloc, name)
 }
 
-// A command with one argument more. Of all that `clap` says of it this is what is needed here.
-fn with_argument<'a>(command: Command<'a>, argument: Arg<'a>) -> Result<Command<'a>, AllocError>
+// A command with one argument more, where there was memory to make it. Of all that `clap` says of it
+// this is what is needed here. A command is taken as it was made, so that it is let go in this one
+// place, and whoever makes one has one end.
+fn with_argument<'a>(
+    command: Result<Command<'a>, AllocError>,
+    argument: Arg<'a>,
+) -> Result<Command<'a>, AllocError>
     requires { argument.global ≡ false }
-    ensures shape { IfOk result (λ new. app_of new ≡ with_rule (app_of command.entry) (rule_of argument.entry)) }
-    ensures local { IsLocal command.entry → IfOk result IsLocal }
+    ensures shape { IfOk result (λ new. IsOk command.entry
+        × IfOk command.entry (λ old. app_of new ≡ with_rule (app_of old) (rule_of argument.entry))) }
+    ensures local { IfOk command.entry IsLocal → IfOk result IsLocal }
 {
-    command.arg(argument)
+    command?.arg(argument)
 }
 
-// A command with one command more below it, where there was memory to make that one. It is taken as
-// it was made, so that the command above is let go in this one place.
+// A command with one command more below it, where there was memory to make both.
 fn with_command<'a>(
-    command: Command<'a>,
+    command: Result<Command<'a>, AllocError>,
     below: Result<Command<'a>, AllocError>,
 ) -> Result<Command<'a>, AllocError>
     requires { IfOk below IsLocal }
-    ensures { IfOk result (λ new. IsOk below.entry
-        × IfOk below.entry (λ below. app_of new ≡ with_subcommand (app_of command.entry) (app_of below).top)) }
+    ensures { IfOk result (λ new. IsOk command.entry × IsOk below.entry
+        × IfOk command.entry (λ line. IfOk below.entry (λ below.
+        app_of new ≡ with_subcommand (app_of line) (app_of below).top))) }
 {
-    command.subcommand(below?)
+    command?.subcommand(below?)
 }
 
 // A command of this name that asks for a run: `run` or `explain`.
@@ -84,8 +90,8 @@ fn run_command<'a>(alloc: Global, name: &'a str) -> Result<Command<'a>, AllocErr
     ensures shape { IfOk result (λ command. app_of command ≡ run_command name.entry.now) }
     ensures local { IfOk result IsLocal }
 {
-    let run = bare_command(alloc, name);
-    let run = with_argument(run, option(alloc, "workers"))?;
+    let run = Ok(bare_command(alloc, name));
+    let run = with_argument(run, option(alloc, "workers"));
     with_argument(run, plugins(alloc))
 }
 
@@ -94,10 +100,10 @@ fn storm_command<'a>(alloc: Global) -> Result<Command<'a>, AllocError>
     ensures shape { IfOk result (λ command. app_of command ≡ storm_command) }
     ensures local { IfOk result IsLocal }
 {
-    let storm = bare_command(alloc, "storm");
-    let storm = with_argument(storm, option(alloc, "cycles"))?;
-    let storm = with_argument(storm, option(alloc, "binders"))?;
-    let storm = with_argument(storm, flag(alloc, "flaky"))?;
+    let storm = Ok(bare_command(alloc, "storm"));
+    let storm = with_argument(storm, option(alloc, "cycles"));
+    let storm = with_argument(storm, option(alloc, "binders"));
+    let storm = with_argument(storm, flag(alloc, "flaky"));
     with_argument(storm, plugins(alloc))
 }
 
@@ -106,7 +112,7 @@ fn check_command<'a>(alloc: Global) -> Result<Command<'a>, AllocError>
     ensures shape { IfOk result (λ command. app_of command ≡ check_command) }
     ensures local { IfOk result IsLocal }
 {
-    with_argument(bare_command(alloc, "check"), module(alloc))
+    with_argument(Ok(bare_command(alloc, "check")), module(alloc))
 }
 
 // The command `translate`.
@@ -114,10 +120,10 @@ fn translate_command<'a>(alloc: Global) -> Result<Command<'a>, AllocError>
     ensures shape { IfOk result (λ command. app_of command ≡ translate_command) }
     ensures local { IfOk result IsLocal }
 {
-    let translate = bare_command(alloc, "translate");
-    let translate = with_argument(translate, option(alloc, "scheduler"))?;
-    let translate = with_argument(translate, option(alloc, "labels"))?;
-    let translate = with_argument(translate, flag(alloc, "by-uid"))?;
+    let translate = Ok(bare_command(alloc, "translate"));
+    let translate = with_argument(translate, option(alloc, "scheduler"));
+    let translate = with_argument(translate, option(alloc, "labels"));
+    let translate = with_argument(translate, flag(alloc, "by-uid"));
     with_argument(translate, flag(alloc, "answers"))
 }
 
@@ -126,8 +132,8 @@ fn live_command<'a>(alloc: Global) -> Result<Command<'a>, AllocError>
     ensures shape { IfOk result (λ command. app_of command ≡ live_command) }
     ensures local { IfOk result IsLocal }
 {
-    let live = bare_command(alloc, "live");
-    let live = with_argument(live, option(alloc, "scheduler"))?;
+    let live = Ok(bare_command(alloc, "live"));
+    let live = with_argument(live, option(alloc, "scheduler"));
     with_argument(live, option(alloc, "labels"))
 }
 
@@ -154,12 +160,12 @@ fn program<'a>(alloc: Global) -> Command<'a>
 fn command_line<'a>(alloc: Global) -> Result<Command<'a>, AllocError>
     ensures { IfOk result (λ command. app_of command ≡ command_line) }
 {
-    let line = with_command(program(alloc), run_command(alloc, "run"))?;
-    let line = with_command(line, run_command(alloc, "explain"))?;
-    let line = with_command(line, storm_command(alloc))?;
-    let line = with_command(line, check_command(alloc))?;
-    let line = with_command(line, translate_command(alloc))?;
-    let line = with_command(line, live_command(alloc))?;
+    let line = with_command(Ok(program(alloc)), run_command(alloc, "run"));
+    let line = with_command(line, run_command(alloc, "explain"));
+    let line = with_command(line, storm_command(alloc));
+    let line = with_command(line, check_command(alloc));
+    let line = with_command(line, translate_command(alloc));
+    let line = with_command(line, live_command(alloc));
     with_command(line, Ok(version_command(alloc)))
 }
 

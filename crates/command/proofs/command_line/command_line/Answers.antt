@@ -1,22 +1,14 @@
-use Rattle.std.proofs.Common.{Result, Ok, Err, ap, ap₂, sym, ◌≡◌, ◌∙◌, true≢false}
-use Rattle.std.specs.Prelude.{IfOk, IsOk}
-use Rattle.std.proofs.lemmas.Result.{IfOk-weaker}
-use Rattle.clap.specs.Simple.{App}
-use Rattle.clap.specs.Words.{with_subcommand}
+use Rattle.std.proofs.Common.{Ok}
+use Rattle.clap.specs.Words.{app_of}
+use Rattle.command.proofs.BuiltLemmas.{with_below}
 use Rattle.command.proofs.command_line.command_line.Goals as goal
-
--- A command that was made, of which it is known what it is, stands below another.
-added : {C E : Type 0} (below : Result C E) (app : C → App) (line line' new of : App)
-    → IsOk below × IfOk below (λ b. new ≡ with_subcommand line (app b).top) → IfOk below (λ b. app b ≡ of) → line ≡ line' → new ≡ with_subcommand line' of.top
-added (Ok b) app line line' new of (_, h) is same = h ∙ ap (λ (a : App). with_subcommand line a.top) is ∙ ap (λ (l : App). with_subcommand l of.top) same
-added (Err e) app line line' new of (ok, _) is same = absurd (true≢false (sym ok))
 
 pub returns : goal.returns
 returns c =
-    let with_run = added _ _ _ _ _ _ c.in_ok-line.ensures c.run_command.ensures.shape c.program.ensures in
-    let with_explain = added _ _ _ _ _ _ c.in_ok-line-2.ensures c.run_command-2.ensures.shape with_run in
-    let with_storm = added _ _ _ _ _ _ c.in_ok-line-3.ensures c.storm_command.ensures.shape with_explain in
-    let with_check = added _ _ _ _ _ _ c.in_ok-line-4.ensures c.check_command.ensures.shape with_storm in
-    let with_translate = added _ _ _ _ _ _ c.in_ok-line-5.ensures c.translate_command.ensures.shape with_check in
-    let with_live = added _ _ _ _ _ _ c.in_ok-line-6.ensures c.live_command.ensures.shape with_translate in
-    IfOk-weaker c.with_command-7.result _ _ (λ _ h. h.1 ∙ ap₂ with_subcommand with_live (ap (λ (a : App). a.top) c.version_command.ensures.shape)) c.with_command-7.ensures
+    let with_run = with_below app_of _ (Ok c.program.result) _ _ _ c.with_command-line.ensures c.program.ensures c.run_command.ensures.shape in
+    let with_explain = with_below app_of _ _ _ _ _ c.with_command-line-2.ensures with_run c.run_command-2.ensures.shape in
+    let with_storm = with_below app_of _ _ _ _ _ c.with_command-line-3.ensures with_explain c.storm_command.ensures.shape in
+    let with_check = with_below app_of _ _ _ _ _ c.with_command-line-4.ensures with_storm c.check_command.ensures.shape in
+    let with_translate = with_below app_of _ _ _ _ _ c.with_command-line-5.ensures with_check c.translate_command.ensures.shape in
+    let with_live = with_below app_of _ _ _ _ _ c.with_command-line-6.ensures with_translate c.live_command.ensures.shape in
+    with_below app_of _ _ (Ok c.version_command.result) _ _ c.with_command.ensures with_live c.version_command.ensures.shape
