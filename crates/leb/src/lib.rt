@@ -82,9 +82,7 @@ pub fn read_i32(bytes: &[u8], at: usize) -> Result<(i32, usize), LebFault>
     ensures bad_last_byte { IsErrOf result LebFault.BadLastByte ↔ HasBadLastByte signed 32 (drop at bytes.now) }
 {
     let found = read(bytes, at, 32, true)?;
-    let low = found.low as i32;
-    let value = if found.negative { -low - 1 } else { low };
-    Ok((value, found.next))
+    Ok((i32_of(found), found.next))
 }
 
 /// Reads a signed number of 64 bits from `at` on. Gives the number, and the place after its last
@@ -100,9 +98,7 @@ pub fn read_i64(bytes: &[u8], at: usize) -> Result<(i64, usize), LebFault>
     ensures bad_last_byte { IsErrOf result LebFault.BadLastByte ↔ HasBadLastByte signed 64 (drop at bytes.now) }
 {
     let found = read(bytes, at, 64, true)?;
-    let low = found.low as i64;
-    let value = if found.negative { -low - 1 } else { low };
-    Ok((value, found.next))
+    Ok((i64_of(found), found.next))
 }
 
 // A number as it is found: `low`, or -1 - `low` where it is negative, and the place after it.
@@ -111,6 +107,26 @@ struct Spelled {
     negative: bool,
     low: u64,
     next: usize,
+}
+
+// The number that was found, of 32 bits.
+#[inline]
+fn i32_of(found: Spelled) -> i32
+    requires { InRange signed 32 (value_of found) }
+    ensures { result ≡ value_of found }
+{
+    let low = found.low as i32;
+    if found.negative { -low - 1 } else { low }
+}
+
+// The number that was found, of 64 bits.
+#[inline]
+fn i64_of(found: Spelled) -> i64
+    requires { InRange signed 64 (value_of found) }
+    ensures { result ≡ value_of found }
+{
+    let low = found.low as i64;
+    if found.negative { -low - 1 } else { low }
 }
 
 // The number of so many bits, with a sign or without, from `at` on, and the place after it.
