@@ -1,5 +1,5 @@
 -- What each step does to a book, and what is answered.
-use Rattle.std.specs.Prelude.{◌+◌, List, [], ◌∷◌, Bool, true, false, not, ◌&&◌, ◌||◌, ◌==◌, nat_le, Option, None, Some, is_some, is_ok, if◌then◌else◌}
+use Rattle.std.specs.Prelude.{◌≡◌, ◌+◌, List, [], ◌∷◌, Bool, true, false, not, ◌&&◌, ◌||◌, ◌==◌, nat_le, Option, None, Some, Result, MatchResult, is_some, is_ok, if◌then◌else◌}
 use Rattle.std.specs.FinMap.{insert, remove, get, contains_key}
 use Rattle.quant.specs.declared.event.Event.TheVariants.{NodeSet, NodeGone, PodPending, PodBound, PodGone}
 use Rattle.quant.specs.declared.amount.Moment.{Moment}
@@ -12,8 +12,8 @@ use Rattle.quant.specs.declared.version.Version.{Version}
 use Rattle.fit.specs.Fit.{fit_of}
 use Rattle.book.specs.declared.step.ClusterStep.{ClusterStep}
 use Rattle.book.specs.declared.step.ClusterStep.TheVariants.{Event, Assume, BindDone, Forget}
-use Rattle.book.specs.declared.step.Entry.{Entry}
-use Rattle.book.specs.declared.step.Entry.TheVariants.{Missing, Elsewhere, Held}
+use Rattle.book.specs.declared.entry.Entry.{Entry}
+use Rattle.book.specs.declared.entry.Entry.TheVariants.{Missing, Elsewhere, Held}
 use Rattle.book.specs.declared.step.Reply.{Reply}
 use Rattle.book.specs.declared.step.Reply.TheVariants.{Done, Queue, Ticket as Given, Refused}
 use Rattle.book.specs.declared.refusal.Refusal.{Refusal}
@@ -172,18 +172,20 @@ effect c (Assume uid node entry) = with_choice c uid node entry
 effect c (BindDone uid ticket at queued) = with_finished c uid at (get c.places uid)
 effect c (Forget uid ticket queued) = without_place c uid
 
+-- ---- a step
+
+-- a step was taken, or refused for this cause, which changed nothing
+abbrev pub IsTaken : {X : Type 0} → Cluster → ClusterStep → Result X Refusal → Cluster → Type 0
+IsTaken old step result new =
+    MatchResult result
+    (λ said. (refusal old step ≡ None) × (new ≡ effect old step))
+    (λ why. (refusal old step ≡ Some why) × (new ≡ old))
+
 -- what an accepted step answers
 abbrev pub answer : Cluster → ClusterStep → Reply
-answer c (Event (NodeSet version node) queued queue_full) = Done
-answer c (Event (NodeGone version name) queued queue_full) = Done
 answer c (Event (PodPending version pod) queued queue_full) = Queue pod
-answer c (Event (PodBound version uid node request) queued queue_full) = Done
-answer c (Event (PodGone version uid) queued queue_full) = Done
 answer c (Assume uid node entry) = Given (next_ticket c)
-answer c (BindDone uid ticket at queued) = Done
-answer c (Forget uid ticket queued) = Done
-
--- ---- a step
+answer c _ = Done
 
 -- the book after a step: a refused one changes nothing
 abbrev pub after : Cluster → ClusterStep → Cluster

@@ -2,5 +2,5 @@ pub mod Tables
 pub mod Totals
 pub mod Rows
 pub mod Codes
-pub mod Step
 pub mod Finishes
+pub mod Step

@@ -8,12 +8,13 @@ ghost use Rattle.std.specs.FinMap as fin;
 mod slots;
 
 use crate::NoMemory;
+use crate::entry::Entry;
 use crate::limits::Limits;
 use crate::nodes::Nodes;
 use crate::place::{Place, Status};
 use crate::places::Places;
 use crate::refusal::Refusal;
-use crate::step::{ClusterStep, Entry, Reply};
+use crate::step::{ClusterStep, Reply};
 use fit::fits;
 use quant::{
     Event, MAX_TICKET, Moment, Name, Request, Res, SharedNode, SharedPod, Ticket, Version,
@@ -57,8 +58,8 @@ impl Book {
     ghost use Rattle.book.specs.Cluster.{opening};
     ghost use Rattle.book.specs.Rows.{named, rows_in, IsRowOf, IsGapFor};
     ghost use Rattle.book.specs.Used.{used, assumed, bound};
-    ghost use Rattle.book.specs.Step.{after, reply, first_of, is_placed, is_there, fits_row, refusal_by_ticket, without_place};
-    ghost use Rattle.book.specs.inside.Step.{IsTaken};
+    ghost use Rattle.book.specs.Step.{IsTaken, after, reply, next_ticket, first_of, is_placed, is_there, fits_row, refusal_by_ticket, without_place};
+    ghost use Rattle.book.specs.inside.Step.{IsAnswered};
     ghost use Rattle.book.specs.Expiry.{is_expired, IsFirstExpired, NoneExpired};
     ghost use Rattle.book.specs.declared.step.ClusterStep.TheVariants as steps;
 
@@ -81,10 +82,10 @@ impl Book {
         })
     }
 
-    /// Takes a step, or refuses it and changes nothing. Neither takes memory.
+    /// Takes a step, or refuses it and changes nothing, as the call does that is for it.
     ///
-    /// The time of a look-up among places doesn't depend on how many there are; that of one among
-    /// nodes grows with the logarithm of their number.
+    /// No call that takes a step takes memory. The time of a look-up among places doesn't depend on
+    /// how many there are; that of one among nodes grows with the logarithm of their number.
     pub fn step(&mut self, step: ClusterStep) -> Reply
         ensures reply { result ≡ reply self.old step }
         ensures after { self.new ≡ after self.old step }
@@ -94,31 +95,96 @@ impl Book {
                 event,
                 queued,
                 queue_full,
-            } => self.take_event(event, queued, queue_full),
-            ClusterStep::Assume { uid, node, entry } => self.assume(uid, node, entry),
+            } => self.answer_event(event, queued, queue_full),
+            ClusterStep::Assume { uid, node, entry } => self.answer_assume(uid, node, entry),
             ClusterStep::BindDone {
                 uid,
                 ticket,
                 at,
                 queued,
-            } => self.finish(&uid, ticket, at, queued),
+            } => self.answer_finish(&uid, ticket, at, queued),
             ClusterStep::Forget {
                 uid,
                 ticket,
                 queued,
-            } => self.forget(&uid, ticket, queued),
+            } => self.answer_forget(&uid, ticket, queued),
         };
         taken.unwrap_or_else(Reply::Refused)
     }
 
-    // Takes what the watch tells.
-    fn take_event(&mut self, event: Event, queued: bool, queue_full: bool) -> Result<Reply, Refusal>
+    // Takes an event, with its answer.
+    fn answer_event(
+        &mut self,
+        event: Event,
+        queued: bool,
+        queue_full: bool,
+    ) -> Result<Reply, Refusal>
+        ensures { IsAnswered self.old (steps.Event event queued queue_full) result self.new }
+    {
+        match event {
+            Event::NodeSet { version, node } => self.set_node(version, node)?,
+            Event::NodeGone { version, name } => self.remove_node(version, &name)?,
+            Event::PodPending { version, pod } => {
+                let pod = self.await_pod(version, pod, queued, queue_full)?;
+                return Ok(Reply::Queue(pod));
+            }
+            Event::PodBound {
+                version,
+                uid,
+                node,
+                request,
+            } => self.bind_pod(version, uid, node, request)?,
+            Event::PodGone { version, uid } => self.remove_pod(version, &uid, queued)?,
+        }
+        Ok(Reply::Done)
+    }
+
+    fn answer_assume(&mut self, uid: Name, node: Name, entry: Entry) -> Result<Reply, Refusal>
+        ensures { IsAnswered self.old (steps.Assume uid node entry) result self.new }
+    {
+        let ticket = self.assume(uid, node, entry)?;
+        Ok(Reply::Ticket(ticket))
+    }
+
+    fn answer_finish(
+        &mut self,
+        uid: &Name,
+        ticket: Ticket,
+        at: Moment,
+        queued: bool,
+    ) -> Result<Reply, Refusal>
+        ensures { IsAnswered self.old (steps.BindDone uid.now ticket at queued) result self.new }
+    {
+        self.finish(uid, ticket, at, queued)?;
+        Ok(Reply::Done)
+    }
+
+    fn answer_forget(&mut self, uid: &Name, ticket: Ticket, queued: bool) -> Result<Reply, Refusal>
+        ensures { IsAnswered self.old (steps.Forget uid.now ticket queued) result self.new }
+    {
+        self.forget(uid, ticket, queued)?;
+        Ok(Reply::Done)
+    }
+
+    /// Takes an event, or refuses it and changes nothing, as the call does that is for it.
+    ///
+    /// No call that takes a step takes memory. The time of a look-up among places doesn't depend on
+    /// how many there are; that of one among nodes grows with the logarithm of their number.
+    pub fn take_event(
+        &mut self,
+        event: Event,
+        queued: bool,
+        queue_full: bool,
+    ) -> Result<(), Refusal>
         ensures { IsTaken self.old (steps.Event event queued queue_full) result self.new }
     {
         match event {
             Event::NodeSet { version, node } => self.set_node(version, node),
             Event::NodeGone { version, name } => self.remove_node(version, &name),
-            Event::PodPending { version, pod } => self.await_pod(version, pod, queued, queue_full),
+            Event::PodPending { version, pod } => {
+                self.await_pod(version, pod, queued, queue_full)?;
+                Ok(())
+            }
             Event::PodBound {
                 version,
                 uid,
@@ -139,36 +205,37 @@ impl Book {
         Ok(())
     }
 
-    fn set_node(&mut self, version: Version, node: SharedNode) -> Result<Reply, Refusal>
-        ensures { (queued queue_full : Bool) → IsTaken self.old
-            (steps.Event (event.NodeSet version node) queued queue_full) result self.new }
+    /// A node has this row from now on.
+    pub fn set_node(&mut self, version: Version, node: SharedNode) -> Result<(), Refusal>
+        ensures { IsTaken self.old (steps.Event (event.NodeSet version node) false false) result self.new }
     {
         self.check_version(version)?;
         let used = self.places.used(&node.name);
         self.nodes.set(node, used)?;
         self.version = version;
-        Ok(Reply::Done)
+        Ok(())
     }
 
-    fn remove_node(&mut self, version: Version, name: &Name) -> Result<Reply, Refusal>
-        ensures { (queued queue_full : Bool) → IsTaken self.old
-            (steps.Event (event.NodeGone version name.now) queued queue_full) result self.new }
+    /// A node's row goes. The places there stay.
+    pub fn remove_node(&mut self, version: Version, name: &Name) -> Result<(), Refusal>
+        ensures { IsTaken self.old (steps.Event (event.NodeGone version name.now) false false) result self.new }
     {
         self.check_version(version)?;
         self.nodes.remove(name)?;
         self.version = version;
-        Ok(Reply::Done)
+        Ok(())
     }
 
-    // The queue keeps the pod.
-    fn await_pod(
+    /// A pod waits for a place. It is given back, and the queue's to keep.
+    pub fn await_pod(
         &mut self,
         version: Version,
         pod: SharedPod,
         queued: bool,
         queue_full: bool,
-    ) -> Result<Reply, Refusal>
-        ensures { IsTaken self.old (steps.Event (event.PodPending version pod) queued queue_full) result self.new }
+    ) -> Result<SharedPod, Refusal>
+        ensures taken { IsTaken self.old (steps.Event (event.PodPending version pod) queued queue_full) result self.new }
+        ensures pod { IfOk result (λ same. same ≡ pod) }
     {
         self.check_version(version)?;
         if queued || self.places.has(&pod.uid) {
@@ -178,18 +245,18 @@ impl Book {
             return Err(Refusal::Full);
         }
         self.version = version;
-        Ok(Reply::Queue(pod))
+        Ok(pod)
     }
 
-    fn bind_pod(
+    /// A pod is bound to a node, in place of where it was.
+    pub fn bind_pod(
         &mut self,
         version: Version,
         uid: Name,
         node: Name,
         request: Request,
-    ) -> Result<Reply, Refusal>
-        ensures { (queued queue_full : Bool) → IsTaken self.old
-            (steps.Event (event.PodBound version uid node request) queued queue_full) result self.new }
+    ) -> Result<(), Refusal>
+        ensures { IsTaken self.old (steps.Event (event.PodBound version uid node request) false false) result self.new }
     {
         self.check_version(version)?;
         let place = Place {
@@ -199,24 +266,25 @@ impl Book {
         };
         self.places.put(&mut self.nodes, uid, place)?;
         self.version = version;
-        Ok(Reply::Done)
+        Ok(())
     }
 
-    fn remove_pod(&mut self, version: Version, uid: &Name, queued: bool) -> Result<Reply, Refusal>
-        ensures { (queue_full : Bool) → IsTaken self.old (steps.Event (event.PodGone version uid.now) queued queue_full)
-            result self.new }
+    /// A pod is gone, and its place with it.
+    pub fn remove_pod(&mut self, version: Version, uid: &Name, queued: bool) -> Result<(), Refusal>
+        ensures { IsTaken self.old (steps.Event (event.PodGone version uid.now) queued false) result self.new }
     {
         self.check_version(version)?;
         if !self.places.remove(&mut self.nodes, uid) && !queued {
             return Err(Refusal::Gone);
         }
         self.version = version;
-        Ok(Reply::Done)
+        Ok(())
     }
 
-    // A pod that a pass holds is placed on a node where it fits now.
-    fn assume(&mut self, uid: Name, node: Name, entry: Entry) -> Result<Reply, Refusal>
-        ensures { IsTaken self.old (steps.Assume uid node entry) result self.new }
+    /// A pod that a pass holds is placed on a node where it fits now. The ticket names the choice.
+    pub fn assume(&mut self, uid: Name, node: Name, entry: Entry) -> Result<Ticket, Refusal>
+        ensures taken { IsTaken self.old (steps.Assume uid node entry) result self.new }
+        ensures ticket { IfOk result (λ ticket. ticket ≡ next_ticket self.old) }
     {
         if self.places.has(&uid) {
             return Err(Refusal::Placed);
@@ -244,7 +312,7 @@ impl Book {
             },
         )?;
         self.ticket = ticket;
-        Ok(Reply::Ticket(ticket))
+        Ok(ticket)
     }
 
     // Whether a pod with this request fits on a node now, by what the places there use.
@@ -269,26 +337,28 @@ impl Book {
         }
     }
 
-    fn finish(
+    /// A pod's bind is reported done at this moment.
+    pub fn finish(
         &mut self,
         uid: &Name,
         ticket: Ticket,
         at: Moment,
         queued: bool,
-    ) -> Result<Reply, Refusal>
+    ) -> Result<(), Refusal>
         ensures { IsTaken self.old (steps.BindDone uid.now ticket at queued) result self.new }
     {
         self.check_ticket(uid, ticket, queued)?;
         self.places.finish(uid, at);
-        Ok(Reply::Done)
+        Ok(())
     }
 
-    fn forget(&mut self, uid: &Name, ticket: Ticket, queued: bool) -> Result<Reply, Refusal>
+    /// An assumed place is given up.
+    pub fn forget(&mut self, uid: &Name, ticket: Ticket, queued: bool) -> Result<(), Refusal>
         ensures { IsTaken self.old (steps.Forget uid.now ticket queued) result self.new }
     {
         self.check_ticket(uid, ticket, queued)?;
         self.places.remove(&mut self.nodes, uid);
-        Ok(Reply::Done)
+        Ok(())
     }
 
     /// Takes away the expired place with the least uid, and answers that uid: an assumed place

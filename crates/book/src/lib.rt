@@ -2,9 +2,10 @@
 //!
 //! All room is made by `Book::new`; a step takes no memory.
 //!
-//! - `step` is what happens and what is answered, `refusal` why a step is refused, and `place`
-//!   where a pod is, and how sure that is.
-//! - `book` does each kind of step, over `nodes` and `places`.
+//! - `book` has a call for each kind of step, over `nodes` and `places`, and one for all: `step` is
+//!   what happens and what is answered.
+//! - `refusal` is why a step is refused, `entry` what the queue has of a pod, and `place` where a pod
+//!   is, and how sure that is.
 //! - `nodes`: the rows in the order of their names, each with what is used of it.
 //! - `places`: the places by uid, and each node's total, changed with every place and never summed
 //!   anew. `finishes` has when binds were reported done, and `overdue` the uids whose places
@@ -14,6 +15,7 @@
 #![tactic(auto)]
 
 mod book;
+mod entry;
 mod finishes;
 mod limits;
 mod nodes;
@@ -24,11 +26,12 @@ mod refusal;
 mod step;
 
 pub use book::Book;
+pub use entry::Entry;
 pub use limits::{EXPIRY, Limits};
 pub use place::{Place, Status};
 pub use refusal::Refusal;
 use std::alloc::AllocError;
-pub use step::{ClusterStep, Entry, Reply};
+pub use step::{ClusterStep, Reply};
 use thiserror::Error;
 
 /// Memory was asked for and refused.

@@ -1,4 +1,5 @@
 //! What happens to a cluster, and what is answered.
+use crate::entry::Entry;
 use crate::refusal::Refusal;
 use quant::{Event, Moment, Name, Request, SharedPod, Ticket};
 
@@ -44,17 +45,6 @@ pub enum ClusterStep {
         /// Whether the queue has an entry of the pod.
         queued: bool,
     },
-}
-
-/// What the queue has of a pod that a pass wants to place.
-#[derive(Clone, Copy, PartialEq, Eq)]
-pub enum Entry {
-    /// No entry.
-    Missing,
-    /// An entry that this pass hasn't popped, or has given back since.
-    Elsewhere,
-    /// An entry that this pass has popped, of a pod with this request.
-    Held(Request),
 }
 
 /// The answer to a step.

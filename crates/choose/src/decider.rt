@@ -1,5 +1,6 @@
 //! What decides where pods go.
 ghost use Rattle.std.specs.Prelude.{◌≡◌, List, IfOk, OnOk};
+ghost use Rattle.std.specs.Bool.{IsTrue};
 ghost use denote.Param.Send.{IsSync};
 ghost use Rattle.choose.specs.Choice.{AreRulings, AreVerdicts, Choice};
 ghost use Rattle.choose.specs.declared.decision.Verdict.{Verdict};
@@ -20,10 +21,12 @@ pub trait Decider {
     // The kits for whose rules it stands: the first for all.
     ghost kits: { Self → List Self.Kit };
 
-    // The verdicts of its last decision, or its last rulings.
+    // The verdicts of the last decision that it explained, or its last rulings.
     ghost last: { Self → List Verdict };
 
     /// Where a pod goes, by a look at the nodes: the choice that the first kit would make alone.
+    /// The verdicts by which it was decided are told where it is to be explained; else none need be
+    /// written.
     ///
     /// Errors: `NoMemory`. Nothing is decided then, and it can be used again.
     fn decide<R: Threads + Wait + Sync>(
@@ -31,29 +34,13 @@ pub trait Decider {
         rt: &R,
         snapshot: Snapshot,
         pod: &SharedPod,
+        explains: bool,
     ) -> Result<Decision, NoMemory>
         requires { IsSync R.row }
         ensures chosen { IfOk result (Choice (rules_of Self.Kit.answers (kits self.old)) snapshot pod.now) }
-        ensures judged { OnOk result (AreVerdicts (rules_of Self.Kit.answers (kits self.old)) pod.now snapshot
-            (last self.new)) }
+        ensures judged { IsTrue explains → OnOk result (AreVerdicts (rules_of Self.Kit.answers (kits self.old)) pod.now
+            snapshot (last self.new)) }
         ensures kits { kits self.new ≡ kits self.old };
-
-    /// Where a pod goes, as `decide` says it. Which verdicts it was decided by isn't told then, so
-    /// that none need be written.
-    ///
-    /// Errors: as those of `decide`.
-    fn choose<R: Threads + Wait + Sync>(
-        &mut self,
-        rt: &R,
-        snapshot: Snapshot,
-        pod: &SharedPod,
-    ) -> Result<Decision, NoMemory>
-        requires { IsSync R.row }
-        ensures chosen { IfOk result (Choice (rules_of Self.Kit.answers (kits self.old)) snapshot pod.now) }
-        ensures kits { kits self.new ≡ kits self.old }
-    {
-        self.decide(rt, snapshot, pod)
-    }
 
     /// What the rules of the first kit alone say of each node, for a pod, or what their filters
     /// alone say: the verdicts are these rulings then.
@@ -69,7 +56,8 @@ pub trait Decider {
             pod.now snapshot.now (last self.new)) }
         ensures kits { kits self.new ≡ kits self.old };
 
-    /// The verdicts of its last decision, or its last rulings, in the order of the nodes.
+    /// The verdicts of its last decision, where it was to be explained, or its last rulings, in the
+    /// order of the nodes.
     fn verdicts(&self) -> &[Verdict]
         ensures { result.now ≡ last self.now };
 }

@@ -29,22 +29,11 @@ impl<A: Decider + Drop, B: Decider<Kit = A::Kit> + Drop> Decider for OneOf<A, B>
         rt: &R,
         snapshot: Snapshot,
         pod: &SharedPod,
+        explains: bool,
     ) -> Result<Decision, NoMemory> {
         match self {
-            OneOf::First(one) => one.decide(rt, snapshot, pod),
-            OneOf::Second(one) => one.decide(rt, snapshot, pod),
-        }
-    }
-
-    fn choose<R: Threads + Wait + Sync>(
-        &mut self,
-        rt: &R,
-        snapshot: Snapshot,
-        pod: &SharedPod,
-    ) -> Result<Decision, NoMemory> {
-        match self {
-            OneOf::First(one) => one.choose(rt, snapshot, pod),
-            OneOf::Second(one) => one.choose(rt, snapshot, pod),
+            OneOf::First(one) => one.decide(rt, snapshot, pod, explains),
+            OneOf::Second(one) => one.decide(rt, snapshot, pod, explains),
         }
     }
 

@@ -1,14 +1,9 @@
--- What a binder's report and a count come to.
+-- What a binder's report comes to.
 use Rattle.std.proofs.Common.{◌≡◌, ℕ, ◌+◌, Bool, true, false, Result, Ok, Err, IfOk, OnErr, List, [], ◌∷◌, ◌++◌, length, sym, ap, subst, ◌∙◌, arith}
 use Rattle.std.specs.List.{AllByRecursion}
 use Rattle.desk.specs.declared.step.Step.{Step}
-use Rattle.desk.specs.declared.step.Step.TheVariants as steps
 use Rattle.desk.specs.declared.step.Reply.{Reply}
-use Rattle.desk.specs.declared.step.Reply.TheVariants as replies
-use Rattle.desk.specs.Machine.{opening}
-use Rattle.desk.specs.History.{AreAnswered, call}
 use Rattle.desk.specs.Shared.{Pass, Desk, IsApplied}
-use Rattle.desk.proofs.Fair.{answered_next}
 use Rattle.binder.specs.declared.job.Job.{Job}
 use Rattle.binder.specs.Binds.{report_of}
 use Rattle.crew.specs.Made.{newcomer, Makes, IsReport}
@@ -35,23 +30,6 @@ all_join (e ∷ a) b x y = (x.0, all_join a b x.1 y)
 -- reports, and then more of them
 pub more_reports : (p q r : Pass) → (made : List Step) × Makes p made q × AllByRecursion IsReport made → (made : List Step) × Makes q made r × AllByRecursion IsReport made → (made : List Step) × Makes p made r × AllByRecursion IsReport made
 more_reports p q r a b = (a.0 ++ b.0, makes_both p q r a.0 b.0 a.1 b.1, all_join a.0 b.0 a.2 b.2)
-
--- ---- counts
-
--- what `Count` may be answered
-abbrev pub AnswersCount : Reply → Type 0
-AnswersCount replies.Done = ⊥
-AnswersCount replies.Idle = ⊥
-AnswersCount (replies.Popped pod) = ⊥
-AnswersCount (replies.Ticket ticket) = ⊥
-AnswersCount (replies.Counts n) = Unit {0}
-AnswersCount (replies.Refused why) = ⊥
-
-pub count_answers : (desk : Desk) (p p' : Pass) (answer : Reply) → IsApplied desk p steps.Count answer p' → AnswersCount answer
-count_answers desk p p' answer applied =
-    let s = opening desk.limits in
-    let is = answered_next s applied.until (call p.caller steps.Count answer) [] (subst (AreAnswered s) applied.ends applied.legal.history.answered) in
-    subst AnswersCount (sym is) tt
 
 -- ---- one more worker
 

@@ -1,11 +1,13 @@
 -- Cycles, one after the other.
-use Rattle.std.proofs.Common.{◌≡◌, ℕ, List, [], ◌∷◌, ◌++◌, sym, subst}
+use Rattle.std.proofs.Common.{◌≡◌, ℕ, List, [], ◌∷◌, ◌++◌, Option, Some, None, Result, Ok, Err, sym, subst}
 use Rattle.queue.specs.declared.state.Failure.{Failure}
 use Rattle.quant.specs.declared.name.Name.{Name}
+use Rattle.quant.specs.declared.objects.Pod.{Pod}
+use Rattle.quant.specs.declared.version.Ticket.{Ticket}
+use Rattle.book.specs.declared.refusal.Refusal.{Refusal}
 use Rattle.choose.specs.declared.decision.Decision.{Decision}
 use Rattle.choose.specs.declared.decision.Decision.TheVariants as decisions
-use Rattle.desk.specs.declared.step.Reply.{Reply}
-use Rattle.desk.specs.declared.step.Reply.TheVariants as replies
+use Rattle.desk.specs.Machine.{given, popped}
 use Rattle.desk.specs.History.{Call, GoesOn}
 use Rattle.desk.specs.Shared.{Pass, Desk, IsLooked}
 use Rattle.rules.specs.RuleSet.{RuleSet}
@@ -23,15 +25,11 @@ failed_later : (desk : Desk) (p q : Pass) (uid : Name) (how : Failure) → IsFai
 failed_later desk p q uid how f = applied_later desk p q _ f.answer f.applied
 
 assumed_later : (desk : Desk) (p q : Pass) (uid node : Name) (total : ℕ) (came : Cycled) → IsAssumed desk p uid node total came q → Later p q
-assumed_later desk p q uid node total came a = later_trans p a.answered q (applied_later desk p a.answered _ a.answer a.applied) (ends a.answer a.ends)
+assumed_later desk p q uid node total came a = later_trans p a.answered q (applied_later desk p a.answered _ (given a.answer) a.applied) (ends a.answer a.ends)
   where
-    ends : (answer : Reply) → AfterAssume desk a.answered uid node total answer came q → Later a.answered q
-    ends (replies.Ticket ticket) e = later_same a.answered q e.1
-    ends (replies.Refused why) e = failed_later desk a.answered q uid _ e.1
-    ends replies.Done e = absurd e
-    ends replies.Idle e = absurd e
-    ends (replies.Popped pod) e = absurd e
-    ends (replies.Counts n) e = absurd e
+    ends : (answer : Result Ticket Refusal) → AfterAssume desk a.answered uid node total answer came q → Later a.answered q
+    ends (Ok ticket) e = later_same a.answered q e.1
+    ends (Err why) e = failed_later desk a.answered q uid _ e.1
 
 ends_later : (desk : Desk) (p q : Pass) (uid : Name) (decision : Decision) (came : Cycled) → EndsWith desk p uid decision came q → Later p q
 ends_later desk p q uid (decisions.Node node total) came e = assumed_later desk p q uid node total came e
@@ -42,15 +40,11 @@ looked_informed : (desk : Desk) (p q : Pass) (rows : _) → IsLooked desk p rows
 looked_informed desk p q rows l = (l.same, l.ahead.goes_on)
 
 pub cycle_later : (rules : RuleSet) (desk : Desk) (p q : Pass) (came : Cycled) → IsCycle rules desk p came q → Later p q
-cycle_later rules desk p q came c = later_trans p c.popped q (applied_later desk p c.popped _ c.answer c.pops) (after c.answer c.then)
+cycle_later rules desk p q came c = later_trans p c.popped q (applied_later desk p c.popped _ (popped c.answer) c.pops) (after c.answer c.then)
   where
-    after : (answer : Reply) → AfterPop rules desk c.popped answer came q → Later c.popped q
-    after (replies.Popped pod) d = later_trans c.popped d.looked q (informed_later c.popped d.looked (looked_informed desk c.popped d.looked d.chosen.rows d.chosen.looked)) (ends_later desk d.looked q _ d.decision came d.ends)
-    after replies.Idle e = later_same c.popped q e.1
-    after replies.Done e = absurd e
-    after (replies.Ticket ticket) e = absurd e
-    after (replies.Counts n) e = absurd e
-    after (replies.Refused why) e = absurd e
+    after : (answer : Option Pod) → AfterPop rules desk c.popped answer came q → Later c.popped q
+    after (Some pod) d = later_trans c.popped d.looked q (informed_later c.popped d.looked (looked_informed desk c.popped d.looked d.chosen.rows d.chosen.looked)) (ends_later desk d.looked q _ d.decision came d.ends)
+    after None e = later_same c.popped q e.1
 
 -- ---- one cycle more
 

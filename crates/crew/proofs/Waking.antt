@@ -1,6 +1,6 @@
 -- Which steps leave nothing to be popped where nothing was.
 use Rattle.std.proofs.Common.{◌≡◌, true, false, cond, Option, Some, None, sym, ap, subst, ◌∙◌}
-use Rattle.std.specs.Prelude.{MatchOption}
+use Rattle.std.specs.Prelude.{MatchOption, option_map}
 use Rattle.quant.specs.declared.amount.Request.{Request}
 use Rattle.quant.specs.declared.event.Event.TheVariants.{NodeSet, NodeGone, PodPending, PodBound, PodGone}
 use Rattle.quant.specs.declared.name.Name.{Name}
@@ -35,7 +35,7 @@ stays None s done why other is none = absurd (other (sym is))
 stays (Some w) s done why other is none = none
 
 -- the same where the book takes a part
-both_stay : (s : State) (part : ClusterStep) (queue : QueueState) (why : Refusal) → (told (book_step.answer s.cluster part) ≡ replies.Refused why → ⊥) → replies.Refused why ≡ (both s part queue).reply → Sleeps s → Sleeps (both s part queue).state
+both_stay : (s : State) (part : ClusterStep) (queue : QueueState) (why : Refusal) → (told s.cluster part ≡ replies.Refused why → ⊥) → replies.Refused why ≡ (both s part queue).reply → Sleeps s → Sleeps (both s part queue).state
 both_stay s part queue why other is none = stays (book_step.refusal s.cluster part) s (done_by s part queue) why other is none
 
 done_apart : (why : Refusal) → replies.Done ≡ replies.Refused why → ⊥
@@ -48,7 +48,7 @@ refused_wakes_none (Event (NodeGone version name)) why s pass is none = both_sta
 refused_wakes_none (Event (PodPending version pod)) why s pass is none = both_stay s (of_pod s pod.uid (PodPending version pod)) (after_add s.queue pod s.clock) why (done_apart why) is none
 refused_wakes_none (Event (PodBound version uid node request)) why s pass is none = both_stay s (of_pod s uid (PodBound version uid node request)) (after_remove s.queue uid) why (done_apart why) is none
 refused_wakes_none (Event (PodGone version uid)) why s pass is none = both_stay s (of_pod s uid (PodGone version uid)) (moved_if_placed s uid (after_remove s.queue uid)) why (done_apart why) is none
-refused_wakes_none Pop why s pass is none = let idle : replies.Refused why ≡ replies.Idle = is ∙ ap popped none in cc
+refused_wakes_none Pop why s pass is none = let idle : replies.Refused why ≡ replies.Idle = is ∙ ap (λ o. popped (option_map (λ item. item.1.pod) o)) none in cc
 refused_wakes_none (Assume uid node) why s pass is none = both_stay s (cluster.Assume uid node (entry_at s pass uid)) s.queue why (λ eq. cc) is none
 refused_wakes_none (BindDone uid ticket) why s pass is none = both_stay s (cluster.BindDone uid ticket s.clock (has_entry s.queue uid)) s.queue why (done_apart why) is none
 refused_wakes_none (Forget uid ticket) why s pass is none = both_stay s (cluster.Forget uid ticket (has_entry s.queue uid)) (moved s (after_forget s.queue uid s.clock)) why (done_apart why) is none

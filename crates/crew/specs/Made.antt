@@ -19,14 +19,10 @@ steps_of pass l = map (λ c. c.step) (calls_by pass l)
 
 -- a step that reports a bind, or asks for the desk's numbers
 abbrev pub IsReportOrCount : Step → Type 0
-IsReportOrCount (steps.Event event) = ⊥
-IsReportOrCount steps.Pop = ⊥
-IsReportOrCount (steps.Assume uid node) = ⊥
 IsReportOrCount (steps.BindDone uid ticket) = ⊤
 IsReportOrCount (steps.Forget uid ticket) = ⊤
-IsReportOrCount (steps.Fail uid how) = ⊥
-IsReportOrCount (steps.Tick now) = ⊥
 IsReportOrCount steps.Count = ⊤
+IsReportOrCount _ = ⊥
 
 -- ---- what a pass knows
 
@@ -49,11 +45,6 @@ pub record Makes (p : Pass) (made : List Step) (p' : Pass) : Type 0 where
 
 -- a step that reports a bind
 abbrev pub IsReport : Step → Type 0
-IsReport (steps.Event event) = ⊥
-IsReport steps.Pop = ⊥
-IsReport (steps.Assume uid node) = ⊥
 IsReport (steps.BindDone uid ticket) = ⊤
 IsReport (steps.Forget uid ticket) = ⊤
-IsReport (steps.Fail uid how) = ⊥
-IsReport (steps.Tick now) = ⊥
-IsReport steps.Count = ⊥
+IsReport _ = ⊥

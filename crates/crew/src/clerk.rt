@@ -1,13 +1,11 @@
 //! The pass that meets all others at the end, counts, looks, and closes the desk.
-ghost use Rattle.std.specs.Prelude.{◌≡◌, OnOk, IfOk, OnErr};
-ghost use Rattle.desk.specs.Shared.{IsPassOf, IsApplied};
-ghost use Rattle.desk.specs.declared.step.Step.TheVariants as steps;
-ghost use Rattle.desk.specs.declared.step.Reply.TheVariants as replies;
+ghost use Rattle.std.specs.Prelude.{◌≡◌, IfOk};
+ghost use Rattle.desk.specs.Shared.{IsPassOf};
 ghost use Rattle.crew.specs.Crew.{ArePassesOf, HaveMet, IsDumped};
 
 use crate::worker::Worker;
 use binder::Binder;
-use desk::{Counts, Desk, Naming, NoMemory, Pass, Reply, Snapshot, Step};
+use desk::{Counts, Desk, Naming, NoMemory, Pass, Snapshot};
 use std::sync::Wait;
 
 /// Meets each of these passes, in order.
@@ -23,27 +21,6 @@ pub fn meet_each<J: Naming, R: Wait, T: Drop>(
 {
     for k in 0..workers.len() {
         desk.meet(rt, clerk, &mut workers[k].pass);
-    }
-}
-
-// Counts.
-fn count<J: Naming, R: Wait>(
-    rt: &R,
-    desk: &Desk<J>,
-    clerk: &mut Pass<J>,
-) -> Result<Counts, NoMemory>
-    requires { IsPassOf clerk.old desk.now }
-    ensures counted { IfOk result (λ counts. IsApplied desk.now clerk.old steps.Count (replies.Counts counts)
-        clerk.new) }
-    ensures err { OnErr result (clerk.new ≡ clerk.old) }
-{
-    match desk.apply(rt, clerk, Step::Count)? {
-        Reply::Counts(counts) => Ok(counts),
-        Reply::Done => unreachable!(),
-        Reply::Idle => unreachable!(),
-        Reply::Popped(_) => unreachable!(),
-        Reply::Ticket(_) => unreachable!(),
-        Reply::Refused(_) => unreachable!(),
     }
 }
 
@@ -68,7 +45,7 @@ pub fn take_dump<J: Naming, R: Wait, D: Drop>(
     meet_each(rt, desk, clerk, feeders);
     meet_each(rt, desk, clerk, cyclers);
     meet_each(rt, desk, clerk, reporters);
-    let counts = count(rt, desk, clerk)?;
+    let counts = desk.count(rt, clerk)?;
     let shown = desk.look(clerk)?;
     meet_each(rt, desk, clerk, feeders);
     meet_each(rt, desk, clerk, cyclers);

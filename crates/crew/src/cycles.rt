@@ -14,7 +14,7 @@ use binder::Job;
 use choose::Decider;
 use crossbeam_channel::Sender;
 use desk::{Desk, Naming, NoMemory, Pass};
-use engine::{Cycled, cycle_untold};
+use engine::{Cycled, cycle};
 use std::sync::Wait;
 use std::thread::Threads;
 
@@ -34,7 +34,7 @@ fn turn<J: Naming, R: Wait + Threads + Sync, D: Decider>(
     ensures number { pass.new.caller.number ≡ pass.old.caller.number }
     ensures kits { D.kits decider.new ≡ D.kits decider.old }
 {
-    match cycle_untold(desk, rt, pass, decider) {
+    match cycle(desk, rt, pass, decider, false) {
         Err(_) => Err(NoMemory),
         Ok(Cycled::Idle) => Ok(true),
         Ok(

@@ -25,7 +25,7 @@ unless_calls None s done e = e
 unless_calls (Some why) s done e = refl
 
 both_calls : (s : State) (part : ClusterStep) (queue : QueueState) → (both s part queue).state.calls ≡ s.calls
-both_calls s part queue = unless_calls (book_step.refusal s.cluster part) s (record { state = record s { cluster = book_step.effect s.cluster part; queue = queue }; reply = told (book_step.answer s.cluster part) }) refl
+both_calls s part queue = unless_calls (book_step.refusal s.cluster part) s (record { state = record s { cluster = book_step.effect s.cluster part; queue = queue }; reply = told s.cluster part }) refl
 
 pub calls_kept : (s : State) (pass : ℕ) (e : Step) → (step s pass e).state.calls ≡ s.calls
 calls_kept s pass (Event (NodeSet version node)) = both_calls s (of_node s (NodeSet version node)) (moved s s.queue)

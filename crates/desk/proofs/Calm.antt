@@ -28,7 +28,7 @@ use Rattle.book.specs.declared.place.Status.TheVariants.{Assumed, Bound}
 use Rattle.book.specs.declared.refusal.Refusal.{Refusal}
 use Rattle.book.specs.declared.refusal.Refusal.TheVariants as refusals
 use Rattle.book.specs.declared.step.ClusterStep.TheVariants as cluster
-use Rattle.book.specs.declared.step.Entry.{Entry}
+use Rattle.book.specs.declared.entry.Entry.{Entry}
 use Rattle.book.specs.Cluster.{name_cmp, Places}
 use Rattle.book.specs.Expiry.{is_expired, unexpired}
 use Rattle.book.specs.Step as book_step
@@ -88,16 +88,7 @@ row_kept before n (Event (NodeSet version node)) row told calm =
     let same : node ≡ row = cc in
     subst (λ (x : Node). All (Covered n x.allocatable) before) same (subst (λ m. All (Covered m node.allocatable) before) said.0 calm)
 row_kept before n (Event (NodeGone version name)) row told calm = let said = named_says name n None (Some row) told in absurd (cc)
-row_kept before n (Event (PodPending version other)) row told calm = absurd (cc)
-row_kept before n (Event (PodBound version uid node request)) row told calm = absurd (cc)
-row_kept before n (Event (PodGone version uid)) row told calm = absurd (cc)
-row_kept before n Pop row told calm = absurd (cc)
-row_kept before n (Assume uid node) row told calm = absurd (cc)
-row_kept before n (BindDone uid ticket) row told calm = absurd (cc)
-row_kept before n (Forget uid ticket) row told calm = absurd (cc)
-row_kept before n (Fail uid how) row told calm = absurd (cc)
-row_kept before n (Tick now) row told calm = absurd (cc)
-row_kept before n Count row told calm = absurd (cc)
+row_kept before n _ row told calm = absurd (cc)
 
 -- the last row of a node covers all that were told of it
 abbrev IsTop : List Call → Name → Type 0

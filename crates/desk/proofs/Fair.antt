@@ -5,7 +5,7 @@ use Rattle.std.specs.Option.{option_or}
 use Rattle.std.specs.Str.{bytes_eq}
 use Rattle.std.specs.Cmp.Lexicographic.{bytes_decides}
 use Rattle.std.specs.FinMap as fin
-use Rattle.quant.specs.declared.event.Event.TheVariants.{NodeSet, NodeGone, PodPending, PodBound, PodGone}
+use Rattle.quant.specs.declared.event.Event.TheVariants.{NodeSet, NodeGone, PodPending}
 use Rattle.quant.specs.declared.amount.Request.{Request}
 use Rattle.quant.specs.declared.name.Name.{Name}
 use Rattle.quant.specs.declared.objects.Node.{Node}
@@ -19,8 +19,8 @@ use Rattle.queue.specs.Queue.{entry_of}
 use Rattle.book.specs.declared.limits.Limits.{Limits}
 use Rattle.book.specs.declared.refusal.Refusal.{Refusal}
 use Rattle.book.specs.declared.refusal.Refusal.TheVariants as refusals
-use Rattle.book.specs.declared.step.Entry.{Entry}
-use Rattle.book.specs.declared.step.Entry.TheVariants.{Missing, Elsewhere, Held}
+use Rattle.book.specs.declared.entry.Entry.{Entry}
+use Rattle.book.specs.declared.entry.Entry.TheVariants.{Missing, Elsewhere, Held}
 use Rattle.book.specs.declared.step.ClusterStep.TheVariants as cluster
 use Rattle.book.specs.Cluster.{Cluster, name_cmp}
 use Rattle.book.specs.Step as book_step
@@ -29,7 +29,7 @@ use Rattle.book.specs.Tables.{is_full_for}
 use Rattle.book.specs.Used.{used}
 use Rattle.book.proofs.TableLemmas.{same_test}
 use Rattle.desk.specs.declared.step.Step.{Step}
-use Rattle.desk.specs.declared.step.Step.TheVariants.{Event, Pop, Assume, BindDone, Forget, Fail, Tick, Count}
+use Rattle.desk.specs.declared.step.Step.TheVariants.{Event, Assume}
 use Rattle.desk.specs.declared.step.Reply.{Reply}
 use Rattle.desk.specs.declared.step.Reply.TheVariants.{Ticket as Given}
 use Rattle.desk.specs.inside.Caller.{Core}
@@ -67,18 +67,8 @@ named_says n q x y e = by (bytes_eq n q) refl e
     by false is e = absurd (cc)
 
 pending_named : (q : Name) (e : Step) (pod : Pod) → pending_in q e ≡ Some pod → pod.uid ≡ q
-pending_named q (Event (NodeSet version node)) pod h = absurd (cc)
-pending_named q (Event (NodeGone version name)) pod h = absurd (cc)
 pending_named q (Event (PodPending version other)) pod h = let is = named_says other.uid q other pod h in ap (λ (x : Pod). x.uid) (sym is.1) ∙ is.0
-pending_named q (Event (PodBound version uid node request)) pod h = absurd (cc)
-pending_named q (Event (PodGone version uid)) pod h = absurd (cc)
-pending_named q Pop pod h = absurd (cc)
-pending_named q (Assume uid node) pod h = absurd (cc)
-pending_named q (BindDone uid ticket) pod h = absurd (cc)
-pending_named q (Forget uid ticket) pod h = absurd (cc)
-pending_named q (Fail uid how) pod h = absurd (cc)
-pending_named q (Tick now) pod h = absurd (cc)
-pending_named q Count pod h = absurd (cc)
+pending_named q _ pod h = absurd (cc)
 
 -- a row is of the name, if it is one
 abbrev pub IsNamed : Name → Option Node → Type 0
@@ -92,16 +82,7 @@ row_named q (Event (NodeSet version node)) o h row is =
 row_named q (Event (NodeGone version name)) o h row is =
     let said = named_says name q None o h in
     absurd (cc)
-row_named q (Event (PodPending version other)) o h row is = absurd (cc)
-row_named q (Event (PodBound version uid node request)) o h row is = absurd (cc)
-row_named q (Event (PodGone version uid)) o h row is = absurd (cc)
-row_named q Pop o h row is = absurd (cc)
-row_named q (Assume uid node) o h row is = absurd (cc)
-row_named q (BindDone uid ticket) o h row is = absurd (cc)
-row_named q (Forget uid ticket) o h row is = absurd (cc)
-row_named q (Fail uid how) o h row is = absurd (cc)
-row_named q (Tick now) o h row is = absurd (cc)
-row_named q Count o h row is = absurd (cc)
+row_named q _ o h row is = absurd (cc)
 
 -- the last row that is told of a name is of that name
 row_own : (l : List Call) (q : Name) (row : Node) → row_of l q ≡ Some row → row.name ≡ q

@@ -67,10 +67,8 @@ same_after_tick pass now (Unschedulable since) = elim (nat_le (since.0 + 300000)
 same_after_tick pass now (InFlight p m) = refl
 
 same_after_move : (pass : PassNumber) (now : Moment) (n : ℕ) (s : QueueStanding) → is_in_flight_for pass (state_after_move now n s) ≡ is_in_flight_for pass s
-same_after_move pass now n Active = refl
-same_after_move pass now n (Backoff until) = refl
 same_after_move pass now n (Unschedulable since) = elim (nat_le (backed_off since n).0 now.0) as (λ b. is_in_flight_for pass (if b then Active else Backoff (backed_off since n)) ≡ false) [ true ↦ refl | false ↦ refl ]
-same_after_move pass now n (InFlight p m) = refl
+same_after_move pass now n _ = refl
 
 module _ (q : QueueState) (p : ℕ) (uid : Name) where
   -- an entry under a name, which no pass holds
@@ -160,7 +158,7 @@ module _ (s : State) (p : ℕ) (q : Name) where
           let none : (if eqb pass p then if_named item.1.pod.uid q item.1.pod else None) ≡ None = ap (λ b. if eqb pass p then (if b then Some item.1.pod else None) else None) named ∙ elim (eqb pass p) as (λ b. cond {A = Option Pod} b None None ≡ None) [ true ↦ refl | false ↦ refl ] in
           subst (λ o. Agrees (held_at s.queue p q) (option_or o known)) (sym none) h
 
-      by : (o : Option Item) → next_of s.queue ≡ o → StillHeld pass (record s { queue = with_popped s.queue (pass_number pass) o }) (popped_reply o)
+      by : (o : Option Item) → next_of s.queue ≡ o → StillHeld pass (record s { queue = with_popped s.queue (pass_number pass) o }) (popped_reply (option_map (λ item. item.1.pod) o))
       by None is = λ known h. h
       by (Some item) is = λ known h.
           let next : IsNext s.queue item = subst (λ o. MatchOption o (NoneActive s.queue) (IsNext s.queue)) is (pops_the_first s.queue) in

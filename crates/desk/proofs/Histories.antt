@@ -12,7 +12,7 @@ use Rattle.book.specs.Step as book_step
 use Rattle.book.specs.declared.limits.Limits.{Limits}
 use Rattle.book.specs.declared.place.Place.{Place}
 use Rattle.book.specs.declared.refusal.Refusal.{Refusal}
-use Rattle.book.specs.declared.step.Entry.TheVariants.{Missing, Elsewhere, Held}
+use Rattle.book.specs.declared.entry.Entry.TheVariants.{Missing, Elsewhere, Held}
 use Rattle.book.specs.declared.step.ClusterStep.{ClusterStep}
 use Rattle.book.specs.declared.step.ClusterStep.TheVariants as cluster
 use Rattle.queue.specs.Queue.{QueueState, has_entry, after_add, after_remove, after_forget, after_fail}
@@ -113,7 +113,7 @@ unless_limits None s done e = e
 unless_limits (Some why) s done e = refl
 
 both_limits : (s : State) (part : ClusterStep) (queue : QueueState) → limits_of (both s part queue).state ≡ limits_of s
-both_limits s part queue = unless_limits (book_step.refusal s.cluster part) s (record { state = record s { cluster = book_step.effect s.cluster part; queue = queue }; reply = told (book_step.answer s.cluster part) }) (effect_limits s.cluster part)
+both_limits s part queue = unless_limits (book_step.refusal s.cluster part) s (record { state = record s { cluster = book_step.effect s.cluster part; queue = queue }; reply = told s.cluster part }) (effect_limits s.cluster part)
 
 -- nor does a step of the desk
 pub limits_after : (s : State) (pass : ℕ) (e : Step) → limits_of (after s pass e) ≡ limits_of s

@@ -10,7 +10,7 @@ use Rattle.logbook.specs.Pages.{Book}
 use Rattle.book.specs.Cluster.{Cluster}
 use Rattle.book.specs.declared.limits.Limits.{Limits}
 use Rattle.desk.specs.declared.change.Change.{Change}
-use Rattle.desk.specs.declared.change.Change.TheVariants.{Nothing, Used, AllUsed, Set, Come, Gone}
+use Rattle.desk.specs.declared.change.Change.TheVariants.{Nothing, Used}
 use Rattle.desk.specs.declared.change.Totals.{Totals}
 use Rattle.desk.specs.declared.snapshot.Row.{Row}
 use Rattle.desk.specs.Machine.{State, opening}
@@ -67,10 +67,7 @@ writes c new change o is e = subst (λ (x : Option Totals). IfSome x (λ totals.
     by : (change : Change) → IsChange c change new → IfSome (totals_of change) (λ totals. Writes c totals new)
     by Nothing is = record { nodes = sym is.nodes; used = sym is.used }
     by (Used first second) is = record { nodes = sym is.nodes; used = sym is.used }
-    by (AllUsed all) is = tt
-    by (Set at node) is = tt
-    by (Come at used node) is = tt
-    by (Gone at) is = tt
+    by _ is = tt
 
 -- what lies under the lock is what its history leaves
 pub state_left : (book : Book) (limits : Limits) (x : Held) → Stands book limits x → x.desk.state ≡ state_after (opening limits) x.prefix.list

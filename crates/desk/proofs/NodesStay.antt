@@ -16,8 +16,8 @@ use Rattle.book.specs.Used.{used}
 use Rattle.book.specs.declared.limits.Limits.{Limits}
 use Rattle.book.specs.declared.place.Place.{Place}
 use Rattle.book.specs.declared.refusal.Refusal.{Refusal}
-use Rattle.book.specs.declared.step.Entry.{Entry}
-use Rattle.book.specs.declared.step.Entry.TheVariants.{Missing, Elsewhere, Held}
+use Rattle.book.specs.declared.entry.Entry.{Entry}
+use Rattle.book.specs.declared.entry.Entry.TheVariants.{Missing, Elsewhere, Held}
 use Rattle.book.specs.declared.step.ClusterStep.{ClusterStep}
 use Rattle.book.specs.declared.step.ClusterStep.TheVariants as cluster
 use Rattle.queue.specs.Queue.{QueueState, has_entry, after_add, after_remove, after_forget, after_fail}
@@ -37,7 +37,7 @@ unless_nodes None s done e = e
 unless_nodes (Some why) s done e = refl
 
 both_nodes : (s : State) (part : ClusterStep) (queue : QueueState) → (book_step.effect s.cluster part).nodes ≡ s.cluster.nodes → (both s part queue).state.cluster.nodes ≡ s.cluster.nodes
-both_nodes s part queue e = unless_nodes (book_step.refusal s.cluster part) s (record { state = record s { cluster = book_step.effect s.cluster part; queue = queue }; reply = told (book_step.answer s.cluster part) }) e
+both_nodes s part queue e = unless_nodes (book_step.refusal s.cluster part) s (record { state = record s { cluster = book_step.effect s.cluster part; queue = queue }; reply = told s.cluster part }) e
 
 -- a place that is assumed or marked as finished changes no node
 chosen_nodes : (c : Cluster) (uid node : Name) (entry : Entry) → (book_step.with_choice c uid node entry).nodes ≡ c.nodes

@@ -18,8 +18,8 @@ use Rattle.book.specs.Expiry.{NoneExpired, unexpired}
 use Rattle.book.specs.Used.{used}
 use Rattle.book.specs.declared.place.Place.{Place}
 use Rattle.book.specs.declared.refusal.Refusal.{Refusal}
-use Rattle.book.specs.declared.step.Entry.{Entry}
-use Rattle.book.specs.declared.step.Entry.TheVariants.{Missing, Elsewhere, Held}
+use Rattle.book.specs.declared.entry.Entry.{Entry}
+use Rattle.book.specs.declared.entry.Entry.TheVariants.{Missing, Elsewhere, Held}
 use Rattle.book.specs.declared.step.ClusterStep.{ClusterStep}
 use Rattle.book.specs.declared.step.ClusterStep.TheVariants as cluster
 use Rattle.book.proofs.RowLemmas.{same_name}
@@ -55,7 +55,7 @@ module _ (s : State) (uid q : Name) (other : bytes_eq uid q ≡ false) where
   unless_place (Some why) done e = refl
 
   both_place : (part : ClusterStep) (queue : QueueState) → fin.get (book_step.effect s.cluster part).places q ≡ fin.get s.cluster.places q → fin.get (both s part queue).state.cluster.places q ≡ fin.get s.cluster.places q
-  both_place part queue e = unless_place (book_step.refusal s.cluster part) (record { state = record s { cluster = book_step.effect s.cluster part; queue = queue }; reply = told (book_step.answer s.cluster part) }) e
+  both_place part queue e = unless_place (book_step.refusal s.cluster part) (record { state = record s { cluster = book_step.effect s.cluster part; queue = queue }; reply = told s.cluster part }) e
 
   put_place : (m : Places) (p : Place) → fin.get (fin.insert m uid p) q ≡ fin.get m q
   put_place m p = read_insert (λ o. o) m uid q p ∙ ap (λ b. cond b (Some p) (fin.get m q)) other
@@ -75,16 +75,12 @@ module _ (s : State) (uid q : Name) (other : bytes_eq uid q ≡ false) where
 -- the places of other pods stay
 pub others_stay : (s : State) (pass : ℕ) (e : Step) (uid : Name) → IsSubject s.cluster e (subject.Pod uid) → (q : Name) → bytes_eq uid q ≡ false → fin.get (after s pass e).cluster.places q ≡ fin.get s.cluster.places q
 unfolding uid_of
-others_stay s pass (Event (NodeSet version node)) uid is q other = absurd (cc)
-others_stay s pass (Event (NodeGone version name)) uid is q other = absurd (cc)
-others_stay s pass (Event (PodPending version pod)) uid is q other = absurd (cc)
 others_stay s pass (Event (PodBound version u node request)) uid is q other =
     let apart : bytes_eq u q ≡ false = ap (λ n. bytes_eq n q) (sym (ap uid_of is)) ∙ other in
     both_place s u q apart (of_pod s u (PodBound version u node request)) (after_remove s.queue u) (put_place s u q apart s.cluster.places _)
 others_stay s pass (Event (PodGone version u)) uid is q other =
     let apart : bytes_eq u q ≡ false = ap (λ n. bytes_eq n q) (sym (ap uid_of is)) ∙ other in
     both_place s u q apart (of_pod s u (PodGone version u)) (moved_if_placed s u (after_remove s.queue u)) (taken_place s u q apart s.cluster.places)
-others_stay s pass Pop uid is q other = absurd (cc)
 others_stay s pass (Assume u node) uid is q other =
     let apart : bytes_eq u q ≡ false = ap (λ n. bytes_eq n q) (sym (ap uid_of is)) ∙ other in
     both_place s u q apart (cluster.Assume u node (entry_at s pass u)) s.queue (chosen_place s u q apart node (entry_at s pass u))
@@ -94,24 +90,14 @@ others_stay s pass (BindDone u ticket) uid is q other =
 others_stay s pass (Forget u ticket) uid is q other =
     let apart : bytes_eq u q ≡ false = ap (λ n. bytes_eq n q) (sym (ap uid_of is)) ∙ other in
     both_place s u q apart (cluster.Forget u ticket (has_entry s.queue u)) (moved s (after_forget s.queue u s.clock)) (taken_place s u q apart s.cluster.places)
-others_stay s pass (Fail u how) uid is q other = absurd (cc)
 others_stay s pass (Tick now) uid is q other = absurd is
-others_stay s pass Count uid is q other = absurd (cc)
+others_stay s pass _ uid is q other = absurd (cc)
 
 -- and so do the nodes
 pod_tells : (c : Cluster) (e : Step) (uid : Name) → IsSubject c e (subject.Pod uid) → tells_of_node e ≡ false
 pod_tells c (Event (NodeSet version node)) uid is = absurd (cc)
 pod_tells c (Event (NodeGone version name)) uid is = absurd (cc)
-pod_tells c (Event (PodPending version pod)) uid is = refl
-pod_tells c (Event (PodBound version u node request)) uid is = refl
-pod_tells c (Event (PodGone version u)) uid is = refl
-pod_tells c Pop uid is = refl
-pod_tells c (Assume u node) uid is = refl
-pod_tells c (BindDone u ticket) uid is = refl
-pod_tells c (Forget u ticket) uid is = refl
-pod_tells c (Fail u how) uid is = refl
-pod_tells c (Tick now) uid is = refl
-pod_tells c Count uid is = refl
+pod_tells c _ uid is = refl
 
 pub nodes_stay : (s : State) (pass : ℕ) (e : Step) (uid : Name) → IsSubject s.cluster e (subject.Pod uid) → (after s pass e).cluster.nodes ≡ s.cluster.nodes
 nodes_stay s pass e uid is = stays s pass e (pod_tells s.cluster e uid is)
@@ -129,73 +115,40 @@ none_go places now none = fin.same_map nat_list_cmp_total same_name _ _ (λ q. g
 nobody_tells : (c : Cluster) (e : Step) → IsSubject c e subject.Nothing → tells_of_node e ≡ false
 nobody_tells c (Event (NodeSet version node)) is = absurd (cc)
 nobody_tells c (Event (NodeGone version name)) is = absurd (cc)
-nobody_tells c (Event (PodPending version pod)) is = refl
-nobody_tells c (Event (PodBound version u node request)) is = refl
-nobody_tells c (Event (PodGone version u)) is = refl
-nobody_tells c Pop is = refl
-nobody_tells c (Assume u node) is = refl
-nobody_tells c (BindDone u ticket) is = refl
-nobody_tells c (Forget u ticket) is = refl
-nobody_tells c (Fail u how) is = refl
-nobody_tells c (Tick now) is = refl
-nobody_tells c Count is = refl
+nobody_tells c _ is = refl
 
 pub nobody_nodes : (s : State) (pass : ℕ) (e : Step) → IsSubject s.cluster e subject.Nothing → (after s pass e).cluster.nodes ≡ s.cluster.nodes
 nobody_nodes s pass e is = stays s pass e (nobody_tells s.cluster e is)
 
 pub nobody_places : (s : State) (pass : ℕ) (e : Step) → IsSubject s.cluster e subject.Nothing → (after s pass e).cluster.places ≡ s.cluster.places
-nobody_places s pass (Event (NodeSet version node)) is = absurd (cc)
-nobody_places s pass (Event (NodeGone version name)) is = absurd (cc)
 nobody_places s pass (Event (PodPending version pod)) is =
     let part = of_pod s pod.uid (PodPending version pod) in
-    unless_places (book_step.refusal s.cluster part) s (record { state = record s { cluster = book_step.effect s.cluster part; queue = after_add s.queue pod s.clock }; reply = told (book_step.answer s.cluster part) }) refl
-nobody_places s pass (Event (PodBound version u node request)) is = absurd (cc)
-nobody_places s pass (Event (PodGone version u)) is = absurd (cc)
+    unless_places (book_step.refusal s.cluster part) s (record { state = record s { cluster = book_step.effect s.cluster part; queue = after_add s.queue pod s.clock }; reply = told s.cluster part }) refl
 nobody_places s pass Pop is = refl
-nobody_places s pass (Assume u node) is = absurd (cc)
-nobody_places s pass (BindDone u ticket) is = absurd (cc)
-nobody_places s pass (Forget u ticket) is = absurd (cc)
 nobody_places s pass (Fail u how) is =
     unless_places (refusal_to_fail s pass u) s (record { state = record s { queue = after_fail s.queue u (pass_number pass) how s.clock }; reply = replies.Done }) refl
 nobody_places s pass (Tick now) is = unless_places (refusal_to_tick s now) s (record { state = ticked_to s now; reply = replies.Done }) (none_go s.cluster.places now is)
 nobody_places s pass Count is = refl
+nobody_places s pass _ is = absurd (cc)
 
 -- ---- a tick by which places expire
 
 pub all_nodes : (s : State) (pass : ℕ) (e : Step) (all : Vec Res) → IsSubject s.cluster e (subject.All all) → (after s pass e).cluster.nodes ≡ s.cluster.nodes
-all_nodes s pass (Event (NodeSet version node)) all is = absurd (cc)
-all_nodes s pass (Event (NodeGone version name)) all is = absurd (cc)
-all_nodes s pass (Event (PodPending version pod)) all is = absurd (cc)
-all_nodes s pass (Event (PodBound version u node request)) all is = absurd (cc)
-all_nodes s pass (Event (PodGone version u)) all is = absurd (cc)
-all_nodes s pass Pop all is = absurd (cc)
-all_nodes s pass (Assume u node) all is = absurd (cc)
-all_nodes s pass (BindDone u ticket) all is = absurd (cc)
-all_nodes s pass (Forget u ticket) all is = absurd (cc)
-all_nodes s pass (Fail u how) all is = absurd (cc)
 all_nodes s pass (Tick now) all is = stays s pass (Tick now) refl
-all_nodes s pass Count all is = absurd (cc)
+all_nodes s pass (Event (PodPending version pod)) all is = absurd (cc)
+all_nodes s pass _ all is = absurd (cc)
 
 pub all_room : (c : Cluster) (e : Step) (all : Vec Res) → IsSubject c e (subject.All all) → (all.items ≡ []) × (length (fin.entries c.nodes) ≤ vec_capacity all)
-all_room c (Event (NodeSet version node)) all is = absurd (cc)
-all_room c (Event (NodeGone version name)) all is = absurd (cc)
-all_room c (Event (PodPending version pod)) all is = absurd (cc)
-all_room c (Event (PodBound version u node request)) all is = absurd (cc)
-all_room c (Event (PodGone version u)) all is = absurd (cc)
-all_room c Pop all is = absurd (cc)
-all_room c (Assume u node) all is = absurd (cc)
-all_room c (BindDone u ticket) all is = absurd (cc)
-all_room c (Forget u ticket) all is = absurd (cc)
-all_room c (Fail u how) all is = absurd (cc)
 all_room c (Tick now) all is = is
-all_room c Count all is = absurd (cc)
+all_room c (Event (PodPending version pod)) all is = absurd (cc)
+all_room c _ all is = absurd (cc)
 
 -- ---- a step that tells of a node
 
 -- a refused step about a node changes nothing
 module _ (s : State) (part : ClusterStep) (queue : QueueState) where
   abbrev done : Outcome
-  done = record { state = record s { cluster = book_step.effect s.cluster part; queue = queue }; reply = told (book_step.answer s.cluster part) }
+  done = record { state = record s { cluster = book_step.effect s.cluster part; queue = queue }; reply = told s.cluster part }
 
   refused_same : (o : Option Refusal) → is_refused done.reply ≡ false → is_refused ((unless o s done).reply) ≡ true → (unless o s done).state ≡ s
   refused_same None good bad = absurd (cc)
@@ -222,17 +175,8 @@ same_node a b e = ap (node_of a) e
 -- it is just that step
 pub is_set : (c : Cluster) (e : Step) (node : Node) → IsSubject c e (subject.Set node) → (version : Version) × (e ≡ Event (NodeSet version node))
 is_set c (Event (NodeSet version n)) node is = (version, λ i. Event (NodeSet version (same_node n node (sym is) i)))
-is_set c (Event (NodeGone version name)) node is = absurd (cc)
-is_set c (Event (PodPending version pod)) node is = absurd (cc)
-is_set c (Event (PodBound version u n request)) node is = absurd (cc)
-is_set c (Event (PodGone version u)) node is = absurd (cc)
-is_set c Pop node is = absurd (cc)
-is_set c (Assume u n) node is = absurd (cc)
-is_set c (BindDone u ticket) node is = absurd (cc)
-is_set c (Forget u ticket) node is = absurd (cc)
-is_set c (Fail u how) node is = absurd (cc)
 is_set c (Tick now) node is = absurd is
-is_set c Count node is = absurd (cc)
+is_set c _ node is = absurd (cc)
 
 name_of : Subject → Name
 name_of (subject.Gone name) = name
@@ -240,18 +184,9 @@ name_of other = []
 
 pub is_gone_step : (c : Cluster) (e : Step) (name : Name) → IsSubject c e (subject.Gone name) → (version : Version) × (e ≡ Event (NodeGone version name))
 unfolding name_of
-is_gone_step c (Event (NodeSet version n)) name is = absurd (cc)
 is_gone_step c (Event (NodeGone version n)) name is = (version, λ i. Event (NodeGone version (ap name_of (sym is) i)))
-is_gone_step c (Event (PodPending version pod)) name is = absurd (cc)
-is_gone_step c (Event (PodBound version u n request)) name is = absurd (cc)
-is_gone_step c (Event (PodGone version u)) name is = absurd (cc)
-is_gone_step c Pop name is = absurd (cc)
-is_gone_step c (Assume u n) name is = absurd (cc)
-is_gone_step c (BindDone u ticket) name is = absurd (cc)
-is_gone_step c (Forget u ticket) name is = absurd (cc)
-is_gone_step c (Fail u how) name is = absurd (cc)
 is_gone_step c (Tick now) name is = absurd is
-is_gone_step c Count name is = absurd (cc)
+is_gone_step c _ name is = absurd (cc)
 
 -- a step that tells of a node and is refused changes nothing
 pub set_refused : (s : State) (pass : ℕ) (version : Version) (node : Node) → is_refused (reply s pass (Event (NodeSet version node))) ≡ true

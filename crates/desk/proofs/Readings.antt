@@ -225,16 +225,7 @@ not_said n q x e = ap (λ b. if b then Some x else None) (test_turned n q ∙ e)
 row_silent : (q : Name) (e : Step) → names (node_in e) q ≡ false → row_in q e ≡ None
 row_silent q (Event (NodeSet version node)) h = not_said node.name q (Some node) h
 row_silent q (Event (NodeGone version name)) h = not_said name q None h
-row_silent q (Event (PodPending version pod)) h = refl
-row_silent q (Event (PodBound version uid node request)) h = refl
-row_silent q (Event (PodGone version uid)) h = refl
-row_silent q Pop h = refl
-row_silent q (Assume uid node) h = refl
-row_silent q (BindDone uid ticket) h = refl
-row_silent q (Forget uid ticket) h = refl
-row_silent q (Fail uid how) h = refl
-row_silent q (Tick now) h = refl
-row_silent q Count h = refl
+row_silent q _ h = refl
 
 -- nor does it put a pod that it doesn't name
 put_silent : (q : Name) (e : Step) (r : Reply) → names (pod_in e) q ≡ false → put_in q e r ≡ None

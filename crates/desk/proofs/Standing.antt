@@ -31,8 +31,8 @@ use Rattle.book.specs.declared.place.Status.{Status}
 use Rattle.book.specs.declared.place.Status.TheVariants.{Assumed, Bound}
 use Rattle.book.specs.declared.refusal.Refusal.{Refusal}
 use Rattle.book.specs.declared.refusal.Refusal.TheVariants as refusals
-use Rattle.book.specs.declared.step.Entry.{Entry}
-use Rattle.book.specs.declared.step.Entry.TheVariants.{Missing, Elsewhere, Held}
+use Rattle.book.specs.declared.entry.Entry.{Entry}
+use Rattle.book.specs.declared.entry.Entry.TheVariants.{Missing, Elsewhere, Held}
 use Rattle.book.specs.declared.step.ClusterStep.{ClusterStep}
 use Rattle.book.specs.declared.step.ClusterStep.TheVariants as cluster
 use Rattle.book.specs.Cluster.{name_cmp, Places}
@@ -84,17 +84,13 @@ same_after_tick now (Unschedulable since) = elim (nat_le (since.0 + 300000) now.
 same_after_tick now (InFlight p m) = refl
 
 same_after_move : (now : Moment) (n : ℕ) (s : QueueStanding) → holder (state_after_move now n s) ≡ holder s
-same_after_move now n Active = refl
-same_after_move now n (Backoff until) = refl
 same_after_move now n (Unschedulable since) = elim (nat_le (backed_off since n).0 now.0) as (λ b. holder (if b then Active else Backoff (backed_off since n)) ≡ None) [ true ↦ refl | false ↦ refl ]
-same_after_move now n (InFlight p m) = refl
+same_after_move now n _ = refl
 
 -- what a pass holds is in flight for some pass
 flies_for : (pass : PassNumber) (s : QueueStanding) → is_in_flight_for pass s ≡ true → (p : ℕ) × (holder s ≡ Some p)
-flies_for pass Active h = absurd (cc)
-flies_for pass (Backoff until) h = absurd (cc)
-flies_for pass (Unschedulable since) h = absurd (cc)
 flies_for pass (InFlight p m) h = (p.0, refl)
+flies_for pass _ h = absurd (cc)
 
 -- what is in flight is so for some pass
 pub flies : (s : QueueStanding) → is_in_flight s ≡ is_some (holder s)
@@ -105,17 +101,13 @@ flies (InFlight p m) = refl
 
 -- what isn't is so for none
 grounded : (s : QueueStanding) → is_in_flight s ≡ false → holder s ≡ None
-grounded Active h = refl
-grounded (Backoff until) h = refl
-grounded (Unschedulable since) h = refl
 grounded (InFlight p m) h = absurd (cc)
+grounded _ h = refl
 
 -- what may be popped isn't in flight
 active_grounded : (s : QueueStanding) → is_active s ≡ true → holder s ≡ None
 active_grounded Active h = refl
-active_grounded (Backoff until) h = absurd (cc)
-active_grounded (Unschedulable since) h = absurd (cc)
-active_grounded (InFlight p m) h = absurd (cc)
+active_grounded _ h = absurd (cc)
 
 module _ (q : QueueState) (uid : Name) where
   -- an entry under a name
@@ -355,7 +347,7 @@ module _ (s : State) (q : Name) where
   unfolding after_pop
   pop_keeps own pass = by (next_of s.queue) refl
     where
-      by : (o : Option Item) → next_of s.queue ≡ o → KeepsBy pass Pop (record s { queue = with_popped s.queue (pass_number pass) o }) (popped o)
+      by : (o : Option Item) → next_of s.queue ≡ o → KeepsBy pass Pop (record s { queue = with_popped s.queue (pass_number pass) o }) (popped (option_map (λ item. item.1.pod) o))
       by None is = same_keeps flight_now hold_now flight_now hold_now None refl refl refl
       by (Some item) is =
           let next : IsNext s.queue item = subst (λ o. MatchOption o (NoneActive s.queue) (IsNext s.queue)) is (pops_the_first s.queue) in

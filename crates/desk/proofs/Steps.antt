@@ -3,7 +3,7 @@ use Rattle.std.proofs.Common.{◌≡◌, ℕ, ◌+◌, ◌≤◌, Bool, true, fa
 use Rattle.std.specs.Prelude.{⊤}
 use Rattle.std.proofs.lemmas.Bool.{leb-true, le-leb, lt-leb}
 use Rattle.std.proofs.lemmas.Bool.Decides.{nat_tests}
-use Rattle.std.specs.Option.{option_or}
+use Rattle.std.specs.Option.{option_or, option_map}
 use Rattle.std.specs.Str.{bytes_eq}
 use Rattle.std.specs.Cmp.Lexicographic.{nat_list_cmp_total}
 use Rattle.std.specs.FinMap as fin
@@ -26,8 +26,8 @@ use Rattle.book.specs.declared.refusal.Refusal.{Refusal}
 use Rattle.book.specs.declared.refusal.Refusal.TheVariants as refusals
 use Rattle.queue.specs.declared.state.Failure.{Failure}
 use Rattle.quant.specs.declared.amount.Moment.{Moment}
-use Rattle.book.specs.declared.step.Entry.{Entry}
-use Rattle.book.specs.declared.step.Entry.TheVariants.{Missing, Elsewhere, Held}
+use Rattle.book.specs.declared.entry.Entry.{Entry}
+use Rattle.book.specs.declared.entry.Entry.TheVariants.{Missing, Elsewhere, Held}
 use Rattle.book.specs.declared.step.ClusterStep.{ClusterStep}
 use Rattle.book.specs.declared.step.ClusterStep.TheVariants as cluster
 use Rattle.book.specs.Cluster.{name_cmp}
@@ -153,7 +153,7 @@ unless_of s q e (Some why) done h = refused_of s q e why
 
 -- what the book and the queue make of a step
 abbrev pub done_by : State → ClusterStep → QueueState → Outcome
-done_by s part queue = record { state = record s { cluster = book_step.effect s.cluster part; queue = queue }; reply = told (book_step.answer s.cluster part) }
+done_by s part queue = record { state = record s { cluster = book_step.effect s.cluster part; queue = queue }; reply = told s.cluster part }
 
 both_of : (s : State) (q : Name) (e : Step) (part : ClusterStep) (queue : QueueState)
     → (book_step.refusal s.cluster part ≡ None → OneOf s q e (done_by s part queue).state (done_by s part queue).reply)
@@ -331,7 +331,7 @@ module _ (s : State) (q : Name) where
   unfolding after_pop
   pop pass = by (next_of s.queue) refl
     where
-      by : (o : Option Item) → next_of s.queue ≡ o → OneOf s q Pop (record s { queue = with_popped s.queue (pass_number pass) o }) (popped o)
+      by : (o : Option Item) → next_of s.queue ≡ o → OneOf s q Pop (record s { queue = with_popped s.queue (pass_number pass) o }) (popped (option_map (λ item. item.1.pod) o))
       by None is = record { node = refl; place = λ put mark h. h; clock = refl; known = λ known h. h }
       by (Some item) is = record {
         node = refl;

@@ -6,12 +6,12 @@ use Rattle.std.specs.Option.{option_map}
 use Rattle.quant.specs.declared.event.Event.TheVariants.{NodeSet, NodeGone, PodPending, PodBound, PodGone}
 use Rattle.quant.specs.declared.name.Name.{Name}
 use Rattle.quant.specs.declared.version.Ticket.{Ticket}
-use Rattle.queue.specs.Order.{Item}
-use Rattle.queue.specs.Queue.{QueueState, has_entry, next_of, after_add, after_fail, after_forget, after_remove}
+use Rattle.quant.specs.declared.objects.Pod.{Pod}
+use Rattle.queue.specs.Queue.{QueueState, has_entry, after_add, after_fail, after_forget, after_remove}
 use Rattle.book.specs.declared.place.Place.{Place}
 use Rattle.book.specs.declared.refusal.Refusal.{Refusal}
-use Rattle.book.specs.declared.step.Entry.{Entry}
-use Rattle.book.specs.declared.step.Entry.TheVariants.{Missing, Elsewhere, Held}
+use Rattle.book.specs.declared.entry.Entry.{Entry}
+use Rattle.book.specs.declared.entry.Entry.TheVariants.{Missing, Elsewhere, Held}
 use Rattle.book.specs.declared.step.ClusterStep.{ClusterStep}
 use Rattle.book.specs.declared.step.ClusterStep.TheVariants as cluster
 use Rattle.book.specs.Step as book_step
@@ -20,7 +20,7 @@ use Rattle.desk.specs.declared.step.Step.{Step}
 use Rattle.desk.specs.declared.step.Step.TheVariants.{Event, Pop, Assume, BindDone, Forget, Fail, Tick, Count}
 use Rattle.desk.specs.declared.step.Reply.{Reply}
 use Rattle.desk.specs.declared.step.Reply.TheVariants as replies
-use Rattle.desk.specs.Machine.{State, Outcome, opening, unless, both, step, reply, after, of_node, of_pod, moved, moved_if_placed, entry_at, pass_number, popped, refusal_to_fail, refusal_to_tick, ticked_to}
+use Rattle.desk.specs.Machine.{State, Outcome, opening, unless, both, step, reply, after, of_node, of_pod, moved, moved_if_placed, entry_at, pass_number, first_pod, popped, refusal_to_fail, refusal_to_tick, ticked_to}
 use Rattle.desk.specs.History.{Call, AreAnswered, state_after}
 use Rattle.desk.specs.Laws.{ticket_in, tickets_of, TicketsOnce, TicketsInOrder}
 use Rattle.desk.proofs.Steps.{done_by, unheld}
@@ -61,9 +61,9 @@ module _ (s : State) where
   finished_ticket uid None = kept last replies.Done refl
   finished_ticket uid (Some place) = kept last replies.Done refl
 
-  popped_none : (o : Option Item) → ticket_in (popped o) ≡ None
+  popped_none : (o : Option Pod) → ticket_in (popped o) ≡ None
   popped_none None = refl
-  popped_none (Some item) = refl
+  popped_none (Some pod) = refl
 
   -- whatever the step
   follows : (pass : ℕ) (e : Step) → FollowsBy last (step s pass e).state.cluster.ticket (step s pass e).reply
@@ -72,7 +72,7 @@ module _ (s : State) where
   follows pass (Event (PodPending version pod)) = both_follows (of_pod s pod.uid (PodPending version pod)) (after_add s.queue pod s.clock) (λ none. kept last replies.Done refl)
   follows pass (Event (PodBound version uid node request)) = both_follows (of_pod s uid (PodBound version uid node request)) (after_remove s.queue uid) (λ none. kept last replies.Done refl)
   follows pass (Event (PodGone version uid)) = both_follows (of_pod s uid (PodGone version uid)) (moved_if_placed s uid (after_remove s.queue uid)) (λ none. kept last replies.Done refl)
-  follows pass Pop = kept last (popped (next_of s.queue)) (popped_none (next_of s.queue))
+  follows pass Pop = kept last (popped (first_pod s.queue)) (popped_none (first_pod s.queue))
   follows pass (Assume uid node) = both_follows (cluster.Assume uid node (entry_at s pass uid)) s.queue (chosen_follows uid node (entry_at s pass uid))
   follows pass (BindDone uid ticket) = both_follows (cluster.BindDone uid ticket s.clock (has_entry s.queue uid)) s.queue (λ none. finished_ticket uid (fin.get s.cluster.places uid))
   follows pass (Forget uid ticket) = both_follows (cluster.Forget uid ticket (has_entry s.queue uid)) (moved s (after_forget s.queue uid s.clock)) (λ none. kept last replies.Done refl)

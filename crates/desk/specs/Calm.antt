@@ -3,12 +3,12 @@
 use Rattle.std.specs.Prelude.{◌≡◌, List, ◌∷◌, ◌++◌, Some, ⊤}
 use Rattle.std.specs.Bool.{IsTrue}
 use Rattle.std.specs.List.{All}
-use Rattle.quant.specs.declared.event.Event.TheVariants.{NodeSet, NodeGone, PodPending, PodBound, PodGone}
+use Rattle.quant.specs.declared.event.Event.TheVariants.{NodeSet, PodBound}
 use Rattle.quant.specs.declared.objects.Node.{Node}
 use Rattle.book.specs.declared.place.Place.{Place}
 use Rattle.book.specs.Totals.{IsWithin}
 use Rattle.desk.specs.declared.step.Step.{Step}
-use Rattle.desk.specs.declared.step.Step.TheVariants.{Event, Pop, Assume, BindDone, Forget, Fail, Tick, Count}
+use Rattle.desk.specs.declared.step.Step.TheVariants.{Event}
 use Rattle.desk.specs.History.{Call, is_accepted, accepted, row_in, place_of}
 use Rattle.desk.specs.Shown.{Shown}
 
@@ -21,18 +21,9 @@ KeepsRoom before node =
 -- place, with its request
 abbrev pub IsCalmStep : List Call → Step → Type 0
 IsCalmStep before (Event (NodeSet version node)) = KeepsRoom before node
-IsCalmStep before (Event (NodeGone version name)) = ⊤
-IsCalmStep before (Event (PodPending version pod)) = ⊤
 IsCalmStep before (Event (PodBound version uid node request)) =
     (place : Place) × (place_of before uid ≡ Some place) × (place.node ≡ node) × (place.request ≡ request)
-IsCalmStep before (Event (PodGone version uid)) = ⊤
-IsCalmStep before Pop = ⊤
-IsCalmStep before (Assume uid node) = ⊤
-IsCalmStep before (BindDone uid ticket) = ⊤
-IsCalmStep before (Forget uid ticket) = ⊤
-IsCalmStep before (Fail uid how) = ⊤
-IsCalmStep before (Tick now) = ⊤
-IsCalmStep before Count = ⊤
+IsCalmStep before _ = ⊤
 
 -- each accepted step is calm after the calls before it
 abbrev pub IsCalm : List Call → Type 0

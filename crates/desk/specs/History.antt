@@ -20,9 +20,9 @@ use Rattle.book.specs.Used.{used}
 use Rattle.book.specs.Step.{stands}
 use Rattle.book.specs.Expiry.{has_expired}
 use Rattle.desk.specs.declared.step.Step.{Step}
-use Rattle.desk.specs.declared.step.Step.TheVariants.{Event, Pop, Assume, BindDone, Forget, Fail, Tick, Count}
+use Rattle.desk.specs.declared.step.Step.TheVariants.{Event, Assume, BindDone, Forget, Fail, Tick}
 use Rattle.desk.specs.declared.step.Reply.{Reply}
-use Rattle.desk.specs.declared.step.Reply.TheVariants.{Done, Idle, Popped, Ticket as Given, Counts, Refused}
+use Rattle.desk.specs.declared.step.Reply.TheVariants.{Done, Popped, Ticket as Given, Refused}
 use Rattle.desk.specs.Machine.{State, opening, reply, after}
 use Rattle.desk.specs.Caller.{Caller}
 use Rattle.desk.specs.Shown.{Shown}
@@ -94,12 +94,8 @@ GoesOn pass before l = (between : List Call) × (l ≡ before ++ between) × Are
 
 -- whether a step was accepted
 abbrev pub is_accepted : Reply → Bool
-is_accepted Done = true
-is_accepted Idle = true
-is_accepted (Popped pod) = true
-is_accepted (Given ticket) = true
-is_accepted (Counts n) = true
 is_accepted (Refused why) = false
+is_accepted _ = true
 
 -- what the last call says that says anything
 abbrev pub last_said : {X : Type 0} → (Call → Option X) → List Call → Option X
@@ -112,14 +108,8 @@ accepted says c = if is_accepted c.reply then says c.step else None
 
 -- the moment to which a step takes the clock
 abbrev pub clock_in : Step → Option Moment
-clock_in (Event event) = None
-clock_in Pop = None
-clock_in (Assume uid node) = None
-clock_in (BindDone uid ticket) = None
-clock_in (Forget uid ticket) = None
-clock_in (Fail uid how) = None
 clock_in (Tick now) = Some now
-clock_in Count = None
+clock_in _ = None
 
 -- the clock after a call: the moment of the last accepted tick
 abbrev pub clock_after : Moment → Call → Moment
@@ -142,16 +132,7 @@ if_named name wanted x = if bytes_eq name wanted then Some x else None
 abbrev pub row_in : Name → Step → Option (Option Node)
 row_in name (Event (NodeSet version node)) = if_named node.name name (Some node)
 row_in name (Event (NodeGone version node)) = if_named node name None
-row_in name (Event (PodPending version pod)) = None
-row_in name (Event (PodBound version uid node request)) = None
-row_in name (Event (PodGone version uid)) = None
-row_in name Pop = None
-row_in name (Assume uid node) = None
-row_in name (BindDone uid ticket) = None
-row_in name (Forget uid ticket) = None
-row_in name (Fail uid how) = None
-row_in name (Tick now) = None
-row_in name Count = None
+row_in name _ = None
 
 -- the row of a node, by the last accepted step that names it
 abbrev pub row_of : List Call → Name → Option Node
@@ -159,18 +140,8 @@ row_of l name = unwrap_or (last_said (accepted (row_in name)) l) None
 
 -- the pod that a step brings to wait
 abbrev pub pending_in : Name → Step → Option Pod
-pending_in uid (Event (NodeSet version node)) = None
-pending_in uid (Event (NodeGone version node)) = None
 pending_in uid (Event (PodPending version pod)) = if_named pod.uid uid pod
-pending_in uid (Event (PodBound version other node request)) = None
-pending_in uid (Event (PodGone version other)) = None
-pending_in uid Pop = None
-pending_in uid (Assume other node) = None
-pending_in uid (BindDone other ticket) = None
-pending_in uid (Forget other ticket) = None
-pending_in uid (Fail other how) = None
-pending_in uid (Tick now) = None
-pending_in uid Count = None
+pending_in uid _ = None
 
 -- the pod of this uid that last came to wait
 abbrev pub pending_of : List Call → Name → Option Pod
@@ -196,18 +167,12 @@ put_of l uid = last_said (λ c. put_in uid c.step c.reply) l
 
 -- whether a step reports a pod's bind as done, and then when, or puts the pod anew
 abbrev pub finish_in : Name → Moment → Step → Option (Option Moment)
-finish_in uid clock (Event (NodeSet version node)) = None
-finish_in uid clock (Event (NodeGone version node)) = None
-finish_in uid clock (Event (PodPending version pod)) = None
 finish_in uid clock (Event (PodBound version other node request)) = if_named other uid None
 finish_in uid clock (Event (PodGone version other)) = if_named other uid None
-finish_in uid clock Pop = None
 finish_in uid clock (Assume other node) = if_named other uid None
 finish_in uid clock (BindDone other ticket) = if_named other uid (Some clock)
 finish_in uid clock (Forget other ticket) = if_named other uid None
-finish_in uid clock (Fail other how) = None
-finish_in uid clock (Tick now) = None
-finish_in uid clock Count = None
+finish_in uid clock _ = None
 
 -- when a pod's bind was reported done, if it was since the pod was last put. The clock stands at 0
 -- at first
@@ -235,31 +200,18 @@ place_of l uid = unless_expired (clock_of l) (place_by (put_of l uid) (pending_o
 abbrev pub node_in : Step → Option Name
 node_in (Event (NodeSet version node)) = Some node.name
 node_in (Event (NodeGone version name)) = Some name
-node_in (Event (PodPending version pod)) = None
-node_in (Event (PodBound version uid node request)) = None
-node_in (Event (PodGone version uid)) = None
-node_in Pop = None
-node_in (Assume uid node) = None
-node_in (BindDone uid ticket) = None
-node_in (Forget uid ticket) = None
-node_in (Fail uid how) = None
-node_in (Tick now) = None
-node_in Count = None
+node_in _ = None
 
 -- the pod that a step names
 abbrev pub pod_in : Step → Option Name
-pod_in (Event (NodeSet version node)) = None
-pod_in (Event (NodeGone version name)) = None
 pod_in (Event (PodPending version pod)) = Some pod.uid
 pod_in (Event (PodBound version uid node request)) = Some uid
 pod_in (Event (PodGone version uid)) = Some uid
-pod_in Pop = None
 pod_in (Assume uid node) = Some uid
 pod_in (BindDone uid ticket) = Some uid
 pod_in (Forget uid ticket) = Some uid
 pod_in (Fail uid how) = Some uid
-pod_in (Tick now) = None
-pod_in Count = None
+pod_in _ = None
 
 -- the finite map that has at each of these names what is found there
 abbrev pub found_at : {X : Type 0} → (Name → Option X) → List Name → FinMap name_cmp X
@@ -282,12 +234,8 @@ snap l = map (λ e. record { node = e.1; used = used (places_of l) e.0 }) (entri
 
 -- the pod that a call hands to a pass, where it is of this uid
 abbrev pub popped_in : ℕ → Name → ℕ → Reply → Option Pod
-popped_in pass uid caller Done = None
-popped_in pass uid caller Idle = None
 popped_in pass uid caller (Popped pod) = if caller == pass then if_named pod.uid uid pod else None
-popped_in pass uid caller (Given ticket) = None
-popped_in pass uid caller (Counts n) = None
-popped_in pass uid caller (Refused why) = None
+popped_in pass uid caller _ = None
 
 -- the pod that the pass's last Pop of this uid gave
 abbrev pub popped_of : List Call → ℕ → Name → Option Pod

@@ -9,7 +9,7 @@ use Rattle.quant.specs.declared.event.Event.TheVariants.{PodBound, PodGone}
 use Rattle.quant.specs.declared.name.Name.{Name}
 use Rattle.quant.specs.declared.version.Ticket.{Ticket}
 use Rattle.queue.specs.declared.state.State.{State as QueueStanding}
-use Rattle.queue.specs.declared.state.State.TheVariants.{Active, Backoff, Unschedulable, InFlight}
+use Rattle.queue.specs.declared.state.State.TheVariants.{InFlight}
 use Rattle.queue.specs.Entry.{Entry}
 use Rattle.queue.specs.Queue.{entry_of, has_entry, has_in_flight, counts_of}
 use Rattle.book.specs.declared.limits.Limits.{Limits}
@@ -17,18 +17,14 @@ use Rattle.book.specs.Step.{is_placed, is_bound, stands}
 use Rattle.desk.specs.declared.step.Step.{Step}
 use Rattle.desk.specs.declared.step.Step.TheVariants.{Event, Pop, Assume, Fail}
 use Rattle.desk.specs.declared.step.Reply.{Reply}
-use Rattle.desk.specs.declared.step.Reply.TheVariants.{Done, Idle, Popped, Ticket as Given, Counts, Refused}
+use Rattle.desk.specs.declared.step.Reply.TheVariants.{Done, Popped, Ticket as Given}
 use Rattle.desk.specs.Machine.{State, opening, counts}
 use Rattle.desk.specs.History.{Call, Legal, one_to, state_after, last_said, if_named}
 
 -- the ticket that an answer gives
 abbrev pub ticket_in : Reply → Option Ticket
-ticket_in Done = None
-ticket_in Idle = None
-ticket_in (Popped pod) = None
 ticket_in (Given ticket) = Some ticket
-ticket_in (Counts n) = None
-ticket_in (Refused why) = None
+ticket_in _ = None
 
 -- no two calls of a legal history are answered by one ticket
 abbrev pub TicketsOnce : Type 0
@@ -78,10 +74,8 @@ unanswered_by l uid = unwrap_or (last_said (λ c. pop_in uid c.pass c.step c.rep
 
 -- the pass that an entry is in flight for
 abbrev pub holder : QueueStanding → Option ℕ
-holder Active = None
-holder (Backoff until) = None
-holder (Unschedulable since) = None
 holder (InFlight pass moved) = Some pass.0
+holder _ = None
 
 abbrev pub holder_of : Option Entry → Option ℕ
 holder_of None = None

@@ -19,15 +19,16 @@
 --   Fail        Gone (neither); Placed; NotInFlight (this pass didn't pop it)
 --   Tick        ClockBack (the moment is below the clock)
 --   Count       none
-use Rattle.std.specs.Prelude.{ℕ, ◌+◌, ◌-◌, List, [], ◌∷◌, false, not, ◌&&◌, nat_lt, if◌then◌else◌, Option, None, Some, replicate, slice_index, slice_set, map}
+use Rattle.std.specs.Prelude.{ℕ, ◌+◌, ◌-◌, List, [], ◌∷◌, false, not, ◌&&◌, nat_lt, if◌then◌else◌, Option, None, Some, Result, Ok, Err, replicate, slice_index, slice_set, map, option_map}
 use Rattle.std.specs.FinMap.{entries, from_entries}
 use Rattle.quant.specs.declared.amount.Moment.{Moment}
 use Rattle.quant.specs.declared.name.Name.{Name}
+use Rattle.quant.specs.declared.objects.Pod.{Pod}
+use Rattle.quant.specs.declared.version.Ticket.{Ticket}
 use Rattle.quant.specs.declared.event.Event.{Event as Watched}
 use Rattle.quant.specs.declared.event.Event.TheVariants.{NodeSet, NodeGone, PodPending, PodBound, PodGone}
 use Rattle.queue.specs.declared.state.PassNumber.{PassNumber}
 use Rattle.queue.specs.Entry.{Entry as QueueEntry, is_in_flight, is_in_flight_for, sent_back}
-use Rattle.queue.specs.Order.{Item}
 use Rattle.queue.specs.Queue.{QueueState, no_entries, entry_of, has_entry, is_full_queue, holds_in_flight, next_of, counts_of, after_add, after_pop, after_fail, after_forget, after_tick, after_move, after_remove}
 use Rattle.book.specs.Cluster as book
 use Rattle.book.specs.Step as book_step
@@ -37,10 +38,8 @@ use Rattle.book.specs.Used.{used, bound, assumed}
 use Rattle.book.specs.declared.limits.Limits.{Limits}
 use Rattle.book.specs.declared.refusal.Refusal.{Refusal}
 use Rattle.book.specs.declared.refusal.Refusal.TheVariants as refusals
-use Rattle.book.specs.declared.step.Reply.{Reply as BookReply}
-use Rattle.book.specs.declared.step.Reply.TheVariants as book_reply
-use Rattle.book.specs.declared.step.Entry.{Entry}
-use Rattle.book.specs.declared.step.Entry.TheVariants.{Missing, Elsewhere, Held}
+use Rattle.book.specs.declared.entry.Entry.{Entry}
+use Rattle.book.specs.declared.entry.Entry.TheVariants.{Missing, Elsewhere, Held}
 use Rattle.book.specs.declared.step.ClusterStep.{ClusterStep}
 use Rattle.book.specs.declared.step.ClusterStep.TheVariants as cluster
 use Rattle.desk.specs.declared.limits.TheConstants.{MAX_PASSES}
@@ -98,12 +97,10 @@ of_pod s uid event = cluster.Event event (has_entry s.queue uid) (is_full_queue 
 
 -- ---- how the parts go together
 
--- what the book answered, as the desk's answer
-abbrev pub told : BookReply → Reply
-told book_reply.Done = replies.Done
-told (book_reply.Queue pod) = replies.Done
-told (book_reply.Ticket ticket) = replies.Ticket ticket
-told (book_reply.Refused why) = replies.Refused why
+-- what is answered where the book takes its part of a step: who chose a node gets a ticket
+abbrev pub told : book.Cluster → ClusterStep → Reply
+told c (cluster.Assume uid node entry) = replies.Ticket (book_step.next_ticket c)
+told c _ = replies.Done
 
 -- a refused step changes nothing
 abbrev pub refused : State → Refusal → Outcome
@@ -118,7 +115,7 @@ unless (Some why) s done = refused s why
 abbrev pub both : State → ClusterStep → QueueState → Outcome
 both s part queue =
     unless (book_step.refusal s.cluster part) s
-    (record { state = record s { cluster = book_step.effect s.cluster part; queue = queue }; reply = told (book_step.answer s.cluster part) })
+    (record { state = record s { cluster = book_step.effect s.cluster part; queue = queue }; reply = told s.cluster part })
 
 -- the queue after a move
 abbrev pub moved : State → QueueState → QueueState
@@ -128,10 +125,19 @@ moved s queue = after_move queue s.clock
 abbrev pub moved_if_placed : State → Name → QueueState → QueueState
 moved_if_placed s uid queue = if is_placed s.cluster uid then moved s queue else queue
 
--- what a pop is answered
-abbrev pub popped : Option Item → Reply
+-- the pod that goes first
+abbrev pub first_pod : QueueState → Option Pod
+first_pod q = option_map (λ item. item.1.pod) (next_of q)
+
+-- what a pop is answered, where it gives this pod or none
+abbrev pub popped : Option Pod → Reply
 popped None = replies.Idle
-popped (Some item) = replies.Popped item.1.pod
+popped (Some pod) = replies.Popped pod
+
+-- what is answered to who chose a node, where that gives this ticket or is refused
+abbrev pub given : Result Ticket Refusal → Reply
+given (Ok ticket) = replies.Ticket ticket
+given (Err why) = replies.Refused why
 
 -- why a failure isn't taken from this pass
 abbrev pub refusal_to_fail : State → ℕ → Name → Option Refusal
@@ -198,7 +204,7 @@ step s pass (Event (PodBound version uid node request)) = both s (of_pod s uid (
 -- the pod's place and entry go, and there is a move if it had a place
 step s pass (Event (PodGone version uid)) = both s (of_pod s uid (PodGone version uid)) (moved_if_placed s uid (after_remove s.queue uid))
 -- the active entry that goes first is in flight for this pass, with one attempt more
-step s pass Pop = record { state = record s { queue = after_pop s.queue (pass_number pass) }; reply = popped (next_of s.queue) }
+step s pass Pop = record { state = record s { queue = after_pop s.queue (pass_number pass) }; reply = popped (first_pod s.queue) }
 -- the pod is assumed on the node with the next ticket; its entry stays in flight
 step s pass (Assume uid node) = both s (cluster.Assume uid node (entry_at s pass uid)) s.queue
 -- the place is marked as finished

@@ -1,6 +1,7 @@
 //! The desk that many passes share, from any thread.
 ghost use Rattle.std.specs.Prelude.{◌≡◌, ◌≤◌, ◌+◌, [], IfOk, OnOk, OnErr, IsErr};
 ghost use Rattle.desk.specs.Caller.{IsTimely};
+ghost use Rattle.desk.specs.Machine.{given, popped};
 ghost use Rattle.desk.specs.Shared.{IsPassOf, IsApplied, IsLooked, Met, Closed};
 ghost use Rattle.desk.specs.declared.limits.TheConstants.{MAX_PASSES, MAX_CALLS};
 
@@ -8,18 +9,21 @@ use crate::history::{Blank, Head, Naming, Prefix};
 use crate::limits::{MAX_PASSES, NoPlace};
 use crate::pass::Pass;
 use crate::snapshot::Snapshot;
-use crate::step::{Reply, Step};
+use crate::step::{Counts, Reply, Step};
 use crate::under_lock::UnderLock;
-use book::{Book, Limits, NoMemory};
-use quant::Request;
+use book::{Book, Limits, NoMemory, Refusal};
+use quant::{Name, Request, SharedPod, Ticket};
 use std::alloc::Global;
 use std::hash::RandomState;
 use std::hint::spin_loop;
 use std::marker::Model;
 use std::sync::{Mutex, MutexGuard, Wait};
 
-// How often the lock is tried before a thread sleeps: some tens of steps.
-const TRIES: u32 = 1_000;
+// How often the lock is tried before a thread sleeps: some tens of steps. In the pauses between two
+// tries it isn't looked at, since each look takes the memory around it from the thread that has it.
+const TRIES: u32 = 100;
+
+const PAUSES: u32 = 10;
 
 /// A desk that many passes share, each from one thread at a time. A step is decided, written and
 /// published under the one lock; a look reads what is published, without the lock, and waits for
@@ -150,6 +154,60 @@ impl<J: Naming> Desk<J> {
         answer
     }
 
+    /// Pops a pod to place, where one waits: it is the pass's, until it is placed, fails or goes.
+    ///
+    /// Errors: as those of `apply`.
+    pub fn pop<R: Wait>(&self, rt: &R, pass: &mut Pass<J>) -> Result<Option<SharedPod>, NoMemory>
+        requires { IsPassOf pass.old self.now }
+        ensures popped { IfOk result (λ pod. IsApplied self.now pass.old Step.Pop (popped pod) pass.new) }
+        ensures used_up { MAX_CALLS ≤ pass.old.caller.calls → IsErr result }
+        ensures err { OnErr result (pass.new ≡ pass.old) }
+    {
+        match self.apply(rt, pass, Step::Pop)? {
+            Reply::Popped(pod) => Ok(Some(pod)),
+            _ => Ok(None),
+        }
+    }
+
+    /// Assumes a pod that the pass popped on the node that was chosen for it, which a ticket then
+    /// names; or tells why it is refused.
+    ///
+    /// Errors: as those of `apply`.
+    pub fn assume<R: Wait>(
+        &self,
+        rt: &R,
+        pass: &mut Pass<J>,
+        uid: Name,
+        node: Name,
+    ) -> Result<Result<Ticket, Refusal>, NoMemory>
+        requires { IsPassOf pass.old self.now }
+        ensures assumed { IfOk result (λ ticket. IsApplied self.now pass.old (Step.Assume uid node) (given ticket)
+            pass.new) }
+        ensures used_up { MAX_CALLS ≤ pass.old.caller.calls → IsErr result }
+        ensures err { OnErr result (pass.new ≡ pass.old) }
+    {
+        match self.apply(rt, pass, Step::Assume { uid, node })? {
+            Reply::Ticket(ticket) => Ok(Ok(ticket)),
+            Reply::Refused(why) => Ok(Err(why)),
+            _ => unreachable!(),
+        }
+    }
+
+    /// Tells the desk's numbers.
+    ///
+    /// Errors: as those of `apply`.
+    pub fn count<R: Wait>(&self, rt: &R, pass: &mut Pass<J>) -> Result<Counts, NoMemory>
+        requires { IsPassOf pass.old self.now }
+        ensures counted { IfOk result (λ counts. IsApplied self.now pass.old Step.Count (Reply.Counts counts) pass.new) }
+        ensures used_up { MAX_CALLS ≤ pass.old.caller.calls → IsErr result }
+        ensures err { OnErr result (pass.new ≡ pass.old) }
+    {
+        match self.apply(rt, pass, Step::Count)? {
+            Reply::Counts(counts) => Ok(counts),
+            _ => unreachable!(),
+        }
+    }
+
     // Takes the lock. A step takes less time than a thread to go to sleep, so it is tried for a
     // while first.
     fn held<R: Wait>(&self, rt: &R) -> MutexGuard<'_, Option<UnderLock<J>>> {
@@ -157,7 +215,9 @@ impl<J: Naming> Desk<J> {
             if let Some(place) = self.lock.try_lock() {
                 return place;
             }
-            spin_loop();
+            for _ in 0..PAUSES {
+                spin_loop();
+            }
         }
         self.lock.lock(rt)
     }

@@ -10,8 +10,8 @@ mod noting;
 
 use crate::limits::MAX_PASSES;
 use crate::step::{Counts, Reply, Step};
-use book::{Book, ClusterStep, Entry, Limits, NoMemory, Refusal};
-use quant::{Event, LATEST_MOMENT, Moment, Name, Request, SharedPod, Ticket, Version};
+use book::{Book, Entry, Limits, NoMemory, Refusal};
+use quant::{Event, LATEST_MOMENT, Moment, Name, Request, SharedNode, SharedPod, Ticket, Version};
 use queue::{Failure, PassNumber, Queue};
 use std::alloc::Global;
 use std::hash::RandomState;
@@ -49,9 +49,9 @@ impl Model for Core {
 impl Core {
     ghost use Rattle.desk.specs.Caller.{IsTimely};
     ghost use Rattle.desk.specs.inside.Caller.{new_core, with_state, handed_by};
-    ghost use Rattle.desk.specs.Machine.{both, of_node, moved, step, entry_for, counts, reply, after, snapshot};
+    ghost use Rattle.desk.specs.Machine.{step, entry_for, counts, reply, after, snapshot};
     ghost use Rattle.desk.specs.Machine as machine;
-    ghost use Rattle.desk.specs.inside.Done.{IsTold, IsTaken, IsDone, IsSaid};
+    ghost use Rattle.desk.specs.inside.Done.{IsDone, IsSaid};
     ghost use Rattle.queue.specs.Queue.{has_entry, after_remove};
     ghost use Rattle.queue.specs.Queue as queue;
 
@@ -73,46 +73,21 @@ impl Core {
         })
     }
 
-    // The book takes its part of a step, or refuses it.
-    fn tell_book(&mut self, part: ClusterStep) -> Result<book::Reply, Refusal>
-        ensures { IsTold self.old part result self.new }
-    {
-        match self.book.step(part) {
-            book::Reply::Refused(why) => Err(why),
-            said => Ok(said),
-        }
-    }
-
-    // The watch tells of a node: the book takes it or not, and where it does there may be a move.
-    fn take_node(&mut self, event: Event) -> Result<(), Refusal>
-        ensures { IsTaken self.old (of_node self.old.state event) result self.new }
-    {
-        let queue_full = self.queue.is_full();
-        let queued = false;
-        self.tell_book(ClusterStep::Event {
-            event,
-            queued,
-            queue_full,
-        })?;
-        Ok(())
-    }
-
     // A node's row is set, and there is a move.
-    fn set_node(&mut self, event: Event) -> Result<Reply, Refusal>
-        ensures { IsDone self.old (both self.old.state (of_node self.old.state event)
-            (moved self.old.state self.old.state.queue)) result self.new }
+    fn set_node(&mut self, version: Version, node: SharedNode) -> Result<Reply, Refusal>
+        ensures { IsDone self.old (step self.old.state 0 (Step.Event (Event.NodeSet version node))) result self.new }
     {
-        self.take_node(event)?;
+        self.book.set_node(version, node)?;
         self.queue.move_all(self.clock);
         Ok(Reply::Done)
     }
 
     // A node is gone, and there is no move.
-    fn drop_node(&mut self, event: Event) -> Result<Reply, Refusal>
-        ensures { IsDone self.old (both self.old.state (of_node self.old.state event) self.old.state.queue) result
+    fn drop_node(&mut self, version: Version, name: &Name) -> Result<Reply, Refusal>
+        ensures { IsDone self.old (step self.old.state 0 (Step.Event (Event.NodeGone version name.now))) result
             self.new }
     {
-        self.take_node(event)?;
+        self.book.remove_node(version, name)?;
         Ok(Reply::Done)
     }
 
@@ -120,14 +95,10 @@ impl Core {
     fn add_pod(&mut self, version: Version, pod: SharedPod) -> Result<Reply, Refusal>
         ensures { IsDone self.old (step self.old.state 0 (Step.Event (Event.PodPending version pod))) result self.new }
     {
-        let part = ClusterStep::Event {
-            queued: self.queue.has(&pod.uid),
-            queue_full: self.queue.is_full(),
-            event: Event::PodPending { version, pod },
-        };
-        if let book::Reply::Queue(pod) = self.tell_book(part)? {
-            let _ = self.queue.add(pod, self.clock);
-        }
+        let queued = self.queue.has(&pod.uid);
+        let queue_full = self.queue.is_full();
+        let pod = self.book.await_pod(version, pod, queued, queue_full)?;
+        let _ = self.queue.add(pod, self.clock);
         Ok(Reply::Done)
     }
 
@@ -155,34 +126,19 @@ impl Core {
     {
         let bound = uid.copied();
         let queued = self.queue.has(&uid);
-        let part = ClusterStep::Event {
-            queued,
-            queue_full: self.queue.is_full(),
-            event: Event::PodBound {
-                version,
-                uid,
-                node,
-                request,
-            },
-        };
-        self.tell_book(part)?;
+        self.book.bind_pod(version, uid, node, request)?;
         self.unqueue(queued, &bound);
         Ok(Reply::Done)
     }
 
     // A pod is gone: its place and its entry go, with a move if it had a place.
-    fn drop_pod(&mut self, version: Version, uid: Name) -> Result<Reply, Refusal>
-        ensures { IsDone self.old (step self.old.state 0 (Step.Event (Event.PodGone version uid))) result self.new }
+    fn drop_pod(&mut self, version: Version, uid: &Name) -> Result<Reply, Refusal>
+        ensures { IsDone self.old (step self.old.state 0 (Step.Event (Event.PodGone version uid.now))) result self.new }
     {
-        let gone = uid.copied();
-        let was_placed = self.book.is_placed(&uid);
-        let part = ClusterStep::Event {
-            queued: self.queue.has(&uid),
-            queue_full: self.queue.is_full(),
-            event: Event::PodGone { version, uid },
-        };
-        self.tell_book(part)?;
-        self.queue.remove(&gone);
+        let was_placed = self.book.is_placed(uid);
+        let queued = self.queue.has(uid);
+        self.book.remove_pod(version, uid, queued)?;
+        self.queue.remove(uid);
         if was_placed {
             self.queue.move_all(self.clock);
         }
@@ -205,38 +161,26 @@ impl Core {
         ensures { IsDone self.old (step self.old.state pass (Step.Assume uid node)) result self.new }
     {
         let entry = self.entry_of(PassNumber(pass as u64), &uid);
-        match self.tell_book(ClusterStep::Assume { uid, node, entry })? {
-            book::Reply::Ticket(ticket) => Ok(Reply::Ticket(ticket)),
-            _ => Ok(Reply::Done),
-        }
+        let ticket = self.book.assume(uid, node, entry)?;
+        Ok(Reply::Ticket(ticket))
     }
 
     // An assumed place is marked as finished now.
-    fn finish_bind(&mut self, uid: Name, ticket: Ticket) -> Result<Reply, Refusal>
-        ensures { IsDone self.old (step self.old.state 0 (Step.BindDone uid ticket)) result self.new }
+    fn finish_bind(&mut self, uid: &Name, ticket: Ticket) -> Result<Reply, Refusal>
+        ensures { IsDone self.old (step self.old.state 0 (Step.BindDone uid.now ticket)) result self.new }
     {
-        let queued = self.queue.has(&uid);
-        self.tell_book(ClusterStep::BindDone {
-            uid,
-            ticket,
-            at: self.clock,
-            queued,
-        })?;
+        let queued = self.queue.has(uid);
+        self.book.finish(uid, ticket, self.clock, queued)?;
         Ok(Reply::Done)
     }
 
     // An assumed place is given up: its entry backs off, and there is a move.
-    fn forget(&mut self, uid: Name, ticket: Ticket) -> Result<Reply, Refusal>
-        ensures { IsDone self.old (step self.old.state 0 (Step.Forget uid ticket)) result self.new }
+    fn forget(&mut self, uid: &Name, ticket: Ticket) -> Result<Reply, Refusal>
+        ensures { IsDone self.old (step self.old.state 0 (Step.Forget uid.now ticket)) result self.new }
     {
-        let forgotten = uid.copied();
-        let queued = self.queue.has(&uid);
-        self.tell_book(ClusterStep::Forget {
-            uid,
-            ticket,
-            queued,
-        })?;
-        let _ = self.queue.forget_back(&forgotten, self.clock);
+        let queued = self.queue.has(uid);
+        self.book.forget(uid, ticket, queued)?;
+        let _ = self.queue.forget_back(uid, self.clock);
         self.queue.move_all(self.clock);
         Ok(Reply::Done)
     }
@@ -305,24 +249,6 @@ impl Core {
         }
     }
 
-    // The watch tells of something.
-    fn take_event(&mut self, event: Event) -> Result<Reply, Refusal>
-        ensures { (pass : ℕ) → IsDone self.old (step self.old.state pass (Step.Event event)) result self.new }
-    {
-        match event {
-            Event::NodeSet { .. } => self.set_node(event),
-            Event::NodeGone { .. } => self.drop_node(event),
-            Event::PodPending { version, pod } => self.add_pod(version, pod),
-            Event::PodBound {
-                version,
-                uid,
-                node,
-                request,
-            } => self.bind_pod(version, uid, node, request),
-            Event::PodGone { version, uid } => self.drop_pod(version, uid),
-        }
-    }
-
     // Does a step for a pass, or refuses it, and says so. It takes no memory, and hands out the pod
     // that goes first, if the step hands one out. No call is counted.
     fn do_step(&mut self, pass: usize, step: Step, first: Option<SharedPod>) -> Reply
@@ -332,10 +258,21 @@ impl Core {
     {
         match step {
             Step::Pop => self.pop(pass, first),
-            Step::Event(event) => said(self.take_event(event)),
+            Step::Event(Event::NodeSet { version, node }) => said(self.set_node(version, node)),
+            Step::Event(Event::NodeGone { version, name }) => said(self.drop_node(version, &name)),
+            Step::Event(Event::PodPending { version, pod }) => said(self.add_pod(version, pod)),
+            Step::Event(
+                Event::PodBound {
+                    version,
+                    uid,
+                    node,
+                    request,
+                },
+            ) => said(self.bind_pod(version, uid, node, request)),
+            Step::Event(Event::PodGone { version, uid }) => said(self.drop_pod(version, &uid)),
             Step::Assume { uid, node } => said(self.assume(pass, uid, node)),
-            Step::BindDone { uid, ticket } => said(self.finish_bind(uid, ticket)),
-            Step::Forget { uid, ticket } => said(self.forget(uid, ticket)),
+            Step::BindDone { uid, ticket } => said(self.finish_bind(&uid, ticket)),
+            Step::Forget { uid, ticket } => said(self.forget(&uid, ticket)),
             Step::Fail { uid, how } => said(self.fail(pass, uid, how)),
             Step::Tick(now) => said(self.tick(now)),
             Step::Count => Reply::Counts(self.counts()),

@@ -238,7 +238,7 @@ impl<J: Naming> UnderLock<J> {
         requires of { pass.now.caller.number < handed }
         requires handed { handed ≤ MAX_PASSES }
         requires fits { pass.now.caller.calls < MAX_CALLS }
-        ensures stands { Stands J.book J.limits self.now }
+        ensures stands { IfOk result (λ ready. Stands J.book J.limits self.now) }
         ensures ahead { IfOk result (λ ready. IsAhead (record { limits = J.limits; handed = handed }) pass.now
             self.now.prefix.list) }
         ensures prefix { IfOk result (λ ready. ready.prefix ≡ prefix_after self.now pass.now.caller step.now) }

@@ -43,9 +43,7 @@ placed-unread result e is (inr what) eq = cc
 pub placed-line : {T : Type 0} (result : Result T RunFault) (e : RunFault) (number : ℕ) (says : Result (Option Command) LineFault) → result ≡ Err e → IsLineFault number says e → result ≢ Err NoPlace
 placed-line result (Line n f) number says is what eq = cc
 placed-line result NoMemory number says is what eq = cc
-placed-line result Read number says is what eq = absurd what
-placed-line result Write number says is what eq = absurd what
-placed-line result NoPlace number says is what eq = absurd what
+placed-line result _ number says is what eq = absurd what
 
 module _ {T : Type 0} (rules : RuleSet) (telling : Telling) (source sink : DeviceUse) where
   -- memory was wanting

@@ -3,7 +3,7 @@ use Rattle.std.proofs.Common.{◌≡◌, ℕ, zero, suc, ◌<◌, min, Bool, tru
 use Rattle.quant.specs.declared.objects.Pod.{Pod}
 use Rattle.desk.specs.declared.step.Step.TheVariants.{Pop}
 use Rattle.desk.specs.Machine as machine
-use Rattle.desk.specs.Machine.{State, reply, snapshot}
+use Rattle.desk.specs.Machine.{State, first_pod, snapshot}
 use Rattle.desk.specs.Shown.{Shown}
 use Rattle.rules.specs.RuleSet.{RuleSet}
 use Rattle.choose.specs.declared.decision.Verdict.{Verdict}
@@ -13,7 +13,6 @@ use Rattle.manifest.specs.declared.command.Question.{Question}
 use Rattle.engine.specs.declared.named_rule.NamedRule.{NamedRule}
 use Rattle.engine.specs.declared.one_cycle.Cycled.{Cycled}
 use Rattle.engine.specs.declared.one_cycle.Cycled.TheVariants.{Idle}
-use Rattle.engine.specs.inside.Cycle.{popped_reply}
 use Rattle.engine.specs.CycleAlone.{IsDecidedAlone, AfterPopAlone, IsCycleAlone}
 use Rattle.engine.specs.Indented.{AreLines}
 use Rattle.engine.specs.Text.{judged_line}
@@ -57,17 +56,17 @@ judged_by rules named s question nodes rulings many seen all are indented last =
 
 -- ---- a cycle that popped no pod
 
-pub idle_cycle : (rules : RuleSet) (s s' : State) → popped_reply None ≡ reply s 0 Pop → s' ≡ machine.after s 0 Pop → IsCycleAlone rules s Idle s'
+pub idle_cycle : (rules : RuleSet) (s s' : State) → None ≡ first_pod s.queue → s' ≡ machine.after s 0 Pop → IsCycleAlone rules s Idle s'
 idle_cycle rules s s' pops is = record { is = subst (λ r. AfterPopAlone rules (machine.after s 0 Pop) r Idle s') pops (refl, is) }
 
 -- nothing is told of it
-pub untold : (rules : RuleSet) (named : List NamedRule) (explains : Bool) (s : State) → popped_reply None ≡ reply s 0 Pop → TellsNodes rules named explains s []
+pub untold : (rules : RuleSet) (named : List NamedRule) (explains : Bool) (s : State) → None ≡ first_pod s.queue → TellsNodes rules named explains s []
 untold rules named true s pops = subst (λ r. Explains rules named (machine.after s 0 Pop) r []) pops refl
 untold rules named false s pops = refl
 
 -- ---- a cycle that popped one
 
-pub placed_cycle : (rules : RuleSet) (s popped : State) (pod : Pod) (came : Cycled) (s' : State) → popped_reply (Some pod) ≡ reply s 0 Pop → popped ≡ machine.after s 0 Pop
+pub placed_cycle : (rules : RuleSet) (s popped : State) (pod : Pod) (came : Cycled) (s' : State) → Some pod ≡ first_pod s.queue → popped ≡ machine.after s 0 Pop
     → IsDecidedAlone rules popped pod came s' → IsCycleAlone rules s came s'
 placed_cycle rules s popped pod came s' pops is decided =
     record { is = subst (λ r. AfterPopAlone rules (machine.after s 0 Pop) r came s') pops (subst (λ t. IsDecidedAlone rules t pod came s') is decided) }
@@ -78,7 +77,7 @@ unexplained rules named explains s off = subst (λ b. TellsNodes rules named b s
 
 -- else the verdicts are told by which it was decided
 pub told : (rules : RuleSet) (named : List NamedRule) (explains : Bool) (s popped : State) (pod : Pod) (verdicts : List Verdict) → explains ≡ true
-    → popped_reply (Some pod) ≡ reply s 0 Pop → popped ≡ machine.after s 0 Pop → AreVerdicts rules pod (snapshot popped.cluster) verdicts
+    → Some pod ≡ first_pod s.queue → popped ≡ machine.after s 0 Pop → AreVerdicts rules pod (snapshot popped.cluster) verdicts
     → TellsNodes rules named explains s (verdict_lines named pod (snapshot popped.cluster) verdicts)
 told rules named explains s popped pod verdicts on pops is are =
     subst (λ b. TellsNodes rules named b s (verdict_lines named pod (snapshot popped.cluster) verdicts)) (sym on)

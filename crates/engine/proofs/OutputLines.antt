@@ -174,16 +174,13 @@ clock_lines clock version = line (counted (codes "clock ") clock (codes " versio
 
 pub replied_lines : (reply : Reply) → AreLines false (reply_lines reply)
 unfolding reply_lines
-replied_lines replies.Done = ok_lines
-replied_lines replies.Idle = ok_lines
-replied_lines (replies.Popped pod) = ok_lines
-replied_lines (replies.Ticket ticket) = ok_lines
 replied_lines (replies.Counts n) =
     more_lines false (places_line n.bound n.assumed ++ queue_line n.active n.backoff n.unschedulable n.in_flight) (clock_line n.clock.0 n.version.0)
     (more_lines false (places_line n.bound n.assumed) (queue_line n.active n.backoff n.unschedulable n.in_flight)
     (places_lines n.bound n.assumed) (queue_lines n.active n.backoff n.unschedulable n.in_flight))
     (clock_lines n.clock.0 n.version.0)
 replied_lines (replies.Refused why) = refused_lines why
+replied_lines _ = ok_lines
 
 -- what is shown in front, and the answer
 pub text_lines : (s : State) (step : Step) → AreLines false (look_lines s step) → AreLines false (text_of s step)
@@ -261,13 +258,8 @@ taint_is_line taint key value =
 
 -- the taint that a reason tells has no newline
 abbrev pub TaintStands : Pod → Shown → Reason → Type 0
-TaintStands pod shown reason.Marked = Unit {0}
 TaintStands pod shown reason.Taint = IsLine (taint_text (first_untolerated shown.node pod))
-TaintStands pod shown reason.Cpu = Unit {0}
-TaintStands pod shown reason.Memory = Unit {0}
-TaintStands pod shown reason.Pods = Unit {0}
-TaintStands pod shown reason.Plugin = Unit {0}
-TaintStands pod shown reason.Final = Unit {0}
+TaintStands pod shown _ = Unit {0}
 
 pub reason_is_line : (pod : Pod) (shown : Shown) (why : Reason) → TaintStands pod shown why → IsLine (reason_text pod shown why)
 unfolding reason_text

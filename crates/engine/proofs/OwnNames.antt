@@ -8,7 +8,7 @@ use Rattle.std.specs.Cmp.Lexicographic.{nat_list_cmp_total, bytes_decides}
 use Rattle.std.specs.FinMap as fin
 use Rattle.std.proofs.lemmas.Bool.{cases_lt}
 use Rattle.std.proofs.lemmas.List.{length-map}
-use Rattle.quant.specs.declared.event.Event.TheVariants.{NodeSet, NodeGone, PodPending, PodBound, PodGone}
+use Rattle.quant.specs.declared.event.Event.TheVariants.{NodeSet, NodeGone}
 use Rattle.quant.specs.declared.name.Name.{Name}
 use Rattle.quant.specs.declared.objects.Node.{Node}
 use Rattle.book.specs.declared.limits.Limits.{Limits}
@@ -17,7 +17,7 @@ use Rattle.book.specs.Rows.{named, named_row}
 use Rattle.book.proofs.Put.{earlier_less}
 use Rattle.book.proofs.RowLemmas.{true_of}
 use Rattle.desk.specs.declared.step.Step.{Step}
-use Rattle.desk.specs.declared.step.Step.TheVariants.{Event, Pop, Assume, BindDone, Forget, Fail, Tick, Count}
+use Rattle.desk.specs.declared.step.Step.TheVariants.{Event}
 use Rattle.desk.specs.Machine.{State, opening, step, after, snapshot}
 use Rattle.desk.specs.History.{is_accepted, row_in}
 use Rattle.desk.proofs.Calm.{each_found}
@@ -48,16 +48,7 @@ row_named q (Event (NodeSet version node)) row is =
     let own = own_name (bytes_eq node.name q) node.name q node row refl is in
     ap (λ (n : Node). n.name) (sym own.1) ∙ own.0
 row_named q (Event (NodeGone version name)) row is = absurd (never_both (bytes_eq name q) row is)
-row_named q (Event (PodPending version pod)) row is = absurd (cc)
-row_named q (Event (PodBound version uid node request)) row is = absurd (cc)
-row_named q (Event (PodGone version uid)) row is = absurd (cc)
-row_named q Pop row is = absurd (cc)
-row_named q (Assume uid node) row is = absurd (cc)
-row_named q (BindDone uid ticket) row is = absurd (cc)
-row_named q (Forget uid ticket) row is = absurd (cc)
-row_named q (Fail uid how) row is = absurd (cc)
-row_named q (Tick now) row is = absurd (cc)
-row_named q Count row is = absurd (cc)
+row_named q _ row is = absurd (cc)
 
 -- what is there after a step was said by it, or was there before
 said_or_there : (taken : Bool) (said : Option (Option Node)) (there : Option Node) (row : Node) → unwrap_or (if taken then said else None) there ≡ Some row → (said ≡ Some (Some row)) ⊎ (there ≡ Some row)

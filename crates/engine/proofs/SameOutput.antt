@@ -6,10 +6,8 @@ use Rattle.engine.specs.Telling.{Telling, Explains, TellsNodes}
 use Rattle.quant.specs.declared.objects.Pod.{Pod}
 use Rattle.desk.specs.declared.step.Step.{Step}
 use Rattle.desk.specs.declared.step.Step.TheVariants.{Pop}
-use Rattle.desk.specs.declared.step.Reply.{Reply}
-use Rattle.desk.specs.declared.step.Reply.TheVariants as replies
 use Rattle.desk.specs.Machine as machine
-use Rattle.desk.specs.Machine.{State, reply}
+use Rattle.desk.specs.Machine.{State}
 use Rattle.desk.specs.Shown.{Shown}
 use Rattle.rules.specs.RuleSet.{RuleSet}
 use Rattle.choose.specs.declared.decision.Decision.{Decision}
@@ -51,25 +49,17 @@ module _ (rules other : RuleSet) (alike : (pod : Pod) (shown : Shown) (verdict :
   choice nodes pod d c = record { verdicts = c.verdicts; are = verdicts pod nodes c.verdicts c.are; is = c.is }
 
   -- a cycle, once its pod is popped
-  after_pop : (s : State) (r : Reply) (came : Cycled) (s' : State) → AfterPopAlone rules s r came s' → AfterPopAlone other s r came s'
-  after_pop s (replies.Popped pod) came s' a = record { decision = a.decision; choice = choice (machine.snapshot s.cluster) pod a.decision a.choice; ends = a.ends }
-  after_pop s replies.Idle came s' a = a
-  after_pop s replies.Done came s' a = absurd a
-  after_pop s (replies.Ticket ticket) came s' a = absurd a
-  after_pop s (replies.Counts n) came s' a = absurd a
-  after_pop s (replies.Refused why) came s' a = absurd a
+  after_pop : (s : State) (r : Option Pod) (came : Cycled) (s' : State) → AfterPopAlone rules s r came s' → AfterPopAlone other s r came s'
+  after_pop s (Some pod) came s' a = record { decision = a.decision; choice = choice (machine.snapshot s.cluster) pod a.decision a.choice; ends = a.ends }
+  after_pop s None came s' a = a
 
   -- what is told of the nodes
-  explains : (named : List NamedRule) (s : State) (r : Reply) (text : List ℕ) → Explains rules named s r text → Explains other named s r text
-  explains named s (replies.Popped pod) text told = (told.0, verdicts pod (machine.snapshot s.cluster) told.0 told.1, told.2)
-  explains named s replies.Done text told = told
-  explains named s replies.Idle text told = told
-  explains named s (replies.Ticket ticket) text told = told
-  explains named s (replies.Counts n) text told = told
-  explains named s (replies.Refused why) text told = told
+  explains : (named : List NamedRule) (s : State) (r : Option Pod) (text : List ℕ) → Explains rules named s r text → Explains other named s r text
+  explains named s (Some pod) text told = (told.0, verdicts pod (machine.snapshot s.cluster) told.0 told.1, told.2)
+  explains named s None text told = told
 
   tells : (named : List NamedRule) (is_told : Bool) (s : State) (text : List ℕ) → TellsNodes rules named is_told s text → TellsNodes other named is_told s text
-  tells named true s text told = explains named (machine.after s 0 Pop) (reply s 0 Pop) text told
+  tells named true s text told = explains named (machine.after s 0 Pop) (machine.first_pod s.queue) text told
   tells named false s text told = told
 
   -- the answer to what is asked, where they give all rulings or none is asked for
@@ -88,7 +78,7 @@ module _ (rules other : RuleSet) (alike : (pod : Pod) (shown : Shown) (verdict :
     },
   )
   answered telling s None None s' text gives (came, cycle, (told, are, indented, others, is)) =
-      (came, record { is = after_pop (machine.after s 0 Pop) (reply s 0 Pop) came s' cycle.is }, (told, tells telling.named telling.explains s told are, indented, others, is))
+      (came, record { is = after_pop (machine.after s 0 Pop) (machine.first_pod s.queue) came s' cycle.is }, (told, tells telling.named telling.explains s told are, indented, others, is))
 
   -- and to all that is asked
   pub all_answered : (telling : Telling) (s : State) (l : List Command) (s' : State) (text : List ℕ) → GiveAll rules other ⊎ All (λ command. asked_of command ≡ None) l

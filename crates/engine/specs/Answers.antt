@@ -7,7 +7,7 @@ use Rattle.book.specs.declared.limits.Limits.{Limits}
 use Rattle.desk.specs.declared.step.Step.{Step}
 use Rattle.desk.specs.declared.step.Step.TheVariants as steps
 use Rattle.desk.specs.declared.step.Reply.{Reply}
-use Rattle.desk.specs.declared.step.Reply.TheVariants.{Done, Idle, Popped, Ticket, Counts, Refused}
+use Rattle.desk.specs.declared.step.Reply.TheVariants.{Counts, Refused}
 use Rattle.desk.specs.Machine as machine
 use Rattle.desk.specs.Shown.{Shown}
 use Rattle.manifest.specs.declared.command.Command.{Command}
@@ -45,13 +45,8 @@ step_of (commands.Judge question) = None
 
 -- what a command asks of the rules alone
 abbrev pub asked_of : Command → Option Question
-asked_of (commands.Event event) = None
-asked_of (commands.Tick now) = None
-asked_of commands.Cycle = None
-asked_of (commands.BindDone uid ticket) = None
-asked_of (commands.Forget uid ticket) = None
-asked_of commands.Dump = None
 asked_of (commands.Judge question) = Some question
+asked_of _ = None
 
 -- the state after a step, which is by pass 0; a look changes nothing
 unfoldable pub after : State → Step → State
@@ -59,12 +54,9 @@ after state step = machine.after state 0 step
 
 -- the lines that answer a step. No step that a line asks for gives a pod or a ticket: a cycle does
 unfoldable pub reply_lines : Reply → List ℕ
-reply_lines Done = ok_line
-reply_lines Idle = ok_line
-reply_lines (Popped pod) = ok_line
-reply_lines (Ticket ticket) = ok_line
 reply_lines (Counts n) = places_line n.bound n.assumed ++ queue_line n.active n.backoff n.unschedulable n.in_flight ++ clock_line n.clock.0 n.version.0
 reply_lines (Refused why) = refused_line why
+reply_lines _ = ok_line
 
 -- the lines of a snapshot: its nodes in order
 abbrev pub snapshot_lines : List Shown → List ℕ

@@ -1,14 +1,16 @@
 -- One cycle of a pass, told by what the pass has seen: each part goes on from there, while other
 -- passes may make calls between.
-use Rattle.std.specs.Prelude.{◌≡◌, ℕ, ◌⊎◌, List, Option, Some, None}
+use Rattle.std.specs.Prelude.{◌≡◌, ℕ, ◌⊎◌, List, Option, Some, None, Result, Ok, Err}
 use Rattle.quant.specs.declared.name.Name.{Name}
 use Rattle.quant.specs.declared.objects.Pod.{Pod}
+use Rattle.quant.specs.declared.version.Ticket.{Ticket}
 use Rattle.queue.specs.declared.state.Failure.{Failure}
 use Rattle.queue.specs.declared.state.Failure.TheVariants.{Unschedulable, Again}
 use Rattle.book.specs.declared.refusal.Refusal.{Refusal}
 use Rattle.desk.specs.declared.step.Step.TheVariants.{Pop, Assume, Fail}
 use Rattle.desk.specs.declared.step.Reply.{Reply}
 use Rattle.desk.specs.declared.step.Reply.TheVariants as replies
+use Rattle.desk.specs.Machine as machine
 use Rattle.desk.specs.Shown.{Shown}
 use Rattle.desk.specs.Shared.{Pass, Desk, IsApplied, IsLooked}
 use Rattle.rules.specs.RuleSet.{RuleSet}
@@ -26,19 +28,15 @@ pub record IsFailed (desk : Desk) (p : Pass) (uid : Name) (how : Failure) (p' : 
 
 -- what follows the answer to `Assume`: with a ticket the pod has its place; where it is refused, it
 -- fails, to be tried again
-abbrev pub AfterAssume : Desk → Pass → (uid node : Name) → (total : ℕ) → Reply → Cycled → Pass → Type 0
-AfterAssume desk p uid node total (replies.Ticket ticket) came p' = (came ≡ cycled.Assumed uid node total ticket) × (p' ≡ p)
-AfterAssume desk p uid node total (replies.Refused why) came p' = (came ≡ cycled.Lost uid why) × IsFailed desk p uid Again p'
-AfterAssume desk p uid node total replies.Done came p' = ⊥
-AfterAssume desk p uid node total replies.Idle came p' = ⊥
-AfterAssume desk p uid node total (replies.Popped pod) came p' = ⊥
-AfterAssume desk p uid node total (replies.Counts n) came p' = ⊥
+abbrev pub AfterAssume : Desk → Pass → (uid node : Name) → (total : ℕ) → Result Ticket Refusal → Cycled → Pass → Type 0
+AfterAssume desk p uid node total (Ok ticket) came p' = (came ≡ cycled.Assumed uid node total ticket) × (p' ≡ p)
+AfterAssume desk p uid node total (Err why) came p' = (came ≡ cycled.Lost uid why) × IsFailed desk p uid Again p'
 
 -- the pod is to be assumed on a node
 pub record IsAssumed (desk : Desk) (p : Pass) (uid node : Name) (total : ℕ) (came : Cycled) (p' : Pass) : Type 0 where
-  pub answer : Reply
+  pub answer : Result Ticket Refusal
   pub answered : Pass
-  pub applied : IsApplied desk p (Assume uid node) answer answered
+  pub applied : IsApplied desk p (Assume uid node) (machine.given answer) answered
   pub ends : AfterAssume desk answered uid node total answer came p'
 
 -- what is done of a decision
@@ -60,22 +58,18 @@ pub record IsDecided (rules : RuleSet) (desk : Desk) (p : Pass) (pod : Pod) (cam
   pub chosen : IsChosen rules desk p pod decision looked
   pub ends : EndsWith desk looked pod.uid decision came p'
 
--- what follows the answer to `Pop`
-abbrev pub AfterPop : RuleSet → Desk → Pass → Reply → Cycled → Pass → Type 0
-AfterPop rules desk p (replies.Popped pod) came p' = IsDecided rules desk p pod came p'
-AfterPop rules desk p replies.Idle came p' = (came ≡ cycled.Idle) × (p' ≡ p)
-AfterPop rules desk p replies.Done came p' = ⊥
-AfterPop rules desk p (replies.Ticket ticket) came p' = ⊥
-AfterPop rules desk p (replies.Counts n) came p' = ⊥
-AfterPop rules desk p (replies.Refused why) came p' = ⊥
+-- what follows the pod that `Pop` gives, or that it gives none
+abbrev pub AfterPop : RuleSet → Desk → Pass → Option Pod → Cycled → Pass → Type 0
+AfterPop rules desk p (Some pod) came p' = IsDecided rules desk p pod came p'
+AfterPop rules desk p None came p' = (came ≡ cycled.Idle) × (p' ≡ p)
 
 -- A cycle of a pass came to this: the pass popped a pod, then looked, and chose by what it saw.
 -- Between these calls it made no other, and what it saw holds all that it had seen, its Pop among
 -- it.
 pub record IsCycle (rules : RuleSet) (desk : Desk) (p : Pass) (came : Cycled) (p' : Pass) : Type 0 where
-  pub answer : Reply
+  pub answer : Option Pod
   pub popped : Pass
-  pub pops : IsApplied desk p Pop answer popped
+  pub pops : IsApplied desk p Pop (machine.popped answer) popped
   pub then : AfterPop rules desk popped answer came p'
 
 -- ---- the verdicts
@@ -88,18 +82,14 @@ pub record AreSeen (rules : RuleSet) (desk : Desk) (p : Pass) (pod : Pod) (verdi
   pub are : AreVerdicts rules pod rows verdicts
 
 -- the verdicts by which it was decided of the pod that was popped, if one was
-abbrev pub DecideAfter : RuleSet → Desk → Pass → Reply → List Verdict → Type 0
-DecideAfter rules desk p (replies.Popped pod) verdicts = AreSeen rules desk p pod verdicts
-DecideAfter rules desk p replies.Done verdicts = Unit {0}
-DecideAfter rules desk p replies.Idle verdicts = Unit {0}
-DecideAfter rules desk p (replies.Ticket ticket) verdicts = Unit {0}
-DecideAfter rules desk p (replies.Counts n) verdicts = Unit {0}
-DecideAfter rules desk p (replies.Refused why) verdicts = Unit {0}
+abbrev pub DecideAfter : RuleSet → Desk → Pass → Option Pod → List Verdict → Type 0
+DecideAfter rules desk p (Some pod) verdicts = AreSeen rules desk p pod verdicts
+DecideAfter rules desk p None verdicts = Unit {0}
 
 pub record DecideCycle (rules : RuleSet) (desk : Desk) (p : Pass) (verdicts : List Verdict) : Type 0 where
-  pub answer : Reply
+  pub answer : Option Pod
   pub popped : Pass
-  pub pops : IsApplied desk p Pop answer popped
+  pub pops : IsApplied desk p Pop (machine.popped answer) popped
   pub then : DecideAfter rules desk popped answer verdicts
 
 -- ---- want of memory

@@ -1,12 +1,12 @@
 -- One cycle of the only pass of a desk, told by the desk's state.
-use Rattle.std.specs.Prelude.{◌≡◌, ℕ}
+use Rattle.std.specs.Prelude.{◌≡◌, ℕ, Option, Some, None, Result, Ok, Err}
 use Rattle.quant.specs.declared.name.Name.{Name}
 use Rattle.quant.specs.declared.objects.Pod.{Pod}
+use Rattle.quant.specs.declared.version.Ticket.{Ticket}
 use Rattle.queue.specs.declared.state.Failure.TheVariants.{Unschedulable, Again}
+use Rattle.book.specs.declared.refusal.Refusal.{Refusal}
 use Rattle.desk.specs.declared.step.Step.TheVariants.{Pop, Assume, Fail}
-use Rattle.desk.specs.declared.step.Reply.{Reply}
-use Rattle.desk.specs.declared.step.Reply.TheVariants as replies
-use Rattle.desk.specs.Machine.{State, reply, after, snapshot}
+use Rattle.desk.specs.Machine.{State, reply, after, snapshot, first_pod, given}
 use Rattle.rules.specs.RuleSet.{RuleSet}
 use Rattle.choose.specs.declared.decision.Decision.{Decision}
 use Rattle.choose.specs.declared.decision.Decision.TheVariants as decisions
@@ -16,18 +16,19 @@ use Rattle.engine.specs.declared.one_cycle.Cycled.TheVariants as cycled
 
 -- what follows the answer to `Assume`: with a ticket the pod has its place; where it is refused, it
 -- fails, to be tried again
-abbrev pub AfterAssumeAlone : State → (uid node : Name) → (total : ℕ) → Reply → Cycled → State → Type 0
-AfterAssumeAlone s uid node total (replies.Ticket ticket) came s' = (came ≡ cycled.Assumed uid node total ticket) × (s' ≡ s)
-AfterAssumeAlone s uid node total (replies.Refused why) came s' = (came ≡ cycled.Lost uid why) × (s' ≡ after s 0 (Fail uid Again))
-AfterAssumeAlone s uid node total replies.Done came s' = ⊥
-AfterAssumeAlone s uid node total replies.Idle came s' = ⊥
-AfterAssumeAlone s uid node total (replies.Popped pod) came s' = ⊥
-AfterAssumeAlone s uid node total (replies.Counts n) came s' = ⊥
+abbrev pub AfterAssumeAlone : State → (uid node : Name) → (total : ℕ) → Result Ticket Refusal → Cycled → State → Type 0
+AfterAssumeAlone s uid node total (Ok ticket) came s' = (came ≡ cycled.Assumed uid node total ticket) × (s' ≡ s)
+AfterAssumeAlone s uid node total (Err why) came s' = (came ≡ cycled.Lost uid why) × (s' ≡ after s 0 (Fail uid Again))
+
+-- the pod is to be assumed on a node
+pub record IsAssumedAlone (s : State) (uid node : Name) (total : ℕ) (came : Cycled) (s' : State) : Type 0 where
+  pub answer : Result Ticket Refusal
+  pub is : reply s 0 (Assume uid node) ≡ given answer
+  pub ends : AfterAssumeAlone (after s 0 (Assume uid node)) uid node total answer came s'
 
 -- what is done of a decision
 abbrev pub EndsAlone : State → (uid : Name) → Decision → Cycled → State → Type 0
-EndsAlone s uid (decisions.Node node total) came s' =
-    AfterAssumeAlone (after s 0 (Assume uid node)) uid node total (reply s 0 (Assume uid node)) came s'
+EndsAlone s uid (decisions.Node node total) came s' = IsAssumedAlone s uid node total came s'
 EndsAlone s uid (decisions.Unschedulable counts) came s' = (came ≡ cycled.Unschedulable uid counts) × (s' ≡ after s 0 (Fail uid Unschedulable))
 EndsAlone s uid (decisions.PluginError place node cause) came s' = (came ≡ cycled.Errs uid place node cause) × (s' ≡ after s 0 (Fail uid Again))
 
@@ -37,15 +38,11 @@ pub record IsDecidedAlone (rules : RuleSet) (s : State) (pod : Pod) (came : Cycl
   pub choice : Choice rules (snapshot s.cluster) pod decision
   pub ends : EndsAlone s pod.uid decision came s'
 
--- what follows the answer to `Pop`
-abbrev pub AfterPopAlone : RuleSet → State → Reply → Cycled → State → Type 0
-AfterPopAlone rules s (replies.Popped pod) came s' = IsDecidedAlone rules s pod came s'
-AfterPopAlone rules s replies.Idle came s' = (came ≡ cycled.Idle) × (s' ≡ s)
-AfterPopAlone rules s replies.Done came s' = ⊥
-AfterPopAlone rules s (replies.Ticket ticket) came s' = ⊥
-AfterPopAlone rules s (replies.Counts n) came s' = ⊥
-AfterPopAlone rules s (replies.Refused why) came s' = ⊥
+-- what follows the pod that `Pop` gives, or that it gives none
+abbrev pub AfterPopAlone : RuleSet → State → Option Pod → Cycled → State → Type 0
+AfterPopAlone rules s (Some pod) came s' = IsDecidedAlone rules s pod came s'
+AfterPopAlone rules s None came s' = (came ≡ cycled.Idle) × (s' ≡ s)
 
 -- a cycle came to this
 pub record IsCycleAlone (rules : RuleSet) (s : State) (came : Cycled) (s' : State) : Type 0 where
-  pub is : AfterPopAlone rules (after s 0 Pop) (reply s 0 Pop) came s'
+  pub is : AfterPopAlone rules (after s 0 Pop) (first_pod s.queue) came s'

@@ -8,10 +8,8 @@ use Rattle.quant.specs.declared.taint.Taint.{Taint}
 use Rattle.fit.specs.Score.{least_allocated_score}
 use Rattle.taints.specs.TaintScore.{taint_score}
 use Rattle.taints.specs.Tolerance.{first_untolerated}
-use Rattle.desk.specs.declared.step.Reply.{Reply}
-use Rattle.desk.specs.declared.step.Reply.TheVariants as replies
 use Rattle.desk.specs.declared.step.Step.TheVariants.{Pop}
-use Rattle.desk.specs.Machine.{State, reply, after, snapshot}
+use Rattle.desk.specs.Machine.{State, after, first_pod, snapshot}
 use Rattle.desk.specs.Shown.{Shown}
 use Rattle.rules.specs.RuleSet.{RuleSet}
 use Rattle.rules.specs.declared.verdict.Rejection.{Rejection}
@@ -142,19 +140,15 @@ pub record Judges (rules : RuleSet) (named : List NamedRule) (s : State) (questi
 
 -- ---- a cycle
 
--- What is told of the nodes, by the answer to `Pop`: where a pod was popped, the verdict on each
+-- What is told of the nodes, by the pod that `Pop` gives: where it gives one, the verdict on each
 -- node for it, by which it is decided, with what the node has and what is used of it as the
 -- decision sees them.
-abbrev pub Explains : RuleSet → (named : List NamedRule) → State → Reply → List ℕ → Type 0
-Explains rules named s (replies.Popped pod) text =
+abbrev pub Explains : RuleSet → (named : List NamedRule) → State → Option Pod → List ℕ → Type 0
+Explains rules named s (Some pod) text =
     (verdicts : List Verdict) × AreVerdicts rules pod (snapshot s.cluster) verdicts × (text ≡ verdict_lines named pod (snapshot s.cluster) verdicts)
-Explains rules named s replies.Done text = text ≡ []
-Explains rules named s replies.Idle text = text ≡ []
-Explains rules named s (replies.Ticket ticket) text = text ≡ []
-Explains rules named s (replies.Counts n) text = text ≡ []
-Explains rules named s (replies.Refused why) text = text ≡ []
+Explains rules named s None text = text ≡ []
 
 -- what is told of the nodes before the line of a cycle that begins in this state
 abbrev pub TellsNodes : RuleSet → (named : List NamedRule) → (explains : Bool) → State → List ℕ → Type 0
-TellsNodes rules named true s text = Explains rules named (after s 0 Pop) (reply s 0 Pop) text
+TellsNodes rules named true s text = Explains rules named (after s 0 Pop) (first_pod s.queue) text
 TellsNodes rules named false s text = text ≡ []

@@ -1,4 +1,3 @@
-pub mod Cycle
 pub mod Device
 pub mod Lines
 pub mod Output

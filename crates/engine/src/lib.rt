@@ -9,7 +9,7 @@
 //!   seen.
 //! - A session has that desk, and makes the text that answers a command; `verdicts` has the lines
 //!   that explain a cycle.
-//! - `one_cycle` has the cycle of any pass, and `untold_cycle` the one of which no verdict is told.
+//! - `one_cycle` has the cycle of any pass.
 //! - Each way to end early is a `RunFault`, which has a number and a name.
 //! - That a script has one output, whoever runs it and with however many workers, are the laws
 //!   `one_output` and `same_output`; that an explained one is the same with lines put in is
@@ -28,7 +28,6 @@ mod one_cycle;
 mod script;
 mod session;
 mod text;
-mod untold_cycle;
 mod verdicts;
 
 pub use device::{DeviceFailed, Sink, Source, write_all};
@@ -39,4 +38,3 @@ pub use named_rule::NamedRule;
 pub use one_cycle::{CutShort, Cycled, cycle};
 pub use script::run;
 pub use session::push_dump;
-pub use untold_cycle::cycle_untold;

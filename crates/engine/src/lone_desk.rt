@@ -1,14 +1,14 @@
 //! The desk that many passes can share, with one pass.
 ghost use Rattle.std.specs.Prelude.{◌≡◌, ◌⊎◌, IfOk, IfErr, OnOk, OnErr};
+ghost use Rattle.std.specs.Bool.{IsTrue};
 ghost use Rattle.desk.specs.Caller.{IsTimely};
 ghost use Rattle.desk.specs.Machine as machine;
 ghost use Rattle.choose.specs.Kits.{rules_of};
 ghost use Rattle.choose.specs.Choice.{AreVerdicts};
-ghost use Rattle.engine.specs.inside.Cycle.{popped_reply};
 ghost use Rattle.engine.specs.CycleAlone.{IsDecidedAlone};
 
 use crate::fault::RunFault;
-use crate::one_cycle::{CutShort, Cycled, place, place_untold, pop};
+use crate::one_cycle::{CutShort, Cycled, place};
 use choose::Decider;
 use desk::{Blank, Desk, Limits, Naming, NoMemory, Pass, Reply, Snapshot, Step, one_pass_is_alone};
 use quant::SharedPod;
@@ -89,44 +89,30 @@ impl<J: Naming> LoneDesk<J> {
 
     // Pops a pod, where one waits. It waits for the desk's lock.
     pub(crate) fn pop<R: Wait>(&mut self, rt: &R) -> Result<Option<SharedPod>, NoMemory>
-        ensures popped { IfOk result (λ pod. popped_reply pod ≡ machine.reply self.old 0 Step.Pop) }
+        ensures popped { IfOk result (λ pod. pod ≡ machine.first_pod self.old.queue) }
         ensures after { OnOk result (self.new ≡ machine.after self.old 0 Step.Pop) }
     {
         one_pass_is_alone();
-        pop(&self.desk, rt, &mut self.pass)
+        self.desk.pop(rt, &mut self.pass)
     }
 
-    // Looks for a place for a pod that was popped, by a decider, and does what is decided of it. It
-    // may wait.
+    // Looks for a place for a pod that was popped, by a decider, and does what is decided of it.
+    // Where that is to be explained, the decider tells the verdicts afterwards. It may wait.
     pub(crate) fn place<R: Wait + Threads + Sync, D: Decider>(
         &mut self,
         rt: &R,
         pod: &SharedPod,
         decider: &mut D,
+        explains: bool,
     ) -> Result<Cycled, CutShort>
         ensures decided { IfOk result (λ came. IsDecidedAlone (rules_of D.Kit.answers (D.kits decider.old)) self.old
             pod.now came self.new) }
-        ensures verdicts { OnOk result (AreVerdicts (rules_of D.Kit.answers (D.kits decider.old)) pod.now
-            (machine.snapshot self.old.cluster) (D.last decider.new)) }
+        ensures verdicts { IsTrue explains → OnOk result (AreVerdicts (rules_of D.Kit.answers (D.kits decider.old))
+            pod.now (machine.snapshot self.old.cluster) (D.last decider.new)) }
         ensures kits { D.kits decider.new ≡ D.kits decider.old }
     {
         one_pass_is_alone();
-        place(&self.desk, rt, &mut self.pass, pod, decider)
-    }
-
-    // Does the same; by which verdicts it was decided, isn't told.
-    pub(crate) fn place_untold<R: Wait + Threads + Sync, D: Decider>(
-        &mut self,
-        rt: &R,
-        pod: &SharedPod,
-        decider: &mut D,
-    ) -> Result<Cycled, CutShort>
-        ensures decided { IfOk result (λ came. IsDecidedAlone (rules_of D.Kit.answers (D.kits decider.old)) self.old
-            pod.now came self.new) }
-        ensures kits { D.kits decider.new ≡ D.kits decider.old }
-    {
-        one_pass_is_alone();
-        place_untold(&self.desk, rt, &mut self.pass, pod, decider)
+        place(&self.desk, rt, &mut self.pass, pod, decider, explains)
     }
 
     // Ends the desk.

@@ -1,12 +1,12 @@
 //! One cycle of the scheduler: a pod is popped, a node is chosen for it, and its place is assumed.
 ghost use Rattle.std.specs.Prelude.{◌≡◌, IfOk, IfErr, OnOk, OnErr};
+ghost use Rattle.std.specs.Bool.{IsTrue};
 ghost use Rattle.desk.specs.Shared.{IsApplied, IsPassOf};
 ghost use Rattle.choose.specs.Kits.{rules_of};
 ghost use Rattle.engine.specs.Cycle.{IsFailed, EndsWith, IsAssumed, IsChosen, IsDecided, MayLook, IsGivenUp, IsLeft, IsInVain, IsCycle, IsCutShort, AreSeen, DecideCycle};
-ghost use Rattle.engine.specs.inside.Cycle.{popped_reply};
 
 use choose::{Counts, Decider, Decision};
-use desk::{Desk, Naming, NoMemory, Pass, Refusal, Reply, Step};
+use desk::{Desk, Naming, NoMemory, Pass, Refusal, Step};
 use quant::{Name, SharedPod, Ticket};
 use queue::Failure;
 use rules::Cause;
@@ -95,18 +95,14 @@ fn assume<J: Naming, T: Wait>(
     ensures assumed { IfOk result (λ came. IsAssumed desk.now pass.old uid.now node total came pass.new) }
     ensures left { IfErr result (λ short. IsLeft desk.now pass.old uid.now short.held pass.new) }
 {
-    let wanted = Step::Assume {
-        uid: uid.copied(),
-        node: node.copied(),
-    };
-    match desk.apply(rt, pass, wanted) {
-        Ok(Reply::Ticket(ticket)) => Ok(Cycled::Assumed {
+    match desk.assume(rt, pass, uid.copied(), node.copied()) {
+        Ok(Ok(ticket)) => Ok(Cycled::Assumed {
             uid: uid.copied(),
             node,
             total,
             ticket,
         }),
-        Ok(Reply::Refused(why)) => match fail(desk, rt, pass, uid, Failure::Again) {
+        Ok(Err(why)) => match fail(desk, rt, pass, uid, Failure::Again) {
             Ok(()) => Ok(Cycled::Lost {
                 uid: uid.copied(),
                 why,
@@ -115,10 +111,6 @@ fn assume<J: Naming, T: Wait>(
                 held: Some(uid.copied()),
             }),
         },
-        Ok(Reply::Done) => unreachable!(),
-        Ok(Reply::Idle) => unreachable!(),
-        Ok(Reply::Popped(_)) => unreachable!(),
-        Ok(Reply::Counts(_)) => unreachable!(),
         Err(NoMemory) => Err(give_up(desk, rt, pass, uid)),
     }
 }
@@ -162,65 +154,29 @@ fn end_with<J: Naming, T: Wait>(
     }
 }
 
-// Looks, and chooses a node for a pod.
+// Looks, and chooses a node for a pod; where that is explained, the decider tells the verdicts.
 fn decide<J: Naming, T: Wait + Threads + Sync, D: Decider>(
     desk: &Desk<J>,
     rt: &T,
     pass: &mut Pass<J>,
     pod: &SharedPod,
     decider: &mut D,
+    explains: bool,
 ) -> Result<Decision, NoMemory>
     requires { IsPassOf pass.old desk.now }
     ensures chosen { IfOk result (λ decision. IsChosen (rules_of D.Kit.answers (D.kits decider.old)) desk.now pass.old
         pod.now decision pass.new) }
-    ensures verdicts { OnOk result (AreSeen (rules_of D.Kit.answers (D.kits decider.old)) desk.now pass.old pod.now
-        (D.last decider.new)) }
-    ensures looked { OnErr result (MayLook desk.now pass.old pass.new) }
-    ensures kits { D.kits decider.new ≡ D.kits decider.old }
-{
-    let snapshot = desk.look(pass)?;
-    decider.decide(rt, snapshot, pod)
-}
-
-// Looks, and chooses a node for a pod; by which verdicts, isn't told.
-fn choose<J: Naming, T: Wait + Threads + Sync, D: Decider>(
-    desk: &Desk<J>,
-    rt: &T,
-    pass: &mut Pass<J>,
-    pod: &SharedPod,
-    decider: &mut D,
-) -> Result<Decision, NoMemory>
-    requires { IsPassOf pass.old desk.now }
-    ensures chosen { IfOk result (λ decision. IsChosen (rules_of D.Kit.answers (D.kits decider.old)) desk.now
-        pass.old pod.now decision pass.new) }
+    ensures verdicts { IsTrue explains → OnOk result (AreSeen (rules_of D.Kit.answers (D.kits decider.old)) desk.now
+        pass.old pod.now (D.last decider.new)) }
     ensures looked { OnErr result (MayLook desk.now pass.old pass.new) }
     ensures kits { D.kits decider.new ≡ D.kits decider.old }
 {
     let snapshot = desk.look_for(pass, pod.request)?;
-    decider.choose(rt, snapshot, pod)
+    decider.decide(rt, snapshot, pod, explains)
 }
 
-/// Pops a pod for the pass, where one waits.
-pub(crate) fn pop<J: Naming, T: Wait>(
-    desk: &Desk<J>,
-    rt: &T,
-    pass: &mut Pass<J>,
-) -> Result<Option<SharedPod>, NoMemory>
-    requires { IsPassOf pass.old desk.now }
-    ensures popped { IfOk result (λ pod. IsApplied desk.now pass.old Step.Pop (popped_reply pod) pass.new) }
-    ensures err { OnErr result (pass.new ≡ pass.old) }
-{
-    match desk.apply(rt, pass, Step::Pop)? {
-        Reply::Popped(pod) => Ok(Some(pod)),
-        Reply::Idle => Ok(None),
-        Reply::Done => unreachable!(),
-        Reply::Ticket(_) => unreachable!(),
-        Reply::Counts(_) => unreachable!(),
-        Reply::Refused(_) => unreachable!(),
-    }
-}
-
-/// Looks for a place for a pod that the pass popped, and does what is decided of it.
+/// Looks for a place for a pod that the pass popped, and does what is decided of it. Where that is
+/// to be explained, the decider tells the verdicts afterwards.
 ///
 /// Errors: as `cycle`.
 pub(crate) fn place<J: Naming, T: Wait + Threads + Sync, D: Decider>(
@@ -229,39 +185,17 @@ pub(crate) fn place<J: Naming, T: Wait + Threads + Sync, D: Decider>(
     pass: &mut Pass<J>,
     pod: &SharedPod,
     decider: &mut D,
+    explains: bool,
 ) -> Result<Cycled, CutShort>
     requires { IsPassOf pass.old desk.now }
     ensures decided { IfOk result (λ came. IsDecided (rules_of D.Kit.answers (D.kits decider.old)) desk.now pass.old
         pod.now came pass.new) }
-    ensures verdicts { OnOk result (AreSeen (rules_of D.Kit.answers (D.kits decider.old)) desk.now pass.old pod.now
-        (D.last decider.new)) }
+    ensures verdicts { IsTrue explains → OnOk result (AreSeen (rules_of D.Kit.answers (D.kits decider.old)) desk.now
+        pass.old pod.now (D.last decider.new)) }
     ensures in_vain { IfErr result (λ short. IsInVain desk.now pass.old pod.now.uid short.held pass.new) }
     ensures kits { D.kits decider.new ≡ D.kits decider.old }
 {
-    match decide(desk, rt, pass, pod, decider) {
-        Ok(decision) => end_with(desk, rt, pass, &pod.uid, decision),
-        Err(NoMemory) => Err(give_up(desk, rt, pass, &pod.uid)),
-    }
-}
-
-/// Looks for a place for a pod that the pass popped, and does what is decided of it, as `place`
-/// does; by which verdicts, isn't told, so that none need be written.
-///
-/// Errors: as `cycle`.
-pub(crate) fn place_untold<J: Naming, T: Wait + Threads + Sync, D: Decider>(
-    desk: &Desk<J>,
-    rt: &T,
-    pass: &mut Pass<J>,
-    pod: &SharedPod,
-    decider: &mut D,
-) -> Result<Cycled, CutShort>
-    requires { IsPassOf pass.old desk.now }
-    ensures decided { IfOk result (λ came. IsDecided (rules_of D.Kit.answers (D.kits decider.old)) desk.now pass.old
-        pod.now came pass.new) }
-    ensures in_vain { IfErr result (λ short. IsInVain desk.now pass.old pod.now.uid short.held pass.new) }
-    ensures kits { D.kits decider.new ≡ D.kits decider.old }
-{
-    match choose(desk, rt, pass, pod, decider) {
+    match decide(desk, rt, pass, pod, decider, explains) {
         Ok(decision) => end_with(desk, rt, pass, &pod.uid, decision),
         Err(NoMemory) => Err(give_up(desk, rt, pass, &pod.uid)),
     }
@@ -270,7 +204,8 @@ pub(crate) fn place_untold<J: Naming, T: Wait + Threads + Sync, D: Decider>(
 /// One cycle of a pass: it pops a pod, looks at the nodes, chooses one by the built-in rules and
 /// the decider's, and assumes the pod there. A pod for which no node is left fails as
 /// unschedulable; one for which a rule errs, or whose place is refused since it was chosen, fails
-/// to be tried again.
+/// to be tried again. The decider tells afterwards by which verdicts it was decided, where that is
+/// to be explained; else none need be written.
 ///
 /// Errors: `CutShort`, for want of memory. A popped pod was then failed, to be tried again, or it
 /// is told that it could not.
@@ -279,17 +214,18 @@ pub fn cycle<J: Naming, T: Wait + Threads + Sync, D: Decider>(
     rt: &T,
     pass: &mut Pass<J>,
     decider: &mut D,
+    explains: bool,
 ) -> Result<Cycled, CutShort>
     requires { IsPassOf pass.old desk.now }
     ensures cycled { IfOk result (λ came. IsCycle (rules_of D.Kit.answers (D.kits decider.old)) desk.now pass.old came
         pass.new) }
-    ensures verdicts { OnOk result (DecideCycle (rules_of D.Kit.answers (D.kits decider.old)) desk.now pass.old
-        (D.last decider.new)) }
+    ensures verdicts { IsTrue explains → OnOk result (DecideCycle (rules_of D.Kit.answers (D.kits decider.old)) desk.now
+        pass.old (D.last decider.new)) }
     ensures cut_short { IfErr result (λ short. IsCutShort desk.now pass.old short.held pass.new) }
     ensures kits { D.kits decider.new ≡ D.kits decider.old }
 {
-    match pop(desk, rt, pass) {
-        Ok(Some(pod)) => place(desk, rt, pass, &pod, decider),
+    match desk.pop(rt, pass) {
+        Ok(Some(pod)) => place(desk, rt, pass, &pod, decider, explains),
         Ok(None) => Ok(Cycled::Idle),
         Err(NoMemory) => Err(CutShort { held: None }),
     }

@@ -178,10 +178,10 @@ impl<J: Naming> Session<J> {
             None => return Ok(Cycled::Idle),
         };
         if !explains {
-            return Ok(self.desk.place_untold(rt, &pod, decider)?);
+            return Ok(self.desk.place(rt, &pod, decider, false)?);
         }
         let snapshot = self.desk.look()?;
-        let came = self.desk.place(rt, &pod, decider)?;
+        let came = self.desk.place(rt, &pod, decider, true)?;
         push_verdicts(
             &mut self.text,
             named,

@@ -4,15 +4,15 @@
 //!
 //! - `fleet`: a `Fleet` starts its threads anew for each decision, and has ended them when it
 //!   answers.
-//! - `pool`: a `Pool` keeps its workers from one decision to the next; `decider` makes it a
-//!   `Decider`.
+//! - `pool`: a `Pool` keeps its workers from one decision to the next. It is a `Decider`. `cost` is
+//!   what its decisions cost, and so how many workers are worth waking.
 //! - `lent_kit` is a kit of a pool beside the first, with the way to its worker, `worker`. `way` is
 //!   the channel to it, and that back: what holds of each message that goes in holds of each that
 //!   comes out.
 //! - `laws`: what holds of every fleet.
 #![tactic(auto)]
 
-mod decider;
+mod cost;
 mod fleet;
 mod laws;
 mod lent_kit;

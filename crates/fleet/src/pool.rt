@@ -1,15 +1,21 @@
 //! A pool: kits, and workers that stay, which decide with them.
-ghost use Rattle.std.specs.Prelude.{◌≡◌, ◌+◌, ◌<◌, ◌≤◌, [], ◌∷◌, length, vec_len, IfOk, OnOk};
+ghost use Rattle.std.specs.Prelude.{◌≡◌, ◌+◌, ◌<◌, ◌≤◌, List, [], ◌∷◌, length, vec_len, IfOk, OnOk};
+ghost use Rattle.std.specs.Bool.{IsTrue};
 ghost use Rattle.std.specs.List.{All};
 ghost use Rattle.std.specs.Arc.{arc_value};
+ghost use denote.Param.Send.{IsSync};
 ghost use Rattle.choose.specs.Choice.{Choice, AreRulings, AreVerdicts};
+ghost use Rattle.choose.specs.declared.decision.Verdict.{Verdict};
 ghost use Rattle.choose.specs.Kits.{rules_of};
 ghost use Rattle.choose.specs.Verdict.{asked};
 ghost use Rattle.fleet.specs.Speaking.{SpeaksFor};
 
+use crate::cost::{Cost, noted, spent_by, worth_waking};
 use crate::fleet::MAX_KITS;
 use crate::lent_kit::{Helper, collect, judge_said, send_all};
-use choose::{Decision, NoMemory, UNJUDGED, Verdict, choose_alone, decide, judge, rule_on};
+use choose::{
+    Decider, Decision, NoMemory, UNJUDGED, Verdict, choose_alone, decide, judge, rule_on,
+};
 use desk::Snapshot;
 use pieces::{Asked, Blank, Gate, History, Order, Site};
 use quant::SharedPod;
@@ -18,32 +24,6 @@ use std::alloc::Global;
 use std::marker::Model;
 use std::sync::{Arc, Wait};
 use std::thread::Threads;
-
-// Up to so many nodes without a site's rules are judged by the caller alone; a worker must first be
-// woken.
-const FEW_NODES: usize = 8_192;
-
-// Up to so much work, in units of fuel, is likewise done by the caller alone where there are rules:
-// about a millisecond.
-const LITTLE_WORK: u64 = 300_000;
-
-// What the rules are to a node beside their fuel: that it is shown to them, and their calls.
-const WORK_A_NODE: u64 = 100;
-
-// Units of fuel that calls used: all, and those among them that were shown no node, which each kit
-// makes for itself, however few nodes it judges.
-#[derive(Clone, Copy)]
-struct Spent {
-    all: u64,
-    once: u64,
-}
-
-// What the rules' calls cost, in units of fuel: for a node, and once a decision.
-#[derive(Clone, Copy)]
-struct Cost {
-    a_node: u64,
-    once: u64,
-}
 
 /// A kit that stays with the caller, and others with a worker each, which stay until the pool ends.
 #[derive(Drop)]
@@ -113,6 +93,8 @@ impl<J: Site, K: Rules + Drop, G: Gate + Drop> Pool<J, K, G> {
     /// The nodes are cut into as many pieces as there are kits. The first is judged here, and each
     /// other one that has a node by a worker. A piece that doesn't come back is judged here too.
     /// Where there is too little to do, by what the decision before this cost, all is done here.
+    /// Where there is no rule and the verdicts aren't to be told, none is written and no memory is
+    /// taken.
     ///
     /// Errors: `NoMemory` where there is none for what the workers share, or where the look has
     /// more nodes than any before and there is none for a verdict each. Nothing is decided then,
@@ -122,35 +104,24 @@ impl<J: Site, K: Rules + Drop, G: Gate + Drop> Pool<J, K, G> {
         rt: &R,
         snapshot: Snapshot,
         pod: &SharedPod,
+        explains: bool,
     ) -> Result<Decision, NoMemory>
         ensures chosen { IfOk result (Choice (rules_of K.answers self.old.kits) snapshot pod.now) }
-        ensures judged { OnOk result (AreVerdicts (rules_of K.answers self.old.kits) pod.now snapshot
+        ensures judged { IsTrue explains → OnOk result (AreVerdicts (rules_of K.answers self.old.kits) pod.now snapshot
             self.new.verdicts) }
         ensures kits { self.new.kits ≡ self.old.kits }
     {
         let nodes = snapshot.rows().len();
-        let many = self.worth_waking(nodes);
-        let before = self.spent();
-        let decided = self.decide_by(rt, snapshot, pod, many);
-        self.note_cost(before, nodes / many.saturating_add(1));
-        decided
-    }
-
-    // The same, with so many of the workers.
-    fn decide_by<R: Wait>(
-        &mut self,
-        rt: &R,
-        snapshot: Snapshot,
-        pod: &SharedPod,
-        many: usize,
-    ) -> Result<Decision, NoMemory>
-        ensures chosen { IfOk result (Choice (rules_of K.answers self.old.kits) snapshot pod.now) }
-        ensures judged { OnOk result (AreVerdicts (rules_of K.answers self.old.kits) pod.now snapshot
-            self.new.verdicts) }
-        ensures kits { self.new.kits ≡ self.old.kits }
-    {
-        self.verdicts.resize(snapshot.rows().len(), UNJUDGED)?;
-        decide_with(
+        if !explains && self.home.count() == 0 {
+            if nodes != 0 {
+                self.gate.enter(0);
+            }
+            return Ok(choose_alone(&snapshot, pod, &self.home));
+        }
+        self.verdicts.resize(nodes, UNJUDGED)?;
+        let many = worth_waking(&self.home, self.helpers.len(), self.cost, nodes);
+        let before = spent_by(&self.home);
+        let decided = decide_with(
             rt,
             self.alloc,
             &*self.gate,
@@ -161,106 +132,10 @@ impl<J: Site, K: Rules + Drop, G: Gate + Drop> Pool<J, K, G> {
             pod,
             many,
             self.verdicts.as_mut_slice(),
-        )
-    }
-
-    // How many workers do the work on so many nodes sooner than the caller alone: they must be
-    // woken first, and waited for. And each makes the calls that are shown no node once more: so
-    // there are no more of them than have as much to do besides.
-    fn worth_waking(&self, nodes: usize) -> usize {
-        let all = self.helpers.len();
-        if self.home.count() == 0 {
-            return if nodes > FEW_NODES { all } else { 0 };
-        }
-        let Some(cost) = self.cost else {
-            return all;
-        };
-        let work = (nodes as u64).saturating_mul(cost.a_node.saturating_add(WORK_A_NODE));
-        if work <= LITTLE_WORK {
-            return 0;
-        }
-        all.min((work / cost.once.max(1)) as usize)
-    }
-
-    // What the first kit's calls have used so far.
-    fn spent(&self) -> Spent {
-        Spent {
-            all: self.home.spent(),
-            once: self.home.spent_once(),
-        }
-    }
-
-    // Notes what a decision cost, of whose nodes so many were judged here, by what had been spent
-    // before it, where a rule was asked. What is noted falls by half at most: a pod that asks
-    // little doesn't put the workers to sleep for the next one.
-    fn note_cost(&mut self, before: Spent, nodes: usize)
-        ensures { self.new ≡ self.old }
-    {
-        let now = self.spent();
-        let spent = now.all.wrapping_sub(before.all);
-        if nodes == 0 || spent == 0 {
-            return;
-        }
-        let once = now.once.wrapping_sub(before.once);
-        let a_node = spent.wrapping_sub(once) / nodes as u64;
-        self.cost = match self.cost {
-            None => Some(Cost { a_node, once }),
-            Some(last) => Some(Cost {
-                a_node: a_node.max(last.a_node / 2),
-                once: once.max(last.once / 2),
-            }),
-        };
-    }
-
-    /// Where a pod goes, as `decide` says it. Where there is no rule it is chosen here, and no
-    /// verdict is written.
-    ///
-    /// Errors: as those of `decide`; none where there is no rule.
-    pub fn choose<R: Wait>(
-        &mut self,
-        rt: &R,
-        snapshot: Snapshot,
-        pod: &SharedPod,
-    ) -> Result<Decision, NoMemory>
-        ensures chosen { IfOk result (Choice (rules_of K.answers self.old.kits) snapshot pod.now) }
-        ensures kits { self.new.kits ≡ self.old.kits }
-    {
-        if self.home.count() != 0 {
-            return self.decide(rt, snapshot, pod);
-        }
-        if !snapshot.rows().is_empty() {
-            self.gate.enter(0);
-        }
-        Ok(choose_alone(&snapshot, pod, &self.home))
-    }
-
-    /// What the rules alone say of each node, for a pod, or their filters alone. The first kit says
-    /// it here: the workers are left where they are.
-    ///
-    /// Errors: `NoMemory` where the look has more nodes than any before and there is none for a
-    /// verdict each. Nothing was asked then, and the pool can be used again.
-    pub fn judge(
-        &mut self,
-        snapshot: &Snapshot,
-        pod: &SharedPod,
-        filters_alone: bool,
-    ) -> Result<(), NoMemory>
-        ensures judged { OnOk result (AreRulings (asked filters_alone (rules_of K.answers self.old.kits)) pod.now
-            snapshot.now self.new.verdicts) }
-        ensures kits { self.new.kits ≡ self.old.kits }
-    {
-        let rows = snapshot.rows();
-        self.verdicts.resize(rows.len(), UNJUDGED)?;
-        let verdicts = self.verdicts.as_mut_slice();
-        rule_on(rows, pod, filters_alone, &mut self.home, verdicts);
-        Ok(())
-    }
-
-    /// The verdicts of the last decision, or the last rulings, in the order of the nodes.
-    pub fn verdicts(&self) -> &[Verdict]
-        ensures { result.now ≡ self.now.verdicts }
-    {
-        self.verdicts.as_slice()
+        );
+        let spent = spent_by(&self.home);
+        self.cost = noted(self.cost, before, spent, nodes / many.saturating_add(1));
+        decided
     }
 
     /// Ends the pool: it waits until its workers are gone.
@@ -277,6 +152,42 @@ impl<J: Site, K: Rules + Drop, G: Gate + Drop> Pool<J, K, G> {
         for helper in helpers {
             helper.end(rt);
         }
+    }
+}
+
+impl<J: Site, K: Rules + Drop, G: Gate + Drop> Decider for Pool<J, K, G> {
+    type Kit = K;
+
+    ghost kits = { λ pool. pool.kits };
+
+    ghost last = { λ pool. pool.verdicts };
+
+    fn decide<R: Threads + Wait + Sync>(
+        &mut self,
+        rt: &R,
+        snapshot: Snapshot,
+        pod: &SharedPod,
+        explains: bool,
+    ) -> Result<Decision, NoMemory> {
+        self.decide(rt, snapshot, pod, explains)
+    }
+
+    // The first kit says it here: the workers are left where they are.
+    fn judge(
+        &mut self,
+        snapshot: &Snapshot,
+        pod: &SharedPod,
+        filters_alone: bool,
+    ) -> Result<(), NoMemory> {
+        let rows = snapshot.rows();
+        self.verdicts.resize(rows.len(), UNJUDGED)?;
+        let verdicts = self.verdicts.as_mut_slice();
+        rule_on(rows, pod, filters_alone, &mut self.home, verdicts);
+        Ok(())
+    }
+
+    fn verdicts(&self) -> &[Verdict] {
+        self.verdicts.as_slice()
     }
 }
 

@@ -16,7 +16,7 @@ use Rattle.book.specs.declared.place.Place.{Place}
 use Rattle.book.specs.declared.place.Status.TheVariants.{Assumed, Bound}
 use Rattle.book.specs.declared.refusal.Refusal.{Refusal}
 use Rattle.book.specs.declared.step.ClusterStep.TheVariants.{Assume, Forget}
-use Rattle.book.specs.declared.step.Entry.TheVariants.{Held}
+use Rattle.book.specs.declared.entry.Entry.TheVariants.{Held}
 use Rattle.book.proofs.SumLemmas.{get_removed}
 use Rattle.ledger.specs.declared.event.Answer.{Answer}
 use Rattle.ledger.specs.declared.event.Answer.TheVariants.{Told, Old, Full, Granted, Shut, NotWaiting, Refused, Read as ToRead}

@@ -13,7 +13,7 @@ use Rattle.book.specs.Tables.{is_full_for}
 use Rattle.book.specs.Used.{used}
 use Rattle.book.specs.declared.refusal.Refusal.{Refusal}
 use Rattle.book.specs.declared.step.ClusterStep.TheVariants.{Assume}
-use Rattle.book.specs.declared.step.Entry.TheVariants.{Held}
+use Rattle.book.specs.declared.entry.Entry.TheVariants.{Held}
 use Rattle.ledger.specs.declared.event.Answer.{Answer}
 use Rattle.ledger.specs.declared.event.Answer.TheVariants.{Granted, Shut, NotWaiting, Refused}
 use Rattle.ledger.specs.declared.event.Event.TheVariants.{Bind}

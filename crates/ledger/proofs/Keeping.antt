@@ -14,7 +14,7 @@ use Rattle.book.specs.Step.{refusal, effect, next_ticket}
 use Rattle.book.specs.Tables.{is_full_for}
 use Rattle.book.specs.declared.refusal.Refusal.{Refusal}
 use Rattle.book.specs.declared.step.ClusterStep.TheVariants.{Assume, Forget}
-use Rattle.book.specs.declared.step.Entry.TheVariants.{Held}
+use Rattle.book.specs.declared.entry.Entry.TheVariants.{Held}
 use Rattle.ledger.specs.declared.event.Answer.{Answer}
 use Rattle.ledger.specs.declared.event.Answer.TheVariants as answers
 use Rattle.ledger.specs.declared.event.Event.{Event}

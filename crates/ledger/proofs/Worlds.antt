@@ -20,7 +20,7 @@ use Rattle.book.specs.declared.place.Place.{Place}
 use Rattle.book.specs.declared.place.Status.TheVariants.{Assumed}
 use Rattle.book.specs.declared.refusal.Refusal.{Refusal}
 use Rattle.book.specs.declared.step.ClusterStep.TheVariants.{Assume}
-use Rattle.book.specs.declared.step.Entry.TheVariants.{Held}
+use Rattle.book.specs.declared.entry.Entry.TheVariants.{Held}
 use Rattle.book.proofs.TotalLemmas.{used_more}
 use Rattle.book.proofs.SumLemmas.{get_removed}
 use Rattle.ledger.specs.declared.event.Answer.{Answer}

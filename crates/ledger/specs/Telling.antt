@@ -13,7 +13,7 @@ use Rattle.book.specs.Step.{refusal, effect, next_ticket}
 use Rattle.book.specs.Tables.{is_full_for}
 use Rattle.book.specs.declared.step.ClusterStep.{ClusterStep}
 use Rattle.book.specs.declared.step.ClusterStep.TheVariants.{Event as Watched, Assume, Forget}
-use Rattle.book.specs.declared.step.Entry.TheVariants.{Held}
+use Rattle.book.specs.declared.entry.Entry.TheVariants.{Held}
 use Rattle.ledger.specs.declared.event.Answer.{Answer}
 use Rattle.ledger.specs.declared.event.Answer.TheVariants.{Told, Old, Full, Granted, Shut, NotWaiting, Refused, Read as ToRead}
 use Rattle.ledger.specs.declared.event.Outcome.{Outcome}

@@ -9,7 +9,6 @@ use crate::event::{Answer, Outcome, Said};
 use crate::known::{Asking, Heard, Known, Stage};
 use crate::ledger::Ledger;
 use crate::tables::assume;
-use book::{ClusterStep, Reply};
 use quant::{Name, Request, Ticket};
 
 impl Ledger {
@@ -129,12 +128,7 @@ impl Ledger {
         requires { contains_key self.old.pods uid ≡ true }
         ensures { became result self.new ≡ given_up self.old uid ticket known request }
     {
-        let step = ClusterStep::Forget {
-            uid: uid.copied(),
-            ticket,
-            queued: false,
-        };
-        if matches!(self.book.step(step), Reply::Refused(_)) {
+        if self.book.forget(&uid, ticket, false).is_err() {
             return Answer::Full;
         }
         if known.withheld {

@@ -5,11 +5,11 @@ ghost use Rattle.std.specs.FinMap as fin;
 ghost use Rattle.name_table.specs.Slots.{map_of};
 ghost use Rattle.book.specs.Step.{after, refusal, effect, next_ticket};
 ghost use Rattle.book.specs.declared.step.ClusterStep.TheVariants as step;
-ghost use Rattle.book.specs.declared.step.Entry.TheVariants as entry;
+ghost use Rattle.book.specs.declared.entry.Entry.TheVariants as entry;
 ghost use Rattle.book.specs.Tables.{is_full_for};
 ghost use Rattle.ledger.specs.Telling.{next_version, step_of, is_too_much};
 
-use book::{Book, ClusterStep, Entry, Refusal, Reply};
+use book::{Book, Entry, Refusal};
 use name_table::NameTable;
 use quant::{Event, Name, Request, Ticket, Version};
 
@@ -25,12 +25,7 @@ pub(crate) fn take(book: &mut Book, change: Event) -> bool
     ensures room { result ≡ not (is_too_much book.old change) }
     ensures after { book.new ≡ after book.old (step_of change) }
 {
-    let step = ClusterStep::Event {
-        event: change,
-        queued: false,
-        queue_full: false,
-    };
-    !matches!(book.step(step), Reply::Refused(_))
+    book.take_event(change, false, false).is_ok()
 }
 
 /// Whether a name is new and the table has no room for it.
@@ -68,16 +63,7 @@ pub(crate) fn assume(
         (book.new ≡ effect book.old (step.Assume uid node (entry.Held request))) × (ticket ≡ next_ticket book.old))
         (λ why. (refusal book.old (step.Assume uid node (entry.Held request)) ≡ Some why) × (book.new ≡ book.old)) }
 {
-    let step = ClusterStep::Assume {
-        uid,
-        node,
-        entry: Entry::Held(request),
-    };
-    match book.step(step) {
-        Reply::Ticket(ticket) => Ok(ticket),
-        Reply::Refused(why) => Err(why),
-        Reply::Done | Reply::Queue(_) => unreachable!(),
-    }
+    book.assume(uid, node, Entry::Held(request))
 }
 
 /// Takes a pod's place away, if it has one.

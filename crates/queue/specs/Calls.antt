@@ -39,13 +39,8 @@ after_all q (call ∷ calls) = after_all (after q call) calls
 
 -- the uid that a call pops, if it pops one
 abbrev pub popped_by : QueueState → Call → Option Name
-popped_by q (Add pod now) = None
 popped_by q (Pop pass) = option_map (λ item. item.0) (next_of q)
-popped_by q (Fail uid pass how now) = None
-popped_by q (ForgetBack uid now) = None
-popped_by q (Tick now) = None
-popped_by q (MoveAll now) = None
-popped_by q (Remove uid) = None
+popped_by q _ = None
 
 -- the uids that several calls pop, in their order
 abbrev pub all_popped : QueueState → List Call → List Name
@@ -58,23 +53,15 @@ same_uid a b = eq_by_cmp (slice_cmp nat_cmp) a b
 
 -- the call gives back the pod of this uid, which this pass holds, or takes it out of the queue
 abbrev pub gives_back : PassNumber → Name → Call → Bool
-gives_back holder uid (Add pod now) = false
-gives_back holder uid (Pop pass) = false
 gives_back holder uid (Fail other pass how now) = same_uid uid other && (pass.0 == holder.0)
 gives_back holder uid (ForgetBack other now) = same_uid uid other
-gives_back holder uid (Tick now) = false
-gives_back holder uid (MoveAll now) = false
 gives_back holder uid (Remove other) = same_uid uid other
+gives_back holder uid _ = false
 
 -- the call takes the pod of this uid out of the queue
 abbrev pub takes_out : Name → Call → Bool
-takes_out uid (Add pod now) = false
-takes_out uid (Pop pass) = false
-takes_out uid (Fail other pass how now) = false
-takes_out uid (ForgetBack other now) = false
-takes_out uid (Tick now) = false
-takes_out uid (MoveAll now) = false
 takes_out uid (Remove other) = same_uid uid other
+takes_out uid _ = false
 
 -- no entry is active
 abbrev pub NoneActive : QueueState → Type 0

@@ -31,44 +31,32 @@ backed_off failed attempts = record { 0 = failed.0 + backoff attempts }
 -- it waits to be popped
 abbrev pub is_active : State → Bool
 is_active Active = true
-is_active (Backoff until) = false
-is_active (Unschedulable since) = false
-is_active (InFlight pass moved) = false
+is_active _ = false
 
 -- it waits for a moment
 abbrev pub is_backoff : State → Bool
-is_backoff Active = false
 is_backoff (Backoff until) = true
-is_backoff (Unschedulable since) = false
-is_backoff (InFlight pass moved) = false
+is_backoff _ = false
 
 -- it waits for a move, or for time
 abbrev pub is_unschedulable : State → Bool
-is_unschedulable Active = false
-is_unschedulable (Backoff until) = false
 is_unschedulable (Unschedulable since) = true
-is_unschedulable (InFlight pass moved) = false
+is_unschedulable _ = false
 
 -- some pass has popped it
 abbrev pub is_in_flight : State → Bool
-is_in_flight Active = false
-is_in_flight (Backoff until) = false
-is_in_flight (Unschedulable since) = false
 is_in_flight (InFlight pass moved) = true
+is_in_flight _ = false
 
 -- this pass has popped it
 abbrev pub is_in_flight_for : PassNumber → State → Bool
-is_in_flight_for mine Active = false
-is_in_flight_for mine (Backoff until) = false
-is_in_flight_for mine (Unschedulable since) = false
 is_in_flight_for mine (InFlight pass moved) = pass.0 == mine.0
+is_in_flight_for mine _ = false
 
 -- there was a move since it was popped
 abbrev pub was_moved : State → Bool
-was_moved Active = false
-was_moved (Backoff until) = false
-was_moved (Unschedulable since) = false
 was_moved (InFlight pass moved) = moved
+was_moved _ = false
 
 -- a pop: one more attempt, up to 1,000,000, and in flight for the pass that pops
 abbrev pub popped : PassNumber → Entry → Entry

@@ -2,7 +2,7 @@
 use crate::looks::look;
 use crate::objects::{named, node, node_set, pod_bound};
 use audit::audit;
-use book::{Book, ClusterStep, Limits};
+use book::{Book, Limits};
 use desk::Snapshot;
 use quant::Event;
 use std::alloc::Global;
@@ -78,11 +78,7 @@ fn events_of(alloc: Global, places: &[Placed]) -> Option<Vec<Event>> {
 }
 
 fn tell(book: &mut Book, event: Event) {
-    book.step(ClusterStep::Event {
-        event,
-        queued: false,
-        queue_full: false,
-    });
+    let _ = book.take_event(event, false, false);
 }
 
 fn tell_all(book: &mut Book, events: Vec<Event>) {

@@ -1,5 +1,6 @@
 //! One kit as what decides.
 ghost use Rattle.std.specs.Prelude.{◌≡◌, [], ◌∷◌, List, IfOk, OnOk};
+ghost use Rattle.std.specs.Bool.{IsTrue};
 ghost use denote.Param.Send.{IsSync};
 ghost use Rattle.choose.specs.Choice.{AreRulings, AreVerdicts, Choice};
 ghost use Rattle.choose.specs.declared.decision.Verdict.{Verdict};
@@ -13,8 +14,8 @@ use std::alloc::Global;
 use std::sync::Wait;
 use std::thread::Threads;
 
-/// One kit, which decides in the thread that asks it. Where it has no rule, a choice of which no
-/// verdict is told takes one pass over the nodes and no memory.
+/// One kit, which decides in the thread that asks it. Where it has no rule, a decision that isn't
+/// to be explained takes one pass over the nodes and no memory.
 #[derive(Drop)]
 pub struct OneKit<K: Rules + Drop> {
     pub kit: K,
@@ -45,23 +46,15 @@ impl<K: Rules + Drop> Decider for OneKit<K> {
         _rt: &R,
         snapshot: Snapshot,
         pod: &SharedPod,
+        explains: bool,
     ) -> Result<Decision, NoMemory> {
+        if !explains && self.kit.count() == 0 {
+            return Ok(choose_alone(&snapshot, pod, &self.kit));
+        }
         let rows = snapshot.rows();
         self.verdicts.resize(rows.len(), UNJUDGED)?;
         judge(rows, pod, &mut self.kit, self.verdicts.as_mut_slice());
         Ok(decide(rows, self.verdicts.as_slice()))
-    }
-
-    fn choose<R: Threads + Wait + Sync>(
-        &mut self,
-        rt: &R,
-        snapshot: Snapshot,
-        pod: &SharedPod,
-    ) -> Result<Decision, NoMemory> {
-        if self.kit.count() != 0 {
-            return self.decide(rt, snapshot, pod);
-        }
-        Ok(choose_alone(&snapshot, pod, &self.kit))
     }
 
     fn judge(

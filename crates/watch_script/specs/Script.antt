@@ -14,11 +14,7 @@ use Rattle.engine.specs.Script.{asked_in, fault_from}
 abbrev pub watched : Command → Result Step LineFault
 watched (commands.Event event) = Ok (steps.Event event)
 watched (commands.Tick now) = Ok (steps.Tick now)
-watched commands.Cycle = Err (BadField Op)
-watched (commands.BindDone uid ticket) = Err (BadField Op)
-watched (commands.Forget uid ticket) = Err (BadField Op)
-watched commands.Dump = Err (BadField Op)
-watched (commands.Judge pod) = Err (BadField Op)
+watched _ = Err (BadField Op)
 
 -- the steps of a storm's script, which each of its feeders makes
 unfoldable pub script_steps : List ℕ → List Step

@@ -1,4 +1,4 @@
--- When an answer and the cluster after it are those of a step.
+-- When an answer and the book after it are those of a step.
 use Rattle.std.specs.Prelude.{◌≡◌, None, Some, Result, MatchResult}
 use Rattle.book.specs.declared.step.ClusterStep.{ClusterStep}
 use Rattle.book.specs.declared.step.Reply.{Reply}
@@ -7,8 +7,8 @@ use Rattle.book.specs.Cluster.{Cluster}
 use Rattle.book.specs.Step.{refusal, effect, answer}
 
 -- a step was taken, with this answer, or refused for this cause
-abbrev pub IsTaken : Cluster → ClusterStep → Result Reply Refusal → Cluster → Type 0
-IsTaken old step result new =
+abbrev pub IsAnswered : Cluster → ClusterStep → Result Reply Refusal → Cluster → Type 0
+IsAnswered old step result new =
     MatchResult result
     (λ said. (refusal old step ≡ None) × (new ≡ effect old step) × (said ≡ answer old step))
     (λ why. (refusal old step ≡ Some why) × (new ≡ old))

@@ -1,13 +1,14 @@
 -- What is published of a desk for looks: its nodes with what is used of each; and how a call
 -- changes that.
-use Rattle.std.specs.Prelude.{◌≡◌, ℕ, ◌≤◌, ◌&&◌, Bool, List, [], ◌∷◌, Option, None, Some, if◌then◌else◌, fold, length, map, nat_le, nat_lt, slice_index_or, slice_set, ◌==◌, vec_capacity}
+use Rattle.std.specs.Prelude.{◌≡◌, ℕ, ◌<◌, ◌≤◌, ◌&&◌, Bool, List, [], ◌∷◌, Option, None, Some, if◌then◌else◌, fold, length, map, nat_le, nat_lt, slice_index, slice_index_or, slice_set, ◌==◌, vec_capacity}
 use Rattle.std.specs.List.{insert, remove}
 use Rattle.std.specs.FinMap.{entries}
 use Rattle.logbook.specs.Pages.{Book}
 use Rattle.quant.specs.declared.amount.Moment.{Moment}
 use Rattle.quant.specs.declared.amount.Res.{Res}
-use Rattle.quant.specs.declared.event.Event.TheVariants.{NodeSet, NodeGone, PodPending, PodBound, PodGone}
+use Rattle.quant.specs.declared.event.Event.TheVariants.{NodeSet, NodeGone, PodBound, PodGone}
 use Rattle.quant.specs.declared.objects.Node.{Node}
+use Rattle.quant.specs.declared.objects.Pod.{Pod}
 use Rattle.book.specs.Cluster.{Cluster}
 use Rattle.book.specs.Expiry.{NoneExpired}
 use Rattle.book.specs.Rows.{rows_in, IsRowOf}
@@ -22,7 +23,12 @@ use Rattle.desk.specs.declared.board.Order.{Order}
 use Rattle.desk.specs.declared.subject.Subject.{Subject}
 use Rattle.desk.specs.declared.subject.Subject.TheVariants as subject
 use Rattle.desk.specs.declared.step.Step.{Step}
-use Rattle.desk.specs.declared.step.Step.TheVariants.{Event, Pop, Assume, BindDone, Forget, Fail, Tick, Count}
+use Rattle.desk.specs.declared.step.Step.TheVariants.{Event, Assume, BindDone, Forget, Tick}
+use Rattle.desk.specs.declared.step.Reply.{Reply}
+use Rattle.desk.specs.declared.limits.TheConstants.{MAX_PASSES, MAX_CALLS}
+use Rattle.desk.specs.Caller.{IsTimely}
+use Rattle.desk.specs.Machine.{reply, after}
+use Rattle.desk.specs.inside.Caller.{Core, with_state, handed_by}
 use Rattle.desk.specs.inside.Shared.{Prefix, Held, Stands}
 use Rattle.desk.specs.Shown.{Shown}
 
@@ -76,10 +82,7 @@ with_totals used totals = with_total totals.second (with_total totals.first used
 abbrev pub totals_of : Change → Option Totals
 totals_of Nothing = Some (record { first = None; second = None })
 totals_of (Used first second) = Some (record { first = first; second = second })
-totals_of (AllUsed all) = None
-totals_of (Set at node) = None
-totals_of (Come at used node) = None
-totals_of (Gone at) = None
+totals_of _ = None
 
 -- what is used of a row's node, if it is one
 abbrev pub total_in : List Res → Option ℕ → Option Total
@@ -92,12 +95,10 @@ can_come at many room = nat_le at many && nat_lt many room
 
 -- the nodes after a change, where there may be so many
 unfoldable pub nodes_after : ℕ → Change → List Node → List Node
-nodes_after room Nothing nodes = nodes
-nodes_after room (Used first second) nodes = nodes
-nodes_after room (AllUsed all) nodes = nodes
 nodes_after room (Set at node) nodes = slice_set nodes at node
 nodes_after room (Come at used node) nodes = if can_come at (length nodes) room then insert nodes at node else nodes
 nodes_after room (Gone at) nodes = if nat_lt at (length nodes) then remove nodes at else nodes
+nodes_after room _ nodes = nodes
 
 -- and what is used of each
 unfoldable pub used_after : ℕ → Change → List Res → List Res
@@ -147,16 +148,28 @@ IsSubjectAt c now other = ⊥
 abbrev pub IsSubject : Cluster → Step → Subject → Type 0
 IsSubject c (Event (NodeSet version node)) t = t ≡ subject.Set node
 IsSubject c (Event (NodeGone version name)) t = t ≡ subject.Gone name
-IsSubject c (Event (PodPending version pod)) t = t ≡ subject.Nothing
 IsSubject c (Event (PodBound version uid node request)) t = t ≡ subject.Pod uid
 IsSubject c (Event (PodGone version uid)) t = t ≡ subject.Pod uid
-IsSubject c Pop t = t ≡ subject.Nothing
 IsSubject c (Assume uid node) t = t ≡ subject.Pod uid
 IsSubject c (BindDone uid ticket) t = t ≡ subject.Pod uid
 IsSubject c (Forget uid ticket) t = t ≡ subject.Pod uid
-IsSubject c (Fail uid how) t = t ≡ subject.Nothing
 IsSubject c (Tick now) t = IsSubjectAt c now t
-IsSubject c Count t = t ≡ subject.Nothing
+IsSubject c _ t = t ≡ subject.Nothing
+
+-- a step can be taken for a pass, which was handed out and has a call left: this is the pod that it
+-- hands out, and these are whose rows it may change
+pub record IsReady (desk : Core) (pass : ℕ) (e : Step) (first : Option Pod) (t : Subject) : Type 0 where
+  pub handed : pass < MAX_PASSES
+  pub fits : slice_index desk.state.calls pass < MAX_CALLS
+  pub timely : IsTimely e
+  pub first_is : first ≡ handed_by desk.state e
+  pub subject : IsSubject desk.state.cluster e t
+
+-- it was taken and counted, answered so, and changed so much of the rows
+pub record IsNoted (old : Core) (pass : ℕ) (e : Step) (said : Reply) (change : Change) (new : Core) : Type 0 where
+  pub said_is : said ≡ reply old.state pass e
+  pub after_is : new ≡ with_state old (after old.state pass e)
+  pub changed : IsChange old.state.cluster change new.state.cluster
 
 -- no row has this name
 abbrev pub HasNoRow : List Node → List ℕ → Type 0

@@ -1,11 +1,10 @@
 -- A desk with one owner.
-use Rattle.std.specs.Prelude.{◌≡◌, ℕ, ◌≤◌, List, slice_index, Option, None, option_map}
+use Rattle.std.specs.Prelude.{◌≡◌, ℕ, ◌≤◌, List, slice_index, Option, None}
 use Rattle.quant.specs.declared.objects.Pod.{Pod}
-use Rattle.queue.specs.Queue.{next_of}
 use Rattle.book.specs.declared.limits.Limits.{Limits}
 use Rattle.desk.specs.declared.step.Step.{Step}
 use Rattle.desk.specs.declared.step.Step.TheVariants.{Pop}
-use Rattle.desk.specs.Machine.{State, opening}
+use Rattle.desk.specs.Machine.{State, opening, first_pod}
 
 -- a desk with one owner: its state
 pub record Core : Type 0 where
@@ -25,5 +24,5 @@ HasNoCalls handed calls = (pass : ℕ) → handed ≤ pass → slice_index calls
 
 -- the pod that a step hands out, of which the desk then is one owner more
 abbrev pub handed_by : State → Step → Option Pod
-handed_by s Pop = option_map (λ item. item.1.pod) (next_of s.queue)
+handed_by s Pop = first_pod s.queue
 handed_by s e = None

@@ -1,19 +1,15 @@
 -- The calls of a history that tell of nodes, and the nodes that a history leaves.
-use Rattle.std.specs.Prelude.{ℕ, Bool, true, false, List, map, count_by}
+use Rattle.std.specs.Prelude.{ℕ, Bool, List, is_some, map, count_by}
 use Rattle.std.specs.FinMap.{entries}
-use Rattle.quant.specs.declared.event.Event.TheVariants.{NodeSet, NodeGone}
 use Rattle.quant.specs.declared.objects.Node.{Node}
 use Rattle.book.specs.Cluster.{Cluster}
 use Rattle.desk.specs.declared.snapshot.Row.{Row}
 use Rattle.desk.specs.declared.step.Step.{Step}
-use Rattle.desk.specs.declared.step.Step.TheVariants.{Event}
-use Rattle.desk.specs.History.{Call}
+use Rattle.desk.specs.History.{Call, node_in}
 
 -- a step that tells of a node
 abbrev pub tells_of_node : Step → Bool
-tells_of_node (Event (NodeSet version node)) = true
-tells_of_node (Event (NodeGone version name)) = true
-tells_of_node e = false
+tells_of_node e = is_some (node_in e)
 
 -- how many calls of a history tell of a node, whether they were taken or refused
 abbrev pub calls_on_nodes : List Call → ℕ

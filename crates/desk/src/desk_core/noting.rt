@@ -4,12 +4,8 @@ ghost use Rattle.std.specs.Option.{option_map};
 ghost use Rattle.std.specs.FinMap as fin;
 ghost use Rattle.book.specs.Rows.{rows_in};
 ghost use Rattle.book.specs.Used.{nothing};
-ghost use Rattle.desk.specs.inside.Board.{IsSubject, IsChange, IsRowUnder, total_in, used_in};
+ghost use Rattle.desk.specs.inside.Board.{IsSubject, IsReady, IsNoted, IsRowUnder, total_in, used_in};
 ghost use Rattle.book.specs.Cluster.{Cluster};
-ghost use Rattle.desk.specs.Caller.{IsTimely};
-ghost use Rattle.desk.specs.inside.Caller.{with_state, handed_by};
-ghost use Rattle.desk.specs.Machine.{reply, after};
-ghost use Rattle.desk.specs.declared.limits.TheConstants.{MAX_CALLS, MAX_PASSES};
 
 use super::Core;
 use crate::change::{Change, Total};
@@ -57,14 +53,8 @@ impl Core {
         subject: Subject,
         first: Option<SharedPod>,
     ) -> (Reply, Change)
-        requires handed { pass < MAX_PASSES }
-        requires fits { slice_index self.old.state.calls pass < MAX_CALLS }
-        requires timely { IsTimely step }
-        requires first { first ≡ handed_by self.old.state step }
-        requires subject { IsSubject self.old.state.cluster step subject }
-        ensures said { result.0 ≡ reply self.old.state pass step }
-        ensures after { self.new ≡ with_state self.old (after self.old.state pass step) }
-        ensures changed { IsChange self.old.state.cluster result.1 self.new.state.cluster }
+        requires { IsReady self.old pass step first subject }
+        ensures { IsNoted self.old pass step result.0 result.1 self.new }
     {
         match subject {
             Subject::Nothing => self.take_of_nobody(pass, step, first),
@@ -82,14 +72,8 @@ impl Core {
         step: Step,
         first: Option<SharedPod>,
     ) -> (Reply, Change)
-        requires handed { pass < MAX_PASSES }
-        requires fits { slice_index self.old.state.calls pass < MAX_CALLS }
-        requires timely { IsTimely step }
-        requires first { first ≡ handed_by self.old.state step }
-        requires subject { IsSubject self.old.state.cluster step Subject.Nothing }
-        ensures said { result.0 ≡ reply self.old.state pass step }
-        ensures after { self.new ≡ with_state self.old (after self.old.state pass step) }
-        ensures changed { IsChange self.old.state.cluster result.1 self.new.state.cluster }
+        requires { IsReady self.old pass step first Subject.Nothing }
+        ensures { IsNoted self.old pass step result.0 result.1 self.new }
     {
         (self.take_call(pass, step, first), Change::Nothing)
     }
@@ -102,14 +86,8 @@ impl Core {
         first: Option<SharedPod>,
         uid: &Name,
     ) -> (Reply, Change)
-        requires handed { pass < MAX_PASSES }
-        requires fits { slice_index self.old.state.calls pass < MAX_CALLS }
-        requires timely { IsTimely step }
-        requires first { first ≡ handed_by self.old.state step }
-        requires subject { IsSubject self.old.state.cluster step (Subject.Pod uid.now) }
-        ensures said { result.0 ≡ reply self.old.state pass step }
-        ensures after { self.new ≡ with_state self.old (after self.old.state pass step) }
-        ensures changed { IsChange self.old.state.cluster result.1 self.new.state.cluster }
+        requires { IsReady self.old pass step first (Subject.Pod uid.now) }
+        ensures { IsNoted self.old pass step result.0 result.1 self.new }
     {
         // The rows are those of the nodes, by name.
         let _ = self.book.rows();
@@ -130,14 +108,8 @@ impl Core {
         first: Option<SharedPod>,
         node: SharedNode,
     ) -> (Reply, Change)
-        requires handed { pass < MAX_PASSES }
-        requires fits { slice_index self.old.state.calls pass < MAX_CALLS }
-        requires timely { IsTimely step }
-        requires first { first ≡ handed_by self.old.state step }
-        requires subject { IsSubject self.old.state.cluster step (Subject.Set node) }
-        ensures said { result.0 ≡ reply self.old.state pass step }
-        ensures after { self.new ≡ with_state self.old (after self.old.state pass step) }
-        ensures changed { IsChange self.old.state.cluster result.1 self.new.state.cluster }
+        requires { IsReady self.old pass step first (Subject.Set node) }
+        ensures { IsNoted self.old pass step result.0 result.1 self.new }
     {
         let found = self.book.find_row(&node.name);
         let said = self.take_call(pass, step, first);
@@ -158,14 +130,8 @@ impl Core {
         first: Option<SharedPod>,
         name: &Name,
     ) -> (Reply, Change)
-        requires handed { pass < MAX_PASSES }
-        requires fits { slice_index self.old.state.calls pass < MAX_CALLS }
-        requires timely { IsTimely step }
-        requires first { first ≡ handed_by self.old.state step }
-        requires subject { IsSubject self.old.state.cluster step (Subject.Gone name.now) }
-        ensures said { result.0 ≡ reply self.old.state pass step }
-        ensures after { self.new ≡ with_state self.old (after self.old.state pass step) }
-        ensures changed { IsChange self.old.state.cluster result.1 self.new.state.cluster }
+        requires { IsReady self.old pass step first (Subject.Gone name.now) }
+        ensures { IsNoted self.old pass step result.0 result.1 self.new }
     {
         let found = self.book.find_row(name);
         let said = self.take_call(pass, step, first);
@@ -187,14 +153,8 @@ impl Core {
         first: Option<SharedPod>,
         used: Vec<Res>,
     ) -> (Reply, Change)
-        requires handed { pass < MAX_PASSES }
-        requires fits { slice_index self.old.state.calls pass < MAX_CALLS }
-        requires timely { IsTimely step }
-        requires first { first ≡ handed_by self.old.state step }
-        requires subject { IsSubject self.old.state.cluster step (Subject.All used) }
-        ensures said { result.0 ≡ reply self.old.state pass step }
-        ensures after { self.new ≡ with_state self.old (after self.old.state pass step) }
-        ensures changed { IsChange self.old.state.cluster result.1 self.new.state.cluster }
+        requires { IsReady self.old pass step first (Subject.All used) }
+        ensures { IsNoted self.old pass step result.0 result.1 self.new }
     {
         let said = self.take_call(pass, step, first);
         let mut used = used;

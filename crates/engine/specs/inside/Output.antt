@@ -1,11 +1,11 @@
 -- What one line is answered, and which answers tell its fault.
-use Rattle.std.specs.Prelude.{◌≡◌, ℕ, ◌+◌, List, ◌++◌, Option, Some, None, Result, Ok, Err}
+use Rattle.std.specs.Prelude.{◌≡◌, ℕ, List, ◌++◌, Option, Some, None, Result, Ok, Err}
 use Rattle.manifest.specs.declared.fault.LineFault.{LineFault}
 use Rattle.engine.specs.Telling.{Telling}
 use Rattle.rules.specs.RuleSet.{RuleSet}
 use Rattle.manifest.specs.declared.command.Command.{Command}
 use Rattle.engine.specs.declared.fault.RunFault.{RunFault}
-use Rattle.engine.specs.declared.fault.RunFault.TheVariants.{Line, NoMemory, Read, Write, NoPlace}
+use Rattle.engine.specs.declared.fault.RunFault.TheVariants.{Line, NoMemory}
 use Rattle.engine.specs.Answers.{State, Answered}
 
 -- what a line asks for is done and answered: nothing, where it is empty
@@ -18,6 +18,4 @@ IsAnswered rules telling (Err fault) old new waits later = ⊥
 abbrev pub IsLineFault : ℕ → Result (Option Command) LineFault → RunFault → Type 0
 IsLineFault number asked (Line n fault) = (n ≡ number) × (asked ≡ Err fault)
 IsLineFault number asked NoMemory = Unit {0}
-IsLineFault number asked Read = ⊥
-IsLineFault number asked Write = ⊥
-IsLineFault number asked NoPlace = ⊥
+IsLineFault number asked _ = ⊥

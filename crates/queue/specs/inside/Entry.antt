@@ -1,11 +1,9 @@
 -- Which entries are told at a moment in time.
 use Rattle.std.specs.Prelude.{◌≤◌}
 use Rattle.queue.specs.declared.state.State.{State}
-use Rattle.queue.specs.declared.state.State.TheVariants.{Active, Backoff, Unschedulable, InFlight}
+use Rattle.queue.specs.declared.state.State.TheVariants.{Unschedulable}
 
 -- an unschedulable pod failed at a moment that a clock has
 abbrev pub IsTimely : State → Type 0
-IsTimely Active = Unit {0}
-IsTimely (Backoff until) = Unit {0}
 IsTimely (Unschedulable since) = since.0 ≤ 1000000000000000
-IsTimely (InFlight pass moved) = Unit {0}
+IsTimely _ = Unit {0}

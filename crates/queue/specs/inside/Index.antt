@@ -23,11 +23,8 @@ stands_in test pods s = option_map_or test (state_in pods s) false
 
 -- some pass has popped it, and there was no move since
 abbrev pub is_unmarked : State → Bool
-is_unmarked Active = false
-is_unmarked (Backoff until) = false
-is_unmarked (Unschedulable since) = false
-is_unmarked (InFlight pass true) = false
 is_unmarked (InFlight pass false) = true
+is_unmarked _ = false
 
 -- the row has just the slots whose pods stand there
 pub record Lists (test : State → Bool) (pods : Pods) (row : SlotRow) : Type 0 where
@@ -72,11 +69,9 @@ applied (Move now) entry = moved_on now entry
 
 -- a change at a moment that a clock has
 abbrev pub IsTimelyChange : Change → Type 0
-IsTimelyChange (Pop pass) = Unit {0}
 IsTimelyChange (SendBack now) = now.0 ≤ 1000000000000000
 IsTimelyChange (Fail how now) = now.0 ≤ 1000000000000000
-IsTimelyChange (Tick now) = Unit {0}
-IsTimelyChange (Move now) = Unit {0}
+IsTimelyChange _ = Unit {0}
 
 -- what a slot has, with its pod changed
 abbrev pub kept_with : (Entry → Entry) → Option (Named Entry) → Option (Named Entry)
@@ -97,11 +92,9 @@ is_due now (InFlight pass moved) = false
 
 -- it has not seen the last move: no node would take it, or it is in flight with no move since
 abbrev pub is_unmoved : State → Bool
-is_unmoved Active = false
-is_unmoved (Backoff until) = false
 is_unmoved (Unschedulable since) = true
-is_unmoved (InFlight pass true) = false
 is_unmoved (InFlight pass false) = true
+is_unmoved _ = false
 
 -- the slot at a place of a row, if the row has any
 abbrev pub IsEnd : List ℕ → ℕ → Option ℕ → Type 0

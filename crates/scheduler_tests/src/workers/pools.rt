@@ -42,7 +42,7 @@ fn decides<J: Site, G: Gate + Drop, R: Wait>(
     shown: Snapshot,
     pod: &SharedPod,
 ) -> bool {
-    match pool.decide(rt, shown, pod) {
+    match pool.decide(rt, shown, pod, true) {
         Ok(decision) => is_by_the_least(&decision),
         Err(_) => false,
     }

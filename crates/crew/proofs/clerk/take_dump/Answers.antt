@@ -22,7 +22,7 @@ meet_each-requires-6-clause-workers g c = met_stay _ _ _ _ _ c.meet_each-3.ensur
 pub returns-clause-dumped : goal.returns-clause-dumped
 returns-clause-dumped g c =
     dumped c.args.desk.now
-    c.args.clerk.now c.meet_each.new.clerk c.meet_each-2.new.clerk c.meet_each-3.new.clerk c.count.new.clerk c.look.new.pass c.meet_each-4.new.clerk c.meet_each-5.new.clerk c.meet_each-6.new.clerk
+    c.args.clerk.now c.meet_each.new.clerk c.meet_each-2.new.clerk c.meet_each-3.new.clerk c.count.new.pass c.look.new.pass c.meet_each-4.new.clerk c.meet_each-5.new.clerk c.meet_each-6.new.clerk
     c.args.feeders.now c.meet_each.new.workers c.meet_each-4.new.workers
     c.args.cyclers.now c.meet_each-2.new.workers c.meet_each-5.new.workers
     c.args.reporters.now c.meet_each-3.new.workers c.meet_each-6.new.workers

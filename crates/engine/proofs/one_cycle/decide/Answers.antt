@@ -9,4 +9,4 @@ returns-clause-chosen g c =
 -- and by the verdicts on what it shows
 pub returns-clause-verdicts : goal.returns-clause-verdicts
 returns-clause-verdicts g c =
-    on_ok_weaker c.decide.result (λ are. record { rows = _; looked = _; looks = c.in_ok-snapshot.ensures.looked; are = are }) c.decide.ensures.judged
+    λ yes. on_ok_weaker c.decide.result (λ are. record { rows = _; looked = _; looks = c.in_ok-snapshot.ensures.looked; are = are }) (c.decide.ensures.judged yes)

@@ -18,7 +18,7 @@ publish_orders-writer-requires g c =
     let w = c.self.inside.writer in
     let order : Order = record { change = c.take_noted-said.result.1; pass = c.number-2.result; calls = c.calls.result + 1; prefix = c.again.result } in
     let opened = c.deref_mut.ensures.value in
-    let new = ap (λ (d : Core). d.state.cluster) c.take_noted-said.ensures.after ∙ (λ i. (after (opened i).state (c.number.ensures i) e).cluster) in
+    let new = ap (λ (d : Core). d.state.cluster) c.take_noted-said.ensures.after_is ∙ (λ i. (after (opened i).state (c.number.ensures i) e).cluster) in
     let changed = subst (λ (d : Core). IsChange d.state.cluster order.change (after x.desk.state p.number e).cluster) opened (subst (IsChange c.deref_mut.result.now.state.cluster order.change) new c.take_noted-said.ensures.changed) in
     let counted = ap (λ n. n + 1) (ap (λ (y : Held). slice_index y.desk.state.calls p.number) c.self.view_is ∙ c.requires.calls ∙ sym c.calls.ensures) in
     is_board g.J.Naming.book g.J.Naming.limits (held_after c.args.self p.number e c.args.prefix) _ c.requires.stands
@@ -34,11 +34,11 @@ invariant_of-held g c =
     let w = c.self.inside.writer in
     let order : Order = record { change = c.take_noted-said.result.1; pass = c.number-2.result; calls = c.calls.result + 1; prefix = c.again.result } in
     let opened = c.deref_mut.ensures.value in
-    let new = ap (λ (d : Core). d.state.cluster) c.take_noted-said.ensures.after ∙ (λ i. (after (opened i).state (c.number.ensures i) e).cluster) in
+    let new = ap (λ (d : Core). d.state.cluster) c.take_noted-said.ensures.after_is ∙ (λ i. (after (opened i).state (c.number.ensures i) e).cluster) in
     let changed = subst (λ (d : Core). IsChange d.state.cluster order.change (after x.desk.state p.number e).cluster) opened (subst (IsChange c.deref_mut.result.now.state.cluster order.change) new c.take_noted-said.ensures.changed) in
     let counted = ap (λ n. n + 1) (ap (λ (y : Held). slice_index y.desk.state.calls p.number) c.self.view_is ∙ c.requires.calls ∙ sym c.calls.ensures) in
     let inside = opened ∙ ap (λ (y : Held). y.desk) c.self.view_is in
-    let desk = c.take_noted-said.ensures.after ∙ λ i. with_state (inside i) (after (inside i).state (c.number.ensures i) e) in
+    let desk = c.take_noted-said.ensures.after_is ∙ λ i. with_state (inside i) (after (inside i).state (c.number.ensures i) e) in
     let held : record { desk = c.take_noted-said.new.self; prefix = c.args.prefix } ≡ held_after c.args.self p.number e c.args.prefix = λ i. record { desk = desk i; prefix = c.args.prefix } in
     record {
       stands = subst (Stands g.J.Naming.book g.J.Naming.limits) (sym held) c.requires.stands;
@@ -58,7 +58,7 @@ returns-clause-totals g c =
     let x : Held = record { desk = c.self.inside.core.value; prefix = c.self.inside.prefix } in
     let change = c.take_noted-said.result.1 in
     let opened = c.deref_mut.ensures.value in
-    let new = ap (λ (d : Core). d.state.cluster) c.take_noted-said.ensures.after ∙ (λ i. (after (opened i).state (c.number.ensures i) e).cluster) in
+    let new = ap (λ (d : Core). d.state.cluster) c.take_noted-said.ensures.after_is ∙ (λ i. (after (opened i).state (c.number.ensures i) e).cluster) in
     let changed = subst (λ (d : Core). IsChange d.state.cluster change (after x.desk.state p.number e).cluster) opened (subst (IsChange c.deref_mut.result.now.state.cluster change) new c.take_noted-said.ensures.changed) in
     subst (λ (y : Held). IfSome c.totals-totals.result (λ totals. Writes y.desk.state.cluster totals (after y.desk.state p.number e).cluster)) c.self.view_is
     (writes x.desk.state.cluster (after x.desk.state p.number e).cluster change c.totals-totals.result changed c.totals-totals.ensures)

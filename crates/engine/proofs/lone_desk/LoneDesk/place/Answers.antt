@@ -21,7 +21,7 @@ returns-clause-decided g c =
 
 -- and so are the verdicts
 pub returns-clause-verdicts : goal.returns-clause-verdicts
-returns-clause-verdicts g c =
+returns-clause-verdicts g c = λ yes.
     let d = c.self.inside in
     let law = c.one_pass_is_alone.ensures in
     let rules = rules_of g.D.Kit.Rules.answers (g.D.Decider.kits c.args.decider.now) in
@@ -30,4 +30,4 @@ returns-clause-verdicts g c =
     (λ seen.
     subst (λ (s : State). AreVerdicts rules c.args.pod.now (snapshot s.cluster) verdicts) c.self.view_is
     (verdicts_alone d.desk c.self.invariant.0 law.answers law.looks rules d.pass c.args.pod.now verdicts c.self.invariant.1 seen))
-    c.place.ensures.verdicts
+    (c.place.ensures.verdicts yes)

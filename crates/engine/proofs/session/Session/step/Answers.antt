@@ -1,4 +1,4 @@
-use Rattle.std.proofs.Common.{◌≡◌, ◌++◌, ◌∙◌, ap, sym}
+use Rattle.std.proofs.Common.{◌++◌, ◌∙◌, ap, sym}
 use Rattle.desk.specs.Machine as machine
 use Rattle.engine.specs.Answers.{text_of, reply_lines}
 use Rattle.engine.proofs.OutputLines.{plain_lines}

@@ -26,7 +26,7 @@ returns-in-None-clause-told g c =
 pub returns-then-not-explains-clause-cycled : goal.returns-then-not-explains-clause-cycled
 returns-then-not-explains-clause-cycled g c =
     let pops = rw c.in-Some.is at c.in_ok-popped.ensures.popped in
-    placed_cycle _ _ _ _ _ _ pops c.in_ok-popped.ensures.after c.in_ok-place_untold.ensures.decided
+    placed_cycle _ _ _ _ _ _ pops c.in_ok-popped.ensures.after c.in_ok-place.ensures.decided
 
 pub returns-then-not-explains-clause-told : goal.returns-then-not-explains-clause-told
 returns-then-not-explains-clause-told g c =
@@ -39,7 +39,7 @@ pub push_verdicts-requires : goal.push_verdicts-requires
 push_verdicts-requires g c =
     let seen : map shown c.rows.result.now ≡ snapshot c.look.new.self.cluster =
     c.rows.ensures ∙ (c.in_ok-snapshot.ensures.shown ∙ ap (λ (s : State). snapshot s.cluster) (sym c.look.ensures.same)) in
-    ap length c.verdicts.ensures ∙ (all_zip_length _ _ _ c.in_ok-came.ensures.verdicts ∙ (sym (ap length seen) ∙ length-map c.rows.result.now shown))
+    ap length c.verdicts.ensures ∙ (all_zip_length _ _ _ (c.in_ok-came.ensures.verdicts refl) ∙ (sym (ap length seen) ∙ length-map c.rows.result.now shown))
 
 pub returns-clause-cycled : goal.returns-clause-cycled
 returns-clause-cycled g c =
@@ -53,7 +53,7 @@ returns-clause-told g c =
     let seen : map shown c.rows.result.now ≡ snapshot c.look.new.self.cluster =
     c.rows.ensures ∙ (c.in_ok-snapshot.ensures.shown ∙ ap (λ (s : State). snapshot s.cluster) (sym c.look.ensures.same)) in
     let tells = told (rules_of g.D.Kit.Rules.answers (g.D.Decider.kits c.args.decider.now)) c.args.named.now c.args.explains c.args.self.now.desk _ _ _ yes pops
-    (c.look.ensures.same ∙ c.in_ok-popped.ensures.after) c.in_ok-came.ensures.verdicts in (
+    (c.look.ensures.same ∙ c.in_ok-popped.ensures.after) (c.in_ok-came.ensures.verdicts refl) in (
       verdict_lines c.args.named.now c.deref.result.now (map shown c.rows.result.now) c.verdicts.result.now,
       subst (TellsNodes (rules_of g.D.Kit.Rules.answers (g.D.Decider.kits c.args.decider.now)) c.args.named.now c.args.explains c.args.self.now.desk)
           (λ i. verdict_lines c.args.named.now (sym c.deref.ensures i) (sym seen i) (sym c.verdicts.ensures i)) tells,
