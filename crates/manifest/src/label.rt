@@ -27,8 +27,8 @@ impl Item for Label {
     }
 }
 
-// Whether one of the labels has this key.
-fn has_key(labels: &[Label], key: &Name) -> bool
+/// Whether one of the labels has this key.
+pub fn has_key(labels: &[Label], key: &Name) -> bool
     ensures { result ≡ list_any (λ label. bytes_eq label.key key.now) labels.now }
 {
     labels

@@ -23,5 +23,8 @@ mod toleration;
 pub use command::{Command, Question};
 pub use fault::LineFault;
 pub use field::Field;
+pub use label::has_key;
 pub use laws::longest_line_is_this;
 pub use line::{MAX_LINE, read_line};
+pub use taint::{effect_named, has_taint};
+pub use toleration::{effect_or_none, is_lawful, operator_named};

@@ -30,17 +30,17 @@ impl Item for Taint {
     }
 }
 
-// Whether one of the taints has both this key and this effect.
-fn has_taint(taints: &[Taint], key: &Name, effect: Effect) -> bool
+/// Whether one of the taints has both this key and this effect.
+pub fn has_taint(taints: &[Taint], key: &Name, effect: Effect) -> bool
     ensures { result ≡ list_any
         (λ taint. bytes_eq taint.key key.now && same_effect taint.effect effect) taints.now }
 {
     taints.iter().any(|taint| taint.key.as_bytes() == key.as_bytes() && taint.effect == effect)
 }
 
-// The effect of this name.
+/// The effect of this name.
 #[tactic(auto, unfolding(crate::specs::Rows::effect_named))]
-pub(crate) fn effect_named(name: &str) -> Option<Effect>
+pub fn effect_named(name: &str) -> Option<Effect>
     ensures { result ≡ effect_named name.now }
 {
     match name {

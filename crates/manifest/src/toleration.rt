@@ -36,8 +36,8 @@ impl Item for Toleration {
     }
 }
 
-// Whether there is a key, under `Equal`, or no value, under `Exists`.
-fn is_lawful(operator: Operator, key: &Text, value: &Text) -> bool
+/// Whether there is a key, under `Equal`, or no value, under `Exists`.
+pub fn is_lawful(operator: Operator, key: &Text, value: &Text) -> bool
     ensures { result ≡ lawful operator key.now value.now }
 {
     match operator {
@@ -46,9 +46,9 @@ fn is_lawful(operator: Operator, key: &Text, value: &Text) -> bool
     }
 }
 
-// The operator of this name. No name is that of `Equal`.
+/// The operator of this name. No name is that of `Equal`.
 #[tactic(auto, unfolding(crate::specs::Rows::operator_named))]
-fn operator_named(name: &str) -> Option<Operator>
+pub fn operator_named(name: &str) -> Option<Operator>
     ensures { result ≡ operator_named name.now }
 {
     match name {
@@ -58,9 +58,9 @@ fn operator_named(name: &str) -> Option<Operator>
     }
 }
 
-// The effect of this name. No name is that of no effect, which stands for every one.
+/// The effect of this name. No name is that of no effect, which stands for every one.
 #[tactic(auto, unfolding(crate::specs::Rows::effect_or_none))]
-fn effect_or_none(name: &str) -> Option<Option<Effect>>
+pub fn effect_or_none(name: &str) -> Option<Option<Effect>>
     ensures { result ≡ effect_or_none name.now }
 {
     if name.is_empty() {

@@ -4,7 +4,8 @@ use Rattle.std.proofs.lemmas.Bool.{and_parts, and_from}
 use Rattle.quant.specs.declared.objects.Label.{Label}
 use Rattle.quant.specs.declared.taint.Taint.{Taint}
 use Rattle.quant.specs.declared.taint.Toleration.{Toleration}
-use Rattle.objects.specs.Sayable.{each_beside, says_label, says_taint, says_toleration}
+use Rattle.objects.specs.Sayable.{says_label, says_taint, says_toleration}
+use Rattle.objects.specs.inside.Events.{each_beside}
 
 more_behind : {A : Type 0} (passes : List A → A → Bool) (before xs : List A) (x : A) → each_beside passes before xs ≡ true → passes (before ++ xs) x ≡ true
     → each_beside passes before (xs ++ x ∷ []) ≡ true

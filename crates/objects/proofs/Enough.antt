@@ -1,34 +1,32 @@
 -- What a pod counts for on a node is no less than what it asked for.
-use Rattle.std.proofs.Common.{◌≡◌, ◌⊎◌, inl, inr, ℕ, ◌+◌, ◌^◌, ◌≤◌, max, Bool, true, false, nat_le, List, [], ◌∷◌, ◌++◌, length, is_some, Option, None, Some, Result, Ok, Err, refl, sym, ap, subst, ◌∙◌, arith}
+use Rattle.std.proofs.Common.{◌≡◌, ◌⊎◌, inl, inr, ℕ, ◌+◌, ◌^◌, ◌≤◌, max, min, Bool, true, false, not, List, [], ◌∷◌, ◌++◌, codes, is_some, Option, None, Some, Result, Ok, Err, refl, sym, ap, subst, ◌∙◌, arith}
 use Rattle.std.specs.Prelude.{if◌then◌else◌}
 use Rattle.std.specs.List.{fold}
-use Rattle.std.specs.Option.{ok_or}
-use Rattle.std.proofs.lemmas.Bool.Decides.{nat_tests}
 use Rattle.serde_json.specs.Data.{Data, Items, no_items, item}
-use Rattle.serde_json.specs.Find.{as_array, as_object}
-use Rattle.quant.specs.declared.amount.Cpu.{Cpu}
-use Rattle.quant.specs.declared.amount.Bytes.{Bytes}
+use Rattle.serde_json.specs.Find.{as_object}
 use Rattle.quant.specs.declared.amount.Request.{Request}
 use Rattle.quant.specs.Request.{request_of, request_both, within}
-use Rattle.objects.specs.declared.container.Container.{Container}
-use Rattle.objects.specs.declared.fault.ObjectFault.{ObjectFault}
-use Rattle.objects.specs.declared.fault.ObjectFault.TheVariants.{BadField, TooMany}
-use Rattle.objects.specs.declared.key.Key.{Key}
-use Rattle.objects.specs.declared.key.Key.TheVariants as keys
-use Rattle.objects.specs.declared.reading.Part.{Part}
-use Rattle.objects.specs.declared.reading.Part.TheVariants as parts
+use Rattle.objects.specs.declared.amounts.Part.{Part}
+use Rattle.objects.specs.declared.amounts.Part.TheVariants.{Asked, Overhead, Allocated, Requested}
+use Rattle.objects.specs.declared.containers.Container.{Container}
+use Rattle.objects.specs.declared.fault.Why.TheVariants.{BadField, TooMany}
+use Rattle.objects.specs.declared.request.Reckoned.TheVariants.{Waiting, Standing}
+use Rattle.objects.specs.declared.quantity.Rounding.TheVariants.{Up}
 use Rattle.objects.specs.declared.resource.Resource.{Resource}
-use Rattle.objects.specs.declared.resource.Resource.TheVariants as resources
-use Rattle.objects.specs.Quantity.{◌>>=◌}
-use Rattle.objects.specs.Resource.{amount_of}
-use Rattle.objects.specs.Field.{is_given}
-use Rattle.objects.specs.Reading.{field, field_at, under, in_resources, or_else, asked, listed_in, found_in, cpu_if, memory_if, cpu_in, memory_in}
-use Rattle.objects.specs.Container.{whole, goes_on, container, count, each, listed, containers, overhead_request}
-use Rattle.objects.specs.PodRequest.{beside_others, peak, effective, request_of_all, by_containers, pod_request}
-use Rattle.objects.specs.Counted.{at_most, larger, counted_cpu, counted_memory, counted_part, is_status_of, status_request, held, held_as_a_whole, listed_of, counted_going_on, counted_container, counted_items, unread, items_if, statuses, are_few, counted_listed, counted_containers, some_or_unread, counted_as_a_whole, counted_amount, counted}
-use Rattle.objects.specs.Enough.{IsNoMore, CountsEnough, CountsNoMore}
+use Rattle.objects.specs.declared.resource.Resource.TheVariants.{Cpu, Memory, Pods}
+use Rattle.objects.specs.LeftOut.{Fault, refused}
+use Rattle.objects.specs.Quantity.{◌>>=◌, most, key_of}
+use Rattle.objects.specs.Reading.{field, each, spelled, items_of, is_given}
+use Rattle.objects.specs.Amounts.{amount_of, under, in_resources, found_in, amount_in, at_most, taken, amounts}
+use Rattle.objects.specs.Containers.{of, larger, status_request, is_status_of, or_held, held, is_always, container, are_few, statuses, looked_at, unread, listed, read_containers, containers, beside_others, peak, effective}
+use Rattle.objects.specs.PodRequest.{some_or_unread, some_container, within_limits, held_as_a_whole, by_containers, as_asked, or_more, as_held, reckoned, in_all, running, request_by, request}
+use Rattle.objects.specs.Enough.{IsNoMore, CountsEnough, CountsTheSame}
+use Rattle.objects.proofs.Requests.{ok_same, same_request}
 
 -- ---- requests
+
+no_more_self : (a : Request) → IsNoMore a a
+no_more_self a = (omega arith, omega arith)
 
 no_more_trans : (a b c : Request) → IsNoMore a b → IsNoMore b c → IsNoMore a c
 no_more_trans a b c ab bc = (omega (arith, ab.0, bc.0), omega (arith, ab.1, bc.1))
@@ -42,85 +40,80 @@ larger_left : (a b : Request) → IsNoMore a (larger a b)
 unfolding larger
 larger_left a b = within_most a (max a.cpu.0 b.cpu.0) (max a.mem.0 b.mem.0) (omega arith) (omega arith)
 
--- what statuses say adds to what is asked for
-held_by : (a most other : Request) (b : Bool) → IsNoMore a most → IsNoMore a (if b then larger most other else most)
-held_by a most other true h = no_more_trans a most (larger most other) h (larger_left most other)
-held_by a most other false h = h
+-- ---- readings
 
-held_more : (name : List ℕ) (a most : Request) (statuses : Items) → IsNoMore a most → IsNoMore a (held name most statuses)
-held_more name a most no_items h = h
-held_more name a most (item status rest) h = held_more name a (if is_status_of name status then larger most (status_request keys.ContainerStatuses status) else most) rest (held_by a most (status_request keys.ContainerStatuses status) (is_status_of name status) h)
-
--- ---- amounts as they are read
-
--- what comes behind a reading that went well
-behind : {A B : Type 0} (x : Result A ObjectFault) (f : A → Result B ObjectFault) (y : B) → (x >>= f) ≡ Ok y → (a : A) × (x ≡ Ok a) × (f a ≡ Ok y)
+-- what comes behind a reading that went well, and before one
+behind : {A B : Type 0} (x : Result A Fault) (f : A → Result B Fault) (y : B) → (x >>= f) ≡ Ok y → (a : A) × (x ≡ Ok a) × (f a ≡ Ok y)
 behind (Ok a) f y e = (a, refl, e)
 behind (Err fault) f y e = absurd (cc)
 
--- a field of an object is the same, whatever the object stands in
-field_alike : (k other key : Key) (json : Data) → is_some (as_object json) ≡ true → field_at k key json ≡ field_at other key json
-unfolding field_at
-field_alike k other key json is = rw (is) refl
+ahead : {A B : Type 0} (x : Result A Fault) (f : A → Result B Fault) (a : A) (y : B) → x ≡ Ok a → f a ≡ Ok y → (x >>= f) ≡ Ok y
+ahead x f a y e g = ap (λ r. r >>= f) e ∙ g
 
-field_is_object : (k key : Key) (json : Data) (o : Option Data) (b : Bool) → is_some (as_object json) ≡ b → field_at k key json ≡ Ok o → is_some (as_object json) ≡ true
-unfolding field_at
-field_is_object k key json o true is e = is
-field_is_object k key json o false is e = absurd (let no : field_at k key json ≡ Err (BadField k) = rw (is) refl in cc)
+-- a fault that is taken as the worst
+taken_is : {A : Type 0} (worst : A) (x : Result A Fault) (y : A) → taken false worst x ≡ Ok y → x ≡ Ok y
+taken_is worst (Ok x) y e = e
+taken_is worst (Err fault) y e = absurd (cc)
 
--- what is asked for is the same, too
-in_alike : (k other part resource : Key) (json : Data) → is_some (as_object json) ≡ true → in_resources k part resource json ≡ in_resources other part resource json
-unfolding in_resources
-in_alike k other part resource json is =
-    ap (λ found. found >>= λ resources. under keys.Resources part resources >>= λ amounts. under part resource amounts) (field_alike k other keys.Resources json is)
+taken_stands : {A : Type 0} (worst : A) (x : Result A Fault) (y : A) → taken false worst x ≡ Ok y → taken true worst x ≡ Ok y
+taken_stands worst x y e = ap (taken true worst) (taken_is worst x y e)
 
-asked_alike : (k other resource : Key) (json : Data) → is_some (as_object json) ≡ true → asked k resource json ≡ asked other resource json
-unfolding asked
-asked_alike k other resource json is =
-    (λ j. in_alike k other keys.Requests resource json is j >>= λ request. in_alike k other keys.Limits resource json is j >>= λ limit. Ok (or_else request limit))
+taken_some : {A : Type 0} (worst : A) (x : Result A Fault) → (y : A) × (taken true worst x ≡ Ok y)
+taken_some worst (Ok x) = (x, refl)
+taken_some worst (Err fault) = (worst, refl)
 
-in_is_object : (k part resource : Key) (json : Data) (o : Option Data) → in_resources k part resource json ≡ Ok o → is_some (as_object json) ≡ true
-unfolding in_resources
-in_is_object k part resource json o e =
-    let first = behind (field_at k keys.Resources json) (λ resources. under keys.Resources part resources >>= λ amounts. under part resource amounts) o e in
-    field_is_object k keys.Resources json first.0 (is_some (as_object json)) refl first.1
+-- amounts that can be read are the same where the pod stands, and there are some there
+amounts_stand : (part : Part) (holder : List ℕ) (json : Data) (r : Request) → amounts false part holder json ≡ Ok r → amounts true part holder json ≡ Ok r
+unfolding amounts
+amounts_stand part holder json r e =
+    let x = amount_in part holder Cpu json in
+    let z = amount_in part holder Memory json in
+    let a = behind (taken false (most Cpu) x) (λ cpu. taken false (most Memory) z >>= λ memory. Ok (at_most cpu memory)) r e in
+    let b = behind (taken false (most Memory) z) (λ memory. Ok (at_most a.0 memory)) r a.2 in
+    ahead (taken true (most Cpu) x) (λ cpu. taken true (most Memory) z >>= λ memory. Ok (at_most cpu memory)) a.0 r (taken_stands (most Cpu) x a.0 a.1)
+    (ahead (taken true (most Memory) z) (λ memory. Ok (at_most a.0 memory)) b.0 r (taken_stands (most Memory) z b.0 b.1) b.2)
 
-asked_is_object : (k resource : Key) (json : Data) (o : Option Data) → asked k resource json ≡ Ok o → is_some (as_object json) ≡ true
-unfolding asked
-asked_is_object k resource json o e =
-    let first = behind (in_resources k keys.Requests resource json) (λ request. in_resources k keys.Limits resource json >>= λ limit. Ok (or_else request limit)) o e in
-    in_is_object k keys.Requests resource json first.0 first.1
+amounts_some : (part : Part) (holder : List ℕ) (json : Data) → (r : Request) × (amounts true part holder json ≡ Ok r)
+unfolding amounts
+amounts_some part holder json =
+    let a = taken_some (most Cpu) (amount_in part holder Cpu json) in
+    let b = taken_some (most Memory) (amount_in part holder Memory json) in (
+      at_most a.0 b.0,
+      ahead (taken true (most Cpu) (amount_in part holder Cpu json)) (λ cpu. taken true (most Memory) (amount_in part holder Memory json) >>= λ memory. Ok (at_most cpu memory)) a.0 (at_most a.0 b.0) a.1
+          (ahead (taken true (most Memory) (amount_in part holder Memory json)) (λ memory. Ok (at_most a.0 memory)) b.0 (at_most a.0 b.0) b.1 refl),
+    )
 
-cpu_alike : (k other : Key) (json : Data) (cpu : Cpu) → cpu_in parts.Asked k json ≡ Ok cpu → cpu_in parts.Asked other json ≡ Ok cpu
-unfolding found_in
-cpu_alike k other json cpu e =
-    let first = behind (asked k keys.Cpu json) cpu_if cpu e in
-    ap (λ found. found >>= cpu_if) (sym (asked_alike k other keys.Cpu json (asked_is_object k keys.Cpu json first.0 first.1))) ∙ e
+status_some : (holder : List ℕ) (status : Data) → (r : Request) × (status_request holder status ≡ Ok r)
+unfolding status_request
+status_some holder status =
+    let a = amounts_some Allocated holder status in
+    let b = amounts_some Requested holder status in (
+      larger a.0 b.0,
+      ahead (amounts true Allocated holder status) (λ set_aside. amounts true Requested holder status >>= λ in_force. Ok (larger set_aside in_force)) a.0 (larger a.0 b.0) a.1
+          (ahead (amounts true Requested holder status) (λ in_force. Ok (larger a.0 in_force)) b.0 (larger a.0 b.0) b.1 refl),
+    )
 
-memory_alike : (k other : Key) (json : Data) (memory : Bytes) → memory_in parts.Asked k json ≡ Ok memory → memory_in parts.Asked other json ≡ Ok memory
-unfolding found_in
-memory_alike k other json memory e =
-    let first = behind (asked k keys.Memory json) memory_if memory e in
-    ap (λ found. found >>= memory_if) (sym (asked_alike k other keys.Memory json (asked_is_object k keys.Memory json first.0 first.1))) ∙ e
+-- what statuses say adds to what is asked for
+by_status : (a most : Request) (status : Data) (b : Bool) → IsNoMore a most
+    → (r : Request) × ((if b then (status_request (codes "containerStatuses") status >>= λ more. Ok (larger most more)) else Ok most) ≡ Ok r) × IsNoMore a r
+by_status a most status false h = (most, refl, h)
+by_status a most status true h =
+    let s = status_some (codes "containerStatuses") status in (
+      larger most s.0,
+      ahead (status_request (codes "containerStatuses") status) (λ more. Ok (larger most more)) s.0 (larger most s.0) s.1 refl,
+      no_more_trans a most (larger most s.0) h (larger_left most s.0),
+    )
 
--- a request has the amounts of which it was made
-made_by : (cpu : Cpu) (memory : Bytes) (request : Request) (a : Option (cpu.0 ≤ 2 ^ 30)) (b : Option (memory.0 ≤ 2 ^ 44)) → whole (request_both cpu memory a b) ≡ Ok request → (request.cpu ≡ cpu) × (request.mem ≡ memory)
-made_by cpu memory request (Some fits) (Some both) e = let same : record { cpu = cpu; mem = memory; within_cpu = fits; within_mem = both } ≡ request = cc in (ap (λ r. r.cpu) (sym same), ap (λ r. r.mem) (sym same))
-made_by cpu memory request None b e = absurd (cc)
-made_by cpu memory request (Some fits) None e = absurd (cc)
+or_held_some : (name : List ℕ) (a most : Request) (status : Data) → IsNoMore a most → (r : Request) × (or_held name most status ≡ Ok r) × IsNoMore a r
+unfolding or_held
+or_held_some name a most status h = by_status a most status (is_status_of name status) h
 
-made_of : (cpu : Cpu) (memory : Bytes) (request : Request) → whole (request_of cpu memory) ≡ Ok request → (request.cpu ≡ cpu) × (request.mem ≡ memory)
-unfolding request_of
-made_of cpu memory request e = made_by cpu memory request (within cpu.0 (2 ^ 30)) (within memory.0 (2 ^ 44)) e
-
--- what is asked for counts, where it can be read
-counts_asked : (part : Part) (holder : Key) (json : Data) (cpu : Cpu) (memory : Bytes) (request : Request) → cpu_in part holder json ≡ Ok cpu → memory_in part holder json ≡ Ok memory → whole (request_of cpu memory) ≡ Ok request → IsNoMore request (counted_part part holder json)
-unfolding counted_part
-counts_asked part holder json cpu memory request c m made =
-    let of = made_of cpu memory request made in
-    within_most request (counted_cpu (cpu_in part holder json)) (counted_memory (memory_in part holder json))
-    (omega (arith, ap (λ x. x.0) of.0, ap counted_cpu c))
-    (omega (arith, ap (λ x. x.0) of.1, ap counted_memory m))
+held_some : (name : List ℕ) (a most : Request) (statuses : Items) → IsNoMore a most → (r : Request) × (held name most statuses ≡ Ok r) × IsNoMore a r
+held_some name a most no_items h = (most, refl, h)
+held_some name a most (item status rest) h =
+    let w = or_held_some name a most status h in
+    let it = held_some name a w.0 rest w.2 in
+    (it.0, ahead (or_held name most status) (λ more. held name more rest) w.0 it.0 w.1 it.1, it.2)
 
 -- ---- containers
 
@@ -134,16 +127,46 @@ AreCovered [] (y ∷ ys) = ⊥
 AreCovered (x ∷ xs) [] = ⊥
 AreCovered (x ∷ xs) (y ∷ ys) = IsCovered x y × AreCovered xs ys
 
-one_covered : (key : Key) (said : Items) (d : Data) (c : Container) → container key d ≡ Ok c → IsCovered c (counted_container said d)
-unfolding container counted_container
+-- a container's parts, behind what it asks for
+abbrev whether : (stands : Bool) → Data → Result Bool Fault
+whether stands d = taken stands true (is_always (field (codes "restartPolicy") d))
+
+abbrev finished : Request → Bool → Result Container Fault
+finished request goes_on = Ok (record { request = request; goes_on = goes_on })
+
+abbrev by_holding : (stands : Bool) → (statuses : Items) → Data → Request → Result Container Fault
+by_holding stands said d asked = held (spelled (codes "name") d) asked said >>= λ request. whether stands d >>= finished request
+
+record Parts (key : List ℕ) (d : Data) (c : Container) : Type 0 where
+  asked : Request
+  goes_on : Bool
+  are : amounts false Asked key d ≡ Ok asked
+  goes : whether false d ≡ Ok goes_on
+  is : record { request = asked; goes_on = goes_on } ≡ c
+
+parts_of : (key : List ℕ) (d : Data) (c : Container) → container false key no_items d ≡ Ok c → Parts key d c
+unfolding container
+parts_of key d c e =
+    let a = behind (amounts false Asked key d) (by_holding false no_items d) c e in
+    let g = behind (whether false d) (finished a.0) c a.2 in
+    record { asked = a.0; goes_on = g.0; are = a.1; goes = g.1; is = ok_same (record { request = a.0; goes_on = g.0 }) c (finished a.0 g.0) refl g.2 }
+
+stands_with : (key : List ℕ) (said : Items) (d : Data) (c : Container) (p : Parts key d c) (h : Request) → held (spelled (codes "name") d) p.asked said ≡ Ok h
+    → container true key said d ≡ Ok (record { request = h; goes_on = p.goes_on })
+unfolding container
+stands_with key said d c p h e =
+    ahead (amounts true Asked key d) (by_holding true said d) p.asked (record { request = h; goes_on = p.goes_on }) (amounts_stand Asked key d p.asked p.are)
+    (ahead (held (spelled (codes "name") d) p.asked said) (λ request. whether true d >>= finished request) h (record { request = h; goes_on = p.goes_on }) e
+    (ahead (whether true d) (finished h) p.goes_on (record { request = h; goes_on = p.goes_on }) (taken_stands true (is_always (field (codes "restartPolicy") d)) p.goes_on p.goes) refl))
+
+one_same : (key : List ℕ) (d : Data) (c : Container) → container false key no_items d ≡ Ok c → container true key no_items d ≡ Ok c
+one_same key d c e = let p = parts_of key d c e in stands_with key no_items d c p p.asked refl ∙ ap Ok p.is
+
+one_covered : (key : List ℕ) (said : Items) (d : Data) (c : Container) → container false key no_items d ≡ Ok c → (y : Container) × (container true key said d ≡ Ok y) × IsCovered c y
 one_covered key said d c e =
-    let a = behind (cpu_in parts.Asked key d) (λ cpu. memory_in parts.Asked key d >>= λ memory. goes_on d >>= λ goes_on. whole (request_of cpu memory) >>= λ request. Ok (record { request = request; goes_on = goes_on })) c e in
-    let b = behind (memory_in parts.Asked key d) (λ memory. goes_on d >>= λ goes_on. whole (request_of a.0 memory) >>= λ request. Ok (record { request = request; goes_on = goes_on })) c a.2 in
-    let g = behind (goes_on d) (λ goes_on. whole (request_of a.0 b.0) >>= λ request. Ok (record { request = request; goes_on = goes_on })) c b.2 in
-    let r = behind (whole (request_of a.0 b.0)) (λ request. Ok (record { request = request; goes_on = g.0 })) c g.2 in
-    let it : record { request = r.0; goes_on = g.0 } ≡ c = cc in
-    let enough : IsNoMore r.0 (counted_part parts.Asked keys.Containers d) = counts_asked parts.Asked keys.Containers d a.0 b.0 r.0 (cpu_alike key keys.Containers d a.0 a.1) (memory_alike key keys.Containers d b.0 b.1) r.1 in
-    (ap (λ c. c.goes_on) (sym it) ∙ sym (ap counted_going_on g.1), subst (λ q. IsNoMore q (counted_container said d).request) (ap (λ c. c.request) it) (held_more _ r.0 _ said enough))
+    let p = parts_of key d c e in
+    let h = held_some (spelled (codes "name") d) p.asked p.asked said (no_more_self p.asked) in
+    (record { request = h.0; goes_on = p.goes_on }, stands_with key said d c p h.0 h.1, (ap (λ x. x.goes_on) (sym p.is), subst (λ q. IsNoMore q h.0) (ap (λ x. x.request) p.is) h.2))
 
 covered_more : (xs ys : List Container) (x y : Container) → AreCovered xs ys → IsCovered x y → AreCovered (xs ++ x ∷ []) (ys ++ y ∷ [])
 covered_more [] [] x y all one = (one, tt)
@@ -151,61 +174,103 @@ covered_more [] (b ∷ ys) x y all one = absurd all
 covered_more (a ∷ xs) [] x y all one = absurd all
 covered_more (a ∷ xs) (b ∷ ys) x y all one = (all.0, covered_more xs ys x y all.1 one)
 
-each_covered : (key : Key) (said items : Items) (before there xs : List Container) → AreCovered before there → each key before items ≡ Ok xs → AreCovered xs (counted_items said there items)
-each_covered key said no_items before there xs all e = subst (λ x. AreCovered x there) (let it : before ≡ xs = cc in it) all
-each_covered key said (item d ds) before there xs all e =
-    let first = behind (container key d) (λ x. each key (before ++ x ∷ []) ds) xs e in
-    each_covered key said ds (before ++ first.0 ∷ []) (there ++ counted_container said d ∷ []) xs (covered_more before there first.0 (counted_container said d) all (one_covered key said d first.0 first.1)) first.2
+-- the containers of an array
+abbrev waits_with : (key : List ℕ) → (before : List Container) → Items → Result (List Container) Fault
+waits_with key before items = each (λ b. container false key no_items) before items
+
+abbrev stands_by : (key : List ℕ) → (said : Items) → (before : List Container) → Items → Result (List Container) Fault
+stands_by key said before items = each (λ b. container true key said) before items
+
+each_same : (key : List ℕ) (items : Items) (before xs : List Container) → waits_with key before items ≡ Ok xs → stands_by key no_items before items ≡ Ok xs
+each_same key no_items before xs e = e
+each_same key (item d rest) before xs e =
+    let first = behind (container false key no_items d) (λ x. waits_with key (before ++ x ∷ []) rest) xs e in
+    ahead (container true key no_items d) (λ x. stands_by key no_items (before ++ x ∷ []) rest) first.0 xs (one_same key d first.0 first.1) (each_same key rest (before ++ first.0 ∷ []) xs first.2)
+
+each_covered : (key : List ℕ) (said items : Items) (before there xs : List Container) → AreCovered before there → waits_with key before items ≡ Ok xs
+    → (ys : List Container) × (stands_by key said there items ≡ Ok ys) × AreCovered xs ys
+each_covered key said no_items before there xs all e = (there, refl, subst (λ x. AreCovered x there) (ok_same before xs (Ok before) refl e) all)
+each_covered key said (item d rest) before there xs all e =
+    let first = behind (container false key no_items d) (λ x. waits_with key (before ++ x ∷ []) rest) xs e in
+    let one = one_covered key said d first.0 first.1 in
+    let more = each_covered key said rest (before ++ first.0 ∷ []) (there ++ one.0 ∷ []) xs (covered_more before there first.0 one.0 all one.2) first.2 in
+    (more.0, ahead (container true key said d) (λ x. stands_by key said (there ++ x ∷ []) rest) one.0 more.0 one.1 more.1, more.2)
 
 -- what is counted of containers covers them, or is the most
 abbrev IsCounted : List Container → List Container → Type 0
 IsCounted xs ys = AreCovered xs ys ⊎ (ys ≡ unread ∷ [])
 
-by_few : (xs ys : List Container) (b : Bool) → AreCovered xs ys → IsCounted xs (if b then ys else unread ∷ [])
-by_few xs ys true all = inl all
-by_few xs ys false all = inr refl
+abbrev or_most : Result (List Container) Fault → Result (List Container) Fault
+or_most found = taken true (unread ∷ []) found
 
-by_status : (xs : List Container) (found : Items) (said : Option Items) → ((ss : Items) → AreCovered xs (counted_items ss [] found)) → IsCounted xs (counted_listed (Some found) said)
-by_status xs found None all = inr refl
-by_status xs found (Some ss) all = by_few xs (counted_items ss [] found) (are_few found ss) (all ss)
+by_few : (key : List ℕ) (found : Items) (xs : List Container) (b : Bool) → (if b then waits_with key [] found else Err (refused TooMany key)) ≡ Ok xs → (b ≡ true) × (waits_with key [] found ≡ Ok xs)
+by_few key found xs true e = (refl, e)
+by_few key found xs false e = absurd (cc)
 
-array_is : (o : Option Items) (fault : ObjectFault) (found : Items) → ok_or o fault ≡ Ok found → o ≡ Some found
-array_is (Some x) fault found e = let it : x ≡ found = cc in ap Some it
-array_is None fault found e = absurd (cc)
+by_listed : (key : List ℕ) (found said : Items) (xs : List Container) (b : Bool) → waits_with key [] found ≡ Ok xs
+    → (ys : List Container) × (or_most (if b then stands_by key said [] found else Err (refused TooMany key)) ≡ Ok ys) × IsCounted xs ys
+by_listed key found said xs true e = let it = each_covered key said found [] [] xs tt e in (it.0, ap or_most it.1, inl it.2)
+by_listed key found said xs false e = (unread ∷ [], refl, inr refl)
 
-by_count : (key : Key) (found : Items) (xs : List Container) (b : Bool) → (if b then each key [] found else Err (TooMany key)) ≡ Ok xs → each key [] found ≡ Ok xs
-by_count key found xs true e = e
-by_count key found xs false e = absurd (cc)
+by_statuses : (key : List ℕ) (found : Items) (xs : List Container) (said : Result Items Fault) → waits_with key [] found ≡ Ok xs
+    → (ys : List Container) × (or_most (said >>= listed true key found) ≡ Ok ys) × IsCounted xs ys
+by_statuses key found xs (Ok said) e = by_listed key found said xs (are_few found said) e
+by_statuses key found xs (Err fault) e = (unread ∷ [], refl, inr refl)
 
-listed_counted : (key : Key) (o : Option Data) (said : Option Items) (xs : List Container) → listed key o ≡ Ok xs → IsCounted xs (counted_listed (items_if o) said)
-listed_counted key None said xs e = by_status xs no_items said (λ ss. subst (λ x. AreCovered x []) (let it : [] ≡ xs = cc in it) tt)
-listed_counted key (Some value) said xs e =
-    let found = behind (ok_or (as_array value) (BadField key)) (λ found. if nat_le (count found) 65536 then each key [] found else Err (TooMany key)) xs e in
-    subst (λ o. IsCounted xs (counted_listed o said)) (sym (array_is (as_array value) (BadField key) found.0 found.1))
-    (by_status xs found.0 said (λ ss. each_covered key ss found.0 [] [] xs tt (by_count key found.0 xs (nat_le (count found.0) 65536) found.2)))
+-- the array in which they stand
+record Found (key : List ℕ) (spec : Data) (xs : List Container) : Type 0 where
+  found : Items
+  is : items_of key (field key spec) ≡ Ok found
+  few : are_few found no_items ≡ true
+  all : waits_with key [] found ≡ Ok xs
 
-containers_counted : (key status_key : Key) (later spec : Data) (xs : List Container) → containers key spec ≡ Ok xs → IsCounted xs (counted_containers key status_key later spec)
-unfolding containers counted_containers
-containers_counted key status_key later spec xs e = listed_counted key (field key spec) (statuses status_key later) xs e
+was_found : (key status_key : List ℕ) (pod spec : Data) (xs : List Container) → containers false key status_key pod spec ≡ Ok xs → Found key spec xs
+was_found key status_key pod spec xs e =
+    let found = behind (items_of key (field key spec)) (λ found. looked_at false status_key pod >>= listed false key found) xs (taken_is (unread ∷ []) (read_containers false key status_key pod spec) xs e) in
+    let few = by_few key found.0 xs (are_few found.0 no_items) found.2 in
+    record { found = found.0; is = found.1; few = few.0; all = few.1 }
+
+abbrev beside : (key status_key : List ℕ) → (later : Data) → Items → Result (List Container) Fault
+beside key status_key later found = statuses status_key later >>= listed true key found
+
+containers_counted : (key status_key : List ℕ) (pod later spec : Data) (xs : List Container) → containers false key status_key pod spec ≡ Ok xs
+    → (ys : List Container) × (containers true key status_key later spec ≡ Ok ys) × IsCounted xs ys
+containers_counted key status_key pod later spec xs e =
+    let f = was_found key status_key pod spec xs e in
+    let it = by_statuses key f.found xs (statuses status_key later) f.all in
+    (it.0, ap (λ r. or_most (r >>= beside key status_key later)) f.is ∙ it.1, it.2)
+
+no_statuses : (status_key : List ℕ) (later : Data) → field (codes "status") later ≡ None → statuses status_key later ≡ Ok no_items
+no_statuses status_key later none = ap (λ o. under (codes "status") status_key o >>= items_of status_key) none
+
+containers_same : (key status_key : List ℕ) (pod later spec : Data) (xs : List Container) → field (codes "status") later ≡ None → containers false key status_key pod spec ≡ Ok xs
+    → containers true key status_key later spec ≡ Ok xs
+containers_same key status_key pod later spec xs none e =
+    let f = was_found key status_key pod spec xs e in
+    ap (λ r. or_most (r >>= beside key status_key later)) f.is
+    ∙ ap (λ r. or_most (r >>= listed true key f.found)) (no_statuses status_key later none)
+    ∙ ap (λ b. or_most (if b then stands_by key no_items [] f.found else Err (refused TooMany key))) f.few
+    ∙ ap or_most (each_same key f.found [] xs f.all)
 
 -- ---- what they come to
 
-amount_more : (r : Resource) (a b : Request) → IsNoMore a b → amount_of r a ≤ amount_of r b
-amount_more resources.Cpu a b h = h.0
-amount_more resources.Memory a b h = h.1
+amount_more : (r : Resource) (a b : Request) → IsNoMore a b → of r a ≤ of r b
+amount_more Cpu a b h = h.0
+amount_more Memory a b h = h.1
+amount_more Pods a b h = omega arith
 
-together_more : (r : Resource) (xs ys : List Container) (a b : ℕ) → AreCovered xs ys → a ≤ b → fold (λ a c. a + amount_of r c.request) a xs ≤ fold (λ a c. a + amount_of r c.request) b ys
+together_more : (r : Resource) (xs ys : List Container) (a b : ℕ) → AreCovered xs ys → a ≤ b → fold (λ a c. a + of r c.request) a xs ≤ fold (λ a c. a + of r c.request) b ys
 together_more r [] [] a b all less = less
 together_more r [] (y ∷ ys) a b all less = absurd all
 together_more r (x ∷ xs) [] a b all less = absurd all
-together_more r (x ∷ xs) (y ∷ ys) a b all less = together_more r xs ys (a + amount_of r x.request) (b + amount_of r y.request) all.1 (omega (arith, less, amount_more r x.request y.request all.0.1))
+together_more r (x ∷ xs) (y ∷ ys) a b all less = together_more r xs ys (a + of r x.request) (b + of r y.request) all.1 (omega (arith, less, amount_more r x.request y.request all.0.1))
 
 by_going : (g : Bool) (a b : ℕ) → a ≤ b → (if g then a else 0) ≤ (if g then b else 0)
 by_going true a b less = less
 by_going false a b less = omega arith
 
 beside_more : (r : Resource) (x y : Container) → IsCovered x y → beside_others r x ≤ beside_others r y
-beside_more r x y one = subst (λ g. beside_others r x ≤ (if g then amount_of r y.request else 0)) one.0 (by_going x.goes_on (amount_of r x.request) (amount_of r y.request) (amount_more r x.request y.request one.1))
+beside_more r x y one = subst (λ g. beside_others r x ≤ (if g then of r y.request else 0)) one.0 (by_going x.goes_on (of r x.request) (of r y.request) (amount_more r x.request y.request one.1))
 
 going_more : (r : Resource) (xs ys : List Container) (a b : ℕ) → AreCovered xs ys → a ≤ b → fold (λ a c. a + beside_others r c) a xs ≤ fold (λ a c. a + beside_others r c) b ys
 going_more r [] [] a b all less = less
@@ -222,251 +287,213 @@ peak_more r [] [] a b all less = omega arith
 peak_more r [] (y ∷ ys) a b all less = absurd all
 peak_more r (x ∷ xs) [] a b all less = absurd all
 peak_more r (x ∷ xs) (y ∷ ys) a b all less =
-    let one : a + amount_of r x.request ≤ b + amount_of r y.request = omega (arith, less, amount_more r x.request y.request all.0.1) in
-    subst (λ g. peak r a (x ∷ xs) ≤ (if g then peak r (b + amount_of r y.request) ys else max (b + amount_of r y.request) (peak r b ys))) all.0.0
-    (by_peak x.goes_on _ _ _ _ _ _ (peak_more r xs ys (a + amount_of r x.request) (b + amount_of r y.request) all.1 one) one (peak_more r xs ys a b all.1 less))
+    let one : a + of r x.request ≤ b + of r y.request = omega (arith, less, amount_more r x.request y.request all.0.1) in
+    subst (λ g. peak r a (x ∷ xs) ≤ (if g then peak r (b + of r y.request) ys else max (b + of r y.request) (peak r b ys))) all.0.0
+    (by_peak x.goes_on _ _ _ _ _ _ (peak_more r xs ys (a + of r x.request) (b + of r y.request) all.1 one) one (peak_more r xs ys a b all.1 less))
 
 effective_more : (r : Resource) (xs ys init there : List Container) (overhead taken : Request) → AreCovered xs ys → AreCovered init there → IsNoMore overhead taken → effective r xs init overhead ≤ effective r ys there taken
 unfolding effective
 effective_more r xs ys init there overhead taken all first less =
     omega (arith, together_more r xs ys 0 0 all (omega arith), going_more r init there 0 0 first (omega arith), peak_more r init there 0 0 first (omega arith), amount_more r overhead taken less)
 
--- the most that a line can say of a resource
-most_of : Resource → ℕ
-most_of resources.Cpu = 2 ^ 30
-most_of resources.Memory = 2 ^ 44
+-- what a request has of each resource is within its limits
+within_limit : (r : Resource) (a : Request) → of r a ≤ most r
+within_limit Cpu a = a.within_cpu
+within_limit Memory a = a.within_mem
+within_limit Pods a = omega arith
 
-within_limit : (r : Resource) (a : Request) → amount_of r a ≤ most_of r
-unfolding most_of
-within_limit resources.Cpu a = a.within_cpu
-within_limit resources.Memory a = a.within_mem
+-- where containers can't be read they come to that at least
+unread_cpu : of Cpu unread.request ≡ 2 ^ 30
+unfolding at_most
+unread_cpu = refl
 
-unread_most : (r : Resource) → amount_of r unread.request ≡ most_of r
-unfolding most_of at_most
-unread_most resources.Cpu = omega arith
-unread_most resources.Memory = omega arith
-
--- where containers can't be read it comes to that at least
-unread_running : (r : Resource) (init : List Container) (overhead : Request) → most_of r ≤ effective r (unread ∷ []) init overhead
-unfolding effective
-unread_running r init overhead = omega (arith, unread_most r)
-
-unread_init : (r : Resource) (xs : List Container) (overhead : Request) → most_of r ≤ effective r xs (unread ∷ []) overhead
-unfolding effective
-unread_init r xs overhead = omega (arith, unread_most r)
-
-some_are : (xs ys : List Container) → nat_le 1 (length xs) ≡ true → AreCovered xs ys → some_or_unread ys ≡ ys
-some_are [] ys some all = absurd (cc)
-some_are (x ∷ xs) [] some all = absurd all
-some_are (x ∷ xs) (y ∷ ys) some all = refl
+unread_memory : of Memory unread.request ≡ 2 ^ 44
+unfolding at_most
+unread_memory = refl
 
 -- a request that is what its containers come to is no more than what is counted of them
-enough_by : (r : Resource) (request : Request) (xs ys init there : List Container) (overhead taken : Request) → amount_of r request ≡ effective r xs init overhead → nat_le 1 (length xs) ≡ true → IsCounted xs ys → IsCounted init there → IsNoMore overhead taken → amount_of r request ≤ effective r (some_or_unread ys) there taken
-enough_by r request xs ys init there overhead taken is some (inl all) (inl first) less =
-    subst (λ cs. amount_of r request ≤ effective r cs there taken) (sym (some_are xs ys some all)) (omega (arith, is, effective_more r xs ys init there overhead taken all first less))
-enough_by r request xs ys init there overhead taken is some (inr none) first less =
-    subst (λ cs. amount_of r request ≤ effective r (some_or_unread cs) there taken) (sym none) (omega (arith, within_limit r request, unread_running r there taken))
-enough_by r request xs ys init there overhead taken is some (inl all) (inr none) less =
-    subst (λ cs. amount_of r request ≤ effective r (some_or_unread ys) cs taken) (sym none) (omega (arith, within_limit r request, unread_init r (some_or_unread ys) taken))
+cpu_by : (a : Request) (xs ys init there : List Container) (overhead : Request) → a.cpu.0 ≡ effective Cpu xs init overhead → IsCounted xs ys → IsCounted init there
+    → a.cpu.0 ≤ effective Cpu ys there overhead
+unfolding effective
+cpu_by a xs ys init there overhead is (inl all) (inl first) = omega (arith, is, effective_more Cpu xs ys init there overhead overhead all first (no_more_self overhead))
+cpu_by a xs ys init there overhead is (inr none) first = subst (λ cs. a.cpu.0 ≤ effective Cpu cs there overhead) (sym none) (omega (arith, a.within_cpu, unread_cpu))
+cpu_by a xs ys init there overhead is (inl all) (inr none) = subst (λ cs. a.cpu.0 ≤ effective Cpu ys cs overhead) (sym none) (omega (arith, a.within_cpu, unread_cpu))
 
-by_whole : (b : Bool) (asked : Result Request ObjectFault) (request : Request) → by_containers b asked ≡ Ok request → asked ≡ Ok request
-by_whole true asked request e = absurd (cc)
-by_whole false asked request e = e
+memory_by : (a : Request) (xs ys init there : List Container) (overhead : Request) → a.mem.0 ≡ effective Memory xs init overhead → IsCounted xs ys → IsCounted init there
+    → a.mem.0 ≤ effective Memory ys there overhead
+unfolding effective
+memory_by a xs ys init there overhead is (inl all) (inl first) = omega (arith, is, effective_more Memory xs ys init there overhead overhead all first (no_more_self overhead))
+memory_by a xs ys init there overhead is (inr none) first = subst (λ cs. a.mem.0 ≤ effective Memory cs there overhead) (sym none) (omega (arith, a.within_mem, unread_memory))
+memory_by a xs ys init there overhead is (inl all) (inr none) = subst (λ cs. a.mem.0 ≤ effective Memory ys cs overhead) (sym none) (omega (arith, a.within_mem, unread_memory))
 
-overhead_counts : (spec : Data) (overhead : Request) → overhead_request spec ≡ Ok overhead → IsNoMore overhead (counted_part parts.Overhead keys.Spec spec)
-unfolding overhead_request
-overhead_counts spec overhead e =
-    let a = behind (cpu_in parts.Overhead keys.Spec spec) (λ cpu. memory_in parts.Overhead keys.Spec spec >>= λ memory. whole (request_of cpu memory)) overhead e in
-    let b = behind (memory_in parts.Overhead keys.Spec spec) (λ memory. whole (request_of a.0 memory)) overhead a.2 in
-    counts_asked parts.Overhead keys.Spec spec a.0 b.0 overhead a.1 b.1 b.2
+-- ---- a pod's request
 
-by_some : (b : Bool) (asked : Result Request ObjectFault) (fault : ObjectFault) (request : Request) → (if b then asked else Err fault) ≡ Ok request → (b ≡ true) × (asked ≡ Ok request)
-by_some true asked fault request e = (refl, e)
-by_some false asked fault request e = absurd (cc)
+-- it has the amounts of which it was made
+made_by : (cpu memory : ℕ) (a : Request) (x : Option (cpu ≤ 2 ^ 30)) (y : Option (memory ≤ 2 ^ 44)) → within_limits (request_both (record { 0 = cpu }) (record { 0 = memory }) x y) ≡ Ok a
+    → (a.cpu.0 ≡ cpu) × (a.mem.0 ≡ memory)
+made_by cpu memory a (Some fits) (Some both) e =
+    let same = ok_same (record { cpu = record { 0 = cpu }; mem = record { 0 = memory }; within_cpu = fits; within_mem = both }) a (within_limits (request_both (record { 0 = cpu }) (record { 0 = memory }) (Some fits) (Some both))) refl e in
+    (ap (λ r. r.cpu.0) (sym same), ap (λ r. r.mem.0) (sym same))
+made_by cpu memory a None y e = absurd (cc)
+made_by cpu memory a (Some fits) None e = absurd (cc)
 
-comes_to : (later spec : Data) (request : Request) (xs init : List Container) (overhead : Request) → containers keys.Containers spec ≡ Ok xs → containers keys.InitContainers spec ≡ Ok init → overhead_request spec ≡ Ok overhead → nat_le 1 (length xs) ≡ true → request_of_all xs init overhead ≡ Ok request → IsNoMore request (counted later spec)
-unfolding request_of_all counted
-comes_to later spec request xs init overhead running starting over some all =
-    let of = made_of (record { 0 = effective resources.Cpu xs init overhead }) (record { 0 = effective resources.Memory xs init overhead }) request all in
-    let ys = counted_containers keys.Containers keys.ContainerStatuses later spec in
-    let there = counted_containers keys.InitContainers keys.InitContainerStatuses later spec in
-    let taken = counted_part parts.Overhead keys.Spec spec in
-    let first = containers_counted keys.Containers keys.ContainerStatuses later spec xs running in
-    let second = containers_counted keys.InitContainers keys.InitContainerStatuses later spec init starting in
-    let less = overhead_counts spec overhead over in
-    within_most request (counted_amount resources.Cpu (some_or_unread ys) there taken (counted_as_a_whole later spec)) (counted_amount resources.Memory (some_or_unread ys) there taken (counted_as_a_whole later spec))
-    (omega (arith, enough_by resources.Cpu request xs ys init there overhead taken (ap (λ x. x.0) of.0) some first second less))
-    (omega (arith, enough_by resources.Memory request xs ys init there overhead taken (ap (λ x. x.0) of.1) some first second less))
+made_of : (xs init : List Container) (overhead a : Request) → by_containers xs init overhead ≡ Ok a → (a.cpu.0 ≡ effective Cpu xs init overhead) × (a.mem.0 ≡ effective Memory xs init overhead)
+unfolding request_of
+made_of xs init overhead a e = made_by (effective Cpu xs init overhead) (effective Memory xs init overhead) a (within (effective Cpu xs init overhead) (2 ^ 30)) (within (effective Memory xs init overhead) (2 ^ 44)) e
 
--- what a pod's request was read of
-pub record Read (spec : Data) (request : Request) : Type 0 where
-  pub running : List Container
-  pub init : List Container
-  pub overhead : Request
-  pub are : containers keys.Containers spec ≡ Ok running
-  pub start : containers keys.InitContainers spec ≡ Ok init
-  pub over : overhead_request spec ≡ Ok overhead
-  pub some : nat_le 1 (length running) ≡ true
-  pub all : request_of_all running init overhead ≡ Ok request
+-- what it was read of
+record Read (pod spec : Data) (a : Request) : Type 0 where
+  xs : List Container
+  init : List Container
+  overhead : Request
+  are : containers false (codes "containers") (codes "containerStatuses") pod spec ≡ Ok xs
+  start : containers false (codes "initContainers") (codes "initContainerStatuses") pod spec ≡ Ok init
+  over : amounts false Overhead (codes "spec") spec ≡ Ok overhead
+  some : some_container xs ≡ Ok xs
+  all : by_containers xs init overhead ≡ Ok a
 
-was_read : (pod spec : Data) (request : Request) → field keys.Spec pod ≡ Some spec → pod_request pod ≡ Ok request → Read spec request
-unfolding pod_request
-was_read pod spec request there e =
-    let spec_there = behind (ok_or (field keys.Spec pod) (BadField keys.Spec)) (λ spec. containers keys.Containers spec >>= λ running. containers keys.InitContainers spec >>= λ init. overhead_request spec >>= λ overhead. if nat_le 1 (length running) then by_containers (is_given (field keys.Resources spec)) (request_of_all running init overhead) else Err (BadField keys.Containers)) request e in
-    let is : spec_there.0 ≡ spec = let one : ok_or (field keys.Spec pod) (BadField keys.Spec) ≡ Ok spec = ap (λ o. ok_or o (BadField keys.Spec)) there in let both : Ok spec_there.0 ≡ Ok spec = sym spec_there.1 ∙ one in cc in
-    let a = behind (containers keys.Containers spec_there.0) (λ running. containers keys.InitContainers spec_there.0 >>= λ init. overhead_request spec_there.0 >>= λ overhead. if nat_le 1 (length running) then by_containers (is_given (field keys.Resources spec_there.0)) (request_of_all running init overhead) else Err (BadField keys.Containers)) request spec_there.2 in
-    let b = behind (containers keys.InitContainers spec_there.0) (λ init. overhead_request spec_there.0 >>= λ overhead. if nat_le 1 (length a.0) then by_containers (is_given (field keys.Resources spec_there.0)) (request_of_all a.0 init overhead) else Err (BadField keys.Containers)) request a.2 in
-    let o = behind (overhead_request spec_there.0) (λ overhead. if nat_le 1 (length a.0) then by_containers (is_given (field keys.Resources spec_there.0)) (request_of_all a.0 b.0 overhead) else Err (BadField keys.Containers)) request b.2 in
-    let last = by_some (nat_le 1 (length a.0)) (by_containers (is_given (field keys.Resources spec_there.0)) (request_of_all a.0 b.0 o.0)) (BadField keys.Containers) request o.2 in
-    subst (λ s. Read s request) is (record {
-      running = a.0;
-      init = b.0;
+by_given : (given : Bool) (x y : Result Request Fault) (f : Fault) (a : Request) → (if not given then x else if false then y else Err f) ≡ Ok a → x ≡ Ok a
+by_given true x y f a e = absurd (cc)
+by_given false x y f a e = e
+
+some_same : (xs ys : List Container) → some_container xs ≡ Ok ys → xs ≡ ys
+some_same [] ys e = absurd (cc)
+some_same (x ∷ xs) ys e = ok_same (x ∷ xs) ys (some_container (x ∷ xs)) refl e
+
+was_read : (pod spec : Data) (a : Request) → request Waiting pod spec ≡ Ok a → Read pod spec a
+unfolding request_by as_asked
+was_read pod spec a e =
+    let b = behind (running false pod spec) (λ xs. containers false (codes "initContainers") (codes "initContainerStatuses") pod spec >>= in_all Waiting pod spec xs) a e in
+    let c = behind (containers false (codes "initContainers") (codes "initContainerStatuses") pod spec) (in_all Waiting pod spec b.0) a b.2 in
+    let r = behind (containers false (codes "containers") (codes "containerStatuses") pod spec) (λ found. Ok (some_or_unread false found)) b.0 b.1 in
+    let o = behind (amounts false Overhead (codes "spec") spec) (λ overhead. some_container b.0 >>= λ xs. reckoned Waiting pod spec xs c.0 overhead) a c.2 in
+    let s = behind (some_container b.0) (λ xs. as_asked false spec xs c.0 o.0) a o.2 in
+    let same : b.0 ≡ s.0 = some_same b.0 s.0 s.1 in
+    let found : r.0 ≡ b.0 = ok_same r.0 b.0 (Ok r.0) refl r.2 in
+    record {
+      xs = b.0;
+      init = c.0;
       overhead = o.0;
-      are = a.1;
-      start = b.1;
+      are = r.1 ∙ ap Ok found;
+      start = c.1;
       over = o.1;
-      some = last.0;
-      all = by_whole (is_given (field keys.Resources spec_there.0)) (request_of_all a.0 b.0 o.0) request last.1;
-    })
+      some = s.1 ∙ ap Ok (sym same);
+      all = by_given (is_given (field (codes "resources") spec)) (by_containers b.0 c.0 o.0) (amounts false Asked (codes "spec") spec) _ a (ap (λ xs. as_asked false spec xs c.0 o.0) same ∙ s.2);
+    }
+
+-- the containers of a pod that stands: there is one at least
+some_stand : (xs ys : List Container) → some_container xs ≡ Ok xs → IsCounted xs ys → (some_or_unread true ys ≡ ys) × (some_container ys ≡ Ok ys)
+some_stand [] ys some all = absurd (cc)
+some_stand (x ∷ xs) [] some (inl all) = absurd all
+some_stand (x ∷ xs) (y ∷ ys) some (inl all) = (refl, refl)
+some_stand (x ∷ xs) [] some (inr none) = absurd (cc)
+some_stand (x ∷ xs) (y ∷ ys) some (inr none) = (refl, refl)
+
+-- what is counted of it, by its parts
+stands_at : (later spec : Data) (ys there : List Container) (overhead counted : Request)
+    → containers true (codes "containers") (codes "containerStatuses") later spec ≡ Ok ys
+    → containers true (codes "initContainers") (codes "initContainerStatuses") later spec ≡ Ok there
+    → amounts true Overhead (codes "spec") spec ≡ Ok overhead → some_or_unread true ys ≡ ys → some_container ys ≡ Ok ys
+    → as_held later spec ys there overhead ≡ Ok counted → request Standing later spec ≡ Ok counted
+unfolding request_by
+stands_at later spec ys there overhead counted are start over kept some all =
+    ahead (running true later spec) (λ xs. containers true (codes "initContainers") (codes "initContainerStatuses") later spec >>= in_all Standing later spec xs) ys counted
+    (ahead (containers true (codes "containers") (codes "containerStatuses") later spec) (λ found. Ok (some_or_unread true found)) ys ys are (ap Ok kept))
+    (ahead (containers true (codes "initContainers") (codes "initContainerStatuses") later spec) (in_all Standing later spec ys) there counted start
+    (ahead (amounts true Overhead (codes "spec") spec) (λ overhead. some_container ys >>= λ xs. reckoned Standing later spec xs there overhead) overhead counted over
+    (ahead (some_container ys) (λ xs. as_held later spec xs there overhead) ys counted some all)))
+
+whole_some : (status : Option Data) → (r : Request) × (held_as_a_whole status ≡ Ok r)
+whole_some None = (at_most 0 0, refl)
+whole_some (Some status) = status_some (codes "status") status
+
+abbrev more_of : (ys there : List Container) → (overhead whole : Request) → Request
+more_of ys there overhead whole = at_most (or_more Cpu ys there overhead whole) (or_more Memory ys there overhead whole)
+
+held_with : (later spec : Data) (ys there : List Container) (overhead asked holds : Request) → amounts true Asked (codes "spec") spec ≡ Ok asked
+    → held_as_a_whole (field (codes "status") later) ≡ Ok holds → as_held later spec ys there overhead ≡ Ok (more_of ys there overhead (larger asked holds))
+unfolding as_held
+held_with later spec ys there overhead asked holds a h =
+    ahead (amounts true Asked (codes "spec") spec) (λ asked. held_as_a_whole (field (codes "status") later) >>= λ holds. Ok (more_of ys there overhead (larger asked holds))) asked (more_of ys there overhead (larger asked holds)) a
+    (ahead (held_as_a_whole (field (codes "status") later)) (λ holds. Ok (more_of ys there overhead (larger asked holds))) holds (more_of ys there overhead (larger asked holds)) h refl)
 
 pub counts_enough : CountsEnough
-counts_enough pod later spec request there e =
-    let r = was_read pod spec request there e in
-    comes_to later spec request r.running r.init r.overhead r.are r.start r.over r.some r.all
+counts_enough pod later spec a e =
+    let r = was_read pod spec a e in
+    let ys = containers_counted (codes "containers") (codes "containerStatuses") pod later spec r.xs r.are in
+    let there = containers_counted (codes "initContainers") (codes "initContainerStatuses") pod later spec r.init r.start in
+    let asked = amounts_some Asked (codes "spec") spec in
+    let holds = whole_some (field (codes "status") later) in
+    let some = some_stand r.xs ys.0 r.some ys.2 in
+    let made = made_of r.xs r.init r.overhead a r.all in
+    let whole = larger asked.0 holds.0 in (
+      more_of ys.0 there.0 r.overhead whole,
+      stands_at later spec ys.0 there.0 r.overhead (more_of ys.0 there.0 r.overhead whole) ys.1 there.1 (amounts_stand Overhead (codes "spec") spec r.overhead r.over) some.0 some.1
+          (held_with later spec ys.0 there.0 r.overhead asked.0 holds.0 asked.1 holds.1),
+      within_most a (or_more Cpu ys.0 there.0 r.overhead whole) (or_more Memory ys.0 there.0 r.overhead whole)
+          (omega (arith, cpu_by a r.xs ys.0 r.init there.0 r.overhead made.0 ys.2 there.2))
+          (omega (arith, memory_by a r.xs ys.0 r.init there.0 r.overhead made.1 ys.2 there.2)),
+    )
 
--- ---- and no more
+-- ---- and just that
 
--- the least of the limits and of what a request has is no more than it
-at_most_within : (a : Request) (cpu memory : ℕ) → cpu ≤ a.cpu.0 → memory ≤ a.mem.0 → IsNoMore (at_most cpu memory) a
-unfolding at_most
-at_most_within a cpu memory c m = (omega (arith, c), omega (arith, m))
+-- a pod whose overhead can be read is an object
+under_object : (holder key : List ℕ) (json : Data) (o : Option Data) (b : Bool) → is_some (as_object json) ≡ b → under holder key (Some json) ≡ Ok o → is_some (as_object json) ≡ true
+under_object holder key json o true is e = is
+under_object holder key json o false is e = absurd (let no : under holder key (Some json) ≡ Err (refused BadField holder) = rw (is) refl in cc)
 
-just_asked : (part : Part) (holder : Key) (json : Data) (cpu : Cpu) (memory : Bytes) (request : Request) → cpu_in part holder json ≡ Ok cpu → memory_in part holder json ≡ Ok memory → whole (request_of cpu memory) ≡ Ok request → IsNoMore (counted_part part holder json) request
-unfolding counted_part
-just_asked part holder json cpu memory request c m made =
-    let of = made_of cpu memory request made in
-    at_most_within request (counted_cpu (cpu_in part holder json)) (counted_memory (memory_in part holder json))
-    (omega (arith, ap (λ x. x.0) of.0, ap counted_cpu c))
-    (omega (arith, ap (λ x. x.0) of.1, ap counted_memory m))
+spec_is_object : (spec : Data) (overhead : Request) → amounts false Overhead (codes "spec") spec ≡ Ok overhead → is_some (as_object spec) ≡ true
+unfolding amounts amount_in found_in
+spec_is_object spec overhead e =
+    let x = amount_in Overhead (codes "spec") Cpu spec in
+    let a = behind (taken false (most Cpu) x) (λ cpu. taken false (most Memory) (amount_in Overhead (codes "spec") Memory spec) >>= λ memory. Ok (at_most cpu memory)) overhead e in
+    let b = behind (found_in Overhead (codes "spec") Cpu spec) (amount_of Up Cpu) a.0 (taken_is (most Cpu) x a.0 a.1) in
+    let c = behind (under (codes "spec") (codes "overhead") (Some spec)) (under (codes "overhead") (key_of Cpu)) b.0 b.1 in
+    under_object (codes "spec") (codes "overhead") spec c.0 (is_some (as_object spec)) refl c.1
 
-one_just : (key : Key) (d : Data) (c : Container) → container key d ≡ Ok c → IsCovered (counted_container no_items d) c
-unfolding container counted_container
-one_just key d c e =
-    let a = behind (cpu_in parts.Asked key d) (λ cpu. memory_in parts.Asked key d >>= λ memory. goes_on d >>= λ goes_on. whole (request_of cpu memory) >>= λ request. Ok (record { request = request; goes_on = goes_on })) c e in
-    let b = behind (memory_in parts.Asked key d) (λ memory. goes_on d >>= λ goes_on. whole (request_of a.0 memory) >>= λ request. Ok (record { request = request; goes_on = goes_on })) c a.2 in
-    let g = behind (goes_on d) (λ goes_on. whole (request_of a.0 b.0) >>= λ request. Ok (record { request = request; goes_on = goes_on })) c b.2 in
-    let r = behind (whole (request_of a.0 b.0)) (λ request. Ok (record { request = request; goes_on = g.0 })) c g.2 in
-    let it : record { request = r.0; goes_on = g.0 } ≡ c = cc in
-    let just : IsNoMore (counted_part parts.Asked keys.Containers d) r.0 = just_asked parts.Asked keys.Containers d a.0 b.0 r.0 (cpu_alike key keys.Containers d a.0 a.1) (memory_alike key keys.Containers d b.0 b.1) r.1 in
-    (ap counted_going_on g.1 ∙ ap (λ c. c.goes_on) it, subst (λ q. IsNoMore (counted_part parts.Asked keys.Containers d) q) (ap (λ c. c.request) it) just)
+-- what it doesn't ask for as a whole
+nothing_in : (part : List ℕ) (r : Resource) (spec : Data) → is_some (as_object spec) ≡ true → field (codes "resources") spec ≡ None → in_resources (codes "spec") part r spec ≡ Ok None
+unfolding in_resources
+nothing_in part r spec is none = rw (is, none) refl
 
-each_just : (key : Key) (items : Items) (before there xs : List Container) → AreCovered there before → each key before items ≡ Ok xs → AreCovered (counted_items no_items there items) xs
-each_just key no_items before there xs all e = subst (λ x. AreCovered there x) (let it : before ≡ xs = cc in it) all
-each_just key (item d ds) before there xs all e =
-    let first = behind (container key d) (λ x. each key (before ++ x ∷ []) ds) xs e in
-    each_just key ds (before ++ first.0 ∷ []) (there ++ counted_container no_items d ∷ []) xs (covered_more there before (counted_container no_items d) first.0 all (one_just key d first.0 first.1)) first.2
+nothing_asked : (r : Resource) (spec : Data) → is_some (as_object spec) ≡ true → field (codes "resources") spec ≡ None → amount_in Asked (codes "spec") r spec ≡ Ok 0
+unfolding amount_in found_in
+nothing_asked r spec is none = rw (nothing_in (codes "requests") r spec is none, nothing_in (codes "limits") r spec is none) refl
 
-are_few_alone : (found : Items) → nat_le (count found) 65536 ≡ true → are_few found no_items ≡ true
-are_few_alone found few = grind (arith, nat_tests, few)
+nothing_counted : (spec : Data) → is_some (as_object spec) ≡ true → field (codes "resources") spec ≡ None → amounts true Asked (codes "spec") spec ≡ Ok (at_most 0 0)
+unfolding amounts
+nothing_counted spec is none = rw (nothing_asked Cpu spec is none, nothing_asked Memory spec is none) refl
 
-by_count_both : (key : Key) (found : Items) (xs : List Container) (b : Bool) → nat_le (count found) 65536 ≡ b → (if b then each key [] found else Err (TooMany key)) ≡ Ok xs → (nat_le (count found) 65536 ≡ true) × (each key [] found ≡ Ok xs)
-by_count_both key found xs true few e = (few, e)
-by_count_both key found xs false few e = absurd (cc)
-
-listed_just : (key : Key) (o : Option Data) (xs : List Container) → listed key o ≡ Ok xs → AreCovered (counted_listed (items_if o) (Some no_items)) xs
-listed_just key None xs e = subst (λ x. AreCovered [] x) (let it : [] ≡ xs = cc in it) tt
-listed_just key (Some value) xs e =
-    let found = behind (ok_or (as_array value) (BadField key)) (λ found. if nat_le (count found) 65536 then each key [] found else Err (TooMany key)) xs e in
-    let both = by_count_both key found.0 xs (nat_le (count found.0) 65536) refl found.2 in
-    subst (λ o. AreCovered (counted_listed o (Some no_items)) xs) (sym (array_is (as_array value) (BadField key) found.0 found.1))
-    (subst (λ b. AreCovered (if b then counted_items no_items [] found.0 else unread ∷ []) xs) (sym (are_few_alone found.0 both.0)) (each_just key found.0 [] [] xs tt both.1))
-
-no_statuses : (status_key : Key) (later : Data) → field keys.Status later ≡ None → statuses status_key later ≡ Some no_items
-unfolding statuses
-no_statuses status_key later none = ap (listed_of status_key) none
-
-containers_just : (key status_key : Key) (later spec : Data) (xs : List Container) → field keys.Status later ≡ None → containers key spec ≡ Ok xs → AreCovered (counted_containers key status_key later spec) xs
-unfolding containers counted_containers
-containers_just key status_key later spec xs none e =
-    subst (λ o. AreCovered (counted_listed (items_if (field key spec)) o) xs) (sym (no_statuses status_key later none)) (listed_just key (field key spec) xs e)
-
--- what a pod doesn't ask for as a whole
-nothing_in : (k part what : Key) (json : Data) → is_some (as_object json) ≡ true → field keys.Resources json ≡ None → in_resources k part what json ≡ Ok None
-unfolding in_resources field_at
-nothing_in k part what json is none = rw (is, none) refl
-
-nothing_asked : (k resource : Key) (json : Data) → is_some (as_object json) ≡ true → field keys.Resources json ≡ None → asked k resource json ≡ Ok None
-unfolding asked
-nothing_asked k resource json is none = rw (nothing_in k keys.Requests resource json is none, nothing_in k keys.Limits resource json is none) refl
-
-nothing_counted : (k : Key) (json : Data) → is_some (as_object json) ≡ true → field keys.Resources json ≡ None → counted_part parts.Asked k json ≡ at_most 0 0
-unfolding counted_part found_in
-nothing_counted k json is none = rw (nothing_asked k keys.Cpu json is none, nothing_asked k keys.Memory json is none) refl
-
--- a pod that says what running it costs is an object
-listed_is_object : (holder part resource : Key) (json : Data) (o : Option Data) → listed_in holder part resource json ≡ Ok o → is_some (as_object json) ≡ true
-unfolding listed_in
-listed_is_object holder part resource json o e =
-    let first = behind (field_at holder part json) (λ amounts. under part resource amounts) o e in
-    field_is_object holder part json first.0 (is_some (as_object json)) refl first.1
-
-overhead_is_object : (spec : Data) (overhead : Request) → overhead_request spec ≡ Ok overhead → is_some (as_object spec) ≡ true
-unfolding overhead_request found_in
-overhead_is_object spec overhead e =
-    let a = behind (cpu_in parts.Overhead keys.Spec spec) (λ cpu. memory_in parts.Overhead keys.Spec spec >>= λ memory. whole (request_of cpu memory)) overhead e in
-    let first = behind (listed_in keys.Spec keys.Overhead keys.Cpu spec) cpu_if a.0 a.1 in
-    listed_is_object keys.Spec keys.Overhead keys.Cpu spec first.0 first.1
-
-overhead_just : (spec : Data) (overhead : Request) → overhead_request spec ≡ Ok overhead → IsNoMore (counted_part parts.Overhead keys.Spec spec) overhead
-unfolding overhead_request
-overhead_just spec overhead e =
-    let a = behind (cpu_in parts.Overhead keys.Spec spec) (λ cpu. memory_in parts.Overhead keys.Spec spec >>= λ memory. whole (request_of cpu memory)) overhead e in
-    let b = behind (memory_in parts.Overhead keys.Spec spec) (λ memory. whole (request_of a.0 memory)) overhead a.2 in
-    just_asked parts.Overhead keys.Spec spec a.0 b.0 overhead a.1 b.1 b.2
-
--- nothing as a whole
-whole_is_nothing : (later spec : Data) (overhead : Request) → overhead_request spec ≡ Ok overhead → field keys.Status later ≡ None → field keys.Resources spec ≡ None → counted_as_a_whole later spec ≡ larger (at_most 0 0) (at_most 0 0)
-unfolding counted_as_a_whole
-whole_is_nothing later spec overhead over none alone =
-    (λ j. larger (nothing_counted keys.Spec spec (overhead_is_object spec overhead over) alone j) (held_as_a_whole (none j)))
-
-nothing_whole : (r : Resource) → amount_of r (larger (at_most 0 0) (at_most 0 0)) ≡ 0
+nothing_cpu : (larger (at_most 0 0) (at_most 0 0)).cpu.0 ≡ 0
 unfolding larger at_most
-nothing_whole resources.Cpu = omega arith
-nothing_whole resources.Memory = omega arith
+nothing_cpu = refl
 
-some_also : (xs ys : List Container) → nat_le 1 (length xs) ≡ true → AreCovered ys xs → some_or_unread ys ≡ ys
-some_also [] ys some all = absurd (cc)
-some_also (x ∷ xs) [] some all = absurd all
-some_also (x ∷ xs) (y ∷ ys) some all = refl
+nothing_memory : (larger (at_most 0 0) (at_most 0 0)).mem.0 ≡ 0
+unfolding larger at_most
+nothing_memory = refl
 
-overhead_within : (r : Resource) (ys there : List Container) (taken : Request) → amount_of r taken ≤ effective r ys there taken
+just_cpu : (a : Request) (xs init : List Container) (overhead : Request) → a.cpu.0 ≡ effective Cpu xs init overhead → a.cpu.0 ≡ min (2 ^ 30) (or_more Cpu xs init overhead (larger (at_most 0 0) (at_most 0 0)))
 unfolding effective
-overhead_within r ys there taken = omega arith
+just_cpu a xs init overhead is = omega (arith, is, a.within_cpu, nothing_cpu)
 
--- what is counted is no more than what the containers come to
-just_by : (r : Resource) (request : Request) (xs ys init there : List Container) (overhead taken whole : Request) → amount_of r request ≡ effective r xs init overhead → nat_le 1 (length xs) ≡ true → AreCovered ys xs → AreCovered there init → IsNoMore taken overhead → amount_of r whole ≡ 0 → counted_amount r (some_or_unread ys) there taken whole ≤ amount_of r request
-just_by r request xs ys init there overhead taken whole is some all first less nothing =
-    let less_of = effective_more r ys xs there init taken overhead all first less in
-    let alone = overhead_within r ys there taken in
-    subst (λ cs. counted_amount r cs there taken whole ≤ amount_of r request) (sym (some_also xs ys some all)) (omega (arith, is, less_of, alone, nothing))
+just_memory : (a : Request) (xs init : List Container) (overhead : Request) → a.mem.0 ≡ effective Memory xs init overhead → a.mem.0 ≡ min (2 ^ 44) (or_more Memory xs init overhead (larger (at_most 0 0) (at_most 0 0)))
+unfolding effective
+just_memory a xs init overhead is = omega (arith, is, a.within_mem, nothing_memory)
 
-comes_to_just : (later spec : Data) (request : Request) (xs init : List Container) (overhead : Request) → field keys.Status later ≡ None → field keys.Resources spec ≡ None → containers keys.Containers spec ≡ Ok xs → containers keys.InitContainers spec ≡ Ok init → overhead_request spec ≡ Ok overhead → nat_le 1 (length xs) ≡ true → request_of_all xs init overhead ≡ Ok request → IsNoMore (counted later spec) request
-unfolding request_of_all counted
-comes_to_just later spec request xs init overhead none alone running starting over some all =
-    let of = made_of (record { 0 = effective resources.Cpu xs init overhead }) (record { 0 = effective resources.Memory xs init overhead }) request all in
-    let ys = counted_containers keys.Containers keys.ContainerStatuses later spec in
-    let there = counted_containers keys.InitContainers keys.InitContainerStatuses later spec in
-    let taken = counted_part parts.Overhead keys.Spec spec in
-    let first = containers_just keys.Containers keys.ContainerStatuses later spec xs none running in
-    let second = containers_just keys.InitContainers keys.InitContainerStatuses later spec init none starting in
-    let less = overhead_just spec overhead over in
-    let nothing : (r : Resource) → amount_of r (counted_as_a_whole later spec) ≡ 0 = λ r. ap (amount_of r) (whole_is_nothing later spec overhead over none alone) ∙ nothing_whole r in
-    at_most_within request (counted_amount resources.Cpu (some_or_unread ys) there taken (counted_as_a_whole later spec)) (counted_amount resources.Memory (some_or_unread ys) there taken (counted_as_a_whole later spec))
-    (just_by resources.Cpu request xs ys init there overhead taken (counted_as_a_whole later spec) (ap (λ x. x.0) of.0) some first second less (nothing resources.Cpu))
-    (just_by resources.Memory request xs ys init there overhead taken (counted_as_a_whole later spec) (ap (λ x. x.0) of.1) some first second less (nothing resources.Memory))
+some_kept : (xs : List Container) → some_container xs ≡ Ok xs → some_or_unread true xs ≡ xs
+some_kept [] e = absurd (cc)
+some_kept (x ∷ xs) e = refl
 
-pub counts_no_more : CountsNoMore
-counts_no_more pod later spec request there e none alone =
-    let r = was_read pod spec request there e in
-    comes_to_just later spec request r.running r.init r.overhead none alone r.are r.start r.over r.some r.all
+pub counts_the_same : CountsTheSame
+counts_the_same pod later spec a e none alone =
+    let r = was_read pod spec a e in
+    let made = made_of r.xs r.init r.overhead a r.all in
+    let nothing = at_most 0 0 in
+    let counted = more_of r.xs r.init r.overhead (larger nothing nothing) in
+    let same : a ≡ counted = same_request a (or_more Cpu r.xs r.init r.overhead (larger nothing nothing)) (or_more Memory r.xs r.init r.overhead (larger nothing nothing)) (just_cpu a r.xs r.init r.overhead made.0) (just_memory a r.xs r.init r.overhead made.1) in
+    stands_at later spec r.xs r.init r.overhead counted
+    (containers_same (codes "containers") (codes "containerStatuses") pod later spec r.xs none r.are)
+    (containers_same (codes "initContainers") (codes "initContainerStatuses") pod later spec r.init none r.start)
+    (amounts_stand Overhead (codes "spec") spec r.overhead r.over) (some_kept r.xs r.some) r.some
+    (held_with later spec r.xs r.init r.overhead nothing nothing (nothing_counted spec (spec_is_object spec r.overhead r.over) alone) (ap held_as_a_whole none))
+    ∙ ap Ok (sym same)

@@ -5,9 +5,9 @@ use Rattle.serde_json.specs.Data.{array, object}
 use Rattle.serde_json.specs.View.{view, items_view, members_view}
 use Rattle.serde_json.specs.declared.value.Value.{Value, Array, Object}
 use Rattle.serde_json.proofs.Views.{Entry, view-Array, view-Object}
-use Rattle.objects.specs.Container.{count}
+use Rattle.objects.specs.Containers.{count}
 use Rattle.objects.specs.Labels.{count_members}
-use Rattle.objects.specs.Field.{is_something}
+use Rattle.objects.specs.Reading.{is_something}
 
 -- an array has as many items as the list that holds them has elements
 pub count_of_items_view : (xs : List Value) → count (items_view xs) ≡ length xs

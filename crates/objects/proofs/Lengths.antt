@@ -26,7 +26,8 @@ use Rattle.quant.specs.declared.event.Event.{Event}
 use Rattle.quant.specs.declared.event.Event.TheVariants.{NodeSet, NodeGone, PodPending, PodBound, PodGone}
 use Rattle.manifest.specs.declared.line.TheConstants.{MAX_LINE}
 use Rattle.objects.specs.inside.Line.{cpu_text, memory_text, effect_text, optional_effect_text, operator_text, label_json, taint_json, toleration_json, items_json, line_json}
-use Rattle.objects.specs.Sayable.{each_beside, says_label, says_taint, says_toleration, IsVersion, IsNodeRow, IsPodRow, IsSayable}
+use Rattle.objects.specs.Sayable.{says_label, says_taint, says_toleration, IsVersion}
+use Rattle.objects.specs.inside.Events.{each_beside, IsNodeRow, IsPodRow, IsSayable}
 
 -- a byte is written as six at most
 escape_choice : (short low : Bool) (l d e x : ℕ)

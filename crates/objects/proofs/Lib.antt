@@ -12,12 +12,11 @@ pub mod Lengths
 pub mod Parsed
 pub mod Beside
 pub mod OneLine
+pub mod Requests
 pub mod Standing
 pub mod Shown
-pub mod Requests
+pub mod Enough
 pub mod Named
 pub mod Names
-pub mod Changes
 pub mod Faults
 pub mod Marks
-pub mod Enough

@@ -37,7 +37,8 @@ use Rattle.manifest.specs.Reading.{◌>>=◌, member, text, integer, natural, si
 use Rattle.manifest.specs.Line.{version_in, node_in, gone_in, pod_in, row_in, bound_in, deleted_in, fields_of, command_in, meaning}
 use Rattle.manifest.proofs.Parsed.{parsed_read}
 use Rattle.objects.specs.inside.Line.{cpu_text, memory_text, label_json, taint_json, toleration_json, items_json, line_json}
-use Rattle.objects.specs.Sayable.{IsVersion, IsNodeRow, IsPodRow, IsSayable}
+use Rattle.objects.specs.Sayable.{IsVersion}
+use Rattle.objects.specs.inside.Events.{IsNodeRow, IsPodRow, IsSayable}
 use Rattle.objects.proofs.Spelled.{cpu_back, memory_back}
 use Rattle.objects.proofs.Lengths.{line_short}
 use Rattle.objects.proofs.Rows.{label_data, taint_data, toleration_data, request_data, items_data, of_labels, of_taints, of_tolerations, labels_back, taints_back, tolerations_back, request_back}

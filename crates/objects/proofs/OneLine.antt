@@ -20,7 +20,8 @@ use Rattle.quant.specs.declared.taint.Toleration.{Toleration}
 use Rattle.quant.specs.declared.event.Event.{Event}
 use Rattle.quant.specs.declared.event.Event.TheVariants.{NodeSet, NodeGone, PodPending, PodBound, PodGone}
 use Rattle.objects.specs.inside.Line.{label_json, taint_json, toleration_json, items_json, line_json}
-use Rattle.objects.specs.Sayable.{IsVersion, IsNodeRow, IsPodRow, IsSayable}
+use Rattle.objects.specs.Sayable.{IsVersion}
+use Rattle.objects.specs.inside.Events.{IsNodeRow, IsPodRow, IsSayable}
 use Rattle.objects.specs.Translation.{is_one_line}
 use Rattle.objects.proofs.Spelled.{decimal_digits}
 

@@ -1,10 +1,9 @@
 -- What runs beside an init container, container by container.
 use Rattle.std.proofs.Common.{◌≡◌, ℕ, suc, ◌+◌, ◌<◌, max, true, false, cond, List, ◌∷◌, length, get_or, drop, refl, arith, sym, ◌∙◌, ap, add-one}
 use Rattle.std.proofs.Math.Seq.{drop-cons}
-use Rattle.objects.specs.declared.container.Container.{Container}
+use Rattle.objects.specs.declared.containers.Container.{Container}
 use Rattle.objects.specs.declared.resource.Resource.{Resource}
-use Rattle.objects.specs.Resource.{amount_of}
-use Rattle.objects.specs.PodRequest.{beside_others, peak}
+use Rattle.objects.specs.Containers.{of, beside_others, peak}
 
 -- a list from one place on is the element there and what stands behind it
 rest_of : (cs : List Container) (i : ℕ) (c : Container) → i < length cs → c ≡ get_or cs i c → drop i cs ≡ c ∷ drop (i + 1) cs
@@ -14,11 +13,11 @@ rest_of cs i c h is =
 -- one more init container has started: the most that was needed, or is to be
 pub peak_started : (resource : Resource) (beside most : ℕ) (cs : List Container) (i : ℕ) (c : Container)
     → i < length cs → c ≡ get_or cs i c
-    → max (cond c.goes_on most (max (beside + amount_of resource c.request) most)) (peak resource (beside + beside_others resource c) (drop (i + 1) cs))
+    → max (cond c.goes_on most (max (beside + of resource c.request) most)) (peak resource (beside + beside_others resource c) (drop (i + 1) cs))
     ≡ max most (peak resource beside (drop i cs))
 peak_started resource beside most cs i c h is =
     let rest = drop (i + 1) cs in
-    let a = amount_of resource c.request in
+    let a = of resource c.request in
     (elim c.goes_on as (λ b. max (cond b most (max (beside + a) most)) (peak resource (beside + cond b a 0) rest)
     ≡ max most (cond b (peak resource (beside + a) rest) (max (beside + a) (peak resource beside rest)))) [
       | true ↦ refl

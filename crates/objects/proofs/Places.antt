@@ -8,7 +8,7 @@ use Rattle.std.proofs.lemmas.Grind.{get_or_default_zero}
 use Rattle.std.proofs.lemmas.Bool.{cases_lt}
 use Rattle.quant.specs.Amount.{number}
 use Rattle.quant.proofs.Decimal.{number_more}
-use Rattle.objects.specs.declared.rounding.Rounding.{Rounding}
+use Rattle.objects.specs.declared.quantity.Rounding.{Rounding}
 use Rattle.objects.specs.Ratio.{rounded}
 use Rattle.objects.specs.inside.Digits.{digit, front, back}
 use Rattle.objects.proofs.RatioLemmas.{rounded_sum, rounded_whole, rounded_lower, rounded_tenth}

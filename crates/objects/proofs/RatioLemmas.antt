@@ -2,8 +2,8 @@
 use Rattle.std.proofs.Common.{◌≡◌, ℕ, zero, suc, add-one, ◌+◌, ◌-◌, ◌*◌, ◌/◌, ◌<◌, ◌≤◌, arith, sym, ◌∙◌, ap}
 use Rattle.std.proofs.Math.Nat.{mul-add-div_right, div-div-eq-div-mul, mul_comm, add-mul, mul-div_cancel, mul-le-mul_right}
 use Rattle.std.proofs.lemmas.Nat.{div-mul-add}
-use Rattle.objects.specs.declared.rounding.Rounding.{Rounding}
-use Rattle.objects.specs.declared.rounding.Rounding.TheVariants.{Up, Down}
+use Rattle.objects.specs.declared.quantity.Rounding.{Rounding}
+use Rattle.objects.specs.declared.quantity.Rounding.TheVariants.{Up, Down}
 use Rattle.objects.specs.Ratio.{rounded}
 
 -- a whole number more is a whole number more when rounded

@@ -22,7 +22,8 @@ use Rattle.manifest.specs.Reading.{text, name_from, text_from, cpu_from, memory_
 use Rattle.manifest.specs.Item.{count, items, each, list, parts, part}
 use Rattle.manifest.specs.Rows.{effect_named, effect_or_none, operator_named, lawful, label, taint, toleration, container}
 use Rattle.objects.specs.inside.Line.{cpu_text, memory_text, effect_text, optional_effect_text, operator_text, label_json, taint_json, toleration_json, request_json, items_json}
-use Rattle.objects.specs.Sayable.{each_beside, says_label, says_taint, says_toleration}
+use Rattle.objects.specs.Sayable.{says_label, says_taint, says_toleration}
+use Rattle.objects.specs.inside.Events.{each_beside}
 use Rattle.objects.proofs.Spelled.{cpu_back, memory_back}
 
 -- an array of texts, and an item for each element, as they are read

@@ -11,39 +11,32 @@ use Rattle.serde_json.specs.Data.{Data, Items, no_items, item, Members, no_membe
 use Rattle.serde_json.specs.Find.{as_array, as_object, as_number, as_u64}
 use Rattle.quant.specs.Name.{is_name_byte, is_name}
 use Rattle.quant.specs.declared.version.Version.{Version}
-use Rattle.quant.specs.declared.amount.Bytes.{Bytes}
 use Rattle.quant.specs.declared.amount.Request.{Request}
 use Rattle.quant.specs.declared.event.Event.{Event}
-use Rattle.quant.specs.declared.event.Event.TheVariants.{NodeGone, PodGone}
+use Rattle.quant.specs.declared.event.Event.TheVariants.{NodeSet, PodPending}
+use Rattle.quant.specs.declared.limits.TheConstants.{MAX_LABELS}
 use Rattle.quant.specs.declared.objects.Label.{Label}
 use Rattle.quant.specs.declared.taint.Toleration.{Toleration}
-use Rattle.objects.specs.declared.key.Key.{Key}
-use Rattle.objects.specs.declared.key.Key.TheVariants as keys
 use Rattle.objects.specs.declared.change.Change.{Change}
 use Rattle.objects.specs.declared.change.Change.TheVariants.{There, Changed, Gone}
-use Rattle.objects.specs.declared.fault.QuantityFault.{QuantityFault}
+use Rattle.objects.specs.declared.change.Kind.{Kind}
+use Rattle.objects.specs.declared.change.Kind.TheVariants.{Node, Pod}
 use Rattle.objects.specs.declared.fault.QuantityFault.TheVariants as amounts
-use Rattle.objects.specs.declared.fault.ObjectFault.{ObjectFault}
-use Rattle.objects.specs.declared.fault.ObjectFault.TheVariants.{LongLine, NotJson, UnknownEvent, IsList, BadField, BadName, Quantity, TooMany, PodResources, TooLarge, NoMemory}
+use Rattle.objects.specs.declared.fault.Why.{Why}
+use Rattle.objects.specs.declared.fault.Why.TheVariants.{LongLine, NotJson, UnknownEvent, IsList, BadField, BadName, Quantity, TooMany, PodResources, TooLarge}
+use Rattle.objects.specs.declared.request.Reckoned.TheVariants.{Placed, Standing}
 use Rattle.objects.specs.declared.translation.TheConstants.{MAX_OBJECT}
 use Rattle.objects.specs.Quantity.{◌>>=◌}
-use Rattle.objects.specs.Key.{key_of}
-use Rattle.objects.specs.Reading.{said, field, within}
-use Rattle.objects.specs.LeftOut.{shown, left_out, left_out_if, amount_refused, refused, told_names, up_to_marks}
-use Rattle.objects.specs.Field.{name_at, flag_of, members_of, items_of, is_given, spelled}
-use Rattle.quant.specs.declared.limits.TheConstants.{MAX_LABELS}
-use Rattle.objects.specs.Labels.{Kept, label_of, is_named, named_labels, with_label, unless_named, other_labels, count_members, all_labels, row_labels}
-use Rattle.objects.specs.NodeRow.{NodeTold, node_row}
-use Rattle.objects.specs.NodeRow as node
-use Rattle.objects.specs.Demands.{each_item, items_give, array_gives, affinity, asks_spread, is_read_affinity, is_nothing, is_known, other_field, other_fields, fields_of, is_tied, volume, node_port, host_port_of, host_port, is_reckoned, other_resource, other_resources, members_give, object_gives, has, resources_of, container, containers, placement, demands, wishes}
-use Rattle.objects.specs.Allocatable.{allocatable}
-use Rattle.objects.specs.PodRow.{PodTold, pod_name, priority, toleration_of, with_toleration, tolerations_of, pod_row}
-use Rattle.objects.specs.PodRequest.{pod_request}
-use Rattle.objects.specs.Counted.{first_fault, whole_memory, whole_fault, request_fault, counted_left_out, is_held_read, held_left_out}
-use Rattle.objects.specs.declared.gone.Kind.{Kind}
-use Rattle.objects.specs.declared.gone.Kind.TheVariants as kinds
-use Rattle.objects.specs.Site.{Site}
-use Rattle.objects.specs.Told.{Told, nothing, unless_gone, gone_if, gone_told, in_metadata, node_of, node_told, waiting_row, scheduler_of, kept_back, waiting_of, waiting_told, bound_as, bound_told, has_ended, ended_told, node_name, placed_told, spec_told, there_told, pod_told, kind_of, kind_told, object_told, change_of, is_bookmark, changed_told, event_told, value_told, is_blank, parsed, parsed_told, text_told, line_told, told_or_uncounted, told}
+use Rattle.objects.specs.LeftOut.{shown, left_out, left_out_if, why_text, Fault, refused, fault_text, told_names, up_to_marks}
+use Rattle.objects.specs.Reading.{said, field, within, part_of, members_of, items_of, absent_or, is_given, spelled}
+use Rattle.objects.specs.PodRequest.{fault_of, more_left_out, is_held_read, held_left_out}
+use Rattle.objects.specs.PodRequest as pods
+use Rattle.objects.specs.Labels.{Kept, with_item, label_of, is_named, named_labels, unless_named, other_labels, count_members, all_labels, row_labels}
+use Rattle.objects.specs.NodeRow.{node_parts, node_row}
+use Rattle.objects.specs.Demands.{each_item, array_gives, affinity, asks_spread, is_read_affinity, is_nothing, is_known, other_field, other_fields, fields_of, is_tied, volume, node_port, host_port, is_reckoned, other_resource, other_resources, object_gives, has, resources_of, container, containers, placement, demands, wishes}
+use Rattle.objects.specs.PodRow.{pod_parts, toleration_of, tolerations_of, pod_row}
+use Rattle.objects.specs.Site.{Site, Telling, telling}
+use Rattle.objects.specs.Told.{Told, saying, name_of, gone_by, gone_told, gone_if, row_told, scheduler_of, kept_back, waiting_by, waiting_told, placed_told, has_ended, node_name, by_node, pod_told, there_told, by_change, kind_told, kind_of, by_kind, object_told, change_of, is_bookmark, changed_told, event_told, value_told, is_blank, parsed, line_told, told_or_uncounted, told}
 use Rattle.objects.specs.Shown.{stands_for_itself, in_marks, is_short, AreTexts, NamesAreTexts}
 
 -- what keeps texts texts
@@ -107,24 +100,24 @@ either false x y p q = q
 one_if : (b : Bool) (what : List ℕ) → fits what ≡ true → AreTexts (left_out_if b what)
 one_if b what h = either b (left_out what []) [] (one what [] h) none
 
-why_plain : (why : QuantityFault) → fits (amount_refused why) ≡ true
-why_plain amounts.NotAQuantity = refl
-why_plain amounts.FarExponent = refl
-why_plain amounts.Negative = refl
-why_plain amounts.TooLarge = refl
+why_plain : (why : Why) → fits (why_text why) ≡ true
+why_plain LongLine = refl
+why_plain NotJson = refl
+why_plain UnknownEvent = refl
+why_plain IsList = refl
+why_plain BadField = refl
+why_plain BadName = refl
+why_plain (Quantity amounts.NotAQuantity) = refl
+why_plain (Quantity amounts.FarExponent) = refl
+why_plain (Quantity amounts.Negative) = refl
+why_plain (Quantity amounts.TooLarge) = refl
+why_plain TooMany = refl
+why_plain PodResources = refl
+why_plain TooLarge = refl
 
-fault : (e : ObjectFault) → AreTexts (refused e)
-fault LongLine = one (codes "a line of more than 2 MiB") [] refl
-fault NotJson = one (codes "no JSON") [] refl
-fault UnknownEvent = one (codes "an event of another type") [] refl
-fault IsList = one (codes "a list, whose items are to stand on lines of their own") [] refl
-fault (BadField key) = one (codes "a field of another type: ") (key_of key) refl
-fault (BadName key) = one (codes "not a name or text of a script: ") (key_of key) refl
-fault (Quantity key why) = one (amount_refused why) (key_of key) (why_plain why)
-fault (TooMany key) = one (codes "too many items: ") (key_of key) refl
-fault PodResources = one (codes "resources of the whole pod") [] refl
-fault TooLarge = one (codes "what it asks for in all") [] refl
-fault NoMemory = none
+fault : (e : Fault) → AreTexts (fault_text e)
+unfolding fault_text
+fault e = one (why_text e.why) e.field (why_plain e.why)
 
 -- what a pod asks for
 
@@ -132,31 +125,28 @@ each : (f : Data → List ℕ) → ((d : Data) → AreTexts (f d)) → (found : 
 each f h no_items = none
 each f h (item d rest) = both (f d) (each_item f rest) (h d) (each f h rest)
 
-items_texts : (f : Data → List ℕ) (otherwise : List ℕ) → ((d : Data) → AreTexts (f d)) → AreTexts otherwise → (found : Option Items)
-    → AreTexts (items_give f otherwise found)
-items_texts f otherwise h o None = o
-items_texts f otherwise h o (Some found) = each f h found
+-- a value that may be absent
+absent_texts : {A : Type 0} (absent : List ℕ) (there : A → List ℕ) (value : Option A) → AreTexts absent → ((x : A) → AreTexts (there x)) → AreTexts (absent_or absent there value)
+absent_texts absent there None h all = h
+absent_texts absent there (Some x) h all = all x
 
 array_texts : (f : Data → List ℕ) (otherwise : List ℕ) → ((d : Data) → AreTexts (f d)) → AreTexts otherwise → (value : Option Data)
     → AreTexts (array_gives f otherwise value)
-array_texts f otherwise h o None = none
-array_texts f otherwise h o (Some value) = items_texts f otherwise h o (as_array value)
+array_texts f otherwise h o value =
+    absent_texts [] (λ v. absent_or otherwise (each_item f) (as_array v)) value none (λ v. absent_texts otherwise (each_item f) (as_array v) o (each f h))
 
 volume_texts : (d : Data) → AreTexts (volume d)
 unfolding volume
-volume_texts d = either (is_tied (as_object d)) (left_out (codes "volume ") (spelled keys.Name d)) [] (one (codes "volume ") (spelled keys.Name d) refl) none
+volume_texts d = either (is_tied (as_object d)) (left_out (codes "volume ") (spelled (codes "name") d)) [] (one (codes "volume ") (spelled (codes "name") d) refl) none
 
 node_port_texts : (n : Option ℕ) → AreTexts (node_port n)
 node_port_texts None = one (codes "host port ") [] refl
 node_port_texts (Some n) = either (n == 0) [] (left_out (codes "host port ") (decimal n)) none (one (codes "host port ") (decimal n) refl)
 
-port_of_texts : (value : Option Data) → AreTexts (host_port_of value)
-port_of_texts None = none
-port_of_texts (Some value) = node_port_texts (option_and_then as_u64 (as_number value))
-
 port_texts : (d : Data) → AreTexts (host_port d)
 unfolding host_port
-port_texts d = port_of_texts (field keys.HostPort d)
+port_texts d =
+    absent_texts [] (λ v. node_port (option_and_then as_u64 (as_number v))) (field (codes "hostPort") d) none (λ v. node_port_texts (option_and_then as_u64 (as_number v)))
 
 others_texts : (is_named : List ℕ → Bool) (found : Members) → AreTexts (other_resources is_named found)
 others_texts is_named no_members = none
@@ -164,27 +154,24 @@ others_texts is_named (member key value rest) =
     both (other_resource is_named key value) (other_resources is_named rest)
     (either (is_reckoned key || is_named key || is_nothing value) [] (left_out (codes "resource ") key) none (one (codes "resource ") key refl)) (others_texts is_named rest)
 
-members_texts : (is_named : List ℕ → Bool) (found : Option Members) → AreTexts (members_give is_named found)
-members_texts is_named None = one (codes "resources") [] refl
-members_texts is_named (Some found) = others_texts is_named found
-
 object_texts : (is_named : List ℕ → Bool) (value : Option Data) → AreTexts (object_gives is_named value)
-object_texts is_named None = none
-object_texts is_named (Some value) = members_texts is_named (as_object value)
+object_texts is_named value =
+    absent_texts [] (λ v. absent_or (left_out (codes "resources") []) (other_resources is_named) (as_object v)) value none
+    (λ v. absent_texts (left_out (codes "resources") []) (other_resources is_named) (as_object v) (one (codes "resources") [] refl) (others_texts is_named))
 
 resources_texts : (value : Option Data) → AreTexts (resources_of value)
 resources_texts None = none
 resources_texts (Some value) =
-    both (object_gives (has None) (field keys.Requests value)) (object_gives (has (field keys.Requests value)) (field keys.Limits value))
-    (object_texts (has None) (field keys.Requests value)) (object_texts (has (field keys.Requests value)) (field keys.Limits value))
+    both (object_gives (has None) (field (codes "requests") value)) (object_gives (has (field (codes "requests") value)) (field (codes "limits") value))
+    (object_texts (has None) (field (codes "requests") value)) (object_texts (has (field (codes "requests") value)) (field (codes "limits") value))
 
 container_texts : (d : Data) → AreTexts (container d)
 unfolding container
 container_texts d =
-    both (array_gives host_port (left_out (codes "host port ") []) (field keys.Ports d)) (resources_of (field keys.Resources d))
-    (array_texts host_port (left_out (codes "host port ") []) port_texts (one (codes "host port ") [] refl) (field keys.Ports d)) (resources_texts (field keys.Resources d))
+    both (array_gives host_port (left_out (codes "host port ") []) (field (codes "ports") d)) (resources_of (field (codes "resources") d))
+    (array_texts host_port (left_out (codes "host port ") []) port_texts (one (codes "host port ") [] refl) (field (codes "ports") d)) (resources_texts (field (codes "resources") d))
 
-containers_texts : (key : Key) (spec : Data) → AreTexts (containers key spec)
+containers_texts : (key : List ℕ) (spec : Data) → AreTexts (containers key spec)
 containers_texts key spec = array_texts container [] container_texts none (field key spec)
 
 placement_texts : (spec : Data) → AreTexts (placement spec)
@@ -194,12 +181,12 @@ placement_texts spec =
     (both _ _
     (both _ _
     (both _ _
-    (both _ _ (one_if (is_given (field keys.NodeSelector spec)) (codes "node selector") refl)
-    (one_if (is_given (affinity keys.NodeAffinity keys.Required spec)) (codes "required node affinity") refl))
-    (one_if (is_given (affinity keys.PodAffinity keys.Required spec)) (codes "required pod affinity") refl))
-    (one_if (is_given (affinity keys.PodAntiAffinity keys.Required spec)) (codes "required pod anti-affinity") refl))
-    (one_if (not (is_read_affinity (field keys.Affinity spec))) (codes "affinity") refl))
-    (one_if (asks_spread false (field keys.TopologySpread spec)) (codes "required topology spread") refl)
+    (both _ _ (one_if (is_given (field (codes "nodeSelector") spec)) (codes "node selector") refl)
+    (one_if (is_given (affinity (codes "nodeAffinity") (codes "requiredDuringSchedulingIgnoredDuringExecution") spec)) (codes "required node affinity") refl))
+    (one_if (is_given (affinity (codes "podAffinity") (codes "requiredDuringSchedulingIgnoredDuringExecution") spec)) (codes "required pod affinity") refl))
+    (one_if (is_given (affinity (codes "podAntiAffinity") (codes "requiredDuringSchedulingIgnoredDuringExecution") spec)) (codes "required pod anti-affinity") refl))
+    (one_if (not (is_read_affinity (field (codes "affinity") spec))) (codes "affinity") refl))
+    (one_if (asks_spread false (field (codes "topologySpreadConstraints") spec)) (codes "required topology spread") refl)
 
 other_field_texts : (key : List ℕ) (value : Data) → AreTexts (other_field key value)
 unfolding other_field
@@ -224,12 +211,12 @@ demands_texts spec =
     (both _ _
     (both _ _
     (both _ _ (placement_texts spec)
-    (one_if (is_given (field keys.SchedulingGates spec)) (codes "scheduling gates") refl))
-    (one_if (is_given (field keys.ResourceClaims spec)) (codes "resource claims") refl))
-    (array_texts volume (left_out (codes "volume ") []) volume_texts (one (codes "volume ") [] refl) (field keys.Volumes spec)))
-    (containers_texts keys.Containers spec))
-    (containers_texts keys.InitContainers spec))
-    (object_texts (has None) (field keys.Overhead spec)))
+    (one_if (is_given (field (codes "schedulingGates") spec)) (codes "scheduling gates") refl))
+    (one_if (is_given (field (codes "resourceClaims") spec)) (codes "resource claims") refl))
+    (array_texts volume (left_out (codes "volume ") []) volume_texts (one (codes "volume ") [] refl) (field (codes "volumes") spec)))
+    (containers_texts (codes "containers") spec))
+    (containers_texts (codes "initContainers") spec))
+    (object_texts (has None) (field (codes "overhead") spec)))
     (fields_texts (as_object spec))
 
 wishes_texts : (spec : Data) → AreTexts (wishes spec)
@@ -237,38 +224,20 @@ unfolding wishes
 wishes_texts spec =
     both _ _
     (both _ _
-    (both _ _ (one_if (is_given (affinity keys.NodeAffinity keys.Preferred spec)) (codes "preferred node affinity") refl)
-    (one_if (is_given (affinity keys.PodAffinity keys.Preferred spec)) (codes "preferred pod affinity") refl))
-    (one_if (is_given (affinity keys.PodAntiAffinity keys.Preferred spec)) (codes "preferred pod anti-affinity") refl))
-    (one_if (asks_spread true (field keys.TopologySpread spec)) (codes "preferred topology spread") refl)
+    (both _ _ (one_if (is_given (affinity (codes "nodeAffinity") (codes "preferredDuringSchedulingIgnoredDuringExecution") spec)) (codes "preferred node affinity") refl)
+    (one_if (is_given (affinity (codes "podAffinity") (codes "preferredDuringSchedulingIgnoredDuringExecution") spec)) (codes "preferred pod affinity") refl))
+    (one_if (is_given (affinity (codes "podAntiAffinity") (codes "preferredDuringSchedulingIgnoredDuringExecution") spec)) (codes "preferred pod anti-affinity") refl))
+    (one_if (asks_spread true (field (codes "topologySpreadConstraints") spec)) (codes "preferred topology spread") refl)
 
 -- what a pod counts for
 
-first_texts : (memory : Result Bytes ObjectFault) → AreTexts (first_fault memory)
-first_texts (Ok memory) = none
-first_texts (Err e) = fault e
+fault_of_texts : (request : Result Request Fault) → AreTexts (fault_of request)
+fault_of_texts (Ok request) = none
+fault_of_texts (Err e) = fault e
 
-whole_texts : (spec : Data) → AreTexts (whole_fault spec)
-unfolding whole_fault
-whole_texts spec = first_texts (whole_memory spec)
-
-request_texts : (spec : Data) (request : Result Request ObjectFault) → AreTexts (request_fault spec request)
-request_texts spec (Ok request) = none
-request_texts spec (Err PodResources) = whole_texts spec
-request_texts spec (Err LongLine) = fault LongLine
-request_texts spec (Err NotJson) = fault NotJson
-request_texts spec (Err UnknownEvent) = fault UnknownEvent
-request_texts spec (Err IsList) = fault IsList
-request_texts spec (Err (BadField key)) = fault (BadField key)
-request_texts spec (Err (BadName key)) = fault (BadName key)
-request_texts spec (Err (Quantity key why)) = fault (Quantity key why)
-request_texts spec (Err (TooMany key)) = fault (TooMany key)
-request_texts spec (Err TooLarge) = fault TooLarge
-request_texts spec (Err NoMemory) = none
-
-counted_texts : (pod spec : Data) → AreTexts (counted_left_out pod spec)
-unfolding counted_left_out
-counted_texts pod spec = request_texts spec (pod_request pod)
+more_texts : (pod spec : Data) → AreTexts (more_left_out pod spec)
+unfolding more_left_out
+more_texts pod spec = fault_of_texts (pods.request Placed pod spec)
 
 held_texts : (pod spec : Data) → AreTexts (held_left_out pod spec)
 unfolding held_left_out
@@ -276,239 +245,176 @@ held_texts pod spec = one_if (not (is_held_read pod spec)) (codes "what its stat
 
 -- rows
 
-label_texts : (kept : Kept Label) (key : List ℕ) (label : Option Label) → AreTexts kept.left_out → AreTexts (with_label kept key label).left_out
-label_texts kept key None h = both kept.left_out (left_out (codes "label ") key) h (one (codes "label ") key refl)
-label_texts kept key (Some label) h = h
+item_texts : {A : Type 0} (what name : List ℕ) (kept : Kept (List A)) (x : Option A) → fits what ≡ true → AreTexts kept.left_out
+    → AreTexts (with_item what name kept x).left_out
+item_texts what name kept None f h = both kept.left_out (left_out what name) h (one what name f)
+item_texts what name kept (Some x) f h = h
 
-if_texts : (b : Bool) (x y : Kept Label) → AreTexts x.left_out → AreTexts y.left_out → AreTexts (cond b x y).left_out
+if_texts : {A : Type 0} (b : Bool) (x y : Kept A) → AreTexts x.left_out → AreTexts y.left_out → AreTexts (cond b x y).left_out
 if_texts true x y p q = p
 if_texts false x y p q = q
 
-unless_named_texts : (names : List ℕ) (kept : Kept Label) (key : List ℕ) (value : Data) → AreTexts kept.left_out
-    → AreTexts (unless_named names kept key value).left_out
+other_labels_texts : (names : List ℕ) (kept : Kept (List Label)) (found : Members) → AreTexts kept.left_out → AreTexts (other_labels names kept found).left_out
 unfolding unless_named
-unless_named_texts names kept key value h =
-    if_texts (is_named names key) kept (with_label kept key (label_of kept.items key value)) h (label_texts kept key (label_of kept.items key value) h)
-
-other_labels_texts : (names : List ℕ) (kept : Kept Label) (found : Members) → AreTexts kept.left_out → AreTexts (other_labels names kept found).left_out
 other_labels_texts names kept no_members h = h
 other_labels_texts names kept (member key value rest) h =
-    other_labels_texts names (unless_named names kept key value) rest (unless_named_texts names kept key value h)
+    let found = label_of kept.item key value in
+    other_labels_texts names (unless_named names kept key value) rest
+    (if_texts (is_named names key) kept (with_item (codes "label ") key kept found) h (item_texts (codes "label ") key kept found refl h))
 
-toleration_texts : (kept : Kept Toleration) (key : List ℕ) (toleration : Option Toleration) → AreTexts kept.left_out
-    → AreTexts (with_toleration kept key toleration).left_out
-toleration_texts kept key None h = both kept.left_out (left_out (codes "toleration of ") key) h (one (codes "toleration of ") key refl)
-toleration_texts kept key (Some toleration) h = h
-
-tolerations_texts : (kept : Kept Toleration) (found : Items) → AreTexts kept.left_out → AreTexts (tolerations_of kept found).left_out
+tolerations_texts : (kept : Kept (List Toleration)) (found : Items) → AreTexts kept.left_out → AreTexts (tolerations_of kept found).left_out
 tolerations_texts kept no_items h = h
 tolerations_texts kept (item d rest) h =
-    tolerations_texts (with_toleration kept (spelled keys.LabelKey d) (toleration_of kept.items d)) rest
-    (toleration_texts kept (spelled keys.LabelKey d) (toleration_of kept.items d) h)
+    let found = toleration_of kept.item d in
+    let key = spelled (codes "key") d in
+    tolerations_texts (with_item (codes "toleration of ") key kept found) rest (item_texts (codes "toleration of ") key kept found refl h)
 
 -- what is read, where it is, passes
-record OkIs {B : Type 0} (P : B → Type 0) (r : Result B ObjectFault) : Type 0 where
+record OkIs {B : Type 0} (P : B → Type 0) (r : Result B Fault) : Type 0 where
   is : IfOk r P
 
-bind_ok : {A B : Type 0} {P : B → Type 0} (r : Result A ObjectFault) (f : A → Result B ObjectFault) → ((x : A) → OkIs P (f x)) → OkIs P (r >>= f)
+bind_ok : {A B : Type 0} {P : B → Type 0} (r : Result A Fault) (f : A → Result B Fault) → ((x : A) → OkIs P (f x)) → OkIs P (r >>= f)
 bind_ok (Ok x) f h = h x
 bind_ok (Err e) f h = record { is = tt }
 
 last_ok : {B : Type 0} {P : B → Type 0} (x : B) → P x → OkIs P (Ok x)
 last_ok x h = record { is = h }
 
-bind_with : {A B : Type 0} {Q : A → Type 0} {P : B → Type 0} (r : Result A ObjectFault) (f : A → Result B ObjectFault) → OkIs Q r
+bind_with : {A B : Type 0} {Q : A → Type 0} {P : B → Type 0} (r : Result A Fault) (f : A → Result B Fault) → OkIs Q r
     → ((x : A) → Q x → OkIs P (f x)) → OkIs P (r >>= f)
 bind_with (Ok x) f q h = h x q.is
 bind_with (Err e) f q h = record { is = tt }
 
-either_is : {B : Type 0} {P : B → Type 0} (b : Bool) (x y : Result B ObjectFault) → OkIs P x → OkIs P y → OkIs P (cond b x y)
+either_is : {B : Type 0} {P : B → Type 0} (b : Bool) (x y : Result B Fault) → OkIs P x → OkIs P y → OkIs P (cond b x y)
 either_is true x y p q = p
 either_is false x y p q = q
 
 labels_texts : (names left : List ℕ) (found : Members) → AreTexts left → OkIs (λ kept. AreTexts kept.left_out) (row_labels names left found)
 unfolding row_labels
 labels_texts names left found h =
-    either_is (nat_le (count_members found) MAX_LABELS || nat_le 1 (length names)) (all_labels names left found) (Err (TooMany keys.Labels))
+    either_is (nat_le (count_members found) MAX_LABELS || nat_le 1 (length names)) (all_labels names left found) (Err (refused TooMany (codes "labels")))
     (bind_ok (named_labels names [] found) _ (λ first.
-    last_ok _ (other_labels_texts names (record { items = first; left_out = left }) found h)))
+    last_ok _ (other_labels_texts names (record { item = first; left_out = left }) found h)))
     (record { is = tt })
 
-node_row_texts : (names : List ℕ) (json : Data) → OkIs (λ row. AreTexts row.left_out) (node_row names json)
+node_texts : (names : List ℕ) (json : Data) → OkIs (λ row. AreTexts row.left_out) (node_row names json)
 unfolding node_row
-node_row_texts names json =
-    bind_ok (ok_or (field keys.Metadata json) (BadField keys.Metadata)) _ (λ meta.
-    bind_ok (name_at keys.Name meta) _ (λ name.
-    bind_ok (allocatable json) _ (λ room.
-    bind_ok (node.taints (within keys.Spec keys.Taints json)) _ (λ taints.
-    bind_ok (flag_of keys.Unschedulable (within keys.Spec keys.Unschedulable json)) _ (λ unschedulable.
-    bind_ok (members_of keys.Labels (field keys.Labels meta)) _ (λ found.
-    bind_ok (members_of keys.Allocatable (within keys.Status keys.Allocatable json)) _ (λ resources.
+node_texts names json =
+    bind_ok (part_of (codes "metadata") json) _ (λ meta.
+    bind_ok (node_parts meta json) _ (λ parts.
+    bind_ok (members_of (codes "labels") (field (codes "labels") meta)) _ (λ found.
+    bind_ok (members_of (codes "allocatable") (within (codes "status") (codes "allocatable") json)) _ (λ resources.
     bind_with (row_labels names [] found) _ (labels_texts names [] found none)
-    (λ kept h. last_ok _ h))))))))
+    (λ kept h. last_ok _ h)))))
 
-node_texts : (names : List ℕ) (json : Data) → IfOk (node_row names json) (λ row. AreTexts row.left_out)
-node_texts names json = (node_row_texts names json).is
-
-pod_row_texts : (names : List ℕ) (by_uid : Bool) (json : Data) → OkIs (λ row. AreTexts row.left_out) (pod_row names by_uid json)
+pod_texts : (names : List ℕ) (by_uid : Bool) (json : Data) → OkIs (λ row. AreTexts row.left_out) (pod_row names by_uid json)
 unfolding pod_row
-pod_row_texts names by_uid json =
-    bind_ok (ok_or (field keys.Metadata json) (BadField keys.Metadata)) _ (λ meta.
-    bind_ok (ok_or (field keys.Spec json) (BadField keys.Spec)) _ (λ spec.
-    bind_ok (pod_name by_uid meta) _ (λ uid.
-    bind_ok (priority spec) _ (λ number.
-    bind_ok (pod_request json) _ (λ request.
-    bind_ok (members_of keys.Labels (field keys.Labels meta)) _ (λ found.
-    bind_ok (items_of keys.Tolerations (field keys.Tolerations spec)) _ (λ tolerations.
+pod_texts names by_uid json =
+    bind_ok (part_of (codes "metadata") json) _ (λ meta.
+    bind_ok (part_of (codes "spec") json) _ (λ spec.
+    bind_ok (pod_parts by_uid meta spec json) _ (λ parts.
+    bind_ok (members_of (codes "labels") (field (codes "labels") meta)) _ (λ found.
+    bind_ok (items_of (codes "tolerations") (field (codes "tolerations") spec)) _ (λ tolerations.
     bind_with (row_labels names (wishes spec) found) _ (labels_texts names (wishes spec) found (wishes_texts spec))
-    (λ kept h. last_ok _ (tolerations_texts (record { items = []; left_out = kept.left_out }) tolerations h)))))))))
-
-pod_texts : (names : List ℕ) (by_uid : Bool) (json : Data) → IfOk (pod_row names by_uid json) (λ row. AreTexts row.left_out)
-pod_texts names by_uid json = (pod_row_texts names by_uid json).is
+    (λ kept h. last_ok _ (tolerations_texts (record { item = []; left_out = kept.left_out }) tolerations h)))))))
 
 -- what is told
 
-gone_if_texts : (became : Change) (gone : List ℕ → Event) (name : Result (List ℕ) ObjectFault) (left : List ℕ) → AreTexts left
-    → AreTexts (gone_if became gone name left).left_out
-gone_if_texts Changed gone (Ok name) left h = h
-gone_if_texts Changed gone (Err e) left h = h
-gone_if_texts There gone name left h = h
-gone_if_texts Gone gone name left h = h
+gone_texts : (kind : Kind) (version : Version) (name : Result (List ℕ) Fault) → AreTexts (gone_by kind version name).left_out
+gone_texts kind version (Ok name) = none
+gone_texts kind version (Err e) = fault e
 
-gone_texts : (gone : List ℕ → Event) (name : Result (List ℕ) ObjectFault) → AreTexts (gone_told gone name).left_out
-gone_texts gone (Ok name) = none
-gone_texts gone (Err e) = fault e
+row_texts : {A : Type 0} (event : A → Event) (how : Telling) (kind : Kind) (json : Data) (row : Result (Kept A) Fault)
+    → OkIs (λ r. AreTexts r.left_out) row → AreTexts (row_told event how kind json row).left_out
+row_texts event how kind json (Ok row) h = h.is
+row_texts event how kind json (Err e) h = fault e
 
-node_of_texts : (became : Change) (version : Version) (json : Data) (row : Result NodeTold ObjectFault) → IfOk row (λ r. AreTexts r.left_out)
-    → AreTexts (node_of became version json row).left_out
-node_of_texts became version json (Ok row) h = h
-node_of_texts became version json (Err e) h = gone_if_texts became (NodeGone version) (in_metadata (name_at keys.Name) json) (refused e) (fault e)
-
-unless_texts : (became : Change) (gone there : Told) → AreTexts gone.left_out → AreTexts there.left_out → AreTexts (unless_gone became gone there).left_out
-unless_texts Gone gone there p q = p
-unless_texts There gone there p q = q
-unless_texts Changed gone there p q = q
-
-node_told_texts : (site : Site) (became : Change) (version : Version) (json : Data) → AreTexts (node_told site became version json).left_out
-unfolding node_told
-node_told_texts site became version json =
-    unless_texts became _ (node_of became version json (node_row site.labels json))
-    (gone_texts (NodeGone version) (in_metadata (name_at keys.Name) json)) (node_of_texts became version json (node_row site.labels json) (node_texts site.labels json))
-
-waiting_row_texts : (by_uid : Bool) (became : Change) (version : Version) (json : Data) (row : Result PodTold ObjectFault) → IfOk row (λ r. AreTexts r.left_out)
-    → AreTexts (waiting_row by_uid became version json row).left_out
-waiting_row_texts by_uid became version json (Ok row) h = h
-waiting_row_texts by_uid became version json (Err e) h = gone_if_texts became (PodGone version) (in_metadata (pod_name by_uid) json) (refused e) (fault e)
-
-kept_back_texts : (site : Site) (spec pod : Data) → AreTexts (kept_back site spec pod)
+kept_back_texts : (scheduler : List ℕ) (spec pod : Data) → AreTexts (kept_back scheduler spec pod)
 unfolding kept_back
-kept_back_texts site spec pod =
+kept_back_texts scheduler spec pod =
     both _ _
     (both _ _
-    (either (bytes_eq (scheduler_of spec) site.scheduler) [] (left_out (codes "it is for the scheduler ") (scheduler_of spec)) none
+    (either (bytes_eq (scheduler_of spec) scheduler) [] (left_out (codes "it is for the scheduler ") (scheduler_of spec)) none
     (one (codes "it is for the scheduler ") (scheduler_of spec) refl))
     (demands_texts spec))
-    (one_if (is_some (within keys.Metadata keys.DeletionTimestamp pod)) (codes "it is being deleted") refl)
+    (one_if (is_some (within (codes "metadata") (codes "deletionTimestamp") pod)) (codes "it is being deleted") refl)
 
-waiting_of_texts : (site : Site) (by_uid : Bool) (became : Change) (version : Version) (json : Data) (kept : List ℕ) → AreTexts kept
-    → AreTexts (waiting_of site by_uid became version json kept).left_out
-waiting_of_texts site by_uid became version json [] h =
-    waiting_row_texts by_uid became version json (pod_row site.labels by_uid json) (pod_texts site.labels by_uid json)
-waiting_of_texts site by_uid became version json (x ∷ more) h =
-    gone_if_texts became (PodGone version) (in_metadata (pod_name by_uid) json) (x ∷ more) h
+waiting_by_texts : (how : Telling) (json : Data) (kept : List ℕ) → AreTexts kept → AreTexts (waiting_by how json kept).left_out
+waiting_by_texts how json [] h =
+    row_texts (PodPending how.version) how Pod json (pod_row how.site.labels how.by_uid json) (pod_texts how.site.labels how.by_uid json)
+waiting_by_texts how json (x ∷ more) h = h
 
-waiting_texts : (site : Site) (by_uid : Bool) (became : Change) (version : Version) (spec pod : Data)
-    → AreTexts (waiting_told site by_uid became version spec pod).left_out
+waiting_texts : (how : Telling) (spec pod : Data) → AreTexts (waiting_told how spec pod).left_out
 unfolding waiting_told
-waiting_texts site by_uid became version spec pod =
-    waiting_of_texts site by_uid became version pod (kept_back site spec pod) (kept_back_texts site spec pod)
+waiting_texts how spec pod = waiting_by_texts how pod (kept_back how.site.scheduler spec pod) (kept_back_texts how.site.scheduler spec pod)
 
-abbrev OkTexts : Result Told ObjectFault → Type 0
-OkTexts found = IfOk found (λ t. AreTexts t.left_out)
+abbrev OkTexts : Result Told Fault → Type 0
+OkTexts found = OkIs (λ t. AreTexts t.left_out) found
 
-either_ok : (b : Bool) (x y : Result Told ObjectFault) → OkTexts x → OkTexts y → OkTexts (cond b x y)
-either_ok true x y p q = p
-either_ok false x y p q = q
+placed_texts : (how : Telling) (node : List ℕ) (spec pod : Data) → OkTexts (placed_told how node spec pod)
+unfolding placed_told
+placed_texts how node spec pod =
+    bind_ok (name_of Pod how.by_uid pod) _ (λ uid. bind_ok (pods.request Standing pod spec) _ (λ request.
+    last_ok _ (both (more_left_out pod spec ++ held_left_out pod spec) _
+    (both (more_left_out pod spec) (held_left_out pod spec) (more_texts pod spec) (held_texts pod spec))
+    (one_if (is_given (affinity (codes "podAntiAffinity") (codes "requiredDuringSchedulingIgnoredDuringExecution") spec)) (codes "required pod anti-affinity") refl))))
 
-unless_ok : (became : Change) (gone there : Result Told ObjectFault) → OkTexts gone → OkTexts there → OkTexts (unless_gone became gone there)
-unless_ok Gone gone there p q = p
-unless_ok There gone there p q = q
-unless_ok Changed gone there p q = q
+node_name_texts : (how : Telling) (spec pod : Data) (node : List ℕ) → OkTexts (by_node how spec pod node)
+node_name_texts how spec pod [] = last_ok _ (waiting_texts how spec pod)
+node_name_texts how spec pod (x ∷ more) =
+    let node = x ∷ more in
+    either_is (is_name node) (placed_told how node spec pod) (Ok (gone_if how Pod pod (left_out (codes "node ") node)))
+    (placed_texts how node spec pod) (last_ok _ (one (codes "node ") node refl))
 
-bound_texts : (by_uid : Bool) (became : Change) (version : Version) (node : List ℕ) (spec pod : Data) → OkTexts (bound_told by_uid became version node spec pod)
-unfolding bound_told
-bound_texts by_uid became version node spec pod =
-    either_ok (is_name node) (in_metadata (pod_name by_uid) pod >>= bound_as version node spec pod)
-    (Ok (gone_if became (PodGone version) (in_metadata (pod_name by_uid) pod) (left_out (codes "node ") node)))
-    (bind_ok (in_metadata (pod_name by_uid) pod) (bound_as version node spec pod) (λ uid.
-    last_ok _ (both (counted_left_out pod spec ++ held_left_out pod spec) _
-    (both (counted_left_out pod spec) (held_left_out pod spec) (counted_texts pod spec) (held_texts pod spec))
-    (one_if (is_given (affinity keys.PodAntiAffinity keys.Required spec)) (codes "required pod anti-affinity") refl)))).is
-    (gone_if_texts became (PodGone version) (in_metadata (pod_name by_uid) pod) (left_out (codes "node ") node) (one (codes "node ") node refl))
-
-placed_texts : (site : Site) (by_uid : Bool) (became : Change) (version : Version) (spec pod : Data) (node : List ℕ)
-    → OkTexts (placed_told site by_uid became version spec pod node)
-placed_texts site by_uid became version spec pod [] = waiting_texts site by_uid became version spec pod
-placed_texts site by_uid became version spec pod (x ∷ more) = bound_texts by_uid became version (x ∷ more) spec pod
-
-spec_texts : (site : Site) (by_uid : Bool) (became : Change) (version : Version) (pod : Data) (spec : Option Data)
-    → OkTexts (spec_told site by_uid became version pod spec)
-spec_texts site by_uid became version pod None = tt
-spec_texts site by_uid became version pod (Some spec) =
-    (bind_ok (node_name spec) (placed_told site by_uid became version spec pod) (λ node.
-    record { is = placed_texts site by_uid became version spec pod node })).is
-
-pod_told_texts : (site : Site) (by_uid : Bool) (became : Change) (version : Version) (json : Data) → OkTexts (pod_told site by_uid became version json)
+pod_told_texts : (how : Telling) (json : Data) → OkTexts (pod_told how json)
 unfolding pod_told
-pod_told_texts site by_uid became version json =
-    unless_ok became (Ok (gone_told (PodGone version) (in_metadata (pod_name by_uid) json))) (there_told site by_uid became version json)
-    (gone_texts (PodGone version) (in_metadata (pod_name by_uid) json))
-    (either_ok (has_ended json) (Ok (ended_told by_uid became version json)) (spec_told site by_uid became version json (field keys.Spec json))
-    (gone_if_texts became (PodGone version) (in_metadata (pod_name by_uid) json) [] none)
-    (spec_texts site by_uid became version json (field keys.Spec json)))
+pod_told_texts how json =
+    either_is (has_ended json) (Ok (gone_if how Pod json [])) _ (last_ok _ none)
+    (bind_ok (part_of (codes "spec") json) _ (λ spec. bind_ok (node_name spec) _ (λ node. node_name_texts how spec json node)))
 
-kind_texts : (site : Site) (by_uid : Bool) (became : Change) (version : Version) (json : Data) (kind : Option Kind)
-    → OkTexts (kind_told site by_uid became version json kind)
-kind_texts site by_uid became version json (Some kinds.Node) = node_told_texts site became version json
-kind_texts site by_uid became version json (Some kinds.Pod) = pod_told_texts site by_uid became version json
-kind_texts site by_uid became version json None =
-    either_ok (is_some (field keys.Items json)) (Err IsList) (Ok (nothing (left_out (codes "an object of the kind ") (spelled keys.Kind json)))) tt
-    (one (codes "an object of the kind ") (spelled keys.Kind json) refl)
+there_texts : (how : Telling) (kind : Kind) (json : Data) → OkTexts (there_told how kind json)
+there_texts how Node json = last_ok _ (row_texts (NodeSet how.version) how Node json (node_row how.site.labels json) (node_texts how.site.labels json))
+there_texts how Pod json = pod_told_texts how json
 
-object_told_texts : (site : Site) (by_uid : Bool) (became : Change) (version : Version) (json : Data)
-    → OkTexts (object_told site by_uid became version json)
+change_texts : (change : Change) (gone there : Result Told Fault) → OkTexts gone → OkTexts there → OkTexts (by_change change gone there)
+change_texts Gone gone there p q = p
+change_texts There gone there p q = q
+change_texts Changed gone there p q = q
+
+kind_texts : (how : Telling) (json : Data) (kind : Option Kind) → OkTexts (by_kind how json kind)
+unfolding kind_told
+kind_texts how json (Some kind) =
+    change_texts how.change (Ok (gone_told how kind json)) (there_told how kind json)
+    (last_ok _ (gone_texts kind how.version (name_of kind how.by_uid json))) (there_texts how kind json)
+kind_texts how json None =
+    either_is (is_some (field (codes "items") json)) (Err (refused IsList [])) (Ok (saying None (left_out (codes "an object of the kind ") (spelled (codes "kind") json))))
+    (record { is = tt }) (last_ok _ (one (codes "an object of the kind ") (spelled (codes "kind") json) refl))
+
+object_told_texts : (how : Telling) (json : Data) → OkTexts (object_told how json)
 unfolding object_told
-object_told_texts site by_uid became version json =
-    (bind_ok (kind_of json) (kind_told site by_uid became version json) (λ kind.
-    record { is = kind_texts site by_uid became version json kind })).is
+object_told_texts how json = bind_ok (kind_of json) (by_kind how json) (λ kind. kind_texts how json kind)
 
-changed_texts : (site : Site) (by_uid : Bool) (version : Version) (type : List ℕ) (json : Data) (became : Option Change)
-    → OkTexts (changed_told site by_uid version type json became)
-changed_texts site by_uid version type json None = either_ok (is_bookmark type) (Ok (nothing [])) (Err UnknownEvent) none tt
-changed_texts site by_uid version type json (Some became) = object_told_texts site by_uid became version json
+changed_texts : (how : Change → Telling) (type : List ℕ) (json : Data) (change : Option Change) → OkTexts (changed_told how type json change)
+changed_texts how type json None = either_is (is_bookmark type) (Ok (saying None [])) (Err (refused UnknownEvent [])) (last_ok _ none) (record { is = tt })
+changed_texts how type json (Some change) = object_told_texts (how change) json
 
-event_texts : (site : Site) (by_uid : Bool) (version : Version) (json : Data) (held : Option Data) → OkTexts (event_told site by_uid version json held)
-event_texts site by_uid version json None = object_told_texts site by_uid There version json
-event_texts site by_uid version json (Some held) =
-    changed_texts site by_uid version (spelled keys.EventType json) held (change_of (spelled keys.EventType json))
+event_texts : (how : Change → Telling) (json : Data) (held : Option Data) → OkTexts (event_told how json held)
+event_texts how json None = object_told_texts (how There) json
+event_texts how json (Some held) = changed_texts how (spelled (codes "type") json) held (change_of (spelled (codes "type") json))
 
 value_texts : (site : Site) (by_uid : Bool) (version : Version) (json : Data) → OkTexts (value_told site by_uid version json)
 unfolding value_told
-value_texts site by_uid version json = event_texts site by_uid version json (field keys.Object json)
-
-parsed_texts : (site : Site) (by_uid : Bool) (version : Version) (found : Option Data) → OkTexts (parsed_told site by_uid version found)
-parsed_texts site by_uid version None = tt
-parsed_texts site by_uid version (Some json) = value_texts site by_uid version json
+value_texts site by_uid version json = event_texts (telling site by_uid version) json (field (codes "object") json)
 
 line_texts : (site : Site) (by_uid : Bool) (version : Version) (line : List ℕ) → OkTexts (line_told site by_uid version line)
 unfolding line_told
 line_texts site by_uid version line =
-    either_ok (nat_le (length line) MAX_OBJECT) (text_told site by_uid version line) (Err LongLine)
-    (either_ok (is_blank line) (Ok (nothing (left_out (codes "no JSON") []))) (parsed_told site by_uid version (parsed line))
-    (one (codes "no JSON") [] refl) (parsed_texts site by_uid version (parsed line))) tt
+    either_is (not (nat_le (length line) MAX_OBJECT)) (Err (refused LongLine [])) _ (record { is = tt })
+    (either_is (is_blank line) (Ok (saying None (left_out (codes "no JSON") []))) _ (last_ok _ (one (codes "no JSON") [] refl))
+    (bind_ok (ok_or (parsed line) (refused NotJson [])) _ (λ json. value_texts site by_uid version json)))
 
-or_texts : (r : Result Told ObjectFault) → OkTexts r → AreTexts (told_or_uncounted r).left_out
-or_texts (Ok t) h = h
+or_texts : (r : Result Told Fault) → OkTexts r → AreTexts (told_or_uncounted r).left_out
+or_texts (Ok t) h = h.is
 or_texts (Err e) h = fault e
 
 all_texts : (site : Site) (by_uid : Bool) (version : Version) (line : List ℕ) → AreTexts (told site by_uid version line).left_out

@@ -6,7 +6,7 @@ use Rattle.std.proofs.lemmas.Bool.{cases_lt}
 use Rattle.std.proofs.lemmas.Bool.Decides.{nat_tests}
 use Rattle.quant.specs.Amount.{number}
 use Rattle.objects.specs.declared.fault.QuantityFault.TheVariants.{TooLarge}
-use Rattle.objects.specs.declared.rounding.Rounding.{Rounding}
+use Rattle.objects.specs.declared.quantity.Rounding.{Rounding}
 use Rattle.objects.specs.declared.suffix.Suffix.{Suffix}
 use Rattle.objects.specs.declared.digits.TheConstants.{BEYOND}
 use Rattle.objects.specs.Ratio.{rounded}

@@ -6,17 +6,20 @@ use Rattle.serde_json.specs.Data.{Data, Members, no_members, member}
 use Rattle.serde_json.specs.Find.{as_str}
 use Rattle.quant.specs.declared.limits.TheConstants.{MAX_LABELS}
 use Rattle.quant.specs.declared.objects.Label.{Label}
-use Rattle.objects.specs.declared.key.Key.TheVariants as keys
-use Rattle.objects.specs.declared.fault.ObjectFault.{ObjectFault}
-use Rattle.objects.specs.declared.fault.ObjectFault.TheVariants.{BadName, TooMany}
+use Rattle.objects.specs.declared.fault.Why.TheVariants.{BadName, TooMany}
+use Rattle.objects.specs.LeftOut.{Fault, left_out, refused}
 use Rattle.objects.specs.Quantity.{◌>>=◌}
 use Rattle.objects.specs.Sayable.{says_label}
-use Rattle.objects.specs.LeftOut.{left_out}
 
--- the rows that are read of an object's items, and the names of those that are left out
+-- what is read of an object, and the names of what is left out
 pub record Kept (A : Type 0) : Type 0 where
-  pub items : List A
+  pub item : A
   pub left_out : List ℕ
+
+-- one more item behind others, or the name of one that is left out
+abbrev pub with_item : {A : Type 0} → (what name : List ℕ) → Kept (List A) → Option A → Kept (List A)
+with_item what name kept None = record { item = kept.item; left_out = kept.left_out ++ left_out what name }
+with_item what name kept (Some x) = record { item = kept.item ++ x ∷ []; left_out = kept.left_out }
 
 -- a label, where a row can have it behind others
 abbrev pub fitting : List Label → Label → Option Label
@@ -33,27 +36,22 @@ unfoldable pub is_named : (names key : List ℕ) → Bool
 is_named names key = nat_le 1 (length names) && list_any (λ name. bytes_eq name key) (slice_split is_comma names)
 
 -- the labels of an object's members that are named, behind others: each of them, or there is no row
-abbrev pub behind : List Label → Option Label → Result (List Label) ObjectFault
-behind before None = Err (BadName keys.Labels)
+abbrev pub behind : List Label → Option Label → Result (List Label) Fault
+behind before None = Err (refused BadName (codes "labels"))
 behind before (Some label) = Ok (before ++ label ∷ [])
 
-unfoldable pub if_named : (names : List ℕ) → List Label → (key : List ℕ) → Data → Result (List Label) ObjectFault
+unfoldable pub if_named : (names : List ℕ) → List Label → (key : List ℕ) → Data → Result (List Label) Fault
 if_named names before key value = if is_named names key then behind before (label_of before key value) else Ok before
 
-abbrev pub named_labels : (names : List ℕ) → List Label → Members → Result (List Label) ObjectFault
+abbrev pub named_labels : (names : List ℕ) → List Label → Members → Result (List Label) Fault
 named_labels names before no_members = Ok before
 named_labels names before (member key value rest) = if_named names before key value >>= λ more. named_labels names more rest
 
--- one more label, or the name of one that is left out
-abbrev pub with_label : Kept Label → (key : List ℕ) → Option Label → Kept Label
-with_label kept key None = record { items = kept.items; left_out = kept.left_out ++ left_out (codes "label ") key }
-with_label kept key (Some label) = record { items = kept.items ++ label ∷ []; left_out = kept.left_out }
-
 -- those that aren't named, behind others
-unfoldable pub unless_named : (names : List ℕ) → Kept Label → (key : List ℕ) → Data → Kept Label
-unless_named names kept key value = if is_named names key then kept else with_label kept key (label_of kept.items key value)
+unfoldable pub unless_named : (names : List ℕ) → Kept (List Label) → (key : List ℕ) → Data → Kept (List Label)
+unless_named names kept key value = if is_named names key then kept else with_item (codes "label ") key kept (label_of kept.item key value)
 
-abbrev pub other_labels : (names : List ℕ) → Kept Label → Members → Kept Label
+abbrev pub other_labels : (names : List ℕ) → Kept (List Label) → Members → Kept (List Label)
 other_labels names kept no_members = kept
 other_labels names kept (member key value rest) = other_labels names (unless_named names kept key value) rest
 
@@ -64,9 +62,9 @@ count_members (member key value rest) = suc (count_members rest)
 
 -- the labels of an object. Where it has more than a row and none are named, nobody knows which of
 -- them count: there is no row then
-abbrev pub all_labels : (names left : List ℕ) → Members → Result (Kept Label) ObjectFault
-all_labels names left found = named_labels names [] found >>= λ first. Ok (other_labels names (record { items = first; left_out = left }) found)
+abbrev pub all_labels : (names left : List ℕ) → Members → Result (Kept (List Label)) Fault
+all_labels names left found = named_labels names [] found >>= λ first. Ok (other_labels names (record { item = first; left_out = left }) found)
 
-unfoldable pub row_labels : (names left : List ℕ) → Members → Result (Kept Label) ObjectFault
+unfoldable pub row_labels : (names left : List ℕ) → Members → Result (Kept (List Label)) Fault
 row_labels names left found =
-    if nat_le (count_members found) MAX_LABELS || nat_le 1 (length names) then all_labels names left found else Err (TooMany keys.Labels)
+    if nat_le (count_members found) MAX_LABELS || nat_le 1 (length names) then all_labels names left found else Err (refused TooMany (codes "labels"))

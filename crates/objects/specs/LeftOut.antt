@@ -3,12 +3,9 @@
 use Rattle.std.specs.Prelude.{ℕ, zero, suc, ◌==◌, nat_le, nat_lt, Bool, ◌&&◌, List, [], ◌∷◌, ◌++◌, length, codes, if◌then◌else◌}
 use Rattle.std.specs.List.{list_all}
 use Rattle.quant.specs.Name.{is_name_byte}
-use Rattle.objects.specs.declared.fault.QuantityFault.{QuantityFault}
-use Rattle.objects.specs.declared.fault.QuantityFault.TheVariants.{NotAQuantity, FarExponent, Negative}
 use Rattle.objects.specs.declared.fault.QuantityFault.TheVariants as amounts
-use Rattle.objects.specs.declared.fault.ObjectFault.{ObjectFault}
-use Rattle.objects.specs.declared.fault.ObjectFault.TheVariants.{LongLine, NotJson, UnknownEvent, IsList, BadField, BadName, Quantity, TooMany, PodResources, TooLarge, NoMemory}
-use Rattle.objects.specs.Key.{key_of}
+use Rattle.objects.specs.declared.fault.Why.{Why}
+use Rattle.objects.specs.declared.fault.Why.TheVariants.{LongLine, NotJson, UnknownEvent, IsList, BadField, BadName, Quantity, TooMany, PodResources, TooLarge}
 
 -- a name as it stands there: names of other bytes than a script's may have aren't shown, nor any of
 -- more than 317, which is the most that a key of the API has (a prefix of 253, a slash, and 63
@@ -24,26 +21,33 @@ left_out what name = codes ", " ++ 34 ∷ what ++ shown name ++ 34 ∷ []
 abbrev pub left_out_if : Bool → (what : List ℕ) → List ℕ
 left_out_if is what = if is then left_out what [] else []
 
--- why an amount is refused
-abbrev pub amount_refused : QuantityFault → List ℕ
-amount_refused NotAQuantity = codes "no quantity: "
-amount_refused FarExponent = codes "an exponent of more than two digits: "
-amount_refused Negative = codes "an amount below 0: "
-amount_refused amounts.TooLarge = codes "an amount above its limit: "
+-- why something is refused, in front of the name of its field
+abbrev pub why_text : Why → List ℕ
+why_text LongLine = codes "a line of more than 2 MiB"
+why_text NotJson = codes "no JSON"
+why_text UnknownEvent = codes "an event of another type"
+why_text IsList = codes "a list, whose items are to stand on lines of their own"
+why_text BadField = codes "a field of another type: "
+why_text BadName = codes "not a name or text of a script: "
+why_text (Quantity amounts.NotAQuantity) = codes "no quantity: "
+why_text (Quantity amounts.FarExponent) = codes "an exponent of more than two digits: "
+why_text (Quantity amounts.Negative) = codes "an amount below 0: "
+why_text (Quantity amounts.TooLarge) = codes "an amount above its limit: "
+why_text TooMany = codes "too many items: "
+why_text PodResources = codes "resources of the whole pod"
+why_text TooLarge = codes "what it asks for in all"
 
--- the first fault of an object, as it is named
-abbrev pub refused : ObjectFault → List ℕ
-refused LongLine = left_out (codes "a line of more than 2 MiB") []
-refused NotJson = left_out (codes "no JSON") []
-refused UnknownEvent = left_out (codes "an event of another type") []
-refused IsList = left_out (codes "a list, whose items are to stand on lines of their own") []
-refused (BadField key) = left_out (codes "a field of another type: ") (key_of key)
-refused (BadName key) = left_out (codes "not a name or text of a script: ") (key_of key)
-refused (Quantity key fault) = left_out (amount_refused fault) (key_of key)
-refused (TooMany key) = left_out (codes "too many items: ") (key_of key)
-refused PodResources = left_out (codes "resources of the whole pod") []
-refused TooLarge = left_out (codes "what it asks for in all") []
-refused NoMemory = []
+-- a fault: what is refused, in the field of this name or in none; and how it is told where nothing
+-- else can be
+pub record Fault : Type 0 where
+  pub why : Why
+  pub field : List ℕ
+
+abbrev pub refused : Why → (field : List ℕ) → Fault
+refused why field = record { why = why; field = field }
+
+unfoldable pub fault_text : Fault → List ℕ
+fault_text fault = left_out (why_text fault.why) fault.field
 
 -- names with so many quotation marks at most, of which each has two
 abbrev pub up_to_marks : (marks : ℕ) → List ℕ → List ℕ

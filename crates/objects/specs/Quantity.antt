@@ -3,12 +3,13 @@
 use Rattle.std.specs.Prelude.{ℕ, ◌*◌, ◌^◌, min, Bool, true, false, ◌&&◌, not, ◌==◌, nat_le, if◌then◌else◌, List, [], ◌++◌, length, take, drop, codes, bytes_eq, Result, Ok, Err}
 use Rattle.std.specs.List.{list_all}
 use Rattle.quant.specs.Amount.{number, leading_digits, after_digits}
-use Rattle.quant.specs.declared.amount.Cpu.{Cpu}
-use Rattle.quant.specs.declared.amount.Bytes.{Bytes}
+use Rattle.quant.specs.declared.limits.TheConstants.{MAX_PLACED}
 use Rattle.objects.specs.declared.fault.QuantityFault.{QuantityFault}
 use Rattle.objects.specs.declared.fault.QuantityFault.TheVariants.{NotAQuantity, FarExponent, Negative, TooLarge}
-use Rattle.objects.specs.declared.rounding.Rounding.{Rounding}
-use Rattle.objects.specs.declared.rounding.Rounding.TheVariants.{Up, Down}
+use Rattle.objects.specs.declared.quantity.Rounding.{Rounding}
+use Rattle.objects.specs.declared.quantity.Rounding.TheVariants.{Up, Down}
+use Rattle.objects.specs.declared.resource.Resource.{Resource}
+use Rattle.objects.specs.declared.resource.Resource.TheVariants.{Cpu, Memory, Pods}
 use Rattle.objects.specs.declared.suffix.Suffix.{Suffix}
 use Rattle.objects.specs.Ratio.{Ratio, rounded}
 use Rattle.objects.specs.Suffix.{has_minus, after_sign, power_of_ten, suffix_named}
@@ -52,25 +53,21 @@ told_within Up most n = at_most most n
 told_within Down most n = Ok (min most n)
 
 -- what the digits and the suffix of a quantity come to
-abbrev pub amount_of : Rounding → (places most : ℕ) → (minus : Bool) → (whole fraction : List ℕ) → Suffix → Result ℕ QuantityFault
-amount_of rounding places most minus whole fraction suffix =
+abbrev pub signed : Rounding → (places most : ℕ) → (minus : Bool) → (whole fraction : List ℕ) → Suffix → Result ℕ QuantityFault
+signed rounding places most minus whole fraction suffix =
     if minus && not (is_zero (whole ++ fraction)) then Err Negative
     else told_within rounding most (rounded rounding (worth places whole fraction suffix))
 
 -- nothing is nothing, however far its exponent is
 abbrev pub of_nothing : (is_nothing : Bool) → Result Suffix QuantityFault → Result Suffix QuantityFault
-of_nothing false suffix = suffix
-of_nothing true (Ok suffix) = Ok suffix
-of_nothing true (Err NotAQuantity) = Err NotAQuantity
 of_nothing true (Err FarExponent) = Ok (power_of_ten false 0)
-of_nothing true (Err Negative) = Err Negative
-of_nothing true (Err TooLarge) = Err TooLarge
+of_nothing is_nothing suffix = suffix
 
 -- what the parts of a quantity come to: a digit stands in front of the point or behind it
 abbrev pub parts_amount : Rounding → (places most : ℕ) → (minus : Bool) → (whole rest : List ℕ) → Result ℕ QuantityFault
 parts_amount rounding places most minus whole rest =
     if nat_le 1 (length (whole ++ fraction_digits rest))
-    then of_nothing (is_zero (whole ++ fraction_digits rest)) (suffix_named (after_fraction rest)) >>= amount_of rounding places most minus whole (fraction_digits rest)
+    then of_nothing (is_zero (whole ++ fraction_digits rest)) (suffix_named (after_fraction rest)) >>= signed rounding places most minus whole (fraction_digits rest)
     else Err NotAQuantity
 
 -- what a quantity comes to, rounded to so many decimal places, and no more than it may be: above
@@ -79,26 +76,19 @@ unfoldable pub quantity : Rounding → (places most : ℕ) → List ℕ → Resu
 quantity rounding places most text =
     parts_amount rounding places most (has_minus text) (leading_digits (after_sign text)) (after_digits (after_sign text))
 
--- thousandths of a core, as a container asks for them and as a node has them
-abbrev pub cpu : Result ℕ QuantityFault → Result Cpu QuantityFault
-cpu amount = amount >>= λ n. Ok (record { 0 = n })
+-- the field that tells a resource; how many decimal places its unit has in the one that the API
+-- counts in, which are thousandths of a core, bytes and pods; and the most of it that a line can say
+abbrev pub key_of : Resource → List ℕ
+key_of Cpu = codes "cpu"
+key_of Memory = codes "memory"
+key_of Pods = codes "pods"
 
-abbrev pub cpu_asked : List ℕ → Result Cpu QuantityFault
-cpu_asked text = cpu (quantity Up 3 (2 ^ 30) text)
+abbrev pub places : Resource → ℕ
+places Cpu = 3
+places Memory = 0
+places Pods = 0
 
-abbrev pub cpu_offered : List ℕ → Result Cpu QuantityFault
-cpu_offered text = cpu (quantity Down 3 (2 ^ 30) text)
-
--- bytes of memory, as a container asks for them and as a node has them
-abbrev pub memory : Result ℕ QuantityFault → Result Bytes QuantityFault
-memory amount = amount >>= λ n. Ok (record { 0 = n })
-
-abbrev pub memory_asked : List ℕ → Result Bytes QuantityFault
-memory_asked text = memory (quantity Up 0 (2 ^ 44) text)
-
-abbrev pub memory_offered : List ℕ → Result Bytes QuantityFault
-memory_offered text = memory (quantity Down 0 (2 ^ 44) text)
-
--- how many pods a node takes
-abbrev pub pods_offered : List ℕ → Result ℕ QuantityFault
-pods_offered text = quantity Down 0 150000 text
+abbrev pub most : Resource → ℕ
+most Cpu = 2 ^ 30
+most Memory = 2 ^ 44
+most Pods = MAX_PLACED

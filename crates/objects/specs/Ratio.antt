@@ -1,7 +1,7 @@
 -- Fractions, and the whole numbers beside them.
 use Rattle.std.specs.Prelude.{ℕ, ◌+◌, ◌-◌, ◌/◌}
-use Rattle.objects.specs.declared.rounding.Rounding.{Rounding}
-use Rattle.objects.specs.declared.rounding.Rounding.TheVariants.{Up, Down}
+use Rattle.objects.specs.declared.quantity.Rounding.{Rounding}
+use Rattle.objects.specs.declared.quantity.Rounding.TheVariants.{Up, Down}
 
 -- a number over another, which isn't 0
 pub record Ratio : Type 0 where

@@ -1,6 +1,6 @@
 -- What an object of the API, or an event of its watch, gives a script (the Kubernetes API
 -- reference, "Node", "Pod" and "Watch").
-use Rattle.std.specs.Prelude.{ℕ, ◌==◌, Bool, true, false, ◌&&◌, ◌||◌, List, [], ◌∷◌, ◌++◌, length, nat_le, codes, bytes_eq, Option, Some, None, Result, Ok, Err, is_some, option_and_then, if◌then◌else◌}
+use Rattle.std.specs.Prelude.{ℕ, ◌==◌, Bool, true, false, ◌&&◌, ◌||◌, not, List, [], ◌∷◌, ◌++◌, length, nat_le, codes, bytes_eq, Option, Some, None, Result, Ok, Err, is_some, unwrap_or, option_and_then, if◌then◌else◌}
 use Rattle.std.specs.List.{list_all}
 use Rattle.std.specs.Option.{ok_or}
 use Rattle.std.specs.Str.{is_utf8}
@@ -11,23 +11,22 @@ use Rattle.quant.specs.Name.{is_name}
 use Rattle.quant.specs.declared.version.Version.{Version}
 use Rattle.quant.specs.declared.event.Event.{Event}
 use Rattle.quant.specs.declared.event.Event.TheVariants.{NodeSet, NodeGone, PodPending, PodBound, PodGone}
-use Rattle.objects.specs.declared.key.Key.TheVariants as keys
 use Rattle.objects.specs.declared.change.Change.{Change}
 use Rattle.objects.specs.declared.change.Change.TheVariants.{There, Changed, Gone}
-use Rattle.objects.specs.declared.fault.ObjectFault.{ObjectFault}
-use Rattle.objects.specs.declared.fault.ObjectFault.TheVariants.{LongLine, NotJson, UnknownEvent, IsList, BadField}
-use Rattle.objects.specs.declared.gone.Kind.{Kind}
-use Rattle.objects.specs.declared.gone.Kind.TheVariants.{Node, Pod}
+use Rattle.objects.specs.declared.change.Kind.{Kind}
+use Rattle.objects.specs.declared.change.Kind.TheVariants.{Node, Pod}
+use Rattle.objects.specs.declared.fault.Why.TheVariants.{LongLine, NotJson, UnknownEvent, IsList, BadField}
+use Rattle.objects.specs.declared.request.Reckoned.TheVariants.{Standing}
 use Rattle.objects.specs.declared.translation.TheConstants.{MAX_OBJECT}
 use Rattle.objects.specs.Quantity.{◌>>=◌}
-use Rattle.objects.specs.Reading.{field, within}
-use Rattle.objects.specs.LeftOut.{left_out, left_out_if, refused}
-use Rattle.objects.specs.Field.{text_or, name_at, is_given, spelled}
-use Rattle.objects.specs.NodeRow.{NodeTold, node_row}
+use Rattle.objects.specs.LeftOut.{Fault, left_out, left_out_if, refused, fault_text}
+use Rattle.objects.specs.Reading.{field, within, part_of, text_or, name_at, absent_or, is_given, spelled}
+use Rattle.objects.specs.NodeRow.{node_row}
 use Rattle.objects.specs.Demands.{affinity, demands}
-use Rattle.objects.specs.PodRow.{PodTold, pod_name, pod_row}
-use Rattle.objects.specs.Site.{Site}
-use Rattle.objects.specs.Counted.{counted, counted_left_out, held_left_out}
+use Rattle.objects.specs.PodRequest.{request, more_left_out, held_left_out}
+use Rattle.objects.specs.PodRow.{pod_name, pod_row}
+use Rattle.objects.specs.Labels.{Kept}
+use Rattle.objects.specs.Site.{Site, Telling, telling}
 
 -- the event that an object gives, or none, the names of what is left out of it, and whether it may
 -- be a pod on a node that no line can count
@@ -40,176 +39,166 @@ pub record Told : Type 0 where
 abbrev pub saying : Option Event → (left_out : List ℕ) → Told
 saying event left_out = record { event = event; left_out = left_out; uncounted = false }
 
-abbrev pub nothing : (left_out : List ℕ) → Told
-nothing left_out = saying None left_out
+-- the name by which a script calls an object, and that it is gone
+abbrev pub name_in : Kind → (by_uid : Bool) → (meta : Data) → Result (List ℕ) Fault
+name_in Node by_uid meta = name_at (codes "name") meta
+name_in Pod by_uid meta = pod_name by_uid meta
 
-abbrev pub uncountable : ObjectFault → Told
-uncountable fault = record { event = None; left_out = refused fault; uncounted = true }
+abbrev pub name_of : Kind → (by_uid : Bool) → Data → Result (List ℕ) Fault
+name_of kind by_uid json = part_of (codes "metadata") json >>= name_in kind by_uid
 
--- what is told of an object that is gone, and of one that is there
-abbrev pub unless_gone : {A : Type 0} → Change → (gone there : A) → A
-unless_gone Gone gone there = gone
-unless_gone There gone there = there
-unless_gone Changed gone there = there
+abbrev pub gone : Kind → Version → List ℕ → Event
+gone Node version name = NodeGone version name
+gone Pod version uid = PodGone version uid
+
+-- of an object that is gone
+abbrev pub gone_by : Kind → Version → Result (List ℕ) Fault → Told
+gone_by kind version (Ok name) = saying (Some (gone kind version name)) []
+gone_by kind version (Err e) = saying None (fault_text e)
+
+abbrev pub gone_told : Telling → Kind → Data → Told
+gone_told how kind json = gone_by kind how.version (name_of kind how.by_uid json)
 
 -- of an object that isn't told any more as it has become: that it is gone, where its name can be
 -- said
-abbrev pub gone_if : Change → (List ℕ → Event) → Result (List ℕ) ObjectFault → (left_out : List ℕ) → Told
-gone_if Changed gone (Ok name) left_out = saying (Some (gone name)) left_out
-gone_if Changed gone (Err e) left_out = nothing left_out
-gone_if There gone name left_out = nothing left_out
-gone_if Gone gone name left_out = nothing left_out
+abbrev pub event_if : Kind → Version → Change → Result (List ℕ) Fault → Option Event
+event_if kind version Changed (Ok name) = Some (gone kind version name)
+event_if kind version _ name = None
 
--- that an object is gone
-abbrev pub gone_told : (List ℕ → Event) → Result (List ℕ) ObjectFault → Told
-gone_told gone (Ok name) = saying (Some (gone name)) []
-gone_told gone (Err e) = nothing (refused e)
+abbrev pub gone_if : Telling → Kind → Data → (left_out : List ℕ) → Told
+gone_if how kind json left_out = saying (event_if kind how.version how.change (name_of kind how.by_uid json)) left_out
 
--- an object's metadata, and a name there
-abbrev pub in_metadata : (Data → Result (List ℕ) ObjectFault) → Data → Result (List ℕ) ObjectFault
-in_metadata name json = ok_or (field keys.Metadata json) (BadField keys.Metadata) >>= name
+-- of an object by its row
+abbrev pub row_told : {A : Type 0} → (A → Event) → Telling → Kind → Data → Result (Kept A) Fault → Told
+row_told event how kind json (Ok row) = saying (Some (event row.item)) row.left_out
+row_told event how kind json (Err e) = gone_if how kind json (fault_text e)
 
--- a node
-
-abbrev pub node_of : Change → Version → Data → Result NodeTold ObjectFault → Told
-node_of became version json (Ok row) = saying (Some (NodeSet version row.node)) row.left_out
-node_of became version json (Err e) = gone_if became (NodeGone version) (in_metadata (name_at keys.Name) json) (refused e)
-
-unfoldable pub node_told : Site → Change → Version → Data → Told
-node_told site became version json =
-    unless_gone became (gone_told (NodeGone version) (in_metadata (name_at keys.Name) json))
-    (node_of became version json (node_row site.labels json))
-
--- a pod that waits for a place
-
-abbrev pub waiting_row : (by_uid : Bool) → Change → Version → Data → Result PodTold ObjectFault → Told
-waiting_row by_uid became version json (Ok row) = saying (Some (PodPending version row.pod)) row.left_out
-waiting_row by_uid became version json (Err e) = gone_if became (PodGone version) (in_metadata (pod_name by_uid) json) (refused e)
-
--- what keeps it from being told: that another scheduler is to place it, what it must have, and that
--- it is being deleted
+-- what keeps a pod that waits from being told: that another scheduler is to place it, what it must
+-- have, and that it is being deleted
 abbrev pub scheduler_of : (spec : Data) → List ℕ
-scheduler_of spec = if is_some (field keys.SchedulerName spec) then spelled keys.SchedulerName spec else codes "default-scheduler"
+scheduler_of spec = if is_some (field (codes "schedulerName") spec) then spelled (codes "schedulerName") spec else codes "default-scheduler"
 
 abbrev pub other_scheduler : (scheduler named : List ℕ) → List ℕ
 other_scheduler scheduler named = if bytes_eq named scheduler then [] else left_out (codes "it is for the scheduler ") named
 
-unfoldable pub kept_back : Site → (spec pod : Data) → List ℕ
-kept_back site spec pod =
-    other_scheduler site.scheduler (scheduler_of spec) ++ demands spec
-    ++ left_out_if (is_some (within keys.Metadata keys.DeletionTimestamp pod)) (codes "it is being deleted")
+unfoldable pub kept_back : (scheduler : List ℕ) → (spec pod : Data) → List ℕ
+kept_back scheduler spec pod =
+    other_scheduler scheduler (scheduler_of spec) ++ demands spec
+    ++ left_out_if (is_some (within (codes "metadata") (codes "deletionTimestamp") pod)) (codes "it is being deleted")
 
-abbrev pub waiting_of : Site → (by_uid : Bool) → Change → Version → Data → (kept_back : List ℕ) → Told
-waiting_of site by_uid became version json [] = waiting_row by_uid became version json (pod_row site.labels by_uid json)
-waiting_of site by_uid became version json (x ∷ more) = gone_if became (PodGone version) (in_metadata (pod_name by_uid) json) (x ∷ more)
+abbrev pub waiting_by : Telling → Data → (kept_back : List ℕ) → Told
+waiting_by how json [] = row_told (PodPending how.version) how Pod json (pod_row how.site.labels how.by_uid json)
+waiting_by how json (x ∷ more) = gone_if how Pod json (x ∷ more)
 
-unfoldable pub waiting_told : Site → (by_uid : Bool) → Change → Version → (spec pod : Data) → Told
-waiting_told site by_uid became version spec pod = waiting_of site by_uid became version pod (kept_back site spec pod)
+unfoldable pub waiting_told : Telling → (spec pod : Data) → Told
+waiting_told how spec pod = waiting_by how pod (kept_back how.site.scheduler spec pod)
 
 -- a pod that stands on a node is always counted: where no line can call it by a name, there is no
 -- going on
-
 abbrev pub bound_left_out : (spec pod : Data) → List ℕ
 bound_left_out spec pod =
-    counted_left_out pod spec ++ held_left_out pod spec
-    ++ left_out_if (is_given (affinity keys.PodAntiAffinity keys.Required spec)) (codes "required pod anti-affinity")
+    more_left_out pod spec ++ held_left_out pod spec
+    ++ left_out_if (is_given (affinity (codes "podAntiAffinity") (codes "requiredDuringSchedulingIgnoredDuringExecution") spec)) (codes "required pod anti-affinity")
 
-abbrev pub bound_as : Version → (node : List ℕ) → (spec pod : Data) → (uid : List ℕ) → Result Told ObjectFault
-bound_as version node spec pod uid =
-    Ok (saying (Some (PodBound version uid node (counted pod spec))) (bound_left_out spec pod))
+unfoldable pub placed_told : Telling → (node : List ℕ) → (spec pod : Data) → Result Told Fault
+placed_told how node spec pod = do
+  uid ← name_of Pod how.by_uid pod
+  request ← request Standing pod spec
+  Ok (saying (Some (PodBound how.version uid node request)) (bound_left_out spec pod))
 
 -- (a node whose name no line can say isn't in a script, and nothing is placed there; but the pod
 -- waits no longer)
-unfoldable pub bound_told : (by_uid : Bool) → Change → Version → (node : List ℕ) → (spec pod : Data) → Result Told ObjectFault
-bound_told by_uid became version node spec pod =
-    if is_name node then in_metadata (pod_name by_uid) pod >>= bound_as version node spec pod
-    else Ok (gone_if became (PodGone version) (in_metadata (pod_name by_uid) pod) (left_out (codes "node ") node))
+abbrev pub bound_told : Telling → (node : List ℕ) → (spec pod : Data) → Result Told Fault
+bound_told how node spec pod = if is_name node then placed_told how node spec pod else Ok (gone_if how Pod pod (left_out (codes "node ") node))
 
--- a pod
+-- a pod that is there, by the node on which it stands, whose name is empty where it stands on none
+unfoldable pub node_name : (spec : Data) → Result (List ℕ) Fault
+node_name spec = if is_some (as_object spec) then text_or (codes "nodeName") [] spec else Err (refused BadField (codes "spec"))
+
+abbrev pub by_node : Telling → (spec pod : Data) → (node : List ℕ) → Result Told Fault
+by_node how spec pod [] = Ok (waiting_told how spec pod)
+by_node how spec pod (x ∷ more) = bound_told how (x ∷ more) spec pod
 
 abbrev pub is_end : Option (List ℕ) → Bool
-is_end None = false
-is_end (Some phase) = bytes_eq phase (codes "Succeeded") || bytes_eq phase (codes "Failed")
+is_end phase = absent_or false (λ text. bytes_eq text (codes "Succeeded") || bytes_eq text (codes "Failed")) phase
 
 abbrev pub has_ended : Data → Bool
-has_ended json = is_end (option_and_then as_str (within keys.Status keys.Phase json))
+has_ended json = is_end (option_and_then as_str (within (codes "status") (codes "phase") json))
 
-abbrev pub ended_told : (by_uid : Bool) → Change → Version → Data → Told
-ended_told by_uid became version json = gone_if became (PodGone version) (in_metadata (pod_name by_uid) json) []
+unfoldable pub pod_told : Telling → Data → Result Told Fault
+pod_told how json =
+    if has_ended json then Ok (gone_if how Pod json []) else (do
+      spec ← part_of (codes "spec") json
+      node ← node_name spec
+      by_node how spec json node)
 
-abbrev pub placed_told : Site → (by_uid : Bool) → Change → Version → (spec pod : Data) → (node : List ℕ) → Result Told ObjectFault
-placed_told site by_uid became version spec pod [] = Ok (waiting_told site by_uid became version spec pod)
-placed_told site by_uid became version spec pod (x ∷ more) = bound_told by_uid became version (x ∷ more) spec pod
+-- an object of this kind, by what has come of it
+abbrev pub there_told : Telling → Kind → Data → Result Told Fault
+there_told how Node json = Ok (row_told (NodeSet how.version) how Node json (node_row how.site.labels json))
+there_told how Pod json = pod_told how json
 
--- the name of the node on which it stands, which is empty where it stands on none
-unfoldable pub node_name : (spec : Data) → Result (List ℕ) ObjectFault
-node_name spec = if is_some (as_object spec) then text_or keys.NodeName [] spec else Err (BadField keys.Spec)
+abbrev pub by_change : {A : Type 0} → Change → (gone there : A) → A
+by_change Gone gone there = gone
+by_change _ gone there = there
 
-abbrev pub spec_told : Site → (by_uid : Bool) → Change → Version → Data → Option Data → Result Told ObjectFault
-spec_told site by_uid became version pod None = Err (BadField keys.Spec)
-spec_told site by_uid became version pod (Some spec) = node_name spec >>= placed_told site by_uid became version spec pod
-
-abbrev pub there_told : Site → (by_uid : Bool) → Change → Version → Data → Result Told ObjectFault
-there_told site by_uid became version json =
-    if has_ended json then Ok (ended_told by_uid became version json)
-    else spec_told site by_uid became version json (field keys.Spec json)
-
-unfoldable pub pod_told : Site → (by_uid : Bool) → Change → Version → Data → Result Told ObjectFault
-pod_told site by_uid became version json =
-    unless_gone became (Ok (gone_told (PodGone version) (in_metadata (pod_name by_uid) json)))
-    (there_told site by_uid became version json)
+unfoldable pub kind_told : Telling → Kind → Data → Result Told Fault
+kind_told how kind json = by_change how.change (Ok (gone_told how kind json)) (there_told how kind json)
 
 -- an object by its kind: Kubernetes' own kinds are of the version v1, and others may have their
 -- names
-
-abbrev pub core_kind : (kind : List ℕ) → Option Kind
-core_kind kind = if bytes_eq kind (codes "Node") then Some Node else if bytes_eq kind (codes "Pod") then Some Pod else None
-
-abbrev pub kind_in : (version kind : List ℕ) → Option Kind
-kind_in version kind = if bytes_eq version (codes "v1") then core_kind kind else None
+abbrev pub core_kind : (version kind : List ℕ) → Option Kind
+core_kind version kind =
+    if not (bytes_eq version (codes "v1")) then None
+    else if bytes_eq kind (codes "Node") then Some Node
+    else if bytes_eq kind (codes "Pod") then Some Pod
+    else None
 
 -- (the items of a raw list have no kind: a pod is told by its containers and its phase, and a node
 -- by what it says of its machine)
 unfoldable pub has_pod_shape : Data → Bool
 has_pod_shape json =
-    is_some (option_and_then as_array (within keys.Spec keys.Containers json))
-    && is_some (option_and_then as_str (within keys.Status keys.Phase json))
+    is_some (option_and_then as_array (within (codes "spec") (codes "containers") json))
+    && is_some (option_and_then as_str (within (codes "status") (codes "phase") json))
 
 unfoldable pub has_node_shape : Data → Bool
 has_node_shape json =
-    is_some (option_and_then as_object (within keys.Status keys.NodeInfo json))
-    && is_some (option_and_then as_object (within keys.Status keys.Allocatable json))
+    is_some (option_and_then as_object (within (codes "status") (codes "nodeInfo") json))
+    && is_some (option_and_then as_object (within (codes "status") (codes "allocatable") json))
 
-unfoldable pub kind_by_shape : Data → Result (Option Kind) ObjectFault
+unfoldable pub kind_by_shape : Data → Result (Option Kind) Fault
 kind_by_shape json =
-    if has_pod_shape json then Ok (Some Pod) else if has_node_shape json then Ok (Some Node) else Err (BadField keys.Kind)
+    if has_pod_shape json then Ok (Some Pod)
+    else if has_node_shape json then Ok (Some Node)
+    else Err (refused BadField (codes "kind"))
 
-abbrev pub kind_said : Data → Option Data → Result (Option Kind) ObjectFault
+abbrev pub kind_said : Data → Option Data → Result (Option Kind) Fault
 kind_said json None = kind_by_shape json
 kind_said json (Some value) = do
-  kind ← ok_or (as_str value) (BadField keys.Kind)
-  version ← text_or keys.ApiVersion (codes "v1") json
-  Ok (kind_in version kind)
+  kind ← ok_or (as_str value) (refused BadField (codes "kind"))
+  version ← text_or (codes "apiVersion") (codes "v1") json
+  Ok (core_kind version kind)
 
 -- a node, a pod or an object of another kind; what may be any can't be known not to be a pod
-unfoldable pub kind_of : Data → Result (Option Kind) ObjectFault
-kind_of json = kind_said json (field keys.Kind json)
+unfoldable pub kind_of : Data → Result (Option Kind) Fault
+kind_of json = kind_said json (field (codes "kind") json)
 
 -- (a list may hold pods)
-abbrev pub other_told : Data → Result Told ObjectFault
+abbrev pub other_told : Data → Result Told Fault
 other_told json =
-    if is_some (field keys.Items json) then Err IsList else Ok (nothing (left_out (codes "an object of the kind ") (spelled keys.Kind json)))
+    if is_some (field (codes "items") json) then Err (refused IsList [])
+    else Ok (saying None (left_out (codes "an object of the kind ") (spelled (codes "kind") json)))
 
-abbrev pub kind_told : Site → (by_uid : Bool) → Change → Version → Data → Option Kind → Result Told ObjectFault
-kind_told site by_uid became version json (Some Node) = Ok (node_told site became version json)
-kind_told site by_uid became version json (Some Pod) = pod_told site by_uid became version json
-kind_told site by_uid became version json None = other_told json
+abbrev pub by_kind : Telling → Data → Option Kind → Result Told Fault
+by_kind how json kind = absent_or (other_told json) (λ k. kind_told how k json) kind
 
-unfoldable pub object_told : Site → (by_uid : Bool) → Change → Version → Data → Result Told ObjectFault
-object_told site by_uid became version json = kind_of json >>= kind_told site by_uid became version json
+unfoldable pub object_told : Telling → Data → Result Told Fault
+object_told how json = kind_of json >>= by_kind how json
+
+-- the object of an event of the watch; whatever has none is one itself
+unfoldable pub object_in : Data → Data
+object_in json = unwrap_or (field (codes "object") json) json
 
 -- an event of the watch by its type: a bookmark tells nothing
-
 abbrev pub change_of : (type : List ℕ) → Option Change
 change_of type =
     if bytes_eq type (codes "ADDED") then Some There
@@ -220,21 +209,18 @@ change_of type =
 abbrev pub is_bookmark : (type : List ℕ) → Bool
 is_bookmark type = bytes_eq type (codes "BOOKMARK")
 
-abbrev pub changed_told : Site → (by_uid : Bool) → Version → (type : List ℕ) → Data → Option Change → Result Told ObjectFault
-changed_told site by_uid version type json None = if is_bookmark type then Ok (nothing []) else Err UnknownEvent
-changed_told site by_uid version type json (Some became) = object_told site by_uid became version json
+abbrev pub changed_told : (Change → Telling) → (type : List ℕ) → Data → Option Change → Result Told Fault
+changed_told how type json None = if is_bookmark type then Ok (saying None []) else Err (refused UnknownEvent [])
+changed_told how type json (Some became) = object_told (how became) json
 
--- an event of the watch has an object; whatever has none is one itself
-abbrev pub event_told : Site → (by_uid : Bool) → Version → Data → Option Data → Result Told ObjectFault
-event_told site by_uid version json None = object_told site by_uid There version json
-event_told site by_uid version json (Some held) =
-    changed_told site by_uid version (spelled keys.EventType json) held (change_of (spelled keys.EventType json))
+abbrev pub event_told : (Change → Telling) → Data → Option Data → Result Told Fault
+event_told how json None = object_told (how There) json
+event_told how json (Some held) = changed_told how (spelled (codes "type") json) held (change_of (spelled (codes "type") json))
 
-unfoldable pub value_told : Site → (by_uid : Bool) → Version → Data → Result Told ObjectFault
-value_told site by_uid version json = event_told site by_uid version json (field keys.Object json)
+unfoldable pub value_told : Site → (by_uid : Bool) → Version → Data → Result Told Fault
+value_told site by_uid version json = event_told (telling site by_uid version) json (field (codes "object") json)
 
 -- a line: one of nothing but spaces (RFC 8259, 2) is none
-
 abbrev pub is_space : ℕ → Bool
 is_space byte = byte == 32 || byte == 9 || byte == 10 || byte == 13
 
@@ -244,21 +230,16 @@ is_blank line = list_all is_space line
 abbrev pub parsed : List ℕ → Option Data
 parsed line = if is_utf8 line then read line else None
 
-abbrev pub parsed_told : Site → (by_uid : Bool) → Version → Option Data → Result Told ObjectFault
-parsed_told site by_uid version None = Err NotJson
-parsed_told site by_uid version (Some json) = value_told site by_uid version json
-
-abbrev pub text_told : Site → (by_uid : Bool) → Version → (line : List ℕ) → Result Told ObjectFault
-text_told site by_uid version line =
-    if is_blank line then Ok (nothing (left_out (codes "no JSON") [])) else parsed_told site by_uid version (parsed line)
-
-unfoldable pub line_told : Site → (by_uid : Bool) → Version → (line : List ℕ) → Result Told ObjectFault
-line_told site by_uid version line = if nat_le (length line) MAX_OBJECT then text_told site by_uid version line else Err LongLine
+unfoldable pub line_told : Site → (by_uid : Bool) → Version → (line : List ℕ) → Result Told Fault
+line_told site by_uid version line =
+    if not (nat_le (length line) MAX_OBJECT) then Err (refused LongLine [])
+    else if is_blank line then Ok (saying None (left_out (codes "no JSON") []))
+    else ok_or (parsed line) (refused NotJson []) >>= value_told site by_uid version
 
 -- what a line gives: where it may be a pod on a node that no line can count, just that
-abbrev pub told_or_uncounted : Result Told ObjectFault → Told
+abbrev pub told_or_uncounted : Result Told Fault → Told
 told_or_uncounted (Ok told) = told
-told_or_uncounted (Err fault) = uncountable fault
+told_or_uncounted (Err fault) = record { event = None; left_out = fault_text fault; uncounted = true }
 
 unfoldable pub told : Site → (by_uid : Bool) → Version → (line : List ℕ) → Told
 told site by_uid version line = told_or_uncounted (line_told site by_uid version line)

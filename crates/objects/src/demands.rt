@@ -1,22 +1,90 @@
 //! What a pod asks for that no row tells: what it must have, and what it only wishes.
-ghost use Rattle.std.specs.Prelude.{◌≡◌, ◌++◌, ℕ, not, List, codes, None, IfOk, option_map};
+ghost use Rattle.std.specs.Prelude.{◌≡◌, ◌++◌, ℕ, not, List, map, codes, None, IfOk, option_map};
 ghost use Rattle.serde_json.specs.Data.{Data};
 ghost use Rattle.serde_json.specs.Find.{as_object};
 ghost use Rattle.serde_json.specs.View.{view, items_view, members_view};
-ghost use Rattle.objects.specs.declared.key.Key.TheVariants as keys;
-ghost use Rattle.objects.specs.Demands.{each_item, array_gives, affinity, is_wished, has_spread, asks_spread, is_part, has_parts, are_parts_if, is_kind, is_read_kind, has_kinds, is_read_affinity, is_free, are_free, is_tied, volume, node_port, host_port, is_nothing, other_resources, object_gives, has, other_resource, resources_of, container, is_looked_at, is_of_processes, is_of_network, is_of_names, is_known, other_field, other_fields, fields_of, placement, demands, wishes};
-ghost use Rattle.objects.specs.Reading.{said, field};
-ghost use Rattle.objects.specs.Field.{is_given};
+ghost use Rattle.objects.specs.Demands.{each_item, array_gives, affinity, is_wished, has_spread, asks_spread, is_one_of, has_only, are_parts_if, is_read_kind, has_kinds, is_read_affinity, is_tied, volume, node_port, host_port, is_nothing, other_resources, object_gives, has, other_resource, resources_of, container, is_known, other_field, other_fields, fields_of, placement, demands, wishes};
+ghost use Rattle.objects.specs.Reading.{said, field, is_given};
 ghost use Rattle.objects.specs.LeftOut.{left_out_if};
 ghost use Rattle.objects.specs.inside.Otherwise.{otherwise};
 
-use crate::field::{is_given, says, spelled};
-use crate::key::Key;
+use crate::amounts::amount_of;
 use crate::left_out::{put_left_out, put_left_out_if};
-use crate::reading::{field, memory_from, within};
+use crate::quantity::Rounding;
+use crate::reading::{field, is_given, spelled, within};
+use crate::resource::Resource;
 use itoa::Buffer;
 use serde_json::{Map, Value};
 use std::alloc::AllocError;
+
+// The kinds of affinity that are looked at.
+const KINDS: [&str; 3] = ["nodeAffinity", "podAffinity", "podAntiAffinity"];
+
+// The parts of each.
+const PARTS: [&str; 2] = [
+    "requiredDuringSchedulingIgnoredDuringExecution",
+    "preferredDuringSchedulingIgnoredDuringExecution",
+];
+
+// A volume's name, and the kinds of volumes that tie a pod to no node.
+const FREE: [&str; 10] = [
+    "name",
+    "configMap",
+    "secret",
+    "emptyDir",
+    "hostPath",
+    "projected",
+    "downwardAPI",
+    "csi",
+    "nfs",
+    "image",
+];
+
+// The fields of a spec that are told or looked at, and those that tie a pod to no node: how its
+// processes run, how they are known on the network, and in whose name and before whom.
+const KNOWN: [&str; 41] = [
+    "affinity",
+    "containers",
+    "initContainers",
+    "nodeName",
+    "nodeSelector",
+    "overhead",
+    "priority",
+    "resourceClaims",
+    "resources",
+    "schedulerName",
+    "schedulingGates",
+    "tolerations",
+    "topologySpreadConstraints",
+    "volumes",
+    "activeDeadlineSeconds",
+    "ephemeralContainers",
+    "hostIPC",
+    "hostPID",
+    "hostUsers",
+    "os",
+    "restartPolicy",
+    "runtimeClassName",
+    "securityContext",
+    "shareProcessNamespace",
+    "terminationGracePeriodSeconds",
+    "dnsConfig",
+    "dnsPolicy",
+    "enableServiceLinks",
+    "hostAliases",
+    "hostNetwork",
+    "hostname",
+    "hostnameOverride",
+    "readinessGates",
+    "setHostnameAsFQDN",
+    "subdomain",
+    "automountServiceAccountToken",
+    "imagePullSecrets",
+    "preemptionPolicy",
+    "priorityClassName",
+    "serviceAccount",
+    "serviceAccountName",
+];
 
 // Puts the names of what a pod's spec must have.
 #[tactic(auto, unfolding(crate::specs::Demands::demands))]
@@ -24,11 +92,11 @@ pub(crate) fn put_demands(out: &mut Vec<u8>, spec: &Value) -> Result<(), AllocEr
     ensures { IfOk result (λ _. out.new.items ≡ out.old.items ++ demands (view spec.now)) }
 {
     put_placement(out, spec)?;
-    put_given(out, spec, Key::SchedulingGates, "scheduling gates")?;
-    put_given(out, spec, Key::ResourceClaims, "resource claims")?;
-    put_list::<Volume>(out, spec, Key::Volumes, Some("volume "))?;
-    put_list::<Container>(out, spec, Key::Containers, None)?;
-    put_list::<Container>(out, spec, Key::InitContainers, None)?;
+    put_given(out, spec, "schedulingGates", "scheduling gates")?;
+    put_given(out, spec, "resourceClaims", "resource claims")?;
+    put_list::<Volume>(out, spec, "volumes", Some("volume "))?;
+    put_list::<Container>(out, spec, "containers", None)?;
+    put_list::<Container>(out, spec, "initContainers", None)?;
     put_overhead(out, spec)?;
     put_fields(out, spec)
 }
@@ -38,14 +106,14 @@ pub(crate) fn put_demands(out: &mut Vec<u8>, spec: &Value) -> Result<(), AllocEr
 fn put_placement(out: &mut Vec<u8>, spec: &Value) -> Result<(), AllocError>
     ensures { IfOk result (λ _. out.new.items ≡ out.old.items ++ placement (view spec.now)) }
 {
-    let part = Key::Required;
-    put_given(out, spec, Key::NodeSelector, "node selector")?;
-    put_affinity(out, spec, Key::NodeAffinity, part, "required node affinity")?;
-    put_affinity(out, spec, Key::PodAffinity, part, "required pod affinity")?;
+    let part = "requiredDuringSchedulingIgnoredDuringExecution";
+    put_given(out, spec, "nodeSelector", "node selector")?;
+    put_affinity(out, spec, "nodeAffinity", part, "required node affinity")?;
+    put_affinity(out, spec, "podAffinity", part, "required pod affinity")?;
     put_affinity(
         out,
         spec,
-        Key::PodAntiAffinity,
+        "podAntiAffinity",
         part,
         "required pod anti-affinity",
     )?;
@@ -58,19 +126,13 @@ fn put_placement(out: &mut Vec<u8>, spec: &Value) -> Result<(), AllocError>
 pub(crate) fn put_wishes(out: &mut Vec<u8>, spec: &Value) -> Result<(), AllocError>
     ensures { IfOk result (λ _. out.new.items ≡ out.old.items ++ wishes (view spec.now)) }
 {
-    let part = Key::Preferred;
+    let part = "preferredDuringSchedulingIgnoredDuringExecution";
+    put_affinity(out, spec, "nodeAffinity", part, "preferred node affinity")?;
+    put_affinity(out, spec, "podAffinity", part, "preferred pod affinity")?;
     put_affinity(
         out,
         spec,
-        Key::NodeAffinity,
-        part,
-        "preferred node affinity",
-    )?;
-    put_affinity(out, spec, Key::PodAffinity, part, "preferred pod affinity")?;
-    put_affinity(
-        out,
-        spec,
-        Key::PodAntiAffinity,
+        "podAntiAffinity",
         part,
         "preferred pod anti-affinity",
     )?;
@@ -78,9 +140,9 @@ pub(crate) fn put_wishes(out: &mut Vec<u8>, spec: &Value) -> Result<(), AllocErr
 }
 
 // Puts a name where something stands in a field.
-fn put_given(out: &mut Vec<u8>, spec: &Value, key: Key, what: &str) -> Result<(), AllocError>
+fn put_given(out: &mut Vec<u8>, spec: &Value, key: &str, what: &str) -> Result<(), AllocError>
     ensures { IfOk result (λ _. out.new.items
-        ≡ out.old.items ++ left_out_if (is_given (field key (view spec.now))) what.now) }
+        ≡ out.old.items ++ left_out_if (is_given (field key.now (view spec.now))) what.now) }
 {
     put_left_out_if(out, is_given(field(spec, key)), what)
 }
@@ -89,21 +151,21 @@ fn put_given(out: &mut Vec<u8>, spec: &Value, key: Key, what: &str) -> Result<()
 pub(crate) fn put_affinity(
     out: &mut Vec<u8>,
     spec: &Value,
-    kind: Key,
-    part: Key,
+    kind: &str,
+    part: &str,
     what: &str,
 ) -> Result<(), AllocError>
     ensures { IfOk result (λ _. out.new.items
-        ≡ out.old.items ++ left_out_if (is_given (affinity kind part (view spec.now))) what.now) }
+        ≡ out.old.items ++ left_out_if (is_given (affinity kind.now part.now (view spec.now))) what.now) }
 {
     put_left_out_if(out, is_given(affinity(spec, kind, part)), what)
 }
 
 // A part of an affinity.
-fn affinity(spec: &Value, kind: Key, part: Key) -> Option<&Value>
-    ensures { option_map (λ value. view value.now) result ≡ affinity kind part (view spec.now) }
+fn affinity<'a>(spec: &'a Value, kind: &str, part: &str) -> Option<&'a Value>
+    ensures { option_map (λ value. view value.now) result ≡ affinity kind.now part.now (view spec.now) }
 {
-    within(field(spec, Key::Affinity)?, kind, part)
+    within(field(spec, "affinity")?, kind, part)
 }
 
 // What stands in an array, one a place, of which each has names to put.
@@ -120,11 +182,11 @@ trait Listed {
 fn put_list<T: Listed>(
     out: &mut Vec<u8>,
     object: &Value,
-    key: Key,
+    key: &str,
     unread: Option<&str>,
 ) -> Result<(), AllocError>
     ensures { IfOk result (λ _. out.new.items ≡ out.old.items
-        ++ array_gives T.names (otherwise (option_map (λ s. s.now) unread.entry)) (field key (view object.now))) }
+        ++ array_gives T.names (otherwise (option_map (λ s. s.now) unread.entry)) (field key.now (view object.now))) }
 {
     let Some(value) = field(object, key) else {
         return Ok(());
@@ -152,11 +214,11 @@ fn put_items<T: Listed>(out: &mut Vec<u8>, found: &[Value]) -> Result<(), AllocE
 // Puts that a pod asks for a spread that it can do without, or for one that it can't.
 fn put_spread(out: &mut Vec<u8>, spec: &Value, wished: bool, what: &str) -> Result<(), AllocError>
     ensures { IfOk result (λ _. out.new.items ≡ out.old.items
-        ++ left_out_if (asks_spread wished (field keys.TopologySpread (view spec.now))) what.now) }
+        ++ left_out_if (asks_spread wished (field (codes "topologySpreadConstraints") (view spec.now))) what.now) }
 {
     put_left_out_if(
         out,
-        asks_spread(field(spec, Key::TopologySpread), wished),
+        asks_spread(field(spec, "topologySpreadConstraints"), wished),
         what,
     )
 }
@@ -164,13 +226,9 @@ fn put_spread(out: &mut Vec<u8>, spec: &Value, wished: bool, what: &str) -> Resu
 // Puts that an affinity is of more than what is looked at.
 fn put_unread_affinity(out: &mut Vec<u8>, spec: &Value) -> Result<(), AllocError>
     ensures { IfOk result (λ _. out.new.items ≡ out.old.items
-        ++ left_out_if (not (is_read_affinity (field keys.Affinity (view spec.now)))) (codes "affinity")) }
+        ++ left_out_if (not (is_read_affinity (field (codes "affinity") (view spec.now)))) (codes "affinity")) }
 {
-    put_left_out_if(
-        out,
-        !is_read_affinity(field(spec, Key::Affinity)),
-        "affinity",
-    )
+    put_left_out_if(out, !is_read_affinity(field(spec, "affinity")), "affinity")
 }
 
 // Whether one of the spreads in a field is one that a pod can do without, or isn't.
@@ -202,7 +260,7 @@ fn has_spread(found: &[Value], wished: bool) -> bool
 fn is_wished(spread: &Value) -> bool
     ensures { result ≡ is_wished (view spread.now) }
 {
-    says(spread, Key::WhenUnsatisfiable, "ScheduleAnyway")
+    spelled(spread, "whenUnsatisfiable") == "ScheduleAnyway"
 }
 
 // Whether an affinity is of nothing but the kinds and the parts that are looked at.
@@ -235,16 +293,8 @@ fn has_kinds(members: &Map<String, Value>) -> bool
 fn is_read_kind(key: &str, value: &Value) -> bool
     ensures { result ≡ is_read_kind key.now (view value.now) }
 {
-    is_kind(key) && are_parts_if(value)
-}
-
-// Whether this is the name of a kind of affinity.
-fn is_kind(key: &str) -> bool
-    ensures { result ≡ is_kind key.now }
-{
-    key == Key::NodeAffinity.name()
-        || key == Key::PodAffinity.name()
-        || key == Key::PodAntiAffinity.name()
+    let kinds: [&str; 3] = KINDS;
+    is_one_of(kinds.as_slice(), key) && are_parts_if(value)
 }
 
 // Whether a value has no member but the parts of an affinity.
@@ -255,28 +305,36 @@ fn are_parts_if(value: &Value) -> bool
         return true;
     }
     match value.as_object() {
-        Some(members) => has_parts(members),
+        Some(members) => {
+            let parts: [&str; 2] = PARTS;
+            has_only(members, parts.as_slice())
+        }
         None => false,
     }
 }
 
-// Whether each member is a part of an affinity.
-fn has_parts(members: &Map<String, Value>) -> bool
-    ensures { result ≡ has_parts (members_view members.now.entries) }
+// Whether an object's members have no names but these.
+fn has_only(members: &Map<String, Value>, names: &[&str]) -> bool
+    ensures { result ≡ has_only (map (λ name. name.now) names.now) (members_view members.now.entries) }
 {
     for (key, _) in members.iter() {
-        if !is_part(key.as_str()) {
+        if !is_one_of(names, key.as_str()) {
             return false;
         }
     }
     true
 }
 
-// Whether this is the name of a part of an affinity.
-fn is_part(key: &str) -> bool
-    ensures { result ≡ is_part key.now }
+// Whether a key is one of these names.
+fn is_one_of(names: &[&str], key: &str) -> bool
+    ensures { result ≡ is_one_of (map (λ name. name.now) names.now) key.now }
 {
-    key == Key::Required.name() || key == Key::Preferred.name()
+    for name in names {
+        if *name == key {
+            return true;
+        }
+    }
+    false
 }
 
 // A volume.
@@ -288,7 +346,7 @@ impl Listed for Volume {
     #[tactic(auto, unfolding(crate::specs::Demands::volume))]
     fn put(out: &mut Vec<u8>, item: &Value) -> Result<(), AllocError> {
         if is_tied(item) {
-            put_left_out(out, "volume ", spelled(item, Key::Name).as_bytes())
+            put_left_out(out, "volume ", spelled(item, "name").as_bytes())
         } else {
             Ok(())
         }
@@ -300,40 +358,12 @@ fn is_tied(volume: &Value) -> bool
     ensures { result ≡ is_tied (as_object (view volume.now)) }
 {
     match volume.as_object() {
-        Some(members) => !are_free(members),
+        Some(members) => {
+            let free: [&str; 10] = FREE;
+            !has_only(members, free.as_slice())
+        }
         None => true,
     }
-}
-
-// Whether no member of a volume may tie a pod to a node.
-fn are_free(members: &Map<String, Value>) -> bool
-    ensures { result ≡ are_free (members_view members.now.entries) }
-{
-    for (key, _) in members.iter() {
-        if !is_free(key.as_str()) {
-            return false;
-        }
-    }
-    true
-}
-
-// Whether a member of a volume ties a pod to no node.
-fn is_free(key: &str) -> bool
-    ensures { result ≡ is_free key.now }
-{
-    matches!(
-        key,
-        "name"
-            | "configMap"
-            | "secret"
-            | "emptyDir"
-            | "hostPath"
-            | "projected"
-            | "downwardAPI"
-            | "csi"
-            | "nfs"
-            | "image"
-    )
 }
 
 // A port of a container.
@@ -344,7 +374,7 @@ impl Listed for Port {
 
     #[tactic(auto, unfolding(crate::specs::Demands::host_port))]
     fn put(out: &mut Vec<u8>, item: &Value) -> Result<(), AllocError> {
-        match field(item, Key::HostPort) {
+        match field(item, "hostPort") {
             Some(value) => put_node_port(out, value.as_u64()),
             None => Ok(()),
         }
@@ -373,8 +403,8 @@ impl Listed for Container {
 
     #[tactic(auto, unfolding(crate::specs::Demands::container))]
     fn put(out: &mut Vec<u8>, item: &Value) -> Result<(), AllocError> {
-        put_list::<Port>(out, item, Key::Ports, Some("host port "))?;
-        put_resources(out, field(item, Key::Resources))
+        put_list::<Port>(out, item, "ports", Some("host port "))?;
+        put_resources(out, field(item, "resources"))
     }
 }
 
@@ -386,9 +416,9 @@ fn put_resources(out: &mut Vec<u8>, resources: Option<&Value>) -> Result<(), All
     let Some(resources) = resources else {
         return Ok(());
     };
-    let requests = field(resources, Key::Requests);
+    let requests = field(resources, "requests");
     put_members(out, requests, None)?;
-    put_members(out, field(resources, Key::Limits), requests)
+    put_members(out, field(resources, "limits"), requests)
 }
 
 // Puts the resources of a field that others don't have already.
@@ -447,8 +477,8 @@ fn put_resource(
 fn is_nothing(value: &Value) -> bool
     ensures { result ≡ is_nothing (view value.now) }
 {
-    match memory_from(value) {
-        Ok(amount) => amount.0 == 0,
+    match amount_of(Some(value), Resource::Memory, Rounding::Up) {
+        Ok(amount) => amount == 0,
         Err(_) => false,
     }
 }
@@ -466,9 +496,9 @@ fn has(value: Option<&Value>, key: &str) -> bool
 // Puts the resources beyond CPU and memory that running a pod costs.
 fn put_overhead(out: &mut Vec<u8>, spec: &Value) -> Result<(), AllocError>
     ensures { IfOk result (λ _. out.new.items
-        ≡ out.old.items ++ object_gives (has None) (field keys.Overhead (view spec.now))) }
+        ≡ out.old.items ++ object_gives (has None) (field (codes "overhead") (view spec.now))) }
 {
-    put_members(out, field(spec, Key::Overhead), None)
+    put_members(out, field(spec, "overhead"), None)
 }
 
 // Puts the fields of a spec that aren't known to tie a pod to no node, where something stands in
@@ -510,82 +540,6 @@ fn put_other_field(out: &mut Vec<u8>, key: &str, value: &Value) -> Result<(), Al
 fn is_known(key: &str) -> bool
     ensures { result ≡ is_known key.now }
 {
-    is_looked_at(key) || is_of_processes(key) || is_of_network(key) || is_of_names(key)
-}
-
-// Whether a field is told or looked at.
-fn is_looked_at(key: &str) -> bool
-    ensures { result ≡ is_looked_at key.now }
-{
-    matches!(
-        key,
-        "affinity"
-            | "containers"
-            | "initContainers"
-            | "nodeName"
-            | "nodeSelector"
-            | "overhead"
-            | "priority"
-            | "resourceClaims"
-            | "resources"
-            | "schedulerName"
-            | "schedulingGates"
-            | "tolerations"
-            | "topologySpreadConstraints"
-            | "volumes"
-    )
-}
-
-// Whether a field says how a pod's processes run.
-fn is_of_processes(key: &str) -> bool
-    ensures { result ≡ is_of_processes key.now }
-{
-    matches!(
-        key,
-        "activeDeadlineSeconds"
-            | "ephemeralContainers"
-            | "hostIPC"
-            | "hostPID"
-            | "hostUsers"
-            | "os"
-            | "restartPolicy"
-            | "runtimeClassName"
-            | "securityContext"
-            | "shareProcessNamespace"
-            | "terminationGracePeriodSeconds"
-    )
-}
-
-// Whether a field says how a pod is known on the network.
-fn is_of_network(key: &str) -> bool
-    ensures { result ≡ is_of_network key.now }
-{
-    matches!(
-        key,
-        "dnsConfig"
-            | "dnsPolicy"
-            | "enableServiceLinks"
-            | "hostAliases"
-            | "hostNetwork"
-            | "hostname"
-            | "hostnameOverride"
-            | "readinessGates"
-            | "setHostnameAsFQDN"
-            | "subdomain"
-    )
-}
-
-// Whether a field says in whose name a pod runs, and before whom.
-fn is_of_names(key: &str) -> bool
-    ensures { result ≡ is_of_names key.now }
-{
-    matches!(
-        key,
-        "automountServiceAccountToken"
-            | "imagePullSecrets"
-            | "preemptionPolicy"
-            | "priorityClassName"
-            | "serviceAccount"
-            | "serviceAccountName"
-    )
+    let known: [&str; 41] = KNOWN;
+    is_one_of(known.as_slice(), key)
 }

@@ -1,13 +1,14 @@
 //! The digits of a quantity, and the sign and the point beside them.
 ghost use Rattle.std.specs.Prelude.{◌≡◌, ℕ, ◌+◌, ◌*◌, ◌-◌, ◌^◌, ◌<◌, ◌≤◌, ◌++◌, length, min, IsTrue};
 ghost use Rattle.std.specs.List.{list_all, prefix_len};
-ghost use Rattle.quant.specs.Amount.{is_digit, number, leading_digits, after_digits};
+ghost use Rattle.quant.specs.Amount.{is_digit, number};
 ghost use Rattle.objects.specs.Ratio.{rounded};
 ghost use Rattle.objects.specs.Suffix.{has_minus, after_sign, is_0, behind_zeros};
 ghost use Rattle.objects.specs.Quantity.{fraction_digits, after_fraction, is_zero};
 ghost use Rattle.objects.specs.inside.Digits.{digit, front, back};
 
-use crate::rounding::Rounding;
+use crate::quantity::Rounding;
+use quant::split_digits;
 
 // Above every limit: what is counted no further.
 pub(crate) const BEYOND: u64 = 1_000_000_000_000_000;
@@ -24,15 +25,6 @@ pub(crate) fn split_sign(text: &[u8]) -> (bool, &[u8])
     }
 }
 
-// Cuts a text behind the digits in front.
-pub(crate) fn split_digits(text: &[u8]) -> (&[u8], &[u8])
-    ensures digits { result.0.now ≡ leading_digits text.now }
-    ensures rest { result.1.now ≡ after_digits text.now }
-    ensures pass { IsTrue (list_all is_digit result.0.now) }
-{
-    text.split_at(count_digits(text))
-}
-
 // Cuts a text behind a decimal point in front and the digits behind it.
 pub(crate) fn split_fraction(text: &[u8]) -> (&[u8], &[u8])
     ensures digits { result.0.now ≡ fraction_digits text.now }
@@ -43,20 +35,6 @@ pub(crate) fn split_fraction(text: &[u8]) -> (&[u8], &[u8])
         [b'.', behind @ ..] => split_digits(behind),
         _ => (&[], text),
     }
-}
-
-// How many digits a text begins with.
-fn count_digits(text: &[u8]) -> usize
-    ensures { result ≡ prefix_len is_digit text.now }
-{
-    text.iter().take_while(|b| is_digit(**b)).count()
-}
-
-// Whether the text has no byte but digits.
-pub(crate) fn are_digits(text: &[u8]) -> bool
-    ensures { result ≡ list_all is_digit text.now }
-{
-    text.iter().all(|b| is_digit(*b))
 }
 
 // Whether the text has no byte but zeros.
@@ -81,13 +59,6 @@ fn count_zeros(text: &[u8]) -> usize
     ensures { result ≡ prefix_len is_0 text.now }
 {
     text.iter().take_while(|b| **b == b'0').count()
-}
-
-// Whether the byte is an ASCII digit.
-fn is_digit(byte: u8) -> bool
-    ensures { result ≡ is_digit byte }
-{
-    byte.is_ascii_digit()
 }
 
 // The number that up to two digits spell.

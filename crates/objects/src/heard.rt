@@ -3,23 +3,18 @@ ghost use Rattle.std.specs.Prelude.{◌≡◌, ◌<◌, ◌^◌, length, Ok, opt
 ghost use Rattle.std.specs.List.{list_all};
 ghost use Rattle.quant.specs.Amount.{is_digit, number};
 ghost use Rattle.serde_json.specs.View.{view};
-ghost use Rattle.objects.specs.Heard.{a_version, version_in, object_in, is_none_type, shows_none, has_no_node, is_waiting, is_row, heard_by, heard_of, heard};
-ghost use Rattle.objects.specs.Reading.{Answers};
+ghost use Rattle.objects.specs.Heard.{a_version, version_in, is_none_type, shows_none, uid_in, has_no_node, is_waiting, is_row, heard_by, heard_of, heard};
+ghost use Rattle.objects.specs.Told.{object_in};
+ghost use Rattle.objects.specs.inside.Answers.{Answers};
 ghost use Rattle.objects.specs.Sayable.{IsVersion};
 ghost use Rattle.objects.specs.Site.{site_of};
-ghost use Rattle.objects.specs.Field.{name_at};
-ghost use Rattle.objects.specs.Told.{in_metadata};
-ghost use Rattle.objects.specs.declared.key.Key.TheVariants as keys;
 
-use crate::digits::are_digits;
-use crate::fault::ObjectFault;
-use crate::field::{name_at, spelled, text_at};
-use crate::gone::Kind;
-use crate::key::Key;
-use crate::reading::field;
+use crate::change::Kind;
+use crate::fault::{ObjectFault, Why};
+use crate::reading::{field, name_at, part_of, spelled, text_at};
 use crate::site::Site;
-use crate::told::{has_ended, kind_of, node_name, value_told};
-use quant::{Event, Name, Version};
+use crate::told::{has_ended, kind_of, node_name, object_in, value_told};
+use quant::{Event, Name, Version, are_digits};
 use serde_json::Value;
 use std::alloc::{AllocError, Global};
 
@@ -54,14 +49,14 @@ pub enum Heard {
 /// read, the object is `Unread`.
 ///
 /// Errors: `AllocError`, which may come in place of any answer.
-#[tactic(auto, unfolding(crate::specs::Heard::heard), using(crate::proofs::Faults::unread))]
+#[tactic(auto, unfolding(crate::specs::Heard::heard))]
 pub fn hear(alloc: Global, json: &Value, site: &Site<'_>) -> Result<Heard, AllocError>
     ensures { IfOk result (λ found. found ≡ heard (site_of site.now) (view json.now)) }
 {
     match heard_of(alloc, json, site) {
         Ok(found) => Ok(found),
         Err(ObjectFault::NoMemory) => Err(AllocError),
-        Err(_) => Ok(Heard::Unread),
+        Err(ObjectFault::Refused(_, _)) => Ok(Heard::Unread),
     }
 }
 
@@ -98,24 +93,13 @@ fn is_row(event: &Option<Event>) -> bool
     matches!(event, Some(Event::PodPending { .. }))
 }
 
-// The object of an event of the watch, or the object itself that is none.
-#[tactic(auto, unfolding(crate::specs::Heard::object_in))]
-fn object_in(json: &Value) -> &Value
-    ensures { view result.now ≡ object_in (view json.now) }
-{
-    match field(json, Key::Object) {
-        Some(held) => held,
-        None => json,
-    }
-}
-
 // Whether an event shows no object that is there: it says that one is gone, or is a bookmark, whose
 // object is one of its kind without a name.
 #[tactic(auto, unfolding(crate::specs::Heard::shows_none))]
 fn shows_none(json: &Value) -> bool
     ensures { result ≡ shows_none (view json.now) }
 {
-    field(json, Key::Object).is_some() && is_none_type(spelled(json, Key::EventType))
+    field(json, "object").is_some() && is_none_type(spelled(json, "type"))
 }
 
 // Whether an event of this type shows none.
@@ -126,19 +110,18 @@ fn is_none_type(kind: &str) -> bool
 }
 
 // Whether an object is a pod that hasn't ended and has no node.
-#[tactic(auto, unfolding(crate::specs::Heard::is_waiting), using(crate::proofs::Faults::no_pod))]
+#[tactic(auto, unfolding(crate::specs::Heard::is_waiting))]
 fn is_waiting(object: &Value) -> Result<bool, ObjectFault>
     ensures { Answers result (Ok (is_waiting (view object.now))) }
 {
     match kind_of(object) {
-        Ok(Some(Kind::Pod)) if !has_ended(object) => has_no_node(field(object, Key::Spec)),
+        Ok(Some(Kind::Pod)) if !has_ended(object) => has_no_node(field(object, "spec")),
+        Ok(_) | Err(ObjectFault::Refused(_, _)) => Ok(false),
         Err(ObjectFault::NoMemory) => Err(ObjectFault::NoMemory),
-        _ => Ok(false),
     }
 }
 
 // Whether what a pod is to be names no node.
-#[tactic(auto, using(crate::proofs::Faults::no_name))]
 fn has_no_node(spec: Option<&Value>) -> Result<bool, ObjectFault>
     ensures { Answers result (Ok (has_no_node (option_map (λ v. view v.now) spec.entry))) }
 {
@@ -147,27 +130,28 @@ fn has_no_node(spec: Option<&Value>) -> Result<bool, ObjectFault>
     };
     match node_name(spec) {
         Ok(name) => Ok(name.is_empty()),
+        Err(ObjectFault::Refused(_, _)) => Ok(false),
         Err(ObjectFault::NoMemory) => Err(ObjectFault::NoMemory),
-        Err(_) => Ok(false),
     }
 }
 
 // A pod's uid.
+#[tactic(auto, unfolding(crate::specs::Heard::uid_in))]
 fn uid_of(object: &Value) -> Result<Name, ObjectFault>
-    ensures { Answers result (in_metadata (name_at keys.Uid) (view object.now)) }
+    ensures { Answers result (uid_in (view object.now)) }
 {
-    let meta = field(object, Key::Metadata).ok_or(ObjectFault::BadField(Key::Metadata))?;
-    name_at(meta, Key::Uid)
+    let meta = part_of(object, "metadata")?;
+    name_at(meta, "uid")
 }
 
 // An object's own version.
-#[tactic(auto, unfolding(crate::specs::Heard::version_at))]
+#[tactic(auto, unfolding(crate::specs::Heard::version_in))]
 fn version_of(object: &Value) -> Result<Version, ObjectFault>
     ensures value { Answers result (version_in (view object.now)) }
     ensures version { IfOk result IsVersion }
 {
-    let meta = field(object, Key::Metadata).ok_or(ObjectFault::BadField(Key::Metadata))?;
-    let text = text_at(meta, Key::ResourceVersion)?;
+    let meta = part_of(object, "metadata")?;
+    let text = text_at(meta, "resourceVersion")?;
     version_from(text.as_bytes())
 }
 
@@ -176,7 +160,7 @@ fn version_from(text: &[u8]) -> Result<Version, ObjectFault>
     ensures value { Answers result (a_version text.now) }
     ensures version { IfOk result IsVersion }
 {
-    let fault = ObjectFault::BadField(Key::ResourceVersion);
+    let fault = ObjectFault::Refused(Why::BadField, "resourceVersion");
     if text.is_empty() || text.len() > MAX_DIGITS || !are_digits(text) {
         return Err(fault);
     }

@@ -1,16 +1,17 @@
 //! The labels that a row has of an object's.
-ghost use Rattle.std.specs.Prelude.{◌≡◌, ◌<◌, ◌≤◌, true, [], length, bytes_eq, IfOk, OnOk, IfSome, OnSome, option_map};
+ghost use Rattle.std.specs.Prelude.{◌≡◌, ◌<◌, ◌≤◌, true, codes, [], length, bytes_eq, IfOk, OnOk, IfSome, OnSome, option_map};
 ghost use Rattle.std.specs.List.{list_any, slice_split};
 ghost use Rattle.serde_json.specs.View.{view, members_view};
-ghost use Rattle.objects.specs.Labels.{fitting, label_of, is_comma, is_named, if_named, named_labels, with_label, unless_named, other_labels, row_labels};
-ghost use Rattle.objects.specs.Reading.{Gives};
-ghost use Rattle.objects.specs.Sayable.{each_beside, says_label};
+ghost use Rattle.objects.specs.Labels.{fitting, label_of, is_comma, is_named, if_named, named_labels, with_item, unless_named, other_labels, row_labels};
+ghost use Rattle.objects.specs.inside.Answers.{Gives};
+ghost use Rattle.objects.specs.Sayable.{says_label};
+ghost use Rattle.objects.specs.inside.Events.{each_beside};
 ghost use Rattle.objects.specs.inside.Members.{members_or_none, kept};
 
-use crate::fault::ObjectFault;
-use crate::key::Key;
+use crate::fault::{ObjectFault, Why};
 use crate::left_out::put_left_out;
 use arrayvec::ArrayVec;
+use manifest::has_key;
 use quant::{Label, MAX_LABELS, Name, Text};
 use serde_json::{Map, Value};
 use std::alloc::AllocError;
@@ -51,7 +52,7 @@ fn take_labels(
     ensures few { OnOk result (length labels.new.items ≤ 32) }
 {
     if members.len() > MAX_LABELS && names.is_empty() {
-        return Err(ObjectFault::TooMany(Key::Labels));
+        return Err(ObjectFault::Refused(Why::TooMany, "labels"));
     }
     take_named(labels, members, names)?;
     take_others(labels, out, members, names)?;
@@ -97,7 +98,7 @@ fn take_if_named(
             labels.push(label);
             Ok(())
         }
-        None => Err(ObjectFault::BadName(Key::Labels)),
+        None => Err(ObjectFault::Refused(Why::BadName, "labels")),
     }
 }
 
@@ -150,7 +151,7 @@ fn take_label(
     key: &str,
     value: &Value,
 ) -> Result<(), AllocError>
-    ensures value { IfOk result (λ _. with_label (kept labels.old.items out.old.items) key.now
+    ensures value { IfOk result (λ _. with_item (codes "label ") key.now (kept labels.old.items out.old.items)
         (label_of labels.old.items key.now (view value.now)) ≡ kept labels.new.items out.new.items) }
     ensures sayable { each_beside says_label [] labels.old.items ≡ true
         → OnOk result (each_beside says_label [] labels.new.items ≡ true) }
@@ -204,13 +205,4 @@ fn fitting(before: &[Label], key: &str, value: &str) -> Option<Label>
     } else {
         None
     }
-}
-
-// Whether one of the labels has this key.
-fn has_key(labels: &[Label], key: &Name) -> bool
-    ensures { result ≡ list_any (λ label. bytes_eq label.key key.now) labels.now }
-{
-    labels
-        .iter()
-        .any(|label| label.key.as_bytes() == key.as_bytes())
 }

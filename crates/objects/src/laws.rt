@@ -1,6 +1,6 @@
 //! What holds of each object, whatever it says. The functions do nothing: their contracts are the
 //! laws.
-ghost use Rattle.objects.specs.Enough.{CountsEnough, CountsNoMore};
+ghost use Rattle.objects.specs.Enough.{CountsEnough, CountsTheSame};
 ghost use Rattle.objects.specs.Shown.{NamesAreTexts};
 
 /// What is left out is named in texts in quotation marks, with a comma and a space before each, in
@@ -12,9 +12,9 @@ pub fn left_out_is_named_in_texts()
 {}
 
 /// What a pod takes of its node is never less than what it asked for while it waited, whatever its
-/// status says by then, so what a bind was granted for is enough once it is told; and never more
-/// where that says nothing, nor the pod of its resources as a whole.
+/// status says by then, so what a bind was granted for is enough once it is told; and just that
+/// where its status says nothing, nor the pod of its resources as a whole.
 pub fn what_stands_counts_enough()
     ensures enough { CountsEnough }
-    ensures just { CountsNoMore }
+    ensures same { CountsTheSame }
 {}

@@ -2,9 +2,9 @@
 ghost use Rattle.std.specs.Prelude.{◌≡◌, ◌++◌, ◌≤◌, drop, length, take, IfOk};
 ghost use Rattle.std.specs.List.{list_all};
 ghost use Rattle.quant.specs.Name.{is_name_byte};
-ghost use Rattle.objects.specs.LeftOut.{shown, left_out, left_out_if, amount_refused, refused, told_names, up_to_marks};
+ghost use Rattle.objects.specs.LeftOut.{shown, left_out, left_out_if, refused, fault_text, told_names, up_to_marks};
 
-use crate::fault::{ObjectFault, QuantityFault};
+use crate::fault::Why;
 use std::alloc::{AllocError, Global};
 
 // The most bytes that a key of the API has: a prefix of 253, a slash, and 63 more. A longer name
@@ -35,50 +35,12 @@ pub(crate) fn put_left_out_if(out: &mut Vec<u8>, is: bool, what: &str) -> Result
     Ok(())
 }
 
-// Puts an object's first fault, as it is named.
-pub(crate) fn put_refused(out: &mut Vec<u8>, fault: ObjectFault) -> Result<(), AllocError>
-    ensures { IfOk result (λ _. out.new.items ≡ out.old.items ++ refused fault) }
+// Puts an object's first fault, in this field or in none.
+#[tactic(auto, unfolding(crate::specs::LeftOut::fault_text))]
+pub(crate) fn put_refused(out: &mut Vec<u8>, why: Why, field: &str) -> Result<(), AllocError>
+    ensures { IfOk result (λ _. out.new.items ≡ out.old.items ++ fault_text (refused why field.now)) }
 {
-    match fault {
-        ObjectFault::LongLine => put_left_out(out, "a line of more than 2 MiB", b""),
-        ObjectFault::NotJson => put_left_out(out, "no JSON", b""),
-        ObjectFault::UnknownEvent => put_left_out(out, "an event of another type", b""),
-        ObjectFault::IsList => {
-            let what = "a list, whose items are to stand on lines of their own";
-            put_left_out(out, what, b"")
-        }
-        ObjectFault::BadField(key) => {
-            put_left_out(out, "a field of another type: ", key.name().as_bytes())
-        }
-        ObjectFault::BadName(key) => {
-            put_left_out(
-                out,
-                "not a name or text of a script: ",
-                key.name().as_bytes(),
-            )
-        }
-        ObjectFault::Quantity(key, fault) => {
-            put_left_out(out, amount_refused(fault), key.name().as_bytes())
-        }
-        ObjectFault::TooMany(key) => {
-            put_left_out(out, "too many items: ", key.name().as_bytes())
-        }
-        ObjectFault::PodResources => put_left_out(out, "resources of the whole pod", b""),
-        ObjectFault::TooLarge => put_left_out(out, "what it asks for in all", b""),
-        ObjectFault::NoMemory => Ok(()),
-    }
-}
-
-// Why an amount is refused, in front of the field's name.
-fn amount_refused(fault: QuantityFault) -> &'static str
-    ensures { result.now ≡ amount_refused fault }
-{
-    match fault {
-        QuantityFault::NotAQuantity => "no quantity: ",
-        QuantityFault::FarExponent => "an exponent of more than two digits: ",
-        QuantityFault::Negative => "an amount below 0: ",
-        QuantityFault::TooLarge => "an amount above its limit: ",
-    }
+    put_left_out(out, why.text(), field.as_bytes())
 }
 
 // A name as it is shown.

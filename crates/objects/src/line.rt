@@ -1,11 +1,12 @@
 //! The line of a script that tells an event.
-ghost use Rattle.std.specs.Prelude.{◌≡◌, IfOk, Ok, true};
+ghost use Rattle.std.specs.Prelude.{◌≡◌, [], ◌∷◌, codes, decimal, IfOk, Ok, true};
+ghost use Rattle.json.specs.Token.{key, string, number, begin_object, end_object};
 ghost use Rattle.json.specs.Tree.{json_tokens};
 ghost use Rattle.manifest.specs.Line.{meaning};
 ghost use Rattle.manifest.specs.declared.command.Command.TheVariants as commands;
-ghost use Rattle.quant.specs.declared.event.Event.TheVariants.{NodeSet, NodeGone, PodPending, PodBound, PodGone};
+ghost use Rattle.quant.specs.declared.event.Event.TheVariants.{NodeSet, PodPending, PodBound};
 ghost use Rattle.objects.specs.inside.Line.{line_json};
-ghost use Rattle.objects.specs.Sayable.{IsSayable};
+ghost use Rattle.objects.specs.inside.Events.{IsSayable};
 ghost use Rattle.objects.specs.Translation.{is_one_line};
 ghost use Rattle.objects.specs.inside.Added.{Adds};
 
@@ -21,7 +22,7 @@ use std::alloc::{AllocError, Global};
 const ROOM: usize = 512;
 
 // The line that tells an event, without its newline.
-pub fn write_line(alloc: Global, event: &Event) -> Result<Vec<u8>, AllocError>
+pub(crate) fn write_line(alloc: Global, event: &Event) -> Result<Vec<u8>, AllocError>
     requires { IsSayable event.now }
     ensures meaning { IfOk result (λ line. meaning line.items ≡ Ok (commands.Event event.now)) }
     ensures one_line { IfOk result (λ line. is_one_line line.items ≡ true) }
@@ -37,7 +38,7 @@ fn write_event(alloc: Global, writer: &mut Writer, event: &Event) -> Result<(), 
 {
     match event {
         Event::NodeSet { version, node } => write_node(alloc, writer, *version, node),
-        Event::NodeGone { version, name } => write_gone(writer, *version, name),
+        Event::NodeGone { version, name } => write_named(writer, "gone", *version, "name", name),
         Event::PodPending { version, pod } => write_pod(alloc, writer, *version, pod),
         Event::PodBound {
             version,
@@ -45,8 +46,19 @@ fn write_event(alloc: Global, writer: &mut Writer, event: &Event) -> Result<(), 
             node,
             request,
         } => write_bound(alloc, writer, *version, uid, node, request),
-        Event::PodGone { version, uid } => write_deleted(writer, *version, uid),
+        Event::PodGone { version, uid } => write_named(writer, "deleted", *version, "uid", uid),
     }
+}
+
+// Begins a line: its operation and its version.
+fn put_head(writer: &mut Writer, op: &str, version: Version) -> Result<(), AllocError>
+    ensures { Adds result writer.old writer.new
+        (begin_object ∷ key (codes "op") ∷ string op.now ∷ key (codes "v") ∷ number (decimal version.0) ∷ []) }
+{
+    writer.begin_object()?;
+    put_text(writer, "op", op)?;
+    put_number(writer, "v", version.0)?;
+    Ok(())
 }
 
 // Writes a node's row.
@@ -58,27 +70,13 @@ fn write_node(
 ) -> Result<(), AllocError>
     ensures { Adds result writer.old writer.new (json_tokens (line_json (NodeSet version node.now))) }
 {
-    writer.begin_object()?;
-    put_text(writer, "op", "node")?;
-    put_number(writer, "v", version.0)?;
+    put_head(writer, "node", version)?;
     put_text(writer, "name", node.name.as_str())?;
     put_amounts(alloc, writer, node.allocatable.cpu, node.allocatable.mem)?;
     put_number(writer, "pods", node.allocatable.pods as u64)?;
     put_labels(writer, node.labels.as_slice())?;
     put_taints(writer, node.taints.as_slice())?;
     put_flag(writer, "unschedulable", node.unschedulable)?;
-    writer.end_object()?;
-    Ok(())
-}
-
-// Writes that a node is gone.
-fn write_gone(writer: &mut Writer, version: Version, name: &Name) -> Result<(), AllocError>
-    ensures { Adds result writer.old writer.new (json_tokens (line_json (NodeGone version name.now))) }
-{
-    writer.begin_object()?;
-    put_text(writer, "op", "gone")?;
-    put_number(writer, "v", version.0)?;
-    put_text(writer, "name", name.as_str())?;
     writer.end_object()?;
     Ok(())
 }
@@ -92,9 +90,7 @@ fn write_pod(
 ) -> Result<(), AllocError>
     ensures { Adds result writer.old writer.new (json_tokens (line_json (PodPending version pod.now))) }
 {
-    writer.begin_object()?;
-    put_text(writer, "op", "pod")?;
-    put_number(writer, "v", version.0)?;
+    put_head(writer, "pod", version)?;
     put_text(writer, "uid", pod.uid.as_str())?;
     put_priority(writer, pod)?;
     put_request(alloc, writer, &pod.request)?;
@@ -116,9 +112,7 @@ fn write_bound(
     ensures { Adds result writer.old writer.new
         (json_tokens (line_json (PodBound version uid.now node.now request.now))) }
 {
-    writer.begin_object()?;
-    put_text(writer, "op", "bound")?;
-    put_number(writer, "v", version.0)?;
+    put_head(writer, "bound", version)?;
     put_text(writer, "uid", uid.as_str())?;
     put_text(writer, "node", node.as_str())?;
     put_amounts(alloc, writer, request.cpu, request.mem)?;
@@ -126,14 +120,20 @@ fn write_bound(
     Ok(())
 }
 
-// Writes that a pod is gone.
-fn write_deleted(writer: &mut Writer, version: Version, uid: &Name) -> Result<(), AllocError>
-    ensures { Adds result writer.old writer.new (json_tokens (line_json (PodGone version uid.now))) }
+// Writes that something is gone, by its name.
+fn write_named(
+    writer: &mut Writer,
+    op: &str,
+    version: Version,
+    field: &str,
+    name: &Name,
+) -> Result<(), AllocError>
+    ensures { Adds result writer.old writer.new
+        (begin_object ∷ key (codes "op") ∷ string op.now ∷ key (codes "v") ∷ number (decimal version.0)
+        ∷ key field.now ∷ string name.now ∷ end_object ∷ []) }
 {
-    writer.begin_object()?;
-    put_text(writer, "op", "deleted")?;
-    put_number(writer, "v", version.0)?;
-    put_text(writer, "uid", uid.as_str())?;
+    put_head(writer, op, version)?;
+    put_text(writer, field, name.as_str())?;
     writer.end_object()?;
     Ok(())
 }

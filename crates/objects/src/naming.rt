@@ -1,13 +1,11 @@
 //! How people know the object that a line of the API tells of.
-ghost use Rattle.std.specs.Prelude.{◌≡◌, ◌++◌, Some, IfOk};
+ghost use Rattle.std.specs.Prelude.{◌≡◌, ◌++◌, IfOk};
 ghost use Rattle.serde_json.specs.View.{view};
-ghost use Rattle.objects.specs.ObjectName.{kind_shown, namespace_shown, known_as, by_metadata, object_name, name_if, name_in};
+ghost use Rattle.objects.specs.ObjectName.{kind_shown, namespace_shown, known_as, object_name, name_in};
 
-use crate::field::spelled;
-use crate::key::Key;
 use crate::left_out::shown;
-use crate::reading::field;
-use crate::told::parse;
+use crate::reading::{field, spelled};
+use crate::told::{object_in, parse};
 use crate::translation::MAX_OBJECT;
 use serde_json::Value;
 use std::alloc::{AllocError, Global};
@@ -25,31 +23,21 @@ pub fn object_name(alloc: Global, line: &[u8]) -> Result<Vec<u8>, AllocError>
         return Ok(Vec::new(alloc));
     }
     match parse(alloc, line)? {
-        Some(json) => name_of(alloc, &json),
+        Some(json) => name_of(alloc, object_in(&json)),
         None => Ok(Vec::new(alloc)),
     }
 }
 
-// The name of an object, or of the one that an event of the watch holds.
-fn name_of(alloc: Global, json: &Value) -> Result<Vec<u8>, AllocError>
-    ensures { IfOk result (λ name. name.items ≡ name_if (Some (view json.now))) }
-{
-    match field(json, Key::Object) {
-        Some(held) => name_alone(alloc, held),
-        None => name_alone(alloc, json),
-    }
-}
-
-// The name of an object that stands alone.
+// The name of an object.
 #[tactic(auto, unfolding(crate::specs::ObjectName::object_name))]
-fn name_alone(alloc: Global, json: &Value) -> Result<Vec<u8>, AllocError>
+fn name_of(alloc: Global, json: &Value) -> Result<Vec<u8>, AllocError>
     ensures { IfOk result (λ name. name.items ≡ object_name (view json.now)) }
 {
-    let kind = spelled(json, Key::Kind);
-    match field(json, Key::Metadata) {
+    let kind = spelled(json, "kind");
+    match field(json, "metadata") {
         Some(meta) => {
-            let namespace = spelled(meta, Key::Namespace);
-            known_as(alloc, kind, namespace, spelled(meta, Key::Name))
+            let namespace = spelled(meta, "namespace");
+            known_as(alloc, kind, namespace, spelled(meta, "name"))
         }
         None => Ok(Vec::new(alloc)),
     }

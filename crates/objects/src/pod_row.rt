@@ -3,22 +3,43 @@ ghost use Rattle.std.specs.Prelude.{◌≡◌, ◌+◌, ◌<◌, ◌++◌, [], l
 ghost use Rattle.quant.specs.Name.{is_name};
 ghost use Rattle.serde_json.specs.Find.{as_number, as_i64};
 ghost use Rattle.serde_json.specs.View.{view};
-ghost use Rattle.objects.specs.Reading.{Gives, Answers};
-ghost use Rattle.objects.specs.PodRow.{pod_name, a_priority, priority, pod_row};
-ghost use Rattle.objects.specs.Sayable.{IsPodRow};
+ghost use Rattle.objects.specs.inside.Answers.{Gives, Answers};
+ghost use Rattle.objects.specs.PodRow.{pod_name, a_priority, priority, pod_parts, pod_row};
+ghost use Rattle.objects.specs.inside.Events.{IsPodRow};
 
 use crate::demands::put_wishes;
-use crate::fault::ObjectFault;
-use crate::field::{items_of, members_of, name_at, text_at, text_or};
-use crate::key::Key;
+use crate::fault::{ObjectFault, Why};
 use crate::labels::fill_labels;
-use crate::pod::pod_request;
-use crate::reading::field;
+use crate::reading::{field, items_at, members_at, name_at, part_of, text_at, text_or};
+use crate::request::{Reckoned, request};
 use crate::tolerations::take_tolerations;
 use arrayvec::ArrayVec;
 use quant::{MAX_NAME, Name, Pod};
 use serde_json::Value;
 use std::alloc::Global;
+
+// A pod's row without its labels and its tolerations, unless a fault comes first.
+#[tactic(auto, unfolding(crate::specs::PodRow::pod_parts))]
+fn pod_alone(
+    alloc: Global,
+    meta: &Value,
+    spec: &Value,
+    json: &Value,
+    by_uid: bool,
+) -> Result<Pod, ObjectFault>
+    ensures value { Gives (λ pod. (pod.uid, pod.priority, pod.request)) result
+        (pod_parts by_uid (view meta.now) (view spec.now) (view json.now)) }
+    ensures bare { IfOk result (λ pod. (pod.labels.items ≡ []) × (pod.tolerations.items ≡ [])) }
+    ensures sayable { IfOk result IsPodRow }
+{
+    Ok(Pod {
+        uid: pod_name(meta, by_uid)?,
+        priority: priority(spec)?,
+        request: request(alloc, json, spec, Reckoned::Waiting)?,
+        labels: ArrayVec::new(),
+        tolerations: ArrayVec::new(),
+    })
+}
 
 // The row of a pod's object, in which the labels of these names come first, and beside it the names
 // of what it leaves out, unless a fault comes first.
@@ -31,21 +52,15 @@ pub(crate) fn pod_row(
     out: &mut Vec<u8>,
 ) -> Result<Pod, ObjectFault>
     requires { out.old.items ≡ [] }
-    ensures value { Gives (λ pod. record { pod = pod; left_out = out.new.items }) result
+    ensures value { Gives (λ pod. record { item = pod; left_out = out.new.items }) result
         (pod_row names.now by_uid (view json.now)) }
     ensures sayable { IfOk result IsPodRow }
 {
-    let meta = field(json, Key::Metadata).ok_or(ObjectFault::BadField(Key::Metadata))?;
-    let spec = field(json, Key::Spec).ok_or(ObjectFault::BadField(Key::Spec))?;
-    let mut pod = Pod {
-        uid: pod_name(meta, by_uid)?,
-        priority: priority(spec)?,
-        request: pod_request(alloc, json)?,
-        labels: ArrayVec::new(),
-        tolerations: ArrayVec::new(),
-    };
-    let labels = members_of(field(meta, Key::Labels), Key::Labels)?;
-    let tolerations = items_of(field(spec, Key::Tolerations), Key::Tolerations)?;
+    let meta = part_of(json, "metadata")?;
+    let spec = part_of(json, "spec")?;
+    let mut pod = pod_alone(alloc, meta, spec, json, by_uid)?;
+    let labels = members_at(meta, "labels")?;
+    let tolerations = items_at(spec, "tolerations")?;
     put_wishes(out, spec)?;
     fill_labels(&mut pod.labels, out, labels, names)?;
     take_tolerations(&mut pod.tolerations, out, tolerations)?;
@@ -59,13 +74,13 @@ pub(crate) fn pod_name(meta: &Value, by_uid: bool) -> Result<Name, ObjectFault>
     ensures { Answers result (pod_name by_uid (view meta.now)) }
 {
     if by_uid {
-        return name_at(meta, Key::Uid);
+        return name_at(meta, "uid");
     }
-    let namespace = text_or(meta, Key::Namespace, "default")?;
-    let name = text_at(meta, Key::Name)?;
+    let namespace = text_or(meta, "namespace", "default")?;
+    let name = text_at(meta, "name")?;
     match full_name(namespace, name) {
         Some(name) => Ok(name),
-        None => name_at(meta, Key::Uid),
+        None => name_at(meta, "uid"),
     }
 }
 
@@ -97,7 +112,7 @@ fn put_behind(text: &mut ArrayVec<u8, MAX_NAME>, more: &str) -> Option<()>
 fn priority(spec: &Value) -> Result<i32, ObjectFault>
     ensures { Answers result (priority (view spec.now)) }
 {
-    match field(spec, Key::Priority) {
+    match field(spec, "priority") {
         Some(value) => priority_from(value),
         None => Ok(0),
     }
@@ -109,6 +124,6 @@ fn priority_from(value: &Value) -> Result<i32, ObjectFault>
 {
     match value.as_i64() {
         Some(n) if i64::from(i32::MIN) <= n && n <= i64::from(i32::MAX) => Ok(n as i32),
-        _ => Err(ObjectFault::BadField(Key::Priority)),
+        _ => Err(ObjectFault::Refused(Why::BadField, "priority")),
     }
 }

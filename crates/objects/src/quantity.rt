@@ -3,72 +3,52 @@ ghost use Rattle.std.specs.Prelude.{◌≡◌, ◌+◌, ◌*◌, ◌^◌, ◌<�
 ghost use Rattle.std.specs.List.{list_all};
 ghost use Rattle.quant.specs.Amount.{is_digit};
 ghost use Rattle.objects.specs.Ratio.{rounded};
-ghost use Rattle.objects.specs.Quantity.{quantity, worth, at_most, told_within, of_nothing, cpu_asked, cpu_offered, memory_asked, memory_offered, pods_offered};
+ghost use Rattle.objects.specs.Quantity.{quantity, worth, at_most, told_within, of_nothing, places, most};
 
 use crate::digits::{
-    BEYOND, are_zeros, number_in_front, rounded_behind, split_digits, split_fraction, split_sign,
+    BEYOND, are_zeros, number_in_front, rounded_behind, split_fraction, split_sign,
 };
 use crate::fault::QuantityFault;
-use crate::rounding::Rounding;
+use crate::resource::Resource;
 use crate::suffix::{Suffix, power_of_ten, suffix_named};
-use quant::{Bytes, Cpu, MAX_CPU, MAX_MEM, MAX_PLACED};
+use quant::split_digits;
 
-// Decimal places of an amount that is counted in thousandths, and of one that is counted in ones.
-const THOUSANDTHS: usize = 3;
-
-const ONES: usize = 0;
-
-/// The amount of CPU that a container asks for, in thousandths of a core, rounded up.
-///
-/// Errors: `NotAQuantity` where the text is no quantity, `FarExponent` where its exponent has more
-/// than two digits behind zeros in front and its other digits aren't all zeros, `Negative` below 0,
-/// and `TooLarge` above 2^30 thousandths of a core, in this order.
-pub fn cpu_asked(text: &[u8]) -> Result<Cpu, QuantityFault>
-    ensures value { result ≡ cpu_asked text.now }
-    ensures bounded { IfOk result (λ cpu. cpu.0 ≤ 2 ^ 30) }
-{
-    Ok(Cpu(read(text, Rounding::Up, THOUSANDTHS, MAX_CPU)?))
+/// Which way a fraction is rounded.
+#[derive(Clone, Copy)]
+pub(crate) enum Rounding {
+    /// To the next greater whole number, as what is asked for is.
+    Up,
+    /// To the next lesser whole number, as what is there is.
+    Down,
 }
 
-/// The amount of CPU that a node has, in thousandths of a core, rounded down, and 2^30 where it is
-/// more.
-///
-/// Errors: as of `cpu_asked`, but for `TooLarge`.
-pub fn cpu_offered(text: &[u8]) -> Result<Cpu, QuantityFault>
-    ensures value { result ≡ cpu_offered text.now }
-    ensures bounded { IfOk result (λ cpu. cpu.0 ≤ 2 ^ 30) }
-{
-    Ok(Cpu(read(text, Rounding::Down, THOUSANDTHS, MAX_CPU)?))
+impl Rounding {
+    // A tenth of a number.
+    pub(crate) fn tenth(self, number: u64) -> u64
+        ensures { result ≡ rounded self (record { over = number; under = 10 }) }
+    {
+        match self {
+            Rounding::Up => number.div_ceil(10),
+            Rounding::Down => number / 10,
+        }
+    }
 }
 
-/// The amount of memory that a container asks for, in bytes, rounded up.
-///
-/// Errors: as of `cpu_asked`, but that `TooLarge` is told above 2^44 bytes.
-pub fn memory_asked(text: &[u8]) -> Result<Bytes, QuantityFault>
-    ensures value { result ≡ memory_asked text.now }
-    ensures bounded { IfOk result (λ memory. memory.0 ≤ 2 ^ 44) }
+// How much of a resource a text of the API spells.
+//
+// Errors: `NotAQuantity` where the text is no quantity, `FarExponent` where its exponent has more
+// than two digits behind zeros in front and its other digits aren't all zeros, `Negative` below 0,
+// and `TooLarge` above the most that a line can say, in this order. What is there of a resource,
+// rounded down, is told as the most where it is more.
+pub(crate) fn quantity(
+    text: &[u8],
+    resource: Resource,
+    rounding: Rounding,
+) -> Result<u64, QuantityFault>
+    ensures value { result ≡ quantity rounding (places resource) (most resource) text.now }
+    ensures bounded { IfOk result (λ amount. amount ≤ most resource) }
 {
-    Ok(Bytes(read(text, Rounding::Up, ONES, MAX_MEM)?))
-}
-
-/// The amount of memory that a node has, in bytes, rounded down, and 2^44 where it is more.
-///
-/// Errors: as of `memory_asked`, but for `TooLarge`.
-pub fn memory_offered(text: &[u8]) -> Result<Bytes, QuantityFault>
-    ensures value { result ≡ memory_offered text.now }
-    ensures bounded { IfOk result (λ memory. memory.0 ≤ 2 ^ 44) }
-{
-    Ok(Bytes(read(text, Rounding::Down, ONES, MAX_MEM)?))
-}
-
-/// How many pods a node takes, rounded down, and 150,000 where it is more.
-///
-/// Errors: as of `cpu_asked`, but for `TooLarge`.
-pub fn pods_offered(text: &[u8]) -> Result<u32, QuantityFault>
-    ensures value { result ≡ pods_offered text.now }
-    ensures bounded { IfOk result (λ pods. pods ≤ 150000) }
-{
-    Ok(read(text, Rounding::Down, ONES, MAX_PLACED as u64)? as u32)
+    read(text, rounding, resource.places(), resource.most())
 }
 
 // What a quantity comes to, rounded to so many decimal places.

@@ -1,182 +1,176 @@
-//! From a JSON value to what one field of an object says.
-ghost use Rattle.std.specs.Prelude.{◌≡◌, ◌≤◌, ◌^◌, IfOk, option_map};
-ghost use Rattle.serde_json.specs.View.{view};
-ghost use Rattle.objects.specs.Reading.{field, field_at, under, listed_in, in_resources, asked, found_in, within, cpu_from, cpu_if, cpu_in, memory_from, memory_if, memory_in};
-ghost use Rattle.objects.specs.inside.Exactly.{Tells};
+//! From a JSON value to what its fields say.
+ghost use Rattle.std.specs.Prelude.{◌≡◌, option_map, option_and_then};
+ghost use Rattle.serde_json.specs.Find.{as_str};
+ghost use Rattle.serde_json.specs.View.{view, items_view, members_view};
+ghost use Rattle.objects.specs.Reading.{field, within, part_of, text_at, text_or, name_at, flag_of, members_of, items_of, spelled, is_something, is_given};
+ghost use Rattle.objects.specs.inside.Answers.{Gives, Answers, Tells};
+ghost use Rattle.objects.specs.inside.Members.{members_or_none};
 
-use crate::fault::ObjectFault;
-use crate::key::Key;
-use crate::quantity::{cpu_asked, memory_asked};
-use quant::{Bytes, Cpu};
-use serde_json::Value;
+use crate::fault::{ObjectFault, Why};
+use quant::Name;
+use serde_json::{Map, Value};
 
 // The value under a key, where there is one.
 #[tactic(auto, unfolding(crate::specs::Reading::field))]
-pub(crate) fn field(object: &Value, key: Key) -> Option<&Value>
-    ensures { option_map (λ value. view value.now) result ≡ field key (view object.now) }
+pub(crate) fn field<'a>(object: &'a Value, key: &str) -> Option<&'a Value>
+    ensures { option_map (λ value. view value.now) result ≡ field key.now (view object.now) }
 {
-    match object.get(key.name()) {
+    match object.get(key) {
         Some(value) if !value.is_null() => Some(value),
         _ => None,
     }
 }
 
-// A field of a value, which stands in the field `holder` and has to be an object.
-#[tactic(auto, unfolding(crate::specs::Reading::field_at))]
-fn field_at(object: &Value, holder: Key, key: Key) -> Result<Option<&Value>, ObjectFault>
-    ensures { Tells (λ found. option_map (λ v. view v.now) found) result (field_at holder key (view object.now)) }
-{
-    if object.as_object().is_none() {
-        return Err(ObjectFault::BadField(holder));
-    }
-    Ok(field(object, key))
-}
-
-// A field of what stands in the field `holder`, where something does.
-fn under(value: Option<&Value>, holder: Key, key: Key) -> Result<Option<&Value>, ObjectFault>
-    ensures { Tells (λ found. option_map (λ v. view v.now) found) result
-        (under holder key (option_map (λ v. view v.now) value.entry)) }
-{
-    match value {
-        Some(object) => field_at(object, holder, key),
-        None => Ok(None),
-    }
-}
-
-// An amount in a field of amounts.
-#[tactic(auto, unfolding(crate::specs::Reading::listed_in))]
-fn listed_in(
-    object: &Value,
-    holder: Key,
-    part: Key,
-    resource: Key,
-) -> Result<Option<&Value>, ObjectFault>
-    ensures { Tells (λ found. option_map (λ v. view v.now) found) result
-        (listed_in holder part resource (view object.now)) }
-{
-    let amounts = field_at(object, holder, part)?;
-    under(amounts, part, resource)
-}
-
-// An amount in a part of an object's resources.
-#[tactic(auto, unfolding(crate::specs::Reading::in_resources))]
-fn in_resources(
-    object: &Value,
-    holder: Key,
-    part: Key,
-    resource: Key,
-) -> Result<Option<&Value>, ObjectFault>
-    ensures { Tells (λ found. option_map (λ v. view v.now) found) result
-        (in_resources holder part resource (view object.now)) }
-{
-    let resources = field_at(object, holder, Key::Resources)?;
-    let amounts = under(resources, Key::Resources, part)?;
-    under(amounts, part, resource)
-}
-
-// How much is asked for of a resource: a request, or a limit where there is no request.
-#[tactic(auto, unfolding(crate::specs::Reading::asked))]
-fn asked(object: &Value, holder: Key, resource: Key) -> Result<Option<&Value>, ObjectFault>
-    ensures { Tells (λ found. option_map (λ v. view v.now) found) result (asked holder resource (view object.now)) }
-{
-    let request = in_resources(object, holder, Key::Requests, resource)?;
-    let limit = in_resources(object, holder, Key::Limits, resource)?;
-    Ok(request.or(limit))
-}
-
-/// Where an object tells amounts.
-#[derive(Clone, Copy)]
-pub(crate) enum Part {
-    /// What it asks for.
-    Asked,
-    /// What running a pod costs beside its containers.
-    Overhead,
-    /// What a status says that the node has set aside.
-    Allocated,
-    /// What a status says that is in force.
-    Requested,
-}
-
-// What a part of an object says of a resource.
-#[tactic(auto, unfolding(crate::specs::Reading::found_in))]
-fn found_in(
-    object: &Value,
-    holder: Key,
-    part: Part,
-    resource: Key,
-) -> Result<Option<&Value>, ObjectFault>
-    ensures { Tells (λ found. option_map (λ v. view v.now) found) result
-        (found_in part holder resource (view object.now)) }
-{
-    match part {
-        Part::Asked => asked(object, holder, resource),
-        Part::Overhead => listed_in(object, holder, Key::Overhead, resource),
-        Part::Allocated => listed_in(object, holder, Key::AllocatedResources, resource),
-        Part::Requested => in_resources(object, holder, Key::Requests, resource),
-    }
-}
-
-// The thousandths of a core that a part of an object tells, which stands in the field `holder`.
-pub(crate) fn cpu_in(object: &Value, holder: Key, part: Part) -> Result<Cpu, ObjectFault>
-    ensures value { result ≡ cpu_in part holder (view object.now) }
-    ensures bounded { IfOk result (λ cpu. cpu.0 ≤ 2 ^ 30) }
-{
-    cpu_if(found_in(object, holder, part, Key::Cpu)?)
-}
-
-// The bytes of memory that a part of an object tells, which stands in the field `holder`.
-pub(crate) fn memory_in(object: &Value, holder: Key, part: Part) -> Result<Bytes, ObjectFault>
-    ensures value { result ≡ memory_in part holder (view object.now) }
-    ensures bounded { IfOk result (λ memory. memory.0 ≤ 2 ^ 44) }
-{
-    memory_if(found_in(object, holder, part, Key::Memory)?)
-}
-
 // A field of a field.
-pub(crate) fn within(object: &Value, outer: Key, inner: Key) -> Option<&Value>
-    ensures { option_map (λ value. view value.now) result ≡ within outer inner (view object.now) }
+pub(crate) fn within<'a>(object: &'a Value, outer: &str, inner: &str) -> Option<&'a Value>
+    ensures { option_map (λ value. view value.now) result ≡ within outer.now inner.now (view object.now) }
 {
     field(field(object, outer)?, inner)
 }
 
-// The thousandths of a core that a value spells, and none where there is no value.
-fn cpu_if(value: Option<&Value>) -> Result<Cpu, ObjectFault>
-    ensures value { result ≡ cpu_if (option_map (λ v. view v.now) value.entry) }
-    ensures bounded { IfOk result (λ cpu. cpu.0 ≤ 2 ^ 30) }
+// A field that has to be there.
+#[tactic(auto, unfolding(crate::specs::Reading::part_of))]
+pub(crate) fn part_of<'a>(object: &'a Value, key: &'static str) -> Result<&'a Value, ObjectFault>
+    ensures { Gives (λ value. view value.now) result (part_of key.now (view object.now)) }
 {
-    match value {
-        Some(value) => cpu_from(value),
-        None => Ok(Cpu(0)),
+    field(object, key).ok_or(ObjectFault::Refused(Why::BadField, key))
+}
+
+// The text in a field, where there is one.
+fn text_in<'a>(object: &'a Value, key: &str) -> Option<&'a str>
+    ensures { option_map (λ text. text.now) result ≡ option_and_then as_str (field key.now (view object.now)) }
+{
+    field(object, key)?.as_str()
+}
+
+// A text that has to be there.
+#[tactic(auto, unfolding(crate::specs::Reading::text_at))]
+pub(crate) fn text_at<'a>(object: &'a Value, key: &'static str) -> Result<&'a str, ObjectFault>
+    ensures { Gives (λ text. text.now) result (text_at key.now (view object.now)) }
+{
+    text_in(object, key).ok_or(ObjectFault::Refused(Why::BadField, key))
+}
+
+// A text that stands for another where it is absent.
+#[tactic(auto, unfolding(crate::specs::Reading::text_or))]
+pub(crate) fn text_or<'a>(
+    object: &'a Value,
+    key: &'static str,
+    absent: &'static str,
+) -> Result<&'a str, ObjectFault>
+    ensures { Gives (λ text. text.now) result (text_or key.now absent.now (view object.now)) }
+{
+    match field(object, key) {
+        Some(value) => value
+            .as_str()
+            .ok_or(ObjectFault::Refused(Why::BadField, key)),
+        None => Ok(absent),
     }
 }
 
-// The thousandths of a core that a value spells.
-#[tactic(auto, unfolding(crate::specs::Reading::cpu_from))]
-fn cpu_from(value: &Value) -> Result<Cpu, ObjectFault>
-    ensures value { result ≡ cpu_from (view value.now) }
-    ensures bounded { IfOk result (λ cpu. cpu.0 ≤ 2 ^ 30) }
+// A name that has to be there.
+#[tactic(auto, unfolding(crate::specs::Reading::name_at))]
+pub(crate) fn name_at(object: &Value, key: &'static str) -> Result<Name, ObjectFault>
+    ensures { Answers result (name_at key.now (view object.now)) }
 {
-    let text = value.as_str().ok_or(ObjectFault::BadField(Key::Cpu))?;
-    cpu_asked(text.as_bytes()).map_err(|fault| ObjectFault::Quantity(Key::Cpu, fault))
-}
-
-// The bytes of memory that a value spells, and none where there is no value.
-fn memory_if(value: Option<&Value>) -> Result<Bytes, ObjectFault>
-    ensures value { result ≡ memory_if (option_map (λ v. view v.now) value.entry) }
-    ensures bounded { IfOk result (λ memory. memory.0 ≤ 2 ^ 44) }
-{
-    match value {
-        Some(value) => memory_from(value),
-        None => Ok(Bytes(0)),
+    let text = text_at(object, key)?;
+    match Name::new(text.as_bytes()) {
+        Ok(name) => Ok(name),
+        Err(_) => Err(ObjectFault::Refused(Why::BadName, key)),
     }
 }
 
-// The bytes of memory that a value spells.
-#[tactic(auto, unfolding(crate::specs::Reading::memory_from))]
-pub(crate) fn memory_from(value: &Value) -> Result<Bytes, ObjectFault>
-    ensures value { result ≡ memory_from (view value.now) }
-    ensures bounded { IfOk result (λ memory. memory.0 ≤ 2 ^ 44) }
+// Yes or no, which is no where it is absent.
+pub(crate) fn flag_of(value: Option<&Value>, key: &'static str) -> Result<bool, ObjectFault>
+    ensures { Answers result (flag_of key.now (option_map (λ v. view v.now) value.entry)) }
 {
-    let text = value.as_str().ok_or(ObjectFault::BadField(Key::Memory))?;
-    memory_asked(text.as_bytes()).map_err(|fault| ObjectFault::Quantity(Key::Memory, fault))
+    match value {
+        Some(value) => value
+            .as_bool()
+            .ok_or(ObjectFault::Refused(Why::BadField, key)),
+        None => Ok(false),
+    }
+}
+
+// The members of an object, which may be absent.
+pub(crate) fn members_of<'a>(
+    value: Option<&'a Value>,
+    key: &'static str,
+) -> Result<Option<&'a Map<String, Value>>, ObjectFault>
+    ensures { Gives (λ found. members_or_none (option_map (λ m. members_view m.now.entries) found)) result
+        (members_of key.now (option_map (λ v. view v.now) value.entry)) }
+{
+    let Some(value) = value else {
+        return Ok(None);
+    };
+    match value.as_object() {
+        Some(found) => Ok(Some(found)),
+        None => Err(ObjectFault::Refused(Why::BadField, key)),
+    }
+}
+
+// The items of an array, of which there are none where it is absent.
+pub(crate) fn items_of<'a>(
+    value: Option<&'a Value>,
+    key: &'static str,
+) -> Result<&'a [Value], ObjectFault>
+    ensures { Tells (λ found. items_view found.now) result (items_of key.now (option_map (λ v. view v.now) value.entry)) }
+{
+    let Some(value) = value else {
+        return Ok(&[]);
+    };
+    match value.as_array() {
+        Some(found) => Ok(found.as_slice()),
+        None => Err(ObjectFault::Refused(Why::BadField, key)),
+    }
+}
+
+// The members of the object in a field, which may be absent.
+pub(crate) fn members_at<'a>(
+    object: &'a Value,
+    key: &'static str,
+) -> Result<Option<&'a Map<String, Value>>, ObjectFault>
+    ensures { Gives (λ found. members_or_none (option_map (λ m. members_view m.now.entries) found)) result
+        (members_of key.now (field key.now (view object.now))) }
+{
+    members_of(field(object, key), key)
+}
+
+// The items of the array in a field, which may be absent.
+pub(crate) fn items_at<'a>(object: &'a Value, key: &'static str) -> Result<&'a [Value], ObjectFault>
+    ensures { Gives (λ found. items_view found.now) result (items_of key.now (field key.now (view object.now))) }
+{
+    items_of(field(object, key), key)
+}
+
+// The text in a field, which is empty where there is none.
+pub(crate) fn spelled<'a>(object: &'a Value, key: &str) -> &'a str
+    ensures { result.now ≡ spelled key.now (view object.now) }
+{
+    match text_in(object, key) {
+        Some(text) => text,
+        None => "",
+    }
+}
+
+// Whether something stands in a value, which may be absent.
+pub(crate) fn is_given(value: Option<&Value>) -> bool
+    ensures { result ≡ is_given (option_map (λ v. view v.now) value.entry) }
+{
+    match value {
+        Some(value) => is_something(value),
+        None => false,
+    }
+}
+
+// Whether something stands in a value: an empty array or object is nothing.
+#[tactic(auto, using(crate::proofs::Items::array_is_something))]
+fn is_something(value: &Value) -> bool
+    ensures { result ≡ is_something (view value.now) }
+{
+    match value {
+        Value::Array(items) => !items.as_slice().is_empty(),
+        Value::Object(members) => members.len() != 0,
+        _ => true,
+    }
 }

@@ -2,8 +2,9 @@
 ghost use Rattle.std.specs.Prelude.{◌≡◌, ◌≤◌, IfOk};
 ghost use Rattle.objects.specs.Suffix.{suffix_named, exponent, exponent_digits, power_of_ten, power_of_two};
 
-use crate::digits::{are_digits, behind_zeros, number_of, split_sign};
+use crate::digits::{behind_zeros, number_of, split_sign};
 use crate::fault::QuantityFault;
+use quant::are_digits;
 
 // The most digits of an exponent, of which zeros in front are none.
 const MAX_EXPONENT_DIGITS: usize = 2;

@@ -5,14 +5,16 @@ ghost use Rattle.arrayvec.specs.ArrayVec.{array_vec_len};
 ghost use Rattle.serde_json.specs.View.{view, items_view};
 ghost use Rattle.quant.specs.Effect.{same_effect};
 ghost use Rattle.manifest.specs.Rows.{effect_named};
-ghost use Rattle.objects.specs.Reading.{Gives, Answers};
-ghost use Rattle.objects.specs.NodeRow.{a_taint, taint_of, taints_of, taints};
-ghost use Rattle.objects.specs.Sayable.{each_beside, says_taint};
+ghost use Rattle.objects.specs.inside.Answers.{Gives, Answers};
+ghost use Rattle.objects.specs.Reading.{each};
+ghost use Rattle.objects.specs.NodeRow.{a_taint, taint_of, taints};
+ghost use Rattle.objects.specs.Sayable.{says_taint};
+ghost use Rattle.objects.specs.inside.Events.{each_beside};
 
-use crate::fault::ObjectFault;
-use crate::field::{items_of, text_at, text_or};
-use crate::key::Key;
+use crate::fault::{ObjectFault, Why};
+use crate::reading::{items_of, text_at, text_or};
 use arrayvec::ArrayVec;
+use manifest::{effect_named, has_taint};
 use quant::{Effect, MAX_TAINTS, Name, Taint, Text};
 use serde_json::Value;
 
@@ -27,9 +29,9 @@ pub(crate) fn fill_taints(
     ensures sayable { OnOk result (each_beside says_taint [] row.new.items ≡ true) }
     ensures few { OnOk result (length row.new.items ≤ 8) }
 {
-    let found = items_of(value, Key::Taints)?;
+    let found = items_of(value, "taints")?;
     if found.len() > MAX_TAINTS {
-        return Err(ObjectFault::TooMany(Key::Taints));
+        return Err(ObjectFault::Refused(Why::TooMany, "taints"));
     }
     take_taints(row, found)
 }
@@ -38,7 +40,7 @@ pub(crate) fn fill_taints(
 #[tactic(auto, using(crate::proofs::Beside::taint_beside))]
 fn take_taints(row: &mut ArrayVec<Taint, MAX_TAINTS>, found: &[Value]) -> Result<(), ObjectFault>
     requires { array_vec_len row.old + length found.now ≤ 8 }
-    ensures value { Gives (λ _. row.new.items) result (taints_of row.old.items (items_view found.now)) }
+    ensures value { Gives (λ _. row.new.items) result (each taint_of row.old.items (items_view found.now)) }
     ensures sayable { each_beside says_taint [] row.old.items ≡ true
         → OnOk result (each_beside says_taint [] row.new.items ≡ true) }
     ensures few { OnOk result (length row.new.items ≤ 8) }
@@ -56,44 +58,27 @@ fn taint_of(before: &[Taint], item: &Value) -> Result<Taint, ObjectFault>
     ensures value { Answers result (taint_of before.now (view item.now)) }
     ensures sayable { IfOk result (λ taint. says_taint before.now taint ≡ true) }
 {
-    let key = text_at(item, Key::LabelKey)?;
-    let value = text_or(item, Key::LabelValue, "")?;
-    let named = text_at(item, Key::Effect)?;
-    let effect = effect_named(named).ok_or(ObjectFault::BadField(Key::Effect))?;
+    let key = text_at(item, "key")?;
+    let value = text_or(item, "value", "")?;
+    let named = text_at(item, "effect")?;
+    let effect = effect_named(named).ok_or(ObjectFault::Refused(Why::BadField, "effect"))?;
     a_taint(before, key, value, effect)
 }
 
 // The taint of these parts beside those before it.
 #[tactic(auto, unfolding(crate::specs::Sayable::says_taint))]
 fn a_taint(before: &[Taint], key: &str, value: &str, effect: Effect) -> Result<Taint, ObjectFault>
-    ensures value { result ≡ a_taint before.now (record { key = key.now; value = value.now; effect = effect }) }
+    ensures value { Answers result (a_taint before.now (record { key = key.now; value = value.now; effect = effect })) }
     ensures sayable { IfOk result (λ taint. says_taint before.now taint ≡ true) }
 {
-    let key = Name::new(key.as_bytes()).map_err(|_| ObjectFault::BadName(Key::Taints))?;
-    let value = Text::new(value.as_bytes()).map_err(|_| ObjectFault::BadName(Key::Taints))?;
+    let Ok(key) = Name::new(key.as_bytes()) else {
+        return Err(ObjectFault::Refused(Why::BadName, "taints"));
+    };
+    let Ok(value) = Text::new(value.as_bytes()) else {
+        return Err(ObjectFault::Refused(Why::BadName, "taints"));
+    };
     if has_taint(before, &key, effect) {
-        return Err(ObjectFault::BadName(Key::Taints));
+        return Err(ObjectFault::Refused(Why::BadName, "taints"));
     }
     Ok(Taint { key, value, effect })
-}
-
-// Whether one of the taints has both this key and this effect.
-fn has_taint(taints: &[Taint], key: &Name, effect: Effect) -> bool
-    ensures { result ≡ list_any
-        (λ taint. bytes_eq taint.key key.now && same_effect taint.effect effect) taints.now }
-{
-    taints.iter().any(|taint| taint.key.as_bytes() == key.as_bytes() && taint.effect == effect)
-}
-
-// The effect of this name.
-#[tactic(auto, unfolding(manifest::specs::Rows::effect_named))]
-pub(crate) fn effect_named(name: &str) -> Option<Effect>
-    ensures { result ≡ effect_named name.now }
-{
-    match name {
-        "NoSchedule" => Some(Effect::NoSchedule),
-        "PreferNoSchedule" => Some(Effect::PreferNoSchedule),
-        "NoExecute" => Some(Effect::NoExecute),
-        _ => None,
-    }
 }

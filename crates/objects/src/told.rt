@@ -1,52 +1,140 @@
 //! What an object of the API, or an event of its watch, gives a script.
-ghost use Rattle.std.specs.Prelude.{◌≡◌, ◌++◌, [], Some, Ok, Err, is_some, IfOk, option_and_then, option_map, if◌then◌else◌};
+ghost use Rattle.std.specs.Prelude.{◌≡◌, ◌++◌, [], List, ℕ, Result, Some, None, Ok, Err, is_some, IfOk, option_and_then, option_map, if◌then◌else◌};
 ghost use Rattle.serde_json.specs.View.{view};
 ghost use Rattle.serde_json.specs.Find.{as_array, as_object, as_str};
-ghost use Rattle.objects.specs.declared.fault.ObjectFault.TheVariants as faults;
+ghost use Rattle.objects.specs.declared.change.Kind.TheVariants as kinds;
+ghost use Rattle.quant.specs.declared.event.Event.TheVariants.{PodPending};
+ghost use Rattle.objects.specs.declared.change.Change.TheVariants as changes;
+ghost use Rattle.objects.specs.declared.fault.Why.TheVariants as whys;
+ghost use Rattle.objects.specs.LeftOut.{Fault, refused, fault_text};
 ghost use Rattle.objects.specs.PodRow.{pod_row};
-ghost use Rattle.objects.specs.Reading.{Gives, Answers};
 ghost use Rattle.objects.specs.Sayable.{IsVersion};
-ghost use Rattle.objects.specs.Told.{nothing, node_told, waiting_row, scheduler_of, other_scheduler, kept_back, waiting_told, bound_left_out, bound_told, is_end, has_ended, node_name, spec_told, pod_told, core_kind, kind_in, has_pod_shape, has_node_shape, kind_by_shape, kind_of, other_told, object_told, change_of, is_bookmark, event_told, value_told, is_space, is_blank, parsed, line_told};
-ghost use Rattle.objects.specs.inside.Gone.{as_told};
+ghost use Rattle.objects.specs.Site.{site_of, telling};
+ghost use Rattle.objects.specs.Told.{saying, name_in, name_of, gone, gone_told, event_if, gone_if, row_told, scheduler_of, other_scheduler, kept_back, waiting_told, bound_left_out, placed_told, bound_told, node_name, by_node, is_end, has_ended, pod_told, there_told, kind_told, core_kind, has_pod_shape, has_node_shape, kind_by_shape, kind_of, other_told, object_told, object_in, change_of, is_bookmark, value_told, is_space, is_blank, parsed, line_told};
+ghost use Rattle.objects.specs.inside.Answers.{Gives, Answers};
 ghost use Rattle.objects.specs.inside.Said.{IsSaid};
-ghost use Rattle.objects.specs.Site.{site_of};
+ghost use Rattle.objects.specs.inside.Telling.{how_told, as_told};
 
-use crate::change::Change;
-use crate::counted::{counted, put_counted_left_out, put_held_left_out};
+use crate::change::{Change, Kind};
 use crate::demands::{put_affinity, put_demands};
-use crate::fault::ObjectFault;
-use crate::field::{spelled, text_or};
-use crate::gone::{Kind, Telling, fault_told, gone_if, gone_told};
-use crate::key::Key;
-use crate::left_out::{put_left_out, put_left_out_if};
+use crate::fault::{ObjectFault, Why};
+use crate::left_out::{put_left_out, put_left_out_if, put_refused};
 use crate::node_row::node_row;
 use crate::pod_row::{pod_name, pod_row};
-use crate::reading::{field, within};
-use crate::site::Site;
+use crate::reading::{field, name_at, part_of, spelled, text_or, within};
+use crate::request::{Reckoned, put_held_left_out, put_more_left_out, request};
+use crate::site::{Site, Telling};
 use crate::translation::MAX_OBJECT;
 use quant::{Event, Name, SharedNode, SharedPod, Version};
 use serde_json::Value;
 use std::alloc::{AllocError, Global};
 
-// What is told of a node.
-#[tactic(auto, unfolding(crate::specs::Told::node_told), using(crate::proofs::Faults::node_fault))]
+// The name by which a script calls an object.
+fn name_of(json: &Value, kind: Kind, by_uid: bool) -> Result<Name, ObjectFault>
+    ensures { Answers result (name_of kind by_uid (view json.now)) }
+{
+    let meta = part_of(json, "metadata")?;
+    match kind {
+        Kind::Node => name_at(meta, "name"),
+        Kind::Pod => pod_name(meta, by_uid),
+    }
+}
+
+// That an object is gone.
+fn gone(kind: Kind, version: Version, name: Name) -> Event
+    ensures { result ≡ gone kind version name }
+{
+    match kind {
+        Kind::Node => Event::NodeGone { version, name },
+        Kind::Pod => Event::PodGone { version, uid: name },
+    }
+}
+
+// What is told of an object that is gone.
+fn gone_told(
+    out: &mut Vec<u8>,
+    json: &Value,
+    kind: Kind,
+    how: &Telling<'_>,
+) -> Result<Option<Event>, ObjectFault>
+    requires empty { out.old.items ≡ [] }
+    requires version { IsVersion how.now.version }
+    ensures value { Gives (as_told out.new.items) result (Ok (gone_told (how_told how.now) kind (view json.now))) }
+    ensures said { IfOk result IsSaid }
+{
+    match name_of(json, kind, how.by_uid) {
+        Ok(name) => Ok(Some(gone(kind, how.version, name))),
+        Err(ObjectFault::NoMemory) => Err(ObjectFault::NoMemory),
+        Err(ObjectFault::Refused(why, field)) => {
+            put_refused(out, why, field)?;
+            Ok(None)
+        }
+    }
+}
+
+// The event by which it is told that an object is gone which isn't told any more as it has become.
+fn gone_if(json: &Value, kind: Kind, how: &Telling<'_>) -> Result<Option<Event>, ObjectFault>
+    requires { IsVersion how.now.version }
+    ensures value { (left_out : List ℕ) → Gives (as_told left_out) result
+        (Ok (gone_if (how_told how.now) kind (view json.now) left_out)) }
+    ensures said { IfOk result IsSaid }
+{
+    match how.change {
+        Change::Changed => gone_by_name(name_of(json, kind, how.by_uid), kind, how.version),
+        Change::There | Change::Gone => Ok(None),
+    }
+}
+
+// That an object is gone, where it has a name.
+fn gone_by_name(
+    name: Result<Name, ObjectFault>,
+    kind: Kind,
+    version: Version,
+) -> Result<Option<Event>, ObjectFault>
+    requires { IsVersion version }
+    ensures value { (meaning : Result (List ℕ) Fault) (left_out : List ℕ) → Answers name meaning
+        → Gives (as_told left_out) result (Ok (saying (event_if kind version changes.Changed meaning) left_out)) }
+    ensures said { IfOk result IsSaid }
+{
+    match name {
+        Ok(name) => Ok(Some(gone(kind, version, name))),
+        Err(ObjectFault::NoMemory) => Err(ObjectFault::NoMemory),
+        Err(ObjectFault::Refused(_, _)) => Ok(None),
+    }
+}
+
+// What is told of an object that has no row, by its first fault.
+fn fault_told(
+    out: &mut Vec<u8>,
+    why: Why,
+    fault: &'static str,
+    json: &Value,
+    kind: Kind,
+    how: &Telling<'_>,
+) -> Result<Option<Event>, ObjectFault>
+    requires { IsVersion how.now.version }
+    ensures value { Gives (as_told out.new.items) result
+        (Ok (gone_if (how_told how.now) kind (view json.now) (fault_text (refused why fault.now)))) }
+    ensures said { IfOk result IsSaid }
+{
+    out.clear();
+    put_refused(out, why, fault)?;
+    gone_if(json, kind, how)
+}
+
+// What is told of a node that is there.
 fn node_told(
     alloc: Global,
     out: &mut Vec<u8>,
     json: &Value,
-    site: &Site<'_>,
-    how: Telling,
+    how: &Telling<'_>,
 ) -> Result<Option<Event>, ObjectFault>
     requires empty { out.old.items ≡ [] }
-    requires version { IsVersion how.version }
-    ensures value { Gives (as_told out.new.items) result
-        (Ok (node_told (site_of site.now) how.change how.version (view json.now))) }
+    requires version { IsVersion how.now.version }
+    ensures value { Gives (as_told out.new.items) result (there_told (how_told how.now) kinds.Node (view json.now)) }
     ensures said { IfOk result IsSaid }
 {
-    if how.change == Change::Gone {
-        return gone_told(out, json, Kind::Node, how);
-    }
-    match node_row(json, site.labels, out) {
+    match node_row(json, how.site.labels, out) {
         Ok(node) => {
             let node = SharedNode::new(alloc, node)?;
             Ok(Some(Event::NodeSet {
@@ -54,7 +142,10 @@ fn node_told(
                 node,
             }))
         }
-        Err(fault) => fault_told(out, fault, json, Kind::Node, how),
+        Err(ObjectFault::Refused(why, field)) => {
+            fault_told(out, why, field, json, Kind::Node, how)
+        }
+        Err(ObjectFault::NoMemory) => Err(ObjectFault::NoMemory),
     }
 }
 
@@ -65,18 +156,17 @@ fn waiting_told(
     out: &mut Vec<u8>,
     spec: &Value,
     pod: &Value,
-    site: &Site<'_>,
-    how: Telling,
+    how: &Telling<'_>,
 ) -> Result<Option<Event>, ObjectFault>
     requires empty { out.old.items ≡ [] }
-    requires version { IsVersion how.version }
+    requires version { IsVersion how.now.version }
     ensures value { Gives (as_told out.new.items) result
-        (Ok (waiting_told (site_of site.now) how.by_uid how.change how.version (view spec.now) (view pod.now))) }
+        (Ok (waiting_told (how_told how.now) (view spec.now) (view pod.now))) }
     ensures said { IfOk result IsSaid }
 {
-    put_kept_back(out, spec, pod, site)?;
+    put_kept_back(out, spec, pod, how.site.scheduler)?;
     if out.is_empty() {
-        waiting_row(alloc, out, pod, site, how)
+        waiting_row(alloc, out, pod, how)
     } else {
         gone_if(pod, Kind::Pod, how)
     }
@@ -84,22 +174,20 @@ fn waiting_told(
 
 // What is told of a pod that waits for a place, which nothing keeps back but what its row can't
 // tell.
-#[tactic(auto, using(crate::proofs::Faults::pod_fault))]
 fn waiting_row(
     alloc: Global,
     out: &mut Vec<u8>,
     json: &Value,
-    site: &Site<'_>,
-    how: Telling,
+    how: &Telling<'_>,
 ) -> Result<Option<Event>, ObjectFault>
     requires empty { out.old.items ≡ [] }
-    requires version { IsVersion how.version }
+    requires version { IsVersion how.now.version }
     ensures value { Gives (as_told out.new.items) result
-        (Ok (waiting_row how.by_uid how.change how.version (view json.now)
-        (pod_row site.now.labels.now how.by_uid (view json.now)))) }
+        (Ok (row_told (PodPending how.now.version) (how_told how.now) kinds.Pod (view json.now)
+        (pod_row how.now.site.labels.now how.now.by_uid (view json.now)))) }
     ensures said { IfOk result IsSaid }
 {
-    match pod_row(alloc, json, site.labels, how.by_uid, out) {
+    match pod_row(alloc, json, how.site.labels, how.by_uid, out) {
         Ok(pod) => {
             let pod = SharedPod::new(alloc, pod)?;
             Ok(Some(Event::PodPending {
@@ -107,7 +195,10 @@ fn waiting_row(
                 pod,
             }))
         }
-        Err(fault) => fault_told(out, fault, json, Kind::Pod, how),
+        Err(ObjectFault::Refused(why, field)) => {
+            fault_told(out, why, field, json, Kind::Pod, how)
+        }
+        Err(ObjectFault::NoMemory) => Err(ObjectFault::NoMemory),
     }
 }
 
@@ -117,14 +208,14 @@ fn put_kept_back(
     out: &mut Vec<u8>,
     spec: &Value,
     pod: &Value,
-    site: &Site<'_>,
+    scheduler: &str,
 ) -> Result<(), AllocError>
     requires { out.old.items ≡ [] }
-    ensures { IfOk result (λ _. out.new.items ≡ kept_back (site_of site.now) (view spec.now) (view pod.now)) }
+    ensures { IfOk result (λ _. out.new.items ≡ kept_back scheduler.now (view spec.now) (view pod.now)) }
 {
-    put_other_scheduler(out, spec, site.scheduler)?;
+    put_other_scheduler(out, spec, scheduler)?;
     put_demands(out, spec)?;
-    let is_deleted = within(pod, Key::Metadata, Key::DeletionTimestamp).is_some();
+    let is_deleted = within(pod, "metadata", "deletionTimestamp").is_some();
     put_left_out_if(out, is_deleted, "it is being deleted")
 }
 
@@ -144,41 +235,60 @@ fn put_other_scheduler(out: &mut Vec<u8>, spec: &Value, scheduler: &str) -> Resu
 fn scheduler_of(spec: &Value) -> &str
     ensures { result.now ≡ scheduler_of (view spec.now) }
 {
-    if field(spec, Key::SchedulerName).is_some() {
-        spelled(spec, Key::SchedulerName)
+    if field(spec, "schedulerName").is_some() {
+        spelled(spec, "schedulerName")
     } else {
         "default-scheduler"
     }
 }
 
 // What is told of a pod that stands on a node.
-#[tactic(auto, unfolding(crate::specs::Told::bound_told))]
 fn bound_told(
     alloc: Global,
     out: &mut Vec<u8>,
     node: &str,
     spec: &Value,
     pod: &Value,
-    how: Telling,
+    how: &Telling<'_>,
 ) -> Result<Option<Event>, ObjectFault>
     requires empty { out.old.items ≡ [] }
-    requires version { IsVersion how.version }
+    requires version { IsVersion how.now.version }
     ensures value { Gives (as_told out.new.items) result
-        (bound_told how.by_uid how.change how.version node.now (view spec.now) (view pod.now)) }
+        (bound_told (how_told how.now) node.now (view spec.now) (view pod.now)) }
     ensures said { IfOk result IsSaid }
 {
-    let Ok(name) = Name::new(node.as_bytes()) else {
-        put_left_out(out, "node ", node.as_bytes())?;
-        return gone_if(pod, Kind::Pod, how);
-    };
-    let meta = field(pod, Key::Metadata).ok_or(ObjectFault::BadField(Key::Metadata))?;
-    let uid = pod_name(meta, how.by_uid)?;
-    let request = counted(alloc, pod, spec)?;
+    match Name::new(node.as_bytes()) {
+        Ok(name) => placed_told(alloc, out, name, spec, pod, how),
+        Err(_) => {
+            put_left_out(out, "node ", node.as_bytes())?;
+            gone_if(pod, Kind::Pod, how)
+        }
+    }
+}
+
+// What is told of a pod that stands on a node that a line can name.
+#[tactic(auto, unfolding(crate::specs::Told::placed_told))]
+fn placed_told(
+    alloc: Global,
+    out: &mut Vec<u8>,
+    node: Name,
+    spec: &Value,
+    pod: &Value,
+    how: &Telling<'_>,
+) -> Result<Option<Event>, ObjectFault>
+    requires empty { out.old.items ≡ [] }
+    requires version { IsVersion how.now.version }
+    ensures value { Gives (as_told out.new.items) result
+        (placed_told (how_told how.now) node (view spec.now) (view pod.now)) }
+    ensures said { IfOk result IsSaid }
+{
+    let uid = name_of(pod, Kind::Pod, how.by_uid)?;
+    let request = request(alloc, pod, spec, Reckoned::Standing)?;
     put_bound_left_out(alloc, out, spec, pod)?;
     Ok(Some(Event::PodBound {
         version: how.version,
         uid,
-        node: name,
+        node,
         request,
     }))
 }
@@ -190,15 +300,16 @@ fn put_bound_left_out(
     spec: &Value,
     pod: &Value,
 ) -> Result<(), AllocError>
-    ensures { IfOk result (λ _. out.new.items ≡ out.old.items ++ bound_left_out (view spec.now) (view pod.now)) }
+    ensures { IfOk result (λ _. out.new.items
+        ≡ out.old.items ++ bound_left_out (view spec.now) (view pod.now)) }
 {
-    put_counted_left_out(alloc, out, pod, spec)?;
+    put_more_left_out(alloc, out, pod, spec)?;
     put_held_left_out(out, pod, spec)?;
     put_affinity(
         out,
         spec,
-        Key::PodAntiAffinity,
-        Key::Required,
+        "podAntiAffinity",
+        "requiredDuringSchedulingIgnoredDuringExecution",
         "required pod anti-affinity",
     )
 }
@@ -207,7 +318,7 @@ fn put_bound_left_out(
 pub(crate) fn has_ended(json: &Value) -> bool
     ensures { result ≡ has_ended (view json.now) }
 {
-    match within(json, Key::Status, Key::Phase) {
+    match within(json, "status", "phase") {
         Some(phase) => is_end(phase),
         None => false,
     }
@@ -223,51 +334,28 @@ fn is_end(phase: &Value) -> bool
     }
 }
 
-// What is told of a pod.
-#[tactic(auto, unfolding(crate::specs::Told::pod_told), using(crate::proofs::Faults::ended))]
+// What is told of a pod that is there.
+#[tactic(auto, unfolding(crate::specs::Told::pod_told))]
 fn pod_told(
     alloc: Global,
     out: &mut Vec<u8>,
     json: &Value,
-    site: &Site<'_>,
-    how: Telling,
+    how: &Telling<'_>,
 ) -> Result<Option<Event>, ObjectFault>
     requires empty { out.old.items ≡ [] }
-    requires version { IsVersion how.version }
-    ensures value { Gives (as_told out.new.items) result
-        (pod_told (site_of site.now) how.by_uid how.change how.version (view json.now)) }
+    requires version { IsVersion how.now.version }
+    ensures value { Gives (as_told out.new.items) result (pod_told (how_told how.now) (view json.now)) }
     ensures said { IfOk result IsSaid }
 {
-    if how.change == Change::Gone {
-        return gone_told(out, json, Kind::Pod, how);
-    }
     if has_ended(json) {
         return gone_if(json, Kind::Pod, how);
     }
-    let spec = field(json, Key::Spec).ok_or(ObjectFault::BadField(Key::Spec))?;
-    placed_told(alloc, out, spec, json, site, how)
-}
-
-// What is told of a pod by whether it stands on a node.
-fn placed_told(
-    alloc: Global,
-    out: &mut Vec<u8>,
-    spec: &Value,
-    pod: &Value,
-    site: &Site<'_>,
-    how: Telling,
-) -> Result<Option<Event>, ObjectFault>
-    requires empty { out.old.items ≡ [] }
-    requires version { IsVersion how.version }
-    ensures value { Gives (as_told out.new.items) result (spec_told (site_of site.now) how.by_uid how.change how.version
-        (view pod.now) (Some (view spec.now))) }
-    ensures said { IfOk result IsSaid }
-{
+    let spec = part_of(json, "spec")?;
     let node = node_name(spec)?;
     if node.is_empty() {
-        waiting_told(alloc, out, spec, pod, site, how)
+        waiting_told(alloc, out, spec, json, how)
     } else {
-        bound_told(alloc, out, node, spec, pod, how)
+        bound_told(alloc, out, node, spec, json, how)
     }
 }
 
@@ -277,30 +365,61 @@ pub(crate) fn node_name(spec: &Value) -> Result<&str, ObjectFault>
     ensures { Gives (λ name. name.now) result (node_name (view spec.now)) }
 {
     if spec.as_object().is_none() {
-        return Err(ObjectFault::BadField(Key::Spec));
+        return Err(ObjectFault::Refused(Why::BadField, "spec"));
     }
-    text_or(spec, Key::NodeName, "")
+    text_or(spec, "nodeName", "")
 }
 
-// A kind of Kubernetes' own that is told, by its name.
-fn core_kind(kind: &str) -> Option<Kind>
-    ensures { result ≡ core_kind kind.now }
+// What is told of an object of a kind that is told, by what has come of it.
+#[tactic(auto, unfolding(crate::specs::Told::kind_told))]
+fn kind_told(
+    alloc: Global,
+    out: &mut Vec<u8>,
+    json: &Value,
+    kind: Kind,
+    how: &Telling<'_>,
+) -> Result<Option<Event>, ObjectFault>
+    requires empty { out.old.items ≡ [] }
+    requires version { IsVersion how.now.version }
+    ensures value { Gives (as_told out.new.items) result (kind_told (how_told how.now) kind (view json.now)) }
+    ensures said { IfOk result IsSaid }
 {
+    match how.change {
+        Change::Gone => gone_told(out, json, kind, how),
+        Change::There | Change::Changed => there_told(alloc, out, json, kind, how),
+    }
+}
+
+// What is told of an object that is there.
+fn there_told(
+    alloc: Global,
+    out: &mut Vec<u8>,
+    json: &Value,
+    kind: Kind,
+    how: &Telling<'_>,
+) -> Result<Option<Event>, ObjectFault>
+    requires empty { out.old.items ≡ [] }
+    requires version { IsVersion how.now.version }
+    ensures value { Gives (as_told out.new.items) result (there_told (how_told how.now) kind (view json.now)) }
+    ensures said { IfOk result IsSaid }
+{
+    match kind {
+        Kind::Node => node_told(alloc, out, json, how),
+        Kind::Pod => pod_told(alloc, out, json, how),
+    }
+}
+
+// A kind of Kubernetes' own that is told, by its version and its name.
+fn core_kind(version: &str, kind: &str) -> Option<Kind>
+    ensures { result ≡ core_kind version.now kind.now }
+{
+    if version != "v1" {
+        return None;
+    }
     match kind {
         "Node" => Some(Kind::Node),
         "Pod" => Some(Kind::Pod),
         _ => None,
-    }
-}
-
-// A kind that is told, by its name and its version.
-fn kind_in(version: &str, kind: &str) -> Option<Kind>
-    ensures { result ≡ kind_in version.now kind.now }
-{
-    if version == "v1" {
-        core_kind(kind)
-    } else {
-        None
     }
 }
 
@@ -309,8 +428,13 @@ fn kind_in(version: &str, kind: &str) -> Option<Kind>
 fn has_pod_shape(json: &Value) -> bool
     ensures { result ≡ has_pod_shape (view json.now) }
 {
-    is_array(within(json, Key::Spec, Key::Containers))
-        && is_text(within(json, Key::Status, Key::Phase))
+    let Some(containers) = within(json, "spec", "containers") else {
+        return false;
+    };
+    let Some(phase) = within(json, "status", "phase") else {
+        return false;
+    };
+    containers.as_array().is_some() && phase.as_str().is_some()
 }
 
 // Whether an object is a node by what it says of its machine.
@@ -318,38 +442,13 @@ fn has_pod_shape(json: &Value) -> bool
 fn has_node_shape(json: &Value) -> bool
     ensures { result ≡ has_node_shape (view json.now) }
 {
-    is_object(within(json, Key::Status, Key::NodeInfo))
-        && is_object(within(json, Key::Status, Key::Allocatable))
-}
-
-// Whether a value is there and an array.
-fn is_array(value: Option<&Value>) -> bool
-    ensures { result ≡ is_some (option_and_then as_array (option_map (λ v. view v.now) value.entry)) }
-{
-    match value {
-        Some(value) => value.as_array().is_some(),
-        None => false,
-    }
-}
-
-// Whether a value is there and an object.
-fn is_object(value: Option<&Value>) -> bool
-    ensures { result ≡ is_some (option_and_then as_object (option_map (λ v. view v.now) value.entry)) }
-{
-    match value {
-        Some(value) => value.as_object().is_some(),
-        None => false,
-    }
-}
-
-// Whether a value is there and a text.
-fn is_text(value: Option<&Value>) -> bool
-    ensures { result ≡ is_some (option_and_then as_str (option_map (λ v. view v.now) value.entry)) }
-{
-    match value {
-        Some(value) => value.as_str().is_some(),
-        None => false,
-    }
+    let Some(machine) = within(json, "status", "nodeInfo") else {
+        return false;
+    };
+    let Some(room) = within(json, "status", "allocatable") else {
+        return false;
+    };
+    machine.as_object().is_some() && room.as_object().is_some()
 }
 
 // The kind of an object that says none, by its shape.
@@ -363,7 +462,7 @@ fn kind_by_shape(json: &Value) -> Result<Option<Kind>, ObjectFault>
     if has_node_shape(json) {
         return Ok(Some(Kind::Node));
     }
-    Err(ObjectFault::BadField(Key::Kind))
+    Err(ObjectFault::Refused(Why::BadField, "kind"))
 }
 
 // The kind of an object: a node, a pod or another.
@@ -371,12 +470,14 @@ fn kind_by_shape(json: &Value) -> Result<Option<Kind>, ObjectFault>
 pub(crate) fn kind_of(json: &Value) -> Result<Option<Kind>, ObjectFault>
     ensures { Answers result (kind_of (view json.now)) }
 {
-    let Some(value) = field(json, Key::Kind) else {
+    let Some(value) = field(json, "kind") else {
         return kind_by_shape(json);
     };
-    let kind = value.as_str().ok_or(ObjectFault::BadField(Key::Kind))?;
-    let version = text_or(json, Key::ApiVersion, "v1")?;
-    Ok(kind_in(version, kind))
+    let kind = value
+        .as_str()
+        .ok_or(ObjectFault::Refused(Why::BadField, "kind"))?;
+    let version = text_or(json, "apiVersion", "v1")?;
+    Ok(core_kind(version, kind))
 }
 
 // What is told of an object of another kind: a list may hold pods.
@@ -385,10 +486,10 @@ fn other_told(out: &mut Vec<u8>, json: &Value) -> Result<Option<Event>, ObjectFa
     ensures value { Gives (as_told out.new.items) result (other_told (view json.now)) }
     ensures said { IfOk result IsSaid }
 {
-    if field(json, Key::Items).is_some() {
-        return Err(ObjectFault::IsList);
+    if field(json, "items").is_some() {
+        return Err(ObjectFault::Refused(Why::IsList, ""));
     }
-    let kind = spelled(json, Key::Kind);
+    let kind = spelled(json, "kind");
     put_left_out(out, "an object of the kind ", kind.as_bytes())?;
     Ok(None)
 }
@@ -399,19 +500,27 @@ fn object_told(
     alloc: Global,
     out: &mut Vec<u8>,
     json: &Value,
-    site: &Site<'_>,
-    how: Telling,
+    how: &Telling<'_>,
 ) -> Result<Option<Event>, ObjectFault>
     requires empty { out.old.items ≡ [] }
-    requires version { IsVersion how.version }
-    ensures value { Gives (as_told out.new.items) result
-        (object_told (site_of site.now) how.by_uid how.change how.version (view json.now)) }
+    requires version { IsVersion how.now.version }
+    ensures value { Gives (as_told out.new.items) result (object_told (how_told how.now) (view json.now)) }
     ensures said { IfOk result IsSaid }
 {
     match kind_of(json)? {
-        Some(Kind::Node) => node_told(alloc, out, json, site, how),
-        Some(Kind::Pod) => pod_told(alloc, out, json, site, how),
+        Some(kind) => kind_told(alloc, out, json, kind, how),
         None => other_told(out, json),
+    }
+}
+
+// The object of an event of the watch, or the object itself that is none.
+#[tactic(auto, unfolding(crate::specs::Told::object_in))]
+pub(crate) fn object_in(json: &Value) -> &Value
+    ensures { view result.now ≡ object_in (view json.now) }
+{
+    match field(json, "object") {
+        Some(held) => held,
+        None => json,
     }
 }
 
@@ -429,13 +538,14 @@ fn change_of(kind: &str) -> Option<Change>
 
 // What is told by an event that says nothing of an object: a bookmark tells nothing.
 fn no_change(kind: &str) -> Result<Option<Event>, ObjectFault>
-    ensures value { Gives (as_told []) result (if is_bookmark kind.now then Ok (nothing []) else Err faults.UnknownEvent) }
+    ensures value { Gives (as_told []) result
+        (if is_bookmark kind.now then Ok (saying None []) else Err (refused whys.UnknownEvent [])) }
     ensures said { IfOk result IsSaid }
 {
     if kind == "BOOKMARK" {
         Ok(None)
     } else {
-        Err(ObjectFault::UnknownEvent)
+        Err(ObjectFault::Refused(Why::UnknownEvent, ""))
     }
 }
 
@@ -454,24 +564,21 @@ pub(crate) fn value_told(
     ensures value { Gives (as_told out.new.items) result (value_told (site_of site.now) by_uid version (view json.now)) }
     ensures said { IfOk result IsSaid }
 {
-    let Some(object) = field(json, Key::Object) else {
-        let how = Telling {
-            by_uid,
-            change: Change::There,
-            version,
-        };
-        return object_told(alloc, out, json, site, how);
+    let mut how = Telling {
+        site: *site,
+        by_uid,
+        version,
+        change: Change::There,
     };
-    let kind = spelled(json, Key::EventType);
+    let Some(object) = field(json, "object") else {
+        return object_told(alloc, out, json, &how);
+    };
+    let kind = spelled(json, "type");
     let Some(change) = change_of(kind) else {
         return no_change(kind);
     };
-    let how = Telling {
-        by_uid,
-        change,
-        version,
-    };
-    object_told(alloc, out, object, site, how)
+    how.change = change;
+    object_told(alloc, out, object, &how)
 }
 
 // What is told by a line.
@@ -490,7 +597,7 @@ pub(crate) fn line_told(
     ensures said { IfOk result IsSaid }
 {
     if line.len() > MAX_OBJECT {
-        return Err(ObjectFault::LongLine);
+        return Err(ObjectFault::Refused(Why::LongLine, ""));
     }
     if is_blank(line) {
         put_left_out(out, "no JSON", b"")?;
@@ -498,7 +605,7 @@ pub(crate) fn line_told(
     }
     match parse(alloc, line)? {
         Some(json) => value_told(alloc, out, &json, site, by_uid, version),
-        None => Err(ObjectFault::NotJson),
+        None => Err(ObjectFault::Refused(Why::NotJson, "")),
     }
 }
 

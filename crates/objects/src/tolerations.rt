@@ -1,20 +1,18 @@
 //! The tolerations that a row has of a pod's.
-ghost use Rattle.std.specs.Prelude.{◌≡◌, ◌<◌, ◌≤◌, true, [], length, IfOk, OnOk, IfSome, OnSome, option_map};
+ghost use Rattle.std.specs.Prelude.{◌≡◌, ◌<◌, ◌≤◌, true, codes, [], length, IfOk, OnOk, IfSome, OnSome, option_map};
 ghost use Rattle.serde_json.specs.View.{view, items_view};
-ghost use Rattle.manifest.specs.Rows.{operator_named, effect_or_none, lawful};
-ghost use Rattle.objects.specs.declared.key.Key.TheVariants as keys;
-ghost use Rattle.objects.specs.Field.{spelled};
+ghost use Rattle.objects.specs.Reading.{spelled};
 ghost use Rattle.objects.specs.Reading.{field};
-ghost use Rattle.objects.specs.PodRow.{text_if, fitting, toleration_of, with_toleration, tolerations_of};
-ghost use Rattle.objects.specs.Sayable.{each_beside, says_toleration};
+ghost use Rattle.objects.specs.Labels.{with_item};
+ghost use Rattle.objects.specs.PodRow.{text_if, fitting, toleration_of, tolerations_of};
+ghost use Rattle.objects.specs.Sayable.{says_toleration};
+ghost use Rattle.objects.specs.inside.Events.{each_beside};
 ghost use Rattle.objects.specs.inside.Members.{kept};
 
-use crate::field::spelled;
-use crate::key::Key;
 use crate::left_out::put_left_out;
-use crate::reading::field;
-use crate::taints::effect_named;
+use crate::reading::{field, spelled};
 use arrayvec::ArrayVec;
+use manifest::{effect_or_none, is_lawful, operator_named};
 use quant::{Effect, MAX_TOLERATIONS, Operator, Text, Toleration};
 use serde_json::Value;
 use std::alloc::AllocError;
@@ -45,8 +43,8 @@ fn take_toleration(
     out: &mut Vec<u8>,
     item: &Value,
 ) -> Result<(), AllocError>
-    ensures value { IfOk result (λ _. with_toleration (kept tolerations.old.items out.old.items)
-        (spelled keys.LabelKey (view item.now)) (toleration_of tolerations.old.items (view item.now))
+    ensures value { IfOk result (λ _. with_item (codes "toleration of ") (spelled (codes "key") (view item.now)) (kept tolerations.old.items out.old.items)
+        (toleration_of tolerations.old.items (view item.now))
         ≡ kept tolerations.new.items out.new.items) }
     ensures sayable { each_beside says_toleration [] tolerations.old.items ≡ true
         → OnOk result (each_beside says_toleration [] tolerations.new.items ≡ true) }
@@ -57,11 +55,7 @@ fn take_toleration(
             tolerations.push(toleration);
             Ok(())
         }
-        None => put_left_out(
-            out,
-            "toleration of ",
-            spelled(item, Key::LabelKey).as_bytes(),
-        ),
+        None => put_left_out(out, "toleration of ", spelled(item, "key").as_bytes()),
     }
 }
 
@@ -72,17 +66,17 @@ fn toleration_of(before: &[Toleration], item: &Value) -> Option<Toleration>
     ensures sayable { IfSome result (λ toleration. says_toleration before.now toleration ≡ true) }
     ensures room { OnSome result (length before.now < 16) }
 {
-    let operator = operator_named(text_if(item, Key::Operator)?)?;
-    let effect = effect_or_none(text_if(item, Key::Effect)?)?;
-    let key = text_if(item, Key::LabelKey)?;
-    let value = text_if(item, Key::LabelValue)?;
+    let operator = operator_named(text_if(item, "operator")?)?;
+    let effect = effect_or_none(text_if(item, "effect")?)?;
+    let key = text_if(item, "key")?;
+    let value = text_if(item, "value")?;
     fitting(before, key, operator, value, effect)
 }
 
 // The text in a field that may be absent. What is no text gives no toleration, since an empty key
 // or effect stands for every one.
-fn text_if(item: &Value, key: Key) -> Option<&str>
-    ensures { option_map (λ text. text.now) result ≡ text_if (field key (view item.now)) }
+fn text_if<'a>(item: &'a Value, key: &str) -> Option<&'a str>
+    ensures { option_map (λ text. text.now) result ≡ text_if (field key.now (view item.now)) }
 {
     match field(item, key) {
         Some(value) => value.as_str(),
@@ -116,37 +110,4 @@ fn fitting(
     } else {
         None
     }
-}
-
-// Whether there is a key, under `Equal`, or no value, under `Exists`.
-fn is_lawful(operator: Operator, key: &Text, value: &Text) -> bool
-    ensures { result ≡ lawful operator key.now value.now }
-{
-    match operator {
-        Operator::Equal => !key.as_bytes().is_empty(),
-        Operator::Exists => value.as_bytes().is_empty(),
-    }
-}
-
-// The operator of this name. No name is that of `Equal`.
-#[tactic(auto, unfolding(manifest::specs::Rows::operator_named))]
-fn operator_named(name: &str) -> Option<Operator>
-    ensures { result ≡ operator_named name.now }
-{
-    match name {
-        "" | "Equal" => Some(Operator::Equal),
-        "Exists" => Some(Operator::Exists),
-        _ => None,
-    }
-}
-
-// The effect of this name. No name is that of no effect, which stands for every one.
-#[tactic(auto, unfolding(manifest::specs::Rows::effect_or_none))]
-fn effect_or_none(name: &str) -> Option<Option<Effect>>
-    ensures { result ≡ effect_or_none name.now }
-{
-    if name.is_empty() {
-        return Some(None);
-    }
-    effect_named(name).map(Some)
 }

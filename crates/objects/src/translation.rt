@@ -86,7 +86,7 @@ pub fn translate(
 
 // The event that is told by a line, and whether the line may be a pod on a node that can't be
 // counted.
-#[tactic(auto, unfolding(crate::specs::Told::told), using(crate::proofs::Faults::uncounted))]
+#[tactic(auto, unfolding(crate::specs::Told::told))]
 fn told(
     alloc: Global,
     out: &mut Vec<u8>,
@@ -104,9 +104,9 @@ fn told(
     match line_told(alloc, out, line, site, by_uid, version) {
         Ok(event) => Ok((event, false)),
         Err(ObjectFault::NoMemory) => Err(AllocError),
-        Err(fault) => {
+        Err(ObjectFault::Refused(why, field)) => {
             out.clear();
-            put_refused(out, fault)?;
+            put_refused(out, why, field)?;
             Ok((None, true))
         }
     }

@@ -39,6 +39,6 @@ pub use limits::{
 pub use name::{Name, Text};
 pub use objects::{Label, Node, Pod};
 pub use pod_request::request;
-pub use spelling::{read_bytes, read_cpu};
+pub use spelling::{are_digits, read_bytes, read_cpu, split_digits};
 pub use taint::{Effect, Operator, Taint, Toleration};
 pub use version::{Ticket, Version};

@@ -98,8 +98,8 @@ fn read_fraction(text: &[u8]) -> Result<u64, QuantFault>
     })
 }
 
-// Cuts a text behind the digits in front.
-fn split_digits(text: &[u8]) -> (&[u8], &[u8])
+/// Cuts a text behind the digits in front.
+pub fn split_digits(text: &[u8]) -> (&[u8], &[u8])
     ensures digits { result.0.now ≡ leading_digits text.now }
     ensures rest { result.1.now ≡ after_digits text.now }
     ensures pass { IsTrue (list_all is_digit result.0.now) }
@@ -114,8 +114,8 @@ fn count_digits(text: &[u8]) -> usize
     text.iter().take_while(|b| is_digit(**b)).count()
 }
 
-// Whether the text has no byte but digits.
-fn are_digits(text: &[u8]) -> bool
+/// Whether the text has no byte but digits.
+pub fn are_digits(text: &[u8]) -> bool
     ensures { result ≡ list_all is_digit text.now }
 {
     text.iter().all(|b| is_digit(*b))

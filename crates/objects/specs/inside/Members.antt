@@ -8,5 +8,5 @@ members_or_none None = no_members
 members_or_none (Some members) = members
 
 -- what a reader has put into a row and beside it
-abbrev pub kept : {A : Type 0} → (items : List A) → (left_out : List ℕ) → Kept A
-kept items left_out = record { items = items; left_out = left_out }
+abbrev pub kept : {A : Type 0} → (item : A) → (left_out : List ℕ) → Kept A
+kept item left_out = record { item = item; left_out = left_out }

@@ -1,4 +1,4 @@
-use Rattle.std.proofs.Common.{arith, ℕ, ◌≤◌, ◌<◌, ◌^◌, ◌≡◌, length}
+use Rattle.std.proofs.Common.{arith, ℕ, ◌≤◌, ◌<◌, ◌^◌, length}
 use Rattle.std.proofs.Math.Nat.{pow-le-pow_right}
 use Rattle.quant.proofs.Decimal.{digit_at, digit_more, number_more}
 use Rattle.objects.proofs.heard.version_number.Goals as goal

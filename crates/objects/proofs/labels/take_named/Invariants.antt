@@ -1,7 +1,8 @@
 use Rattle.std.proofs.Common.{◌≡◌, ◌≤◌, true, [], length}
 use Rattle.serde_json.specs.View.{members_view}
 use Rattle.objects.specs.Labels.{named_labels}
-use Rattle.objects.specs.Sayable.{each_beside, says_label}
+use Rattle.objects.specs.Sayable.{says_label}
+use Rattle.objects.specs.inside.Events.{each_beside}
 use Rattle.objects.proofs.labels.take_named.Given as goal
 
 abbrev pub invariant-loop-key : goal.invariant-loop-key

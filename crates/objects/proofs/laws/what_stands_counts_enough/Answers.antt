@@ -1,8 +1,8 @@
-use Rattle.objects.proofs.Enough.{counts_enough, counts_no_more}
+use Rattle.objects.proofs.Enough.{counts_enough, counts_the_same}
 use Rattle.objects.proofs.laws.what_stands_counts_enough.Goals as goal
 
 pub returns-clause-enough : goal.returns-clause-enough
 returns-clause-enough c = counts_enough
 
-pub returns-clause-just : goal.returns-clause-just
-returns-clause-just c = counts_no_more
+pub returns-clause-same : goal.returns-clause-same
+returns-clause-same c = counts_the_same

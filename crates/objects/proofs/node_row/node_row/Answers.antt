@@ -3,12 +3,12 @@ use Rattle.objects.proofs.node_row.node_row.Goals as goal
 
 pub returns-clause-sayable : goal.returns-clause-sayable
 returns-clause-sayable c = record {
-  name = search rules;
-  cpu = c.in_ok-allocatable.ensures.cpu;
-  memory = c.in_ok-allocatable.ensures.memory;
-  pods = c.in_ok-allocatable.ensures.pods;
+  name = c.in_ok-node.ensures.sayable.name;
+  cpu = c.in_ok-node.ensures.sayable.cpu;
+  memory = c.in_ok-node.ensures.sayable.memory;
+  pods = c.in_ok-node.ensures.sayable.pods;
   few_labels = search rules;
   labels = search rules;
-  few_taints = search rules;
-  taints = search rules;
+  few_taints = c.in_ok-node.ensures.sayable.few_taints;
+  taints = c.in_ok-node.ensures.sayable.taints;
 }

@@ -3,9 +3,9 @@ use Rattle.objects.proofs.pod_row.pod_row.Goals as goal
 
 pub returns-clause-sayable : goal.returns-clause-sayable
 returns-clause-sayable c = record {
-  uid = search rules;
-  low = search rules;
-  high = search rules;
+  uid = c.in_ok-pod.ensures.sayable.uid;
+  low = c.in_ok-pod.ensures.sayable.low;
+  high = c.in_ok-pod.ensures.sayable.high;
   few_labels = search rules;
   labels = search rules;
   few_tolerations = search rules;

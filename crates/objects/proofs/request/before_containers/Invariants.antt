@@ -1,5 +1,5 @@
 use Rattle.std.proofs.Common.{◌≡◌, ◌*◌, ◌^◌, ◌≤◌, max, take, drop}
-use Rattle.objects.specs.PodRequest.{going_on, peak}
+use Rattle.objects.specs.Containers.{going_on, peak}
 use Rattle.objects.proofs.request.before_containers.Given as goal
 
 abbrev pub invariant-loop-container : goal.invariant-loop-container

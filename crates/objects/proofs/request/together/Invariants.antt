@@ -1,5 +1,5 @@
 use Rattle.std.proofs.Common.{◌≡◌, ◌*◌, ◌^◌, ◌≤◌, take}
-use Rattle.objects.specs.PodRequest.{together}
+use Rattle.objects.specs.Containers.{together}
 use Rattle.objects.proofs.request.together.Given as goal
 
 abbrev pub invariant-loop-container : goal.invariant-loop-container

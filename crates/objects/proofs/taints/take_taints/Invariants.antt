@@ -1,13 +1,15 @@
 use Rattle.std.proofs.Common.{◌≡◌, ◌+◌, ◌≤◌, true, [], length, drop}
 use Rattle.arrayvec.specs.ArrayVec.{array_vec_len}
 use Rattle.serde_json.specs.View.{items_view}
-use Rattle.objects.specs.NodeRow.{taints_of}
-use Rattle.objects.specs.Sayable.{each_beside, says_taint}
+use Rattle.objects.specs.NodeRow.{taint_of}
+use Rattle.objects.specs.Reading.{each}
+use Rattle.objects.specs.Sayable.{says_taint}
+use Rattle.objects.specs.inside.Events.{each_beside}
 use Rattle.objects.proofs.taints.take_taints.Given as goal
 
 abbrev pub invariant-loop-item : goal.invariant-loop-item
 invariant-loop-item l = record {
   room : array_vec_len l.row + length l.found ≤ 8 + l.item-index;
-  same : taints_of l.initial.row.items (items_view l.found) ≡ taints_of l.row.items (items_view (drop l.item-index l.found));
+  same : each taint_of l.initial.row.items (items_view l.found) ≡ each taint_of l.row.items (items_view (drop l.item-index l.found));
   sayable : each_beside says_taint [] l.initial.row.items ≡ true → each_beside says_taint [] l.row.items ≡ true;
 }

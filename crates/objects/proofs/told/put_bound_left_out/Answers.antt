@@ -5,4 +5,4 @@ use Rattle.objects.proofs.told.put_bound_left_out.Goals as goal
 pub returns : goal.returns
 returns c =
     IfOk-equal c.put_affinity.result _ _ _ c.put_affinity.ensures
-    (rw (c.in_ok-put_held_left_out.ensures, c.in_ok-put_counted_left_out.ensures) (simp append_assoc))
+    (rw (c.in_ok-put_held_left_out.ensures, c.in_ok-put_more_left_out.ensures) (simp append_assoc))

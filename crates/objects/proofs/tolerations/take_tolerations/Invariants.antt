@@ -1,7 +1,8 @@
 use Rattle.std.proofs.Common.{◌≡◌, ◌≤◌, [], true, length, drop}
 use Rattle.serde_json.specs.View.{items_view}
 use Rattle.objects.specs.PodRow.{tolerations_of}
-use Rattle.objects.specs.Sayable.{each_beside, says_toleration}
+use Rattle.objects.specs.Sayable.{says_toleration}
+use Rattle.objects.specs.inside.Events.{each_beside}
 use Rattle.objects.specs.inside.Members.{kept}
 use Rattle.objects.proofs.tolerations.take_tolerations.Given as goal
 

@@ -1,7 +1,0 @@
-use Rattle.std.proofs.Common.{◌≡◌}
-use Rattle.serde_json.specs.View.{members_view}
-use Rattle.objects.specs.Demands.{has_parts}
-use Rattle.objects.proofs.demands.has_parts.Given as goal
-
-abbrev pub invariant-loop-key : goal.invariant-loop-key
-invariant-loop-key l = has_parts (members_view l.initial.key-iterator) ≡ has_parts (members_view l.key-iterator)

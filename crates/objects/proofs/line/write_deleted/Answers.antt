@@ -1,7 +1,0 @@
-use Rattle.std.proofs.Common.{refl, append_assoc}
-use Rattle.objects.specs.inside.Line.{line_json}
-use Rattle.objects.proofs.line.write_deleted.Goals as goal
-
-pub returns : goal.returns
-unfolding line_json
-returns c = (rw (c.in_ok-end_object.ensures.ok, c.in_ok-put_text-2.ensures.0, c.in_ok-put_number.ensures.0, c.in_ok-put_text.ensures.0, c.in_ok-begin_object.ensures.ok, c.as_str.ensures) (simp append_assoc), rw (c.in_ok-end_object.ensures.room.0, c.in_ok-put_text-2.ensures.1, c.in_ok-put_number.ensures.1, c.in_ok-put_text.ensures.1, c.in_ok-begin_object.ensures.room.0) refl)
