@@ -15,7 +15,7 @@
 # is, so that `translate` leaves it out, and why is said on standard error. A script that was made
 # so is run by `node_affinity:WEIGHT:500000:examples/plugins/node_affinity.wasm`.
 #
-# Tried with jq 1.6: tests/affinity/spelled compares it with affinity.py of the second scheduler.
+# Tried with jq 1.6: tests/affinity/spelled compares it with state/affinity.py of the second scheduler.
 
 # Says something on standard error, and answers nothing.
 def say: debug | empty;

@@ -10,8 +10,9 @@ import functools
 import itertools
 from typing import Iterable, Mapping, NamedTuple, Sequence
 
-from translating import Json, spell
-from verdicts import Reasons, rejected_by
+from core.answers import Failed, OfNode, Passes, Rejected, of_node
+from core.translating import Json, spell
+from core.verdicts import Reasons, rejected_by
 
 from cores import NODES, Said
 
@@ -32,38 +33,18 @@ LARGE = 2**18
 Counts = dict[tuple[str, str], int]
 
 
-class Verdict(NamedTuple):
-    """What the rules say of a node: by which rule it is rejected with which code, or which rule
-    says nothing and why; it passes where there is no rule. `parts` are each rule's weight and
-    score."""
-
-    rule: str = ""
-    code: str = ""
-    cause: str = ""
-    parts: tuple[tuple[str, int, int], ...] = ()
-
-    @property
-    def key(self) -> tuple[str, str]:
-        """How it is counted."""
-        return self.rule, (self.code or "error") if self.rule else self.cause or "pass"
+def verdict(said: str) -> OfNode | None:
+    """Of what stands behind a node's name, None where nothing does."""
+    return of_node(said) if said else None
 
 
-PASSES, UNSAID = Verdict(), Verdict(cause="unknown")
-
-
-@functools.lru_cache(maxsize=65536)
-def verdict(said: str) -> Verdict:
-    """Of what stands behind a node's name: `total SUM RULE WEIGHT SCORE ..`, `plugin RULE CODE` or
-    `error plugin RULE CAUSE`."""
-    if not said:
-        return UNSAID
-    kind, *words = said.split(" ")
-    if kind == "total":
-        weights, scores = map(int, words[2::3]), map(int, words[3::3])
-        return Verdict(parts=tuple(zip(words[1::3], weights, scores)))
-    if kind == "plugin":
-        return Verdict(words[0], words[1])
-    return Verdict(words[1], "", " ".join(words[2:]))
+def counted_as(it: OfNode | None) -> tuple[str, str]:
+    """The rule that keeps a node away, if any, and what it answers."""
+    if isinstance(it, Rejected):
+        return it.rule, str(it.code)
+    if isinstance(it, Failed):
+        return it.rule, "error"
+    return "", "pass" if it else "unknown"
 
 
 Groups = dict[str, list[str]]
@@ -122,42 +103,45 @@ class Words:
         self.reasons, self.weights, self.most = reasons, weights, sum(weights.values()) * SCORE
         self.score = functools.lru_cache(maxsize=65536)(self.score_of)
 
-    def why(self, it: Verdict) -> str:
-        if not it.code:
+    def why(self, it: Rejected | Failed) -> str:
+        if isinstance(it, Failed):
             return f"rule {it.rule} says nothing: {it.cause}"
-        reason = self.reasons.get(it.rule, {}).get(int(it.code), "").replace("%", PERCENT)
-        return rejected_by(it.rule, it.code) + (f" ({reason})" if reason else "")
+        reason = self.reasons.get(it.rule, {}).get(it.code, "").replace("%", PERCENT)
+        return rejected_by(it) + (f" ({reason})" if reason else "")
 
     def score_of(self, said: str) -> int:
         """The weighted mean of the scores, as a part of HIGHEST and rounded down; 0 where a node
         doesn't pass."""
         if not self.most:
             return 0
-        parts = [it for it in verdict(said).parts if it[0] in self.weights]
-        return sum(weight * score for _, weight, score in parts) * HIGHEST // self.most
+        it = verdict(said)
+        scores = it.scores if isinstance(it, Passes) else ()
+        sums = (weight * score for rule, weight, score in scores if rule in self.weights)
+        return sum(sums) * HIGHEST // self.most
 
     def sort(self, names: Sequence[str], said: Said, unsaid: Mapping[str, str]) -> Sorted:
         """`unsaid` are the nodes that no row says as they are, and why."""
         is_passing = said.passing.__contains__
         found = Sorted([*filter(is_passing, names)], {}, {}, {}, {}, {})
         if found.passed:
-            found.counts[PASSES.key] = len(found.passed)
+            found.counts[counted_as(Passes(0))] = len(found.passed)
         if len(found.passed) == len(names):
             return found
         for what, some in grouped(itertools.filterfalse(is_passing, names), said).items():
             it = verdict(what)
-            found.counts[it.key] = found.counts.get(it.key, 0) + len(some)
-            if not what:
+            key = counted_as(it)
+            found.counts[key] = found.counts.get(key, 0) + len(some)
+            if not isinstance(it, (Rejected, Failed)):
                 found.strange.update((name, unsaid.get(name, UNKNOWN)) for name in some)
                 for name in [it for it in some if it in unsaid]:
                     found.faults.setdefault(unsaid[name], []).append(name)
             else:
                 why = self.why(it)
                 found.failed.setdefault(why, []).extend(some)
-                if it.code == "3":
-                    found.final.setdefault(why, []).extend(some)
-                elif not it.code:
+                if isinstance(it, Failed):
                     found.faults.setdefault(why, []).extend(some)
+                elif it.is_for_good:
+                    found.final.setdefault(why, []).extend(some)
         return found
 
     def host(self, name: str, what: str) -> str:
@@ -197,7 +181,7 @@ class Words:
             hosts = hosts | {it: self.host(spell(it)[1:-1], "") for it in strange}
         for name in names if said.has_faults else ():
             it = verdict(said.get(name, ""))
-            if it.rule and not it.code:
+            if isinstance(it, Failed):
                 faults[it.rule, it.cause] = faults.get((it.rule, it.cause), 0) + 1
         return Scored(f"[{','.join(map(hosts.__getitem__, names))}]".encode(), faults)
 

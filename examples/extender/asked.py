@@ -15,7 +15,7 @@ import threading
 import time
 from typing import Any, Callable, Mapping
 
-from serving import Answer
+from reporting.serving import Answer
 
 from counting import Counting
 from service import Reply, Service

@@ -17,9 +17,10 @@ import threading
 import time
 from typing import Any, Callable, Iterable, Iterator
 
-from core import BYTES, Core, CoreFault, Told, command, quoted
+from core.answers import LAST_OF_JUDGED, Refused
+from core.run import BYTES, Core, CoreFault, Told, command, quoted
+from core.translating import Size, spelled
 from tools.wasm_sections import module_of
-from translating import Size, spelled
 
 from questions import Row
 
@@ -74,7 +75,7 @@ class Piped(Core):
     that a pipe takes though nobody reads it, so that no write ever waits."""
 
     def __init__(self, words: list[str], patience: float) -> None:
-        super().__init__(words, None, nothing, patience)
+        super().__init__(words, nothing, patience)
         self.unheard: collections.deque[Told] = collections.deque()
         self.unheard_bytes = self.unsent_bytes = 0
 
@@ -121,7 +122,7 @@ class Asking:
         """Has a child asked at its next `send`."""
         if share.core:
             share.core.tell(
-                self.line, functools.partial(self.answers.__setitem__, share), "judged "
+                self.line, functools.partial(self.answers.__setitem__, share), LAST_OF_JUDGED
             )
 
 
@@ -140,7 +141,7 @@ class Share:
     def read(self, asking: Asking) -> Said:
         """Of each node what its line says. (A thousand at each question, of which most say of such
         a pod what they said before: so these aren't read again.)"""
-        lines = asking.answers[self].rpartition("\njudged ")[0]
+        lines = asking.answers[self].rpartition(f"\n{LAST_OF_JUDGED}")[0]
         before, said = self.last.get(asking.kind, ("", Said()))
         if lines != before:
             new = changed_lines(before, lines)
@@ -267,12 +268,12 @@ class Cores:
         if share.core:
             share.version += 1
             text = line.replace("{v}", f'"v":{share.version}', 1)
-            share.core.tell(f"{{{text}}}", lambda answer: self.answered(text, answer))
+            share.core.step(f"{{{text}}}", functools.partial(self.answered, text))
 
-    def answered(self, line: str, answer: str) -> None:
-        if answer != "ok":
+    def answered(self, line: str, refused: Refused | None) -> None:
+        if refused:
             self.refused += 1
-            LOG.error("wsched answers %s to %s", answer, line)
+            LOG.error("wsched answers %s to %s", refused, line)
 
     def settle(self, least: int = MUCH) -> None:
         """Writes what is to be told, where it is as much; one that doesn't answer, where answers
@@ -339,6 +340,7 @@ class Cores:
         """Starts it, and tells it what is known of its nodes."""
         try:
             share.core, share.version = Piped(self.words, self.patience), 0
+            share.core.start()
             self.tick(share.core)
             for name in share.names:
                 for line in self.lines_of(name):
@@ -353,7 +355,7 @@ class Cores:
 
     def end(self, share: Share) -> None:
         core, share.core = share.core, None
-        if core:
+        if core and core.child:
             self.spent_before += spent(core.child.pid)
             core.kill()
             core.child.wait()
@@ -377,7 +379,7 @@ class Cores:
     def tick(self, core: Core) -> None:
         """(what has an answer, and changes nothing)"""
         now = int(1000 * (time.monotonic() - self.began))
-        core.tell(f'{{"op":"tick","at":{now}}}', lambda answer: None)
+        core.step(f'{{"op":"tick","at":{now}}}')
 
     def why_not(self) -> str:
         """Why not all can be asked; empty where they can."""
@@ -385,7 +387,8 @@ class Cores:
 
     def seconds(self) -> float:
         """How much processor time they have taken."""
-        return self.spent_before + sum(spent(it.core.child.pid) for it in self.shares if it.core)
+        children = [it.core.child for it in self.shares if it.core]
+        return self.spent_before + sum(spent(it.pid) for it in children if it)
 
 
 def digests(specs: list[str]) -> list[str]:

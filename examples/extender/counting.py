@@ -7,7 +7,7 @@ from typing import Callable, Mapping
 
 from prometheus_client import CollectorRegistry, Counter, Gauge, Histogram, generate_latest
 
-from metrics import SECONDS
+from reporting.metrics import SECONDS
 
 VERDICTS = "Verdicts of filters on nodes: that all rules pass it, or what a rule answers."
 REQUEST, CORE = (

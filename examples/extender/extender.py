@@ -31,16 +31,16 @@ from kubernetes import client
 from tools import rules
 from tools.wasm_sections import has_filter, has_score, is_steady, module_of, reasons_by_name
 
-import rule_labels
-import serving
 import signals
 import site_settings
-from affinity import NodeLabels
-from core import CoreFault, command, try_on_nothing
-from official import NoAccount, calls_by
+from api.official import NoAccount, calls_by
+from api.watch import AWAY, message
+from core.run import CoreFault, command, try_on_nothing
+from core.translating import words_of
+from reporting import serving
 from second_scheduler import log_to_standard_error
-from translating import words_of
-from watch import AWAY, message
+from state import rule_labels
+from state.affinity import NodeLabels
 
 from answers import Maps, Words, maps_beside
 from asked import Asked
@@ -206,6 +206,7 @@ def begin(given: argparse.Namespace, calls: Any) -> tuple[Service, Any]:
     service.knowing = Knowing(
         client.CoreV1Api(calls), cores, rows, NodeLabels(given.settings, given.named), counting
     )
+    service.knowing.start()
     service.watch_over()
     return service, server
 

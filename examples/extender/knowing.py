@@ -7,10 +7,10 @@ import logging
 import time
 from typing import Any, Sequence
 
-from affinity import NodeLabels
-from seen import ENDED, Reader, SeenNode, row_of
-from translating import Json
-from watch import PHASES, Watched
+from api.watch import PHASES, Watched
+from core.translating import Json
+from state.affinity import NodeLabels
+from state.seen import ENDED, Reader, SeenNode, row_of
 
 from cores import Cores
 from counting import Counting
@@ -117,12 +117,12 @@ class PodEars:
 
 
 class Knowing:
-    """Both. Their watches begin at once."""
+    """Both, once they are started."""
 
     def __init__(
         self, api: Any, cores: Cores, rows: Rows, labels: NodeLabels, counting: Counting
     ) -> None:
-        reader = Reader(rows.translator.words[0], WHO, rows.named)
+        reader = Reader(rows.program, WHO, rows.named)
         self.nodes = NodeEars(cores, reader, labels, counting)
         self.pods = PodEars(cores, rows, counting)
         self.watches = [
@@ -131,6 +131,10 @@ class Knowing:
         ]
         counting.look = self.look
         self.cores, self.counting = cores, counting
+
+    def start(self) -> None:
+        for it in self.watches:
+            it.start()
 
     def is_listed(self) -> bool:
         return self.nodes.is_listed and self.pods.is_listed

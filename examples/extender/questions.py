@@ -12,10 +12,10 @@ import json
 import re
 from typing import Any, Iterator, Mapping, NamedTuple, Sequence
 
-from affinity import Asked
-from rule_labels import KEY, Named
-from seen import held_by, with_labels
-from translating import EVERYTHING, Answer, Json, Size, Translator, as_json, fields_of, size_of
+from core.translating import EVERYTHING, Answer, Json, Size, Translator, as_json, fields_of, size_of
+from state.affinity import Asked
+from state.rule_labels import KEY, Named
+from state.seen import held_by, with_labels
 
 # The scheduler's name in what `translate` is asked, and what a script can say as a uid.
 WHO, UID = "extender", re.compile(r"[A-Za-z0-9._/-]{1,63}")
@@ -189,7 +189,7 @@ class Rows:
     """By `wsched translate`, which any thread may ask; equal pods are asked about once."""
 
     def __init__(self, program: str, named: Named) -> None:
-        self.translator, self.named = Translator(program, WHO), named
+        self.program, self.named, self.translator = program, named, Translator(program, WHO)
         # rows' fields by the text that they are made of
         self.kept: dict[str, str] = {}
 

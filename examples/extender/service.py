@@ -10,8 +10,8 @@ import threading
 import time
 from typing import Callable, NamedTuple
 
-from core import CoreFault
-from watch import DEAF
+from api.watch import DEAF
+from core.run import CoreFault
 
 from answers import LARGE, Counts, Filtered, Maps, Scored, Words, fault, faulty, filtered
 from cores import Asking, Cores, Said, nothing

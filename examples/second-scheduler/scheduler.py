@@ -12,24 +12,25 @@ import threading
 import time
 from typing import Any, Callable
 
-from affinity import NodeLabels
-from audit import Audit
-from binding import UNDER_WAY, Bind, Binders
-from core import MEANWHILE, PATIENCE, Core, command
-from desk import Desk
-from explaining import Explaining
-from health import Health
-from itself import Itself
-from ledger import Ledger
-from listed import Listing
-from listening import Listening
-from metrics import Metrics
-from newest import Inbox, Meant, Newest
-from pods import Pod, Told
-from telling import Telling
-from verdicts import is_of_rules, said_of_no_node
-from watch import QUIET
-from way import Way
+from api.binding import UNDER_WAY, Bind, Binders
+from api.listed import Listing
+from api.listening import Listening
+from api.watch import QUIET
+from api.way import Way
+from core.answers import Decision, Erred, Nowhere, Placed
+from core.explaining import Explaining
+from core.ledger import Ledger
+from core.run import MEANWHILE, PATIENCE, Core, command
+from core.verdicts import is_of_rules, said_of_no_node
+from reporting.health import Health
+from reporting.itself import Itself
+from reporting.metrics import Metrics
+from reporting.telling import Telling
+from state.affinity import NodeLabels
+from state.audit import Audit
+from state.desk import Desk
+from state.newest import Inbox, Meant, Newest
+from state.pods import Pod, Told
 
 LOG = logging.getLogger("second-scheduler")
 # How many cycles are asked for at once at most, and for how long they are, in seconds, before the
@@ -37,13 +38,15 @@ LOG = logging.getLogger("second-scheduler")
 CYCLES, SLICE = 64, 0.1
 # What a unit of fuel takes on a slow machine, in seconds.
 UNIT = 5e-9
+# By kube-scheduler's names what a decision came to; any other is an error.
+RESULTS = {Placed.word: "scheduled", Nowhere.word: "unschedulable"}
 # How often the desk is audited, in seconds, and nodes without room are tried again.
 AUDIT = 30.0
 
 
 class Scheduler:
-    """One that schedules: it has begun to list and watch once it is there, and `run` goes on until `stopping` is set. `may_write` says whether no
-    other may schedule by now."""
+    """One that schedules: `run` begins to list and watch, and goes on until `stopping` is set. `may_write` says whether no other may schedule by
+    now."""
 
     def __init__(self, given: argparse.Namespace, api: Any, way: Way, metrics: Metrics, health: Health, may_write: Callable[[], bool]) -> None:
         self.given, self.metrics, self.health = given, metrics, health
@@ -56,12 +59,11 @@ class Scheduler:
         self.fuel = sum(2 * int(it.split(":")[2]) for it in given.spec)
         self.under_way, self.began, self.last = 0, time.monotonic(), 0.0
         self.itself = Itself(given)
-        self.core = Core(command(given.wsched, given.workers, given.spec), self.itself.record(), health.beat)
-        health.watch_over(self.kill)
+        self.core = Core(command(given.wsched, given.workers, given.spec), health.beat)
         self.share = given.share
         self.whose = f" of share {self.share}" if self.share.count > 1 else ""
         # up to which change of a node the main loop has heard
-        self.listening, self.heard = Listening(self.inbox), 0
+        self.heard = 0
         pods: dict[str, Pod] = {}
         self.newest = Newest(self.inbox, pods, lambda: self.listening.is_deaf() or not may_write())
         self.telling = Telling(way, given.scheduler, given.dry_run, metrics, self.newest.waits)
@@ -72,8 +74,18 @@ class Scheduler:
         self.audit = Audit(self.desk, self.telling, metrics, Listing(api, self.newest, self.desk, self.telling, metrics))
         explain = [given.wsched, "explain", "--", *given.spec]
         self.explaining = Explaining(explain, self.desk, self.telling, self.inbox, self.whose, given.reasons)
-        self.listening.begin(given, api, metrics, self.newest, labels, ledger)
-        health.unheard = self.listening.unheard
+        self.listening = Listening(given, api, metrics, self.newest, labels, ledger)
+
+    def start(self) -> None:
+        """Starts the children and the threads: those last that list and watch."""
+        self.core.start(self.itself.record())
+        self.health.watch_over(self.kill)
+        self.binders.ledger.start()
+        self.telling.start()
+        self.binders.start()
+        self.audit.listing.start()
+        self.listening.start()
+        self.health.unheard = self.listening.unheard
 
     def kill(self) -> None:
         """Ends what it has started. (Each ends with its input too, but one that hangs.)"""
@@ -98,7 +110,7 @@ class Scheduler:
             self.desk.changed.clear()
             for _ in range(min(self.cycles, UNDER_WAY - self.under_way)):
                 # (what moves behind this line isn't known to this decision)
-                self.core.tell('{"op":"cycle"}', functools.partial(self.decided, self.desk.waiting.moves, self.heard))
+                self.core.cycle(functools.partial(self.decided, self.desk.waiting.moves, self.heard))
             self.core.flush(functools.partial(self.hear_some, 0.0, MEANWHILE))
             now = time.monotonic()
             decided = self.counts["decided"] - before
@@ -114,50 +126,47 @@ class Scheduler:
         longest = self.fuel * len(self.desk.nodes) * UNIT
         return min(CYCLES, max(1, int(PATIENCE / 3 / longest))) if longest else CYCLES
 
-    def decided(self, moved: int, known: int, answer: str) -> None:
-        if answer == "idle":
+    def decided(self, moved: int, known: int, decision: Decision | None) -> None:
+        if decision is None:
             # (what was heard meanwhile is told next)
             self.desk.has_work = bool(self.core.waiting)
             return
         turn, self.last = self.last, time.monotonic()
-        uid, what, *rest = answer.split(" ")
         self.counts["decided"] += 1
-        self.counts[what] += 1
-        pod = self.desk.pods.get(uid)
-        if what == "on":
-            self.metrics.attempts.labels(self.given.scheduler, "scheduled").inc()
-        else:
-            self.metrics.attempts.labels(self.given.scheduler, "unschedulable" if what == "unschedulable" else "error").inc()
+        self.counts[decision.word] += 1
+        self.metrics.attempts.labels(self.given.scheduler, RESULTS.get(decision.word, "error")).inc()
+        pod = self.desk.pods.get(decision.uid)
         # (one that has changed or went while this was decided is told anew, or no longer)
         if pod is None or pod.wait is None or pod.told is not Told.WAITING:
             return
-        if what == "on":
-            node, ticket = rest[0], int(rest[-1])
-            self.desk.placed(pod, node, ticket)
-            if self.given.dry_run:
-                print(f"would bind {pod} to {node}", flush=True)
-                return
-            self.under_way += 1
-            there = self.desk.nodes.get(node)
-            bind = Bind(Meant(pod, self.newest.version(pod), node, there.uid if there else "", known), ticket, turn)
-            if node in self.desk.changed:
-                # (it was decided by what the node was before)
-                self.was_bound(bind._replace(is_posted=False))
-            else:
-                self.binders.bind(bind)
-        elif what == "unschedulable":
-            created = pod.wait.created
+        if isinstance(decision, Placed):
+            self.placed(pod, decision, known, turn)
+        elif isinstance(decision, Nowhere):
+            is_all = self.share.has_gone_round(time.time() - pod.wait.created)
             self.desk.failed(pod, moved)
-            is_all = self.share.has_gone_round(time.time() - created)
-            self.telling.failed(pod, said_of_no_node(rest, whose=self.whose), is_of_rules=is_of_rules(rest), is_all=is_all)
-        elif what == "error":
+            counts = decision.counts
+            self.telling.failed(pod, said_of_no_node(counts, whose=self.whose), is_of_rules=is_of_rules(counts), is_all=is_all)
+        elif isinstance(decision, Erred):
             self.desk.failed(pod, -1)
-            self.telling.failed(pod, f"plugin {rest[1]} says nothing of node {rest[3]}: {' '.join(rest[4:])}", "SchedulerError")
+            self.telling.failed(pod, f"plugin {decision.rule} says nothing of node {decision.node}: {decision.cause}", "SchedulerError")
         else:
-            # its place was refused
             self.desk.failed(pod, -1)
             self.metrics.refused.labels("place").inc()
-            self.telling.failed(pod, f"its place was refused: {' '.join(rest)}", "SchedulerError")
+            self.telling.failed(pod, f"its place was refused: {decision.number} {decision.name}", "SchedulerError")
+
+    def placed(self, pod: Pod, it: Placed, known: int, turn: float) -> None:
+        self.desk.placed(pod, it.node, it.ticket)
+        if self.given.dry_run:
+            print(f"would bind {pod} to {it.node}", flush=True)
+            return
+        self.under_way += 1
+        there = self.desk.nodes.get(it.node)
+        bind = Bind(Meant(pod, self.newest.version(pod), it.node, there.uid if there else "", known), it.ticket, turn)
+        if it.node in self.desk.changed:
+            # (it was decided by what the node was before)
+            self.was_bound(bind._replace(is_posted=False))
+        else:
+            self.binders.bind(bind)
 
     def was_bound(self, bind: Bind) -> None:
         self.under_way -= 1
@@ -211,7 +220,7 @@ class Scheduler:
         self.health.beat()
 
     def tick(self) -> None:
-        self.core.tell(f'{{"op":"tick","at":{int(1000 * (time.monotonic() - self.began))}}}', lambda answer: None)
+        self.core.step(f'{{"op":"tick","at":{int(1000 * (time.monotonic() - self.began))}}}')
         self.core.flush()
         self.binders.ledger.tick()
         self.desk.has_work = True
@@ -230,6 +239,7 @@ class Scheduler:
             it.trouble.shut.labels(watch.ears.kind).set(watch.shut_for(now))
 
     def run(self) -> int:
+        self.start()
         while self.desk.listed != {"node", "pod"} and not self.stopping.is_set():
             self.take(time.monotonic() + 0.2)
         self.health.is_listed = True

@@ -27,21 +27,19 @@ sys.path.append(str(pathlib.Path(__file__).resolve().parent.parent))
 from tools import rules
 from tools.wasm_sections import reasons_by_name
 
-import lease
-import ledger
-import rule_labels
-import serving
 import signals
-import share
 import site_settings
-import translating
-from binding import LANDS
-from core import CoreFault, command, try_on_nothing
-from health import Health
-from metrics import Metrics
-from official import NoAccount, calls_by
+from api import lease
+from api.binding import LANDS
+from api.official import NoAccount, calls_by
+from api.way import NoWay, Way
+from core import ledger, translating
+from core.run import CoreFault, command, try_on_nothing
+from reporting import serving
+from reporting.health import Health
+from reporting.metrics import Metrics
 from scheduler import Scheduler, end_process
-from way import NoWay, Way
+from state import rule_labels, share
 
 LOG = logging.getLogger("second-scheduler")
 # The rule that --node-affinity asks, and the fuel of its calls: enough for any pod and node.
@@ -152,7 +150,11 @@ class Replica:
         self.health, self.metrics, self.stop = Health(), Metrics(given.scheduler), threading.Event()
         self.running: Scheduler | None = None
         self.lease: lease.Lease | None = None
+
+    def start(self) -> None:
+        """From now on signals are heard, and probes and scrapes answered."""
         signals.hear({signal.SIGTERM: self.end, signal.SIGINT: self.end, signal.SIGHUP: self.end, signal.SIGUSR1: self.audit})
+        given = self.given
         if given.listen:
             try:
                 serving.serve(given.listen, self.health, self.metrics, serving.Files(given.tls_cert, given.tls_key, given.token_file))
@@ -251,6 +253,7 @@ def main() -> None:
     if given.record and not os.access(os.path.dirname(given.record) or ".", os.W_OK | os.X_OK):
         sys.exit(f"second_scheduler.py: --record: nothing can be written beside {given.record}")
     replica = Replica(given)
+    replica.start()
     if given.lease:
         replica.follow()
     else:

@@ -8,6 +8,8 @@ import pathlib
 import subprocess
 from typing import Iterator, NamedTuple, Sequence
 
+from core.answers import LAST_OF_DUMP, OfNode, is_of_node, node_and_said
+
 WSCHED = os.environ.get("WSCHED") or str(pathlib.Path(__file__).resolve().parent.parent.parent / "crates/wsched/out/wsched")
 
 
@@ -22,7 +24,7 @@ class Answer(NamedTuple):
     """What was answered to a line: of a dump all of its lines, and before a cycle's what `explain` says of each node."""
 
     said: list[str]
-    nodes: list[str]
+    nodes: dict[str, OfNode]
 
 
 def ran(words: Sequence[str], told: str) -> str:
@@ -76,13 +78,14 @@ class Script:
 
     def paired(self, output: Iterator[str]) -> Iterator[Answer]:
         for k in range(len(self.lines)):
-            nodes: list[str] = []
+            nodes: dict[str, OfNode] = {}
             line = next_of(output)
-            while line.startswith("  "):
-                nodes.append(line[2:])
+            while is_of_node(line):
+                name, of_it = node_and_said(line)
+                nodes[name] = of_it
                 line = next_of(output)
             said = [line]
-            while k in self.dumps and not said[-1].startswith("clock "):
+            while k in self.dumps and not said[-1].startswith(LAST_OF_DUMP):
                 said.append(next_of(output))
             yield Answer(said, nodes)
 

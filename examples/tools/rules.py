@@ -18,8 +18,8 @@ import pathlib
 import re
 from typing import Any, Iterator, NamedTuple, Sequence
 
-import rule_labels
 import site_settings
+from state import rule_labels
 
 AFFINITY, AFFINITY_FUEL = "node_affinity", 500000
 SHIPPED = pathlib.Path(__file__).resolve().parent.parent / "plugins"

@@ -10,9 +10,9 @@ import signal
 import time
 from typing import Callable
 
-from trials.answers import merge
-from trials.server import CUT, RESET
-from trials.site import PATIENCE, REGION, Site, wait_for
+from trials.fixtures.answers import merge
+from trials.fixtures.server import CUT, RESET
+from trials.fixtures.site import PATIENCE, REGION, Site, wait_for
 
 from caller import EUROPE, KEEP, PERSONAL, PREFER, Caller, Running, check, pod
 from stubbed import some_nodes

@@ -8,8 +8,8 @@ from typing import Callable
 
 import yaml
 
-from trials.site import PATIENCE, REGION, Site, alive, children, wait_for
-from trials.store import Thing
+from trials.fixtures.site import PATIENCE, REGION, Site, alive, children, wait_for
+from trials.fixtures.store import Thing
 
 from caller import (
     EUROPE,

@@ -10,12 +10,12 @@ import subprocess
 import time
 from typing import Any, Callable, Iterable, Iterator, Mapping, Optional, Sequence
 
-import cluster
-from cluster import Cluster, kubeconfig
-from trials.certificates import certificate
-from trials.sections import section, without_sections
-from trials.site import REGION, TOP, children, command, wait_for
-from trials.store import Thing
+from trials.api.certificates import certificate
+from trials.fixtures import cluster
+from trials.fixtures.cluster import Cluster, kubeconfig
+from trials.fixtures.sections import section, without_sections
+from trials.fixtures.site import REGION, TOP, children, command, wait_for
+from trials.fixtures.store import Thing
 
 from caller import (
     EUROPE,

@@ -11,8 +11,8 @@ import socket
 import ssl
 from typing import Any, Mapping, Optional, Sequence
 
-from trials.site import REGION, TOP, Scheduler, Site, children, command, wait_for
-from trials.store import Thing
+from trials.fixtures.site import REGION, TOP, Scheduler, Site, children, command, wait_for
+from trials.fixtures.store import Thing
 
 EXTENDER = TOP / "examples/extender"
 PLUGINS = TOP / "examples/plugins"

@@ -8,8 +8,8 @@ import subprocess
 import time
 from typing import Any, Optional
 
-from cluster import API
-from trials.site import children, command, spent
+from trials.fixtures.cluster import API
+from trials.fixtures.site import children, command, spent
 
 from beside import PODS, Ours, some_nodes
 from caller import KEEP, PERSONAL, PREFER, Caller

@@ -13,11 +13,11 @@ import subprocess
 import time
 from typing import Callable, Iterator
 
-from trials.answers import merge
-from trials.certificates import certificate
-from trials.sections import labels as labels_read, section, without_sections
-from trials.site import PATIENCE, REGION, Site, wait_for
-from trials.store import Thing
+from trials.api.certificates import certificate
+from trials.fixtures.answers import merge
+from trials.fixtures.sections import labels as labels_read, section, without_sections
+from trials.fixtures.site import PATIENCE, REGION, Site, wait_for
+from trials.fixtures.store import Thing
 
 import cores
 from questions import Row

@@ -1,0 +1,248 @@
+# SPDX-License-Identifier: Apache-2.0
+"""Keeps one kind of object listed and watched, and hands on what it hears, each in the API server's order.
+
+A watch that ends, however it does, is taken up where it ended: only where the API server no longer has that (410) is everything listed
+anew. Of each object only what is read of it is kept. While a kind isn't heard of, whoever decides is told so: it knows less than there is.
+"""
+from __future__ import annotations
+
+import json
+import logging
+import os
+import random
+import threading
+import time
+from typing import Any, Callable, Iterator, Protocol, Sequence
+
+import urllib3
+from kubernetes.client.rest import ApiException
+from kubernetes.config import ConfigException
+
+from core.run import CoreFault
+
+LOG = logging.getLogger("second-scheduler")
+# What a call to the API server may end with when it is away, or has another opinion, or when nobody
+# says who this is.
+AWAY = (ApiException, urllib3.exceptions.HTTPError, OSError, ConfigException)
+# How many objects of a list are asked for at once. Pods that have ended take no room.
+PAGE, PHASES = 500, "status.phase!=Succeeded,status.phase!=Failed"
+# For how long a watch is asked for, in seconds, at least and at most, so that those of several
+# clients don't end together; and how long one that says nothing is waited for: an API server has a
+# bookmark each minute. (A machine that is gone is seen sooner, by `way`.)
+SHORTEST_WATCH, LONGEST_WATCH, SILENT = 300, 600, 120
+# A watch that has held so long is a good one; after any other there is a pause, each twice the one
+# before, and each shortened at random by up to a half, so that several clients don't come back
+# together. The longest pause that an API server may ask for.
+HELD, FIRST_PAUSE, LONGEST_PAUSE, LONGEST_ASKED = 5.0, 0.5, 10.0, 60.0
+# For how long a kind may not be heard of, in seconds, before nothing more is decided. Once it is
+# heard again it has told what happened meanwhile when it has said nothing for so long, or has been
+# open for so long.
+DEAF, QUIET, CAUGHT_UP = 2.0, 0.5, 5.0
+GONE = 410
+
+
+def message(why: BaseException) -> str:
+    """What the API server says of a request that it refuses, which names a right that is missing; of another fault its first line."""
+    if isinstance(why, ApiException):
+        try:
+            return f"{why.status} {json.loads(why.body)['message']}"
+        except (TypeError, ValueError, KeyError):
+            return f"{why.status} {why.reason}"
+    return str(why).split("\n", maxsplit=1)[0]
+
+
+def asked_pause(why: BaseException) -> float:
+    """For how many seconds the API server asks to be left alone (RFC 9110, 10.2.3), where it does."""
+    text = str((getattr(why, "headers", None) or {}).get("Retry-After", ""))
+    return min(float(text), LONGEST_ASKED) if text.isdecimal() else 0.0
+
+
+class Expired(Exception):
+    """The API server no longer has what came after the version."""
+
+
+class Ears(Protocol):
+    """What hears of objects, in the thread of its watch, of a page of a list at once; `listed` is told after each list the keys of all
+    that there are."""
+
+    kind: str
+
+    def key(self, thing: dict[str, Any]) -> str: ...
+
+    def hear(self, event: str, things: Sequence[dict[str, Any]]) -> None: ...
+
+    def listed(self, keys: set[str]) -> None: ...
+
+    def failed(self) -> None: ...
+
+
+class First:
+    """Who is told what the API server tells before `Ears` hear of it, as it came, and when a watch is opened and shut. This one takes no notice."""
+
+    def begins(self) -> None:
+        """A list is asked for next."""
+
+    def items(self, things: Sequence[dict[str, Any]]) -> None:
+        """A page of it."""
+
+    def ends(self) -> None:
+        """It was whole."""
+
+    def event(self, line: bytes, event: dict[str, Any]) -> None:
+        """An event that is of an object."""
+
+    def opened(self) -> None:
+        """A watch goes on from where the last one or the list ended."""
+
+    def shut(self) -> None:
+        """It goes on no longer."""
+
+    def wants_list(self) -> bool:
+        """Whether all is to be listed anew."""
+        return False
+
+
+NOBODY = First()
+
+
+class Watched:
+    """One kind of object, in a thread of its own once it is started."""
+
+    def __init__(self, call: Callable[..., Any], ears: Ears, first: First = NOBODY, **only: str) -> None:
+        self.call, self.ears, self.first, self.only = call, ears, first, only
+        self.version: str | None = None
+        self.pause = self.opened = 0.0
+        # since when it is shut, None while it is open; whether it may not have told yet what
+        # happened while it was shut, whether something is being heard just now, and when that ended
+        self.shut: float | None = time.monotonic()
+        self.is_behind = self.is_hearing = False
+        self.heard, self.lock = 0.0, threading.Lock()
+
+    def start(self) -> None:
+        threading.Thread(target=self.go, daemon=True, name=self.ears.kind).start()
+
+    def go(self) -> None:
+        try:
+            while True:
+                self.once()
+        # without this thread nothing more would be heard, and nobody would know
+        except CoreFault as why:
+            LOG.error("%s: nothing more can be heard: %s", self.ears.kind, why)
+        except Exception:  # pylint: disable=broad-except
+            LOG.exception("%s: nothing more can be heard", self.ears.kind)
+        os._exit(1)
+
+    def once(self) -> None:
+        """Lists where there is no version to go on from, and watches until that ends; then the pause that is due."""
+        self.opened, why, was_kept, asked = 0.0, "the watch ended at once", self.version is not None, 0.0
+        try:
+            if self.version is None:
+                self.list()
+            self.watch()
+        except Expired as gone:
+            self.version, why = None, str(gone)
+        # (ValueError: an answer that was cut off is no JSON)
+        except (*AWAY, ValueError) as other:
+            if getattr(other, "status", None) == GONE:
+                self.version = None
+            why, asked = message(other), asked_pause(other)
+        if self.opened and time.monotonic() - self.opened >= HELD:
+            self.pause = 0.0
+            return
+        self.ears.failed()
+        if was_kept and self.version is None:
+            # (after a list of just now the pause is due all the same)
+            LOG.warning("%s: %s; listing anew", self.ears.kind, why)
+            return
+        pause = max(self.pause * random.uniform(0.5, 1.0), asked * random.uniform(1.0, 1.25))
+        LOG.warning("%s: %s; again in %.1f s", self.ears.kind, why, pause)
+        time.sleep(pause)
+        self.pause = min(max(FIRST_PAUSE, 2 * self.pause), LONGEST_PAUSE)
+
+    def list(self) -> None:
+        keys: set[str] = set()
+        more = None
+        self.first.begins()
+        while True:
+            answer = self.call(limit=PAGE, _continue=more, _preload_content=False, _request_timeout=(5, 60), **self.only)
+            page = json.loads(answer.data)
+            self.first.items(page["items"])
+            keys |= {self.ears.key(it) for it in page["items"]}
+            self.ears.hear("MODIFIED", page["items"])
+            more = page["metadata"].get("continue")
+            if not more:
+                self.first.ends()
+                self.ears.listed(keys)
+                self.version = page["metadata"]["resourceVersion"]
+                return
+
+    def watch(self) -> None:
+        answer = self.call(
+            watch=True,
+            resource_version=self.version,
+            allow_watch_bookmarks=True,
+            timeout_seconds=random.randint(SHORTEST_WATCH, LONGEST_WATCH),
+            _preload_content=False,
+            _request_timeout=(5, SILENT),
+            **self.only,
+        )
+        self.is_open()
+        try:
+            for line in lines_of(answer):
+                self.is_hearing = True
+                self.take(line, json.loads(line))
+                self.heard, self.is_hearing = time.monotonic(), False
+            answer.release_conn()
+        finally:
+            self.shut, self.is_hearing = time.monotonic(), False
+            self.first.shut()
+            # (a connection that has been given back is none of this answer's any more)
+            answer.close()
+
+    def take(self, line: bytes, event: dict[str, Any]) -> None:
+        thing = event["object"]
+        if event["type"] == "ERROR":
+            if thing.get("code") == GONE:
+                raise Expired(thing.get("message"))
+            raise ValueError(f"the watch ended: {thing.get('message')}")
+        if event["type"] != "BOOKMARK":
+            self.first.event(line, event)
+            self.ears.hear(event["type"], [thing])
+        self.version = thing["metadata"]["resourceVersion"]
+        if self.first.wants_list():
+            raise Expired("there may be room for more")
+
+    # For whoever decides.
+
+    def is_open(self) -> None:
+        """What happened while it was shut comes now."""
+        self.first.opened()
+        now = time.monotonic()
+        with self.lock:
+            self.is_behind = self.is_behind or self.shut_for(now) > DEAF
+            self.opened, self.heard, self.shut = now, now, None
+
+    def shut_for(self, now: float) -> float:
+        """For how many seconds nothing has been heard."""
+        shut = self.shut
+        return 0.0 if shut is None else now - shut
+
+    def is_deaf(self, now: float) -> bool:
+        """Whether more has happened by now than was heard, as far as that can be known: what was heard is on its way to whoever decides."""
+        with self.lock:
+            if self.shut is not None:
+                return self.is_behind or now - self.shut > DEAF
+            is_quiet = not self.is_hearing and now - self.heard >= QUIET
+            if is_quiet or now - self.opened >= CAUGHT_UP:
+                self.is_behind = False
+            return self.is_behind
+
+
+def lines_of(answer: Any) -> Iterator[bytes]:
+    rest: list[bytes] = []
+    for some in answer.stream(1 << 16, decode_content=False):
+        rest.append(some)
+        if b"\n" in some:
+            *lines, last = b"".join(rest).split(b"\n")
+            rest = [last]
+            yield from (it for it in lines if it)
