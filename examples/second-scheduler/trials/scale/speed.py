@@ -13,9 +13,17 @@ from typing import Callable, NamedTuple
 
 from trials.fixtures import cluster
 from trials.fixtures.fleet import Trial, some_nodes, some_pods
-from trials.fixtures.site import GIB, RULE, children, spent
+from trials.fixtures.site import GIB, RULE, TOP, children, spent
 
 Start = Callable[[], subprocess.Popen[bytes]]
+PLUGINS = f"{TOP}/examples/plugins"
+# Who binds in turn: kube-scheduler, and the client with other words.
+THEIRS, OURS = "kube-scheduler", "wsched"
+WORDS: dict[str, list[str]] = {
+    OURS: [],
+    f"{OURS} with keep_region": [RULE],
+    f"{OURS} with node_affinity and least_pods": ["--node-affinity", "1", "--plugins", PLUGINS, f"least_pods:1:100000:{PLUGINS}/least_pods.wasm"],
+}
 # The client, which writes at its end for how many seconds each of its threads has had a processor,
 # and its main thread before it begins.
 BY_THREAD = """
@@ -63,19 +71,19 @@ def speed(site: cluster.Cluster, nodes: int = 1000, pods: int = 3000, turns: int
         trial.ears.stop.set()
         found = collections.defaultdict(list)
         for _ in range(turns):
-            for who in ("wsched", "kube-scheduler", "wsched with keep_region"):
-                ours = who != "kube-scheduler"
-                made = {it: pod | {"selects": {}, "cpu": 100 + pod["cpu"] % 400} for it, pod in some_pods(pods, "s", "wsched" if ours else "default-scheduler")}
+            for who in (THEIRS, *WORDS):
+                ours = who != THEIRS
+                made = {it: pod | {"selects": {}, "cpu": 100 + pod["cpu"] % 400} for it, pod in some_pods(pods, "s", OURS if ours else "default-scheduler")}
                 site.make_pods(made)
                 run = watched(site, pods, starter(trial, who, workers) if ours else site.start_kube_scheduler)
-                site.end("wsched" if ours else "kube-scheduler")
+                site.end(OURS if ours else THEIRS)
                 site.delete_pods(made)
                 site.empty("namespaces/default/events")
                 found[who].append(run.rate)
                 print(f"{who}: {run}{by_thread(site, pods) if ours else ''}", flush=True)
         best = {who: max(rates) for who, rates in found.items()}
-        times = best["wsched"] / best["kube-scheduler"], best["wsched with keep_region"] / best["kube-scheduler"]
-        print(f"{nodes} nodes, {pods} pods: {times[0]:.1f} times kube-scheduler, with the rule {times[1]:.1f} times")
+        for who in WORDS:
+            print(f"{nodes} nodes, {pods} pods: {who} {best[who] / best[THEIRS]:.1f} times kube-scheduler")
     finally:
         site.end_all()
     return 0
@@ -85,7 +93,7 @@ def starter(trial: Trial, who: str, workers: int) -> Start:
     """Starts the client with what tells of its threads."""
     code = BY_THREAD.format(folder=str(trial.site.programs.client), file=str(trial.site.folder / "by_thread.json"))
     own = [sys.executable, "-c", code, "second_scheduler.py"]
-    return functools.partial(trial.schedule, "--workers", str(workers), rule=RULE if "keep" in who else None, words=own)
+    return functools.partial(trial.schedule, "--workers", str(workers), *WORDS[who], rule=None, words=own)
 
 
 def by_thread(site: cluster.Cluster, pods: int) -> str:
