@@ -107,17 +107,17 @@ by_change_counted site by_uid version Gone pod h k = absurd (h refl)
 kind_counted : (site : Site) (by_uid : Bool) (version : Version) (change : Change) (json : Data) (kind : Option Kind)
     → ¬ (change ≡ Gone) → kind_of json ≡ Ok kind
     → Covered (IsObjectCounted version json) (by_kind (telling site by_uid version change) json kind)
-kind_counted site by_uid version change json (Some Node) h k =
-    always (kind_told (telling site by_uid version change) Node json) (λ t. inl (inl (record { kind = Some Node; said = k; other = λ e. cc })))
-kind_counted site by_uid version change json (Some Pod) h k = by_change_counted site by_uid version change json h k
-kind_counted site by_uid version change json None h k =
+kind_counted site by_uid version became json (Some Node) h k =
+    always (kind_told (telling site by_uid version became) Node json) (λ t. inl (inl (record { kind = Some Node; said = k; other = λ e. cc })))
+kind_counted site by_uid version became json (Some Pod) h k = by_change_counted site by_uid version became json h k
+kind_counted site by_uid version became json None h k =
     choose (IsObjectCounted version json) (is_some (field (codes "items") json)) _ _ (λ e. tt) (λ e. inl (inl (record { kind = None; said = k; other = λ e. cc })))
 
 object_counted : (site : Site) (by_uid : Bool) (version : Version) (change : Change) (json : Data) → ¬ (change ≡ Gone)
     → Covered (IsObjectCounted version json) (object_told (telling site by_uid version change) json)
 unfolding object_told
-object_counted site by_uid version change json h =
-    behind (IsObjectCounted version json) (kind_of json) (by_kind (telling site by_uid version change) json) (λ kind k. kind_counted site by_uid version change json kind h k)
+object_counted site by_uid version became json h =
+    behind (IsObjectCounted version json) (kind_of json) (by_kind (telling site by_uid version became) json) (λ kind k. kind_counted site by_uid version became json kind h k)
 
 -- an event, by its type
 
