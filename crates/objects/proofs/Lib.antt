@@ -15,7 +15,11 @@ pub mod OneLine
 pub mod Requests
 pub mod Standing
 pub mod Shown
+pub mod Counted
+pub mod Moments
 pub mod Enough
+pub mod Parts
+pub mod More
 pub mod Named
 pub mod Names
 pub mod Faults

@@ -18,5 +18,7 @@ pub mod Standing
 pub mod Shown
 pub mod Translation
 pub mod Heard
+pub mod Parts
 pub mod Enough
+pub mod More
 pub mod inside

@@ -50,7 +50,10 @@ mod tolerations;
 mod translation;
 
 pub use heard::{Heard, hear};
-pub use laws::{left_out_is_named_in_texts, what_stands_counts_enough};
+pub use laws::{
+    left_out_is_named_in_texts, more_never_counts_less, what_stands_counts_enough,
+    what_stands_counts_its_parts,
+};
 pub use naming::object_name;
 pub use site::Site;
 pub use told::{is_blank, parse};
