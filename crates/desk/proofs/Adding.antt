@@ -1,21 +1,20 @@
--- The exchange that adds a call keeps the rule of the history.
+-- The exchange that adds to a history keeps its rule, whatever it is a history of.
 use Rattle.std.proofs.Common.{◌≡◌, ℕ, ◌+◌, ◌<◌, ◌==◌, Bool, true, false, List, [], ◌∷◌, ◌++◌, length, refl, ap, sym, subst, arith, inl, length-append, None}
 use Rattle.std.proofs.lemmas.List.{append-nil}
 use Rattle.std.proofs.lemmas.Bool.Decides.{nat_tests}
 use mathlib.Core.List.{IsPrefix}
 use prog.Atomic.{either}
 use Rattle.logbook.specs.Pages.{Cell, cell, keeps, no_nib, step, Moves, Goes}
-use Rattle.desk.specs.History.{Call}
 use Rattle.desk.specs.inside.Shared.{IsKept, IsAdded}
 use Rattle.desk.proofs.Beginnings.{prefix_whole}
 
-abbrev pub shown : List Call → List Call
+abbrev pub shown : {A : Type 0} → List A → List A
 shown log = []
 
-abbrev pub moved : List Call → List Call → ℕ → Type 0
+abbrev pub moved : {A : Type 0} → List A → List A → ℕ → Type 0
 moved xs ys n = Unit {0}
 
-pub adds_goes : (log v : List Call) (e : Call) (old : ℕ) → length v ≡ old → IsPrefix v log
+pub adds_goes : {A : Type 0} (log v : List A) (e : A) (old : ℕ) → length v ≡ old → IsPrefix v log
     → (b : Bool) → (length log == old) ≡ b
     → Goes IsKept shown moved 0 (v, (no_nib, None)) (λ n. either (n == old) (old + 1) n) (IsAdded (step 0 old (old + 1) e) (v, (no_nib, None))) ((length log, true) ∷ (0, true) ∷ []) log
 adds_goes log v e old len pre true is =
@@ -42,9 +41,9 @@ adds_goes log v e old len pre false is =
       rw is tt,
     )
 
--- whatever the history is, the exchange adds the call to all that was seen, or finds that the
+-- whatever the history is, the exchange adds what is asked to all that was seen, or finds that the
 -- history is longer
-pub adds_moves : (v : List Call) (e : Call) (old : ℕ) → length v ≡ old
+pub adds_moves : {A : Type 0} (v : List A) (e : A) (old : ℕ) → length v ≡ old
     → Moves IsKept shown moved 0 (v, (no_nib, None)) (λ n. either (n == old) (old + 1) n) (IsAdded (step 0 old (old + 1) e) (v, (no_nib, None)))
 adds_moves v e old len cs log kept pre away =
     let P : List Cell → Type 0 = λ c. (0 < length c) × ((cell c 0).1 ≡ true) × Goes IsKept shown moved 0 (v, (no_nib, None)) (λ n. either (n == old) (old + 1) n) (IsAdded (step 0 old (old + 1) e) (v, (no_nib, None))) c log in

@@ -1,7 +1,7 @@
 //! What a pool is asked, and the history of it.
 ghost use Rattle.std.specs.Prelude.{◌≡◌, ◌<◌, ◌≤◌, [], length, IfOk, IfErr};
 ghost use Rattle.std.specs.Bool.{IsTrue};
-ghost use Rattle.pieces.specs.inside.Asking.{head_of};
+ghost use Rattle.desk.specs.inside.Shared.{head_of};
 ghost use Rattle.pieces.specs.Pieces.{begins};
 
 use crate::cut::begin;
@@ -24,7 +24,7 @@ pub struct Law;
 impl Rule<Asked, u64> for Law {
     ghost use Rattle.std.specs.Prelude.{[]};
     ghost use base.Fml.{ftrue};
-    ghost use Rattle.pieces.specs.inside.Asking.{IsKept};
+    ghost use Rattle.desk.specs.inside.Shared.{IsKept};
 
     ghost holds = { λ cells log. IsKept cells log };
 
@@ -52,7 +52,7 @@ impl Gain<Asked, u64> for Nothing {
 pub struct Adds;
 
 impl Play<Asked, u64> for Adds {
-    ghost use Rattle.pieces.specs.inside.Asking.{IsAdded};
+    ghost use Rattle.desk.specs.inside.Shared.{IsAdded};
 
     ghost then = { IsAdded };
 }

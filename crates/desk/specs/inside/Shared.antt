@@ -13,14 +13,15 @@ use Rattle.desk.specs.History.{Call}
 use Rattle.desk.specs.inside.History.{Leaves}
 
 -- the first word is the length of the history. The book has two words, of which the second stays 0
-pub record IsKept (cells : List Cell) (log : List Call) : Type 0 where
+pub record IsKept {A : Type 0} (cells : List Cell) (log : List A) : Type 0 where
   pub words : cells ≡ (length log, true) ∷ (0, true) ∷ []
 
 abbrev pub head_of : Book → Named
 head_of b = record { tracked = true; key = 0; book = b }
 
--- the call was added to all that had been seen; or the history was longer, and nothing was added
-abbrev pub IsAdded : WordStep Call → View Call ℕ → ℕ → View Call ℕ → Type 0
+-- what is asked was added to all that had been seen; or the history was longer, and nothing was
+-- added
+abbrev pub IsAdded : {A : Type 0} → WordStep A → View A ℕ → ℕ → View A ℕ → Type 0
 IsAdded s v found w = MatchBool (found == s.old) (w.0 ≡ v.0 ++ s.ask ∷ []) (Unit {0})
 
 -- some call

@@ -1,5 +1,5 @@
 use Rattle.std.proofs.Common.{◌≡◌, sym, ◌∙◌, ap, length}
-use Rattle.pieces.proofs.Asking.{adds_moves}
+use Rattle.desk.proofs.Adding.{adds_moves}
 use Rattle.pieces.proofs.asked.History.add.Goals as goal
 
 -- the exchange keeps the rule
