@@ -29,17 +29,13 @@ judged (shown ∷ rest) (verdict ∷ verdicts) = record { name = shown.node.name
 
 -- a verdict says nothing of a node
 abbrev pub errs : Verdict → Bool
-errs (Rejected reason) = false
-errs (RejectedBy place how) = false
 errs (Errs place why) = true
-errs (Passes count score scores) = false
+errs _ = false
 
 -- the untolerated taints `PreferNoSchedule` of a node that passes
 abbrev pub count_of : Verdict → ℕ
-count_of (Rejected reason) = 0
-count_of (RejectedBy place how) = 0
-count_of (Errs place why) = 0
 count_of (Passes count score scores) = count
+count_of _ = 0
 
 -- the greatest number of such taints over the nodes that pass, and 0 where none does
 abbrev pub most_of : List Judged → ℕ
@@ -51,10 +47,8 @@ abbrev pub total : (most count score : ℕ) → ℕ
 total most count score = score + taint_score count most
 
 abbrev pub total_of : (most : ℕ) → Verdict → Option ℕ
-total_of most (Rejected reason) = None
-total_of most (RejectedBy place how) = None
-total_of most (Errs place why) = None
 total_of most (Passes count score scores) = Some (total most count score)
+total_of most _ = None
 
 -- two reasons are the same
 abbrev pub same_reason : Reason → Reason → Bool
