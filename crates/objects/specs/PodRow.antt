@@ -60,12 +60,9 @@ text_if None = Some []
 text_if (Some value) = as_str value
 
 abbrev pub with_parts : List Toleration → Option Operator → Option (Option Effect) → (key value : Option (List ℕ)) → Option Toleration
-with_parts before None effect key value = None
-with_parts before (Some operator) None key value = None
-with_parts before (Some operator) (Some effect) None value = None
-with_parts before (Some operator) (Some effect) (Some key) None = None
 with_parts before (Some operator) (Some effect) (Some key) (Some value) =
     fitting before (record { key = key; operator = operator; value = value; effect = effect })
+with_parts before _ _ _ _ = None
 
 unfoldable pub toleration_of : List Toleration → Data → Option Toleration
 toleration_of before json =
