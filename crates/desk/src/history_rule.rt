@@ -1,4 +1,4 @@
-//! The rule of the history that passes share.
+//! The rule of a history that only grows, as of that which passes share.
 use crate::next_call::NextCall;
 use logbook::{Gain, Plain, Play, Rule};
 use std::marker::Model;
@@ -18,10 +18,10 @@ impl Model for Entry {
     ghost view = { λ _. no_call };
 }
 
-/// The word is the length of the history.
+/// The word is the length of the history, whatever it is a history of.
 pub struct HistoryRule;
 
-impl Rule<Entry, u64> for HistoryRule {
+impl<E> Rule<E, u64> for HistoryRule {
     ghost use Rattle.std.specs.Prelude.{[]};
     ghost use base.Fml.{ftrue};
     ghost use Rattle.desk.specs.inside.Shared.{IsKept};
@@ -42,16 +42,16 @@ impl Rule<Entry, u64> for HistoryRule {
 /// Callers trade nothing.
 pub struct Nothing;
 
-impl Gain<Entry, u64> for Nothing {
+impl<E> Gain<E, u64> for Nothing {
     ghost use base.Fml.{ftrue};
 
     ghost after = { λ names about answer. ftrue };
 }
 
-/// A step that adds a call.
+/// A step that adds what is asked.
 pub struct Adds;
 
-impl Play<Entry, u64> for Adds {
+impl<E> Play<E, u64> for Adds {
     ghost use Rattle.desk.specs.inside.Shared.{IsAdded};
 
     ghost then = { IsAdded };

@@ -10,8 +10,8 @@
 //!   `Order` is a call's change on its way there. `UnderLock` has the core and both boards, and
 //!   makes each call one step of what is published. The rule of what is published is `BoardRule`.
 //! - The history exists in the proofs alone: `Prefix` is a beginning of it that was seen, `Head`
-//!   the word that threads share, its length. `HistoryRule` says how it grows: by one `NextCall` at
-//!   a time. `Naming` tells one desk from another, and `Blank` is a history before it has a name.
+//!   the word that threads share, its length. `HistoryRule` says how it grows, as others may: by one
+//!   `NextCall` at a time. `Naming` tells one desk from another, and `Blank` is a history before it has a name.
 //! - `Step`, `Reply` and `Counts` are what is asked and answered.
 //!   `Snapshot` is what a look shows, with what was `Sought` for a pod's request. A pass keeps from
 //!   one look to the next what nodes are worth to each `Class` of pods: `Kept`.
@@ -40,6 +40,7 @@ mod under_lock;
 pub use book::{Limits, NoMemory, Refusal};
 pub use desk::Desk;
 pub use history::{Blank, Naming};
+pub use history_rule::{Adds, HistoryRule, Nothing};
 pub use laws::{
     desk_limits_are_these, entry_or_place, history_tells_the_state, in_flight_is_unanswered,
     one_pass_is_alone, tickets_are_given_once,

@@ -5,8 +5,8 @@ ghost use Rattle.desk.specs.inside.Shared.{head_of};
 ghost use Rattle.pieces.specs.Pieces.{begins};
 
 use crate::cut::begin;
-use desk::Snapshot;
-use logbook::{Gain, Offer, Plain, Play, Rule, Seen, Start, Word};
+use desk::{Adds, HistoryRule, Nothing, Snapshot};
+use logbook::{Offer, Plain, Seen, Start, Word};
 use quant::SharedPod;
 use std::marker::{Brand, Model, PhantomData};
 
@@ -18,45 +18,7 @@ pub struct Asked {
     pub pieces: usize,
 }
 
-/// The word is the length of the history.
-pub struct Law;
-
-impl Rule<Asked, u64> for Law {
-    ghost use Rattle.std.specs.Prelude.{[]};
-    ghost use base.Fml.{ftrue};
-    ghost use Rattle.desk.specs.inside.Shared.{IsKept};
-
-    ghost holds = { λ cells log. IsKept cells log };
-
-    ghost first = { [] };
-
-    ghost hinted = { λ n log. Unit {0} };
-
-    ghost shows = { λ log. [] };
-
-    ghost keeps = { λ names log. ftrue };
-
-    ghost moves = { λ ask before after answer. Unit {0} };
-}
-
-/// Callers trade nothing.
-pub struct Nothing;
-
-impl Gain<Asked, u64> for Nothing {
-    ghost use base.Fml.{ftrue};
-
-    ghost after = { λ names about answer. ftrue };
-}
-
-/// A step that adds what is asked.
-pub struct Adds;
-
-impl Play<Asked, u64> for Adds {
-    ghost use Rattle.desk.specs.inside.Shared.{IsAdded};
-
-    ghost then = { IsAdded };
-}
-
+/// A step adds what is asked.
 impl Plain<Asked, Asked, u64> for Adds {
     ghost use Rattle.std.specs.Prelude.{None};
 
@@ -90,8 +52,8 @@ impl Site for Brand {
 /// An empty history, before it has a name.
 #[derive(Drop)]
 pub struct Blank {
-    head: Word<Asked, u64, Law>,
-    seen: Seen<Asked, u64, Law>,
+    head: Word<Asked, u64, HistoryRule>,
+    seen: Seen<Asked, u64, HistoryRule>,
     pub ghost empty: { seen.log ≡ [] },
     pub ghost head_is: { head ≡ head_of seen.book },
 }
@@ -123,8 +85,8 @@ impl Blank {
 /// All that a pool was asked, and how much that is.
 #[derive(Drop)]
 pub struct History<J: Site> {
-    head: Word<Asked, u64, Law>,
-    seen: Seen<Asked, u64, Law>,
+    head: Word<Asked, u64, HistoryRule>,
+    seen: Seen<Asked, u64, HistoryRule>,
     count: u64,
     of: PhantomData<J>,
     ghost head_is: { head ≡ head_of J.book },
@@ -138,7 +100,7 @@ pub struct History<J: Site> {
 pub struct Order<J: Site> {
     asked: Asked,
     number: u64,
-    seen: Seen<Asked, u64, Law>,
+    seen: Seen<Asked, u64, HistoryRule>,
     of: PhantomData<J>,
 }
 
@@ -164,7 +126,9 @@ impl<J: Site> History<J> {
             return Err(asked);
         }
         let mut seen = self.seen.again();
-        let mut offer: Offer<Asked, u64, Law, Nothing> = seen.plain::<Nothing, Asked, Adds>(&asked);
+        let mut offer: Offer<Asked, u64, HistoryRule, Nothing> = seen.plain::<Nothing, Asked, Adds>(
+            &asked,
+        );
         let mut pen = seen.no_pen();
         let found = self
             .head
