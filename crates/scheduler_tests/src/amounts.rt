@@ -1,5 +1,6 @@
-//! The worked examples of amounts, names and texts.
-use quant::{Bytes, Cpu, Name, QuantFault, Request, Text, read_bytes, read_cpu, request};
+//! The worked examples of amounts, names and texts. What a pod asks for in all is told by the row
+//! `what_pods_ask_for_in_all`.
+use quant::{Bytes, Cpu, Name, QuantFault, Text, read_bytes, read_cpu};
 use std::alloc::AllocError;
 
 const CPU: &[(&str, Result<Cpu, QuantFault>)] = &[
@@ -59,26 +60,13 @@ fn first_other_memory() -> Option<&'static str> {
     None
 }
 
-// What a pod asks for that has two containers and one that goes before them.
-fn asked() -> Result<(Cpu, Bytes), QuantFault> {
-    let containers = [
-        Request::new(Cpu(100), Bytes(64 << 20))?,
-        Request::new(Cpu(200), Bytes(64 << 20))?,
-    ];
-    let init = [Request::new(Cpu(500), Bytes(32 << 20))?];
-    let whole = request(&containers, &init)?;
-    Ok((whole.cpu, whole.mem))
-}
-
 #[test]
 fn amounts(rt: HostRuntime) {
-    assert_eq!(rt; first_other_cpu(), None);
-    assert_eq!(rt; first_other_memory(), None);
-    assert_eq!(rt; asked(), Ok((Cpu(500), Bytes(134_217_728))));
+    assert_eq!(rt; first_other_cpu().or(first_other_memory()), None);
 }
 
 // 63 bytes, and one more.
-const LONGEST: &[u8] = b"aaaaaaaaaaaaaaaaaaaaaaaaaaaaaaaaaaaaaaaaaaaaaaaaaaaaaaaaaaaaaaa";
+const LONGEST: &str = "aaaaaaaaaaaaaaaaaaaaaaaaaaaaaaaaaaaaaaaaaaaaaaaaaaaaaaaaaaaaaaa";
 
 const TOO_LONG: &[u8] = b"aaaaaaaaaaaaaaaaaaaaaaaaaaaaaaaaaaaaaaaaaaaaaaaaaaaaaaaaaaaaaaaa";
 
@@ -94,16 +82,9 @@ fn is_the_empty_text(bytes: &[u8]) -> bool {
     Text::new(bytes) == Ok(Text::default())
 }
 
-fn is_spelled_so(bytes: &[u8]) -> bool {
-    match Name::new(bytes) {
-        Ok(name) => name.as_bytes() == bytes,
-        Err(_) => false,
-    }
-}
-
-fn is_its_text(text: &str) -> bool {
+fn is_spelled_so(text: &str) -> bool {
     match Name::new(text.as_bytes()) {
-        Ok(name) => name.as_str() == text,
+        Ok(name) => name.as_bytes() == text.as_bytes() && name.as_str() == text,
         Err(_) => false,
     }
 }
@@ -123,15 +104,19 @@ fn goes_before(less: &[u8], more: &[u8]) -> bool {
     }
 }
 
+fn are_names_and_texts() -> bool {
+    is_no_name(b"")
+        && is_no_name(b"a b")
+        && is_no_name(TOO_LONG)
+        && is_no_text(TOO_LONG)
+        && is_spelled_so(LONGEST)
+        && is_the_empty_text(b"")
+        && is_spelled_so("node.kubernetes.io/unschedulable")
+        && is_cloned(b"node.kubernetes.io/unschedulable")
+        && goes_before(b"a", b"a.b")
+}
+
 #[test]
 fn names_and_texts(rt: HostRuntime) {
-    assert!(rt; is_no_name(b""));
-    assert!(rt; is_no_name(b"a b"));
-    assert!(rt; is_no_name(TOO_LONG));
-    assert!(rt; is_no_text(TOO_LONG));
-    assert!(rt; is_spelled_so(LONGEST));
-    assert!(rt; is_the_empty_text(b""));
-    assert!(rt; is_its_text("node.kubernetes.io/unschedulable"));
-    assert!(rt; is_cloned(b"node.kubernetes.io/unschedulable"));
-    assert!(rt; goes_before(b"a", b"a.b"));
+    assert!(rt; are_names_and_texts());
 }

@@ -3,7 +3,9 @@ ghost use Rattle.std.specs.Prelude.{◌≡◌, IfSome, IfOk};
 ghost use Rattle.desk.specs.Caller.{IsTimely};
 ghost use Rattle.desk.specs.Shared.{IsPassOf};
 
-use crate::objects::{named, node, node_set, pod, pod_bound};
+use crate::objects::{named, node_told, pod, pod_bound};
+use crate::outcome::keys;
+use crate::steps::{Answer, apply};
 use book::Book;
 use desk::{Blank, Desk, Limits, Naming, NoPlace, Pass, Reply, Snapshot, Step};
 use quant::{Cpu, Event, Name, Res, Version};
@@ -19,7 +21,21 @@ const EACH: usize = 250;
 
 /// How many pods each node has in the end. Each pass wants to place 63 pods on each of the first
 /// two, and 62 on each of the others, of which the last has room for 100.
-const PLACED: [(u8, u32); 4] = [(b'a', 252), (b'b', 252), (b'c', 248), (b'd', 100)];
+const PLACED: &[(u8, u32)] = &[(b'a', 252), (b'b', 252), (b'c', 248), (b'd', 100)];
+
+fn placed() -> &'static [(u8, u32)] {
+    PLACED
+}
+
+/// The node that a pass wants to place on in this round.
+fn node_of_round(round: usize) -> u8 {
+    match round % 4 {
+        0 => b'a',
+        1 => b'b',
+        2 => b'c',
+        _ => b'd',
+    }
+}
 
 /// A uid of this number, in five digits.
 fn uid_of(number: u32) -> Option<Name> {
@@ -32,34 +48,16 @@ fn uid_of(number: u32) -> Option<Name> {
     Name::new(&uid).ok()
 }
 
-/// A node of this name is there, with room for so many pods.
-fn node_told(alloc: Global, version: u64, letter: u8, pods: u32) -> Option<Event> {
-    node_set(alloc, version, node(named(letter)?, 1_000_000, 0, pods))
-}
-
 /// A pod of this number waits. Each asks for a thousandth of a core.
 fn pending(alloc: Global, version: u64, number: u32) -> Option<Event> {
-    Some(Event::PodPending {
-        version: Version(version),
-        pod: pod(alloc, uid_of(number)?, 1, 0)?,
-    })
+    let pod = pod(alloc, &uid_of(number)?, 0, 1, 0)?;
+    let version = Version(version);
+    Some(Event::PodPending { version, pod })
 }
 
 /// A pod of this number is bound to node a.
 fn bound(version: u64, number: u32) -> Option<Event> {
-    pod_bound(version, uid_of(number)?, named(b'a')?, 1, 0)
-}
-
-/// Whether a step is done.
-fn does<J: Naming, R: Wait>(rt: &R, desk: &Desk<J>, pass: &mut Pass<J>, step: Step) -> bool
-    requires of { IsPassOf pass.old desk.now }
-    requires timely { IsTimely step }
-    ensures { pass.new.caller.number ≡ pass.old.caller.number }
-{
-    match desk.apply(rt, pass, step) {
-        Ok(reply) => matches!(&reply, Reply::Done),
-        Err(_) => false,
-    }
+    pod_bound(version, &uid_of(number)?, &named(b'a')?, 1, 0)
 }
 
 /// Whether an event is taken, if there is memory for it.
@@ -73,8 +71,15 @@ fn takes<J: Naming, R: Wait>(
     ensures { pass.new.caller.number ≡ pass.old.caller.number }
 {
     match event {
-        Some(event) => does(rt, desk, pass, Step::Event(event)),
+        Some(event) => apply(rt, desk, pass, Step::Event(event)) == Some(Answer::Done),
         None => false,
+    }
+}
+
+fn popped(reply: &Reply) -> Option<Name> {
+    match reply {
+        Reply::Popped(pod) => Some(pod.uid.copied()),
+        _ => None,
     }
 }
 
@@ -84,20 +89,17 @@ fn pop<J: Naming, R: Wait>(rt: &R, desk: &Desk<J>, pass: &mut Pass<J>) -> Option
     ensures { pass.new.caller.number ≡ pass.old.caller.number }
 {
     match desk.apply(rt, pass, Step::Pop) {
-        Ok(Reply::Popped(pod)) => Some(pod.uid.copied()),
-        _ => None,
+        Ok(reply) => popped(&reply),
+        Err(_) => None,
     }
 }
 
 /// The step that answers a ticket, or that there was none.
-fn end_of(reply: &Reply, uid: Name) -> Step
+fn end_of(answer: Answer, uid: Name) -> Step
     ensures { IsTimely result }
 {
-    match reply {
-        Reply::Ticket(ticket) => Step::BindDone {
-            uid,
-            ticket: *ticket,
-        },
+    match answer {
+        Answer::Ticket(ticket) => Step::BindDone { uid, ticket },
         _ => Step::Fail {
             uid,
             how: Failure::Unschedulable,
@@ -110,34 +112,29 @@ fn place<J: Naming, R: Wait>(
     rt: &R,
     desk: &Desk<J>,
     pass: &mut Pass<J>,
-    uid: Name,
+    uid: &Name,
     node: Name,
 ) -> bool
     requires { IsPassOf pass.old desk.now }
     ensures { pass.new.caller.number ≡ pass.old.caller.number }
 {
-    let end = match desk.apply(
-        rt,
-        pass,
-        Step::Assume {
-            uid: uid.copied(),
-            node,
-        },
-    ) {
-        Ok(reply) => end_of(&reply, uid),
-        Err(_) => return false,
+    let assume = Step::Assume {
+        uid: uid.copied(),
+        node,
     };
-    does(rt, desk, pass, end)
+    match apply(rt, desk, pass, assume) {
+        Some(answer) => {
+            apply(rt, desk, pass, end_of(answer, uid.copied())) == Some(Answer::Done)
+        }
+        None => false,
+    }
 }
 
 fn counts<J: Naming, R: Wait>(rt: &R, desk: &Desk<J>, pass: &mut Pass<J>) -> bool
     requires { IsPassOf pass.old desk.now }
     ensures { pass.new.caller.number ≡ pass.old.caller.number }
 {
-    match desk.apply(rt, pass, Step::Count) {
-        Ok(reply) => matches!(&reply, Reply::Counts(_)),
-        Err(_) => false,
-    }
+    matches!(&apply(rt, desk, pass, Step::Count), Some(Answer::Counts(_)))
 }
 
 /// A pass pops a pod, wants to place it on this node, says that it is bound or gives it back, and
@@ -146,13 +143,13 @@ fn place_next<J: Naming, R: Wait>(rt: &R, desk: &Desk<J>, pass: &mut Pass<J>, le
     requires { IsPassOf pass.old desk.now }
     ensures { pass.new.caller.number ≡ pass.old.caller.number }
 {
-    let Some(uid) = pop(rt, desk, pass) else {
-        return false;
-    };
     let Some(node) = named(letter) else {
         return false;
     };
-    place(rt, desk, pass, uid, node) && counts(rt, desk, pass)
+    match pop(rt, desk, pass) {
+        Some(uid) => place(rt, desk, pass, &uid, node) && counts(rt, desk, pass),
+        None => false,
+    }
 }
 
 /// A pass takes 1,000 steps to place pods, on one node after another, and tells how many pods it
@@ -163,8 +160,7 @@ fn place_many<J: Naming, R: Wait>(rt: &R, desk: &Desk<J>, mut pass: Pass<J>) -> 
 {
     let mut many = 0usize;
     for round in 0..EACH {
-        let (letter, _) = PLACED[round % 4];
-        if place_next(rt, desk, &mut pass, letter) {
+        if place_next(rt, desk, &mut pass, node_of_round(round)) {
             many = many.saturating_add(1);
         }
     }
@@ -189,15 +185,32 @@ fn place_two<J: Naming + Send + Sync, R: Threads + Wait + Sync>(
     (first, second, one.saturating_add(other))
 }
 
+/// A node of this name comes, with room for so many pods.
+fn comes<J: Naming, R: Wait>(
+    rt: &R,
+    alloc: Global,
+    desk: &Desk<J>,
+    pass: &mut Pass<J>,
+    version: u64,
+    letter: u8,
+    pods: u32,
+) -> bool
+    requires { IsPassOf pass.old desk.now }
+    ensures { pass.new.caller.number ≡ pass.old.caller.number }
+{
+    let node = node_told(alloc, version, letter, 1_000_000, 0, pods);
+    takes(rt, desk, pass, node)
+}
+
 /// Four nodes come.
 fn tell_nodes<J: Naming, R: Wait>(rt: &R, alloc: Global, desk: &Desk<J>, pass: &mut Pass<J>) -> bool
     requires { IsPassOf pass.old desk.now }
     ensures { pass.new.caller.number ≡ pass.old.caller.number }
 {
-    takes(rt, desk, pass, node_told(alloc, 1, b'a', 300))
-        && takes(rt, desk, pass, node_told(alloc, 2, b'b', 300))
-        && takes(rt, desk, pass, node_told(alloc, 3, b'c', 300))
-        && takes(rt, desk, pass, node_told(alloc, 4, b'd', 100))
+    comes(rt, alloc, desk, pass, 1, b'a', 300)
+        && comes(rt, alloc, desk, pass, 2, b'b', 300)
+        && comes(rt, alloc, desk, pass, 3, b'c', 300)
+        && comes(rt, alloc, desk, pass, 4, b'd', 100)
 }
 
 /// 1,000 pods come.
@@ -221,12 +234,12 @@ fn is_used(used: &Res, pods: u32) -> bool {
 
 /// Whether a look shows so many pods on each node.
 fn are_shown(shown: &Snapshot) -> bool {
-    for (row, (_, pods)) in shown.rows().iter().zip(PLACED) {
-        if !is_used(&row.used, pods) {
+    for (row, (_, pods)) in shown.rows().iter().zip(placed()) {
+        if !is_used(&row.used, *pods) {
             return false;
         }
     }
-    shown.rows().len() == PLACED.len()
+    shown.rows().len() == placed().len()
 }
 
 fn shows<J: Naming>(desk: &Desk<J>, pass: &mut Pass<J>) -> bool
@@ -248,40 +261,29 @@ fn is_used_of(book: &Book, letter: u8, pods: u32) -> bool {
 
 /// Whether the book has so many pods on each node, and no other place.
 fn are_kept(book: &Book) -> bool {
-    for (letter, pods) in PLACED {
-        if !is_used_of(book, letter, pods) {
+    for (letter, pods) in placed() {
+        if !is_used_of(book, *letter, *pods) {
             return false;
         }
     }
     book.assumed() == 852 && book.bound() == 0
 }
 
-/// What came of passes that used a desk at once.
-#[derive(Clone, Copy, Debug, PartialEq, Eq)]
-enum Outcome {
-    /// Four placed pods: how many pods they popped together, whether two looks showed them once the
-    /// passes had met, and whether the book has them.
-    Placed(usize, bool, bool, bool),
-    /// One looked while another told of pods: how many were told, how often a node had fewer pods
-    /// than before or nothing was shown, and how many it has in the end.
-    Looked(u32, u32, u32),
-    /// There was no memory or no pass.
-    NotBegun,
-}
-
-/// Four passes place the pods that wait at once, and meet. Then all look alike, and the closed book
-/// has no other places.
+/// Four passes place 1,000 pods on four nodes at once, and meet. Then two of them look alike, and
+/// the closed book has no other places.
 fn place_all<J: Naming + Send + Sync, R: Threads + Wait + Sync>(
     rt: &R,
+    alloc: Global,
     desk: Desk<J>,
     passes: (Pass<J>, Pass<J>, Pass<J>, Pass<J>),
-) -> Outcome
+) -> bool
     requires a { IsPassOf passes.0 desk }
     requires b { IsPassOf passes.1 desk }
     requires c { IsPassOf passes.2 desk }
     requires d { IsPassOf passes.3 desk }
 {
-    let (a, b, c, d) = passes;
+    let (mut a, b, c, d) = passes;
+    let told = tell_nodes(rt, alloc, &desk, &mut a) && tell_pods(rt, alloc, &desk, &mut a);
     let shared = &desk;
     let ((mut a, mut b, one), (mut c, mut d, other)) = join(
         rt,
@@ -295,31 +297,9 @@ fn place_all<J: Naming + Send + Sync, R: Threads + Wait + Sync>(
     desk.meet(rt, &mut a, &mut b);
     desk.meet(rt, &mut c, &mut d);
     desk.meet(rt, &mut a, &mut d);
-    let to_second = shows(&desk, &mut b);
-    let to_third = shows(&desk, &mut c);
+    let shown = shows(&desk, &mut b) && shows(&desk, &mut c);
     let book = desk.close(rt, &mut a);
-    let many = one.saturating_add(other);
-    Outcome::Placed(many, to_second, to_third, are_kept(&book))
-}
-
-/// The same once there are four nodes and 1,000 pods.
-fn tell_and_place<J: Naming + Send + Sync, R: Threads + Wait + Sync>(
-    rt: &R,
-    alloc: Global,
-    desk: Desk<J>,
-    passes: (Pass<J>, Pass<J>, Pass<J>, Pass<J>),
-) -> Outcome
-    requires a { IsPassOf passes.0 desk }
-    requires b { IsPassOf passes.1 desk }
-    requires c { IsPassOf passes.2 desk }
-    requires d { IsPassOf passes.3 desk }
-{
-    let (mut a, b, c, d) = passes;
-    if !tell_nodes(rt, alloc, &desk, &mut a) || !tell_pods(rt, alloc, &desk, &mut a) {
-        desk.discard(rt);
-        return Outcome::NotBegun;
-    }
-    place_all(rt, desk, (a, b, c, d))
+    told && one.saturating_add(other) == 1_000 && shown && are_kept(&book)
 }
 
 /// Four passes.
@@ -376,28 +356,28 @@ fn bind_many<J: Naming, R: Wait>(rt: &R, desk: &Desk<J>, mut pass: Pass<J>) -> (
     (pass, many)
 }
 
-/// A pass looks while another tells of pods that are bound to a node. No look shows less than the
-/// one before, and one after both met shows all.
+/// A pass looks while another tells of 10,000 pods that are bound to a node. No look shows less
+/// than the one before, and one after both met shows all.
 fn look_beside<J: Naming + Send + Sync, R: Threads + Wait + Sync>(
     rt: &R,
     alloc: Global,
     desk: Desk<J>,
     passes: (Pass<J>, Pass<J>, Pass<J>, Pass<J>),
-) -> Outcome
+) -> bool
     requires a { IsPassOf passes.0 desk }
     requires b { IsPassOf passes.1 desk }
 {
     let (mut a, b, _c, _d) = passes;
-    takes(rt, &desk, &mut a, node_told(alloc, 1, b'a', 100_000));
+    let told = comes(rt, alloc, &desk, &mut a, 1, b'a', 100_000);
     let ((mut a, many), (mut b, falls)) = join(
         rt,
         || bind_many(rt, &desk, a),
         || look_often(&desk, b),
     );
     desk.meet(rt, &mut a, &mut b);
-    let used = looks_at_first(&desk, &mut b).unwrap_or(0);
+    let used = looks_at_first(&desk, &mut b);
     desk.discard(rt);
-    Outcome::Looked(many, falls, used)
+    told && many == 10_000 && falls == 0 && used == Some(10_000)
 }
 
 /// Four passes place pods at once; or one looks while another tells of pods.
@@ -408,18 +388,18 @@ fn at_once<J: Naming + Send + Sync, R: Threads + Wait + Sync>(
     limits: Limits,
     blank: Blank,
     all_place: bool,
-) -> Outcome
+) -> bool
     requires { (blank.seen.book ≡ J.book) × (limits ≡ J.limits) }
 {
     let Ok(mut desk) = Desk::<J>::new(blank, alloc, keys, limits) else {
-        return Outcome::NotBegun;
+        return false;
     };
     let Ok(passes) = four(&mut desk) else {
         desk.discard(rt);
-        return Outcome::NotBegun;
+        return false;
     };
     if all_place {
-        tell_and_place(rt, alloc, desk, passes)
+        place_all(rt, alloc, desk, passes)
     } else {
         look_beside(rt, alloc, desk, passes)
     }
@@ -428,25 +408,18 @@ fn at_once<J: Naming + Send + Sync, R: Threads + Wait + Sync>(
 fn tried<R: Threads + Wait + Sync>(
     rt: &R,
     alloc: Global,
-    keys: Option<RandomState>,
+    keys: RandomState,
     all_place: bool,
-) -> Outcome {
-    let Some(keys) = keys else {
-        return Outcome::NotBegun;
-    };
+) -> bool {
     at_once::<Brand, _>(rt, alloc, keys, Limits::greatest(), Blank::new(), all_place)
 }
 
 #[test]
 fn four_threads_place_pods(rt: HostRuntime) {
-    let keys = RandomState::new(&rt).ok();
-    let all = Outcome::Placed(1_000, true, true, true);
-    assert_eq!(rt; tried(&rt, rt.alloc(), keys, true), all);
+    assert!(rt; tried(&rt, rt.alloc(), keys(&rt), true));
 }
 
 #[test]
 fn looks_beside_steps_show_no_less(rt: HostRuntime) {
-    let keys = RandomState::new(&rt).ok();
-    let all = Outcome::Looked(10_000, 0, 10_000);
-    assert_eq!(rt; tried(&rt, rt.alloc(), keys, false), all);
+    assert!(rt; tried(&rt, rt.alloc(), keys(&rt), false));
 }

@@ -1,6 +1,7 @@
 //! Looks and books that agree, and that differ by little.
 use crate::looks::look;
-use crate::objects::{named, node, node_set, pod_bound};
+use crate::objects::{adds, named, node_told, pod_bound};
+use crate::outcome::{assert_none, keys};
 use audit::audit;
 use book::{Book, Limits};
 use desk::Snapshot;
@@ -57,44 +58,62 @@ fn books() -> &'static [(&'static [Placed], bool)] {
 
 /// Node a is there, with 4 cores, 8 GiB and room for 110 pods.
 fn first_node(alloc: Global) -> Option<Event> {
-    node_set(alloc, 1, node(named(b'a')?, 4_000, 8_589_934_592, 110))
+    node_told(alloc, 1, b'a', 4_000, 8_589_934_592, 110)
 }
 
 /// A pod is bound.
 fn bound(version: u64, (uid, node, cpu, mem): Placed) -> Option<Event> {
-    pod_bound(version, named(uid)?, named(node)?, cpu, mem)
+    pod_bound(version, &named(uid)?, &named(node)?, cpu, mem)
 }
 
 /// Node a is there, and then these places.
 fn events_of(alloc: Global, places: &[Placed]) -> Option<Vec<Event>> {
     let mut events = Vec::new(alloc);
-    events.push(first_node(alloc)?).ok()?;
+    let mut all = adds(&mut events, first_node(alloc));
     let mut version = 1u64;
     for place in places {
         version = version.wrapping_add(1);
-        events.push(bound(version, *place)?).ok()?;
+        all = all && adds(&mut events, bound(version, *place));
     }
-    Some(events)
+    if all { Some(events) } else { None }
 }
 
-fn tell(book: &mut Book, event: Event) {
-    let _ = book.take_event(event, false, false);
-}
-
-fn tell_all(book: &mut Book, events: Vec<Event>) {
-    for event in events {
-        tell(book, event);
+fn takes(book: &mut Book, event: Option<Event>) -> bool {
+    match event {
+        Some(event) => {
+            let _ = book.take_event(event, false, false);
+            true
+        }
+        None => false,
     }
 }
 
-/// A book with node a and these places.
-fn book_of(alloc: Global, keys: RandomState, places: &[Placed]) -> Option<Book> {
-    let mut book = Book::new(alloc, keys, Limits::greatest()).ok()?;
-    tell_all(&mut book, events_of(alloc, places)?);
-    Some(book)
+/// The same to a book.
+fn takes_all(alloc: Global, book: &mut Book, places: &[Placed]) -> bool {
+    let mut all = takes(book, first_node(alloc));
+    let mut version = 1u64;
+    for place in places {
+        version = version.wrapping_add(1);
+        all = all && takes(book, bound(version, *place));
+    }
+    all
 }
 
-/// Whether a look agrees with the book of these places.
+/// Whether a look agrees with this book once it was told of these places.
+fn is_right_beside<R: Threads + Sync>(
+    rt: &R,
+    alloc: Global,
+    shown: &Snapshot,
+    book: &mut Book,
+    places: &[Placed],
+) -> Option<bool> {
+    if !takes_all(alloc, book, places) {
+        return None;
+    }
+    audit(rt, alloc, shown, book).ok()
+}
+
+/// The same of a new book.
 fn is_right<R: Threads + Sync>(
     rt: &R,
     alloc: Global,
@@ -102,9 +121,9 @@ fn is_right<R: Threads + Sync>(
     shown: &Snapshot,
     places: &[Placed],
 ) -> Option<bool> {
-    match book_of(alloc, keys, places) {
-        Some(book) => audit(rt, alloc, shown, &book).ok(),
-        None => None,
+    match Book::new(alloc, keys, Limits::greatest()) {
+        Ok(mut book) => is_right_beside(rt, alloc, shown, &mut book, places),
+        Err(_) => None,
     }
 }
 
@@ -123,19 +142,18 @@ fn first_other<R: Threads + Sync>(
     None
 }
 
-/// The same beside the look. Without keys or memory there is none.
+/// The look at a desk of these places.
+fn shown<R: Wait>(rt: &R, alloc: Global, keys: RandomState) -> Option<Snapshot> {
+    look(rt, alloc, keys, events_of(alloc, looked())?)
+}
+
+/// The same beside the look. Without memory there is none.
 fn first_other_than_looked<R: Threads + Sync + Wait>(
     rt: &R,
     alloc: Global,
-    keys: Option<RandomState>,
+    keys: RandomState,
 ) -> Option<usize> {
-    let Some(keys) = keys else {
-        return Some(0);
-    };
-    let Some(events) = events_of(alloc, looked()) else {
-        return Some(0);
-    };
-    match look(rt, alloc, keys, events) {
+    match shown(rt, alloc, keys) {
         Some(shown) => first_other(rt, alloc, keys, &shown),
         None => Some(0),
     }
@@ -143,6 +161,5 @@ fn first_other_than_looked<R: Threads + Sync + Wait>(
 
 #[test]
 fn a_look_is_right_or_it_is_not(rt: HostRuntime) {
-    let keys = RandomState::new(&rt).ok();
-    assert_eq!(rt; first_other_than_looked(&rt, rt.alloc(), keys), None);
+    assert_none(&rt, first_other_than_looked(&rt, rt.alloc(), keys(&rt)));
 }

@@ -3,13 +3,14 @@
 ghost use Rattle.std.specs.Prelude.{◌≡◌};
 ghost use Rattle.desk.specs.Shared.{IsPassOf};
 
+use crate::desks;
+use crate::desks::Trial;
+use crate::outcome::{assert_none, keys};
 use crate::steps::{Answer, Call, News, Row, ask, first_other, in_short};
 use binder::{BindAnswer, Binder, Job, Tally, bind_job};
-use desk::{Blank, Desk, Limits, Naming, Pass, Refusal};
+use desk::{Desk, Naming, Pass, Refusal};
 use quant::{Name, Ticket};
 use std::alloc::Global;
-use std::hash::RandomState;
-use std::marker::Brand;
 use std::sync::atomic::{AtomicU64, Ordering};
 use std::sync::{Arc, Wait};
 
@@ -74,25 +75,25 @@ const STALE: Answer = Answer::Refused(Refusal::StaleTicket);
 /// A bind that comes late: what was told before, what the binder answers, what the desk is to say
 /// to the report, and to that of the same job again, and how many places are bound and assumed
 /// then.
-type Late = (&'static [Row], BindAnswer, Answer, Answer, usize, usize);
+pub type Late = (&'static [Row], BindAnswer, Answer, Answer, usize, usize);
 
 /// The rows are worked by hand from the table of steps in docs/SCHEDULING.md.
-const LATE: &[Late] = &[
-    (NOTHING, BindAnswer::Done, Answer::Done, CONFIRMED, 0, 1),
-    (NOTHING, BindAnswer::Failed, Answer::Done, STALE, 0, 0),
-    (POD_BOUND, BindAnswer::Done, CONFIRMED, CONFIRMED, 1, 0),
-    (POD_BOUND, BindAnswer::Failed, CONFIRMED, CONFIRMED, 1, 0),
-    (POD_GONE, BindAnswer::Done, GONE, GONE, 0, 0),
-    (POD_GONE, BindAnswer::Failed, GONE, GONE, 0, 0),
-    (NODE_GONE, BindAnswer::Done, Answer::Done, CONFIRMED, 0, 1),
-    (NODE_GONE, BindAnswer::Failed, Answer::Done, STALE, 0, 0),
+const LATE: &[Trial] = &[
+    Trial::Late((NOTHING, BindAnswer::Done, Answer::Done, CONFIRMED, 0, 1)),
+    Trial::Late((NOTHING, BindAnswer::Failed, Answer::Done, STALE, 0, 0)),
+    Trial::Late((POD_BOUND, BindAnswer::Done, CONFIRMED, CONFIRMED, 1, 0)),
+    Trial::Late((POD_BOUND, BindAnswer::Failed, CONFIRMED, CONFIRMED, 1, 0)),
+    Trial::Late((POD_GONE, BindAnswer::Done, GONE, GONE, 0, 0)),
+    Trial::Late((POD_GONE, BindAnswer::Failed, GONE, GONE, 0, 0)),
+    Trial::Late((NODE_GONE, BindAnswer::Done, Answer::Done, CONFIRMED, 0, 1)),
+    Trial::Late((NODE_GONE, BindAnswer::Failed, Answer::Done, STALE, 0, 0)),
 ];
 
 fn placed() -> &'static [Row] {
     PLACED
 }
 
-fn late() -> &'static [Late] {
+fn late() -> &'static [Trial] {
     LATE
 }
 
@@ -188,51 +189,20 @@ fn is_bound_late<J: Naming, R: Wait>(
         && places(rt, alloc, desk, pass) == Some((many_bound, many_assumed))
 }
 
-fn by_a_pass<J: Naming, R: Wait>(rt: &R, alloc: Global, desk: &mut Desk<J>, row: &Late) -> bool {
+/// Whether a new desk has it as a row says.
+pub fn is_late_at<J: Naming, R: Wait>(
+    rt: &R,
+    alloc: Global,
+    desk: &mut Desk<J>,
+    row: &Late,
+) -> bool {
     match desk.pass() {
         Ok(mut pass) => is_bound_late(rt, alloc, desk, &mut pass, row),
         Err(_) => false,
     }
 }
 
-fn opened<J: Naming, R: Wait>(
-    rt: &R,
-    alloc: Global,
-    keys: RandomState,
-    limits: Limits,
-    blank: Blank,
-    row: &Late,
-) -> bool
-    requires { (blank.seen.book ≡ J.book) × (limits ≡ J.limits) }
-{
-    let Ok(mut desk) = Desk::<J>::new(blank, alloc, keys, limits) else {
-        return false;
-    };
-    let is_so = by_a_pass(rt, alloc, &mut desk, row);
-    desk.discard(rt);
-    is_so
-}
-
-/// Whether a row is as a desk of its own has it.
-fn worked<R: Wait>(rt: &R, alloc: Global, keys: RandomState, row: &Late) -> bool {
-    opened::<Brand, _>(rt, alloc, keys, Limits::greatest(), Blank::new(), row)
-}
-
-/// The first row that isn't.
-fn first_other_late<R: Wait>(rt: &R, alloc: Global, keys: Option<RandomState>) -> Option<usize> {
-    let Some(keys) = keys else {
-        return Some(0);
-    };
-    for (at, row) in late().iter().enumerate() {
-        if !worked(rt, alloc, keys, row) {
-            return Some(at);
-        }
-    }
-    None
-}
-
 #[test]
 fn binders_may_be_late(rt: HostRuntime) {
-    let keys = RandomState::new(&rt).ok();
-    assert_eq!(rt; first_other_late(&rt, rt.alloc(), keys), None);
+    assert_none(&rt, desks::first_other(&rt, rt.alloc(), keys(&rt), late()));
 }

@@ -1,9 +1,10 @@
 //! What counts on a node by a ledger's book, which no line tells. What a ledger answers is told by
 //! tests/rows. Names are single letters.
-use crate::objects::{named, node, request};
+use crate::objects::{named, request, shared_node};
+use crate::outcome::{assert_none, keys};
 use desk::Limits;
 use ledger::{Answer, Event, Kind, Ledger};
-use quant::{SharedNode, Ticket, Version};
+use quant::{Ticket, Version};
 use std::alloc::Global;
 use std::hash::RandomState;
 
@@ -41,41 +42,59 @@ fn rows() -> &'static [Row] {
     ROWS
 }
 
+fn node_told(alloc: Global) -> Option<Event> {
+    let node = shared_node(alloc, b'a', 1_000, 1_073_741_824, 10)?;
+    let version = Version(5);
+    Some(Event::Node { version, node })
+}
+
+fn waits(uid: u8, cpu: u16) -> Option<Event> {
+    let request = request(u64::from(cpu), 0)?;
+    let uid = named(uid)?;
+    let version = Version(6);
+    Some(Event::Waits {
+        version,
+        uid,
+        request,
+    })
+}
+
+fn bind(uid: u8) -> Option<Event> {
+    let uid = named(uid)?;
+    let node = named(b'a')?;
+    Some(Event::Bind { uid, node })
+}
+
 fn told(alloc: Global, tell: Tell) -> Option<Event> {
     match tell {
         Tell::Begins(kind) => Some(Event::ListBegins(kind)),
         Tell::Ends(kind) => Some(Event::ListEnds(kind)),
         Tell::Rested => Some(Event::Rested),
-        Tell::Node => {
-            let row = node(named(b'a')?, 1_000, 1_073_741_824, 10);
-            Some(Event::Node {
-                version: Version(5),
-                node: SharedNode::new(alloc, row).ok()?,
-            })
-        }
-        Tell::Waits(uid, cpu) => Some(Event::Waits {
-            version: Version(6),
-            uid: named(uid)?,
-            request: request(u64::from(cpu), 0)?,
-        }),
+        Tell::Node => node_told(alloc),
+        Tell::Waits(uid, cpu) => waits(uid, cpu),
         Tell::Gone(uid) => Some(Event::Gone { uid: named(uid)? }),
-        Tell::Bind(uid) => Some(Event::Bind {
-            uid: named(uid)?,
-            node: named(b'a')?,
-        }),
+        Tell::Bind(uid) => bind(uid),
+    }
+}
+
+fn answer(alloc: Global, ledger: &mut Ledger, tell: Tell) -> Option<Answer> {
+    match told(alloc, tell) {
+        Some(event) => Some(ledger.tell(event)),
+        None => None,
+    }
+}
+
+fn used(ledger: &Ledger) -> Option<u64> {
+    match named(b'a') {
+        Some(name) => Some(ledger.used(&name).cpu.0),
+        None => None,
     }
 }
 
 /// Whether a row is answered as it is to be.
 fn is_answered(alloc: Global, ledger: &mut Ledger, row: &Row) -> bool {
-    let (tell, answer, used) = *row;
-    let Some(event) = told(alloc, tell) else {
-        return false;
-    };
-    let Some(name) = named(b'a') else {
-        return false;
-    };
-    ledger.tell(event) == answer && ledger.used(&name).cpu.0 == used
+    let (tell, wanted, counted) = *row;
+    answer(alloc, ledger, tell) == Some(wanted) && used(ledger) == Some(counted)
 }
 
 /// The first row that is answered otherwise.
@@ -88,11 +107,8 @@ fn first_other(alloc: Global, ledger: &mut Ledger) -> Option<usize> {
     None
 }
 
-/// The same of a new ledger. Without keys or memory no row is answered.
-fn first_other_of_new(alloc: Global, keys: Option<RandomState>) -> Option<usize> {
-    let Some(keys) = keys else {
-        return Some(0);
-    };
+/// The same of a new ledger. Without memory no row is answered.
+fn first_other_of_new(alloc: Global, keys: RandomState) -> Option<usize> {
     match Ledger::new(alloc, keys, Limits::greatest(), 100) {
         Ok(mut ledger) => first_other(alloc, &mut ledger),
         Err(_) => Some(0),
@@ -101,6 +117,5 @@ fn first_other_of_new(alloc: Global, keys: Option<RandomState>) -> Option<usize>
 
 #[test]
 fn what_a_ledger_allows_counts(rt: HostRuntime) {
-    let keys = RandomState::new(&rt).ok();
-    assert_eq!(rt; first_other_of_new(rt.alloc(), keys), None);
+    assert_none(&rt, first_other_of_new(rt.alloc(), keys(&rt)));
 }

@@ -4,8 +4,8 @@
 //!
 //! A table is a constant of a few dozen rows that a function of its own gives out: what loops over
 //! it is then not proved in the midst of the table's parts. What owns a book, a desk, a kit or what
-//! a run wrote gives a number, a name or a small enum of it, and tests assert on these. Where keys,
-//! memory or a pass are wanting, the answer is one that no test takes.
+//! a run wrote gives a number, a name or a small enum of it, and tests assert on these (`outcome`).
+//! Where keys, memory or a pass are wanting, a test ends, or the answer is one that no test takes.
 //!
 //! Which module tests which crate (a module can't have the name of a library that its crate stands
 //! on):
@@ -15,7 +15,8 @@
 //! - `queue`: `waiting`
 //! - `book`: the rows `a_place_*` and `places_that_expire_each_by_its_bind`
 //! - `ledger`: `ledgers`; its answers, the rows `live_*`
-//! - `desk`: `steps` by one pass, `sharing` by several, `at_once` in threads, `looks`
+//! - `desk`: `steps` by one pass, `sharing` by several, each on new `desks`; `at_once` in threads;
+//!   `looks`
 //! - `choose`, `fleet`: `workers`; what is decided, of which nodes and by which rules, tests/rows
 //! - `binder`: `binding`; `audit`: `audits`
 #![tactic(auto)]
@@ -29,6 +30,8 @@ mod audits;
 #[cfg(test)]
 mod binding;
 #[cfg(test)]
+mod desks;
+#[cfg(test)]
 mod ledgers;
 #[cfg(test)]
 mod looks;
@@ -36,6 +39,8 @@ mod looks;
 mod names;
 #[cfg(test)]
 mod objects;
+#[cfg(test)]
+mod outcome;
 #[cfg(test)]
 mod sharing;
 #[cfg(test)]

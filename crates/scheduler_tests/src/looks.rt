@@ -2,23 +2,13 @@
 ghost use Rattle.std.specs.Prelude.{◌≡◌};
 ghost use Rattle.desk.specs.Shared.{IsPassOf};
 
-use desk::{Blank, Desk, Limits, Naming, Pass, Reply, Snapshot, Step};
+use crate::steps::{Answer, apply};
+use desk::{Blank, Desk, Limits, Naming, Pass, Snapshot, Step};
 use quant::Event;
 use std::alloc::Global;
 use std::hash::RandomState;
 use std::marker::Brand;
 use std::sync::Wait;
-
-/// Whether the event is taken.
-fn takes<J: Naming, R: Wait>(rt: &R, desk: &Desk<J>, pass: &mut Pass<J>, event: Event) -> bool
-    requires { IsPassOf pass.old desk.now }
-    ensures { pass.new.caller.number ≡ pass.old.caller.number }
-{
-    match desk.apply(rt, pass, Step::Event(event)) {
-        Ok(reply) => matches!(&reply, Reply::Done),
-        Err(_) => false,
-    }
-}
 
 fn takes_all<J: Naming, R: Wait>(
     rt: &R,
@@ -30,7 +20,7 @@ fn takes_all<J: Naming, R: Wait>(
     ensures { pass.new.caller.number ≡ pass.old.caller.number }
 {
     for event in events {
-        if !takes(rt, desk, pass, event) {
+        if apply(rt, desk, pass, Step::Event(event)) != Some(Answer::Done) {
             return false;
         }
     }

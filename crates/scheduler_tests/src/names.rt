@@ -1,5 +1,6 @@
 //! A table with three slots at work: names in and out, and a table that is full. Names are single
 //! letters.
+use crate::outcome::{assert_none, keys};
 use name_table::NameTable;
 use quant::Name;
 use std::alloc::Global;
@@ -38,29 +39,29 @@ fn rows() -> &'static [Row] {
 }
 
 // The value before, 0 for a new name, and None where there is no room for one.
-fn put(table: &mut NameTable<u64>, name: Name, value: u64) -> Option<u64> {
-    if let Some(slot) = table.find(&name) {
+fn put(table: &mut NameTable<u64>, name: &Name, value: u64) -> Option<u64> {
+    if let Some(slot) = table.find(name) {
         return Some(table.replace_at(slot, value));
     }
     if table.is_full() {
         return None;
     }
-    table.insert(name, value);
+    table.insert(name.copied(), value);
     Some(0)
 }
 
-fn answer(table: &mut NameTable<u64>, name: Name, asked: Asked) -> Option<u64> {
+fn answer(table: &mut NameTable<u64>, name: &Name, asked: Asked) -> Option<u64> {
     match asked {
         Asked::In(value) => put(table, name, value),
-        Asked::Out => table.remove(&name),
-        Asked::Get => table.get(&name).copied(),
+        Asked::Out => table.remove(name),
+        Asked::Get => table.get(name).copied(),
     }
 }
 
 fn is_answered(table: &mut NameTable<u64>, row: &Row) -> bool {
     let (name, asked, want, many) = *row;
     match Name::new(name) {
-        Ok(name) => answer(table, name, asked) == want && table.len() == many,
+        Ok(name) => answer(table, &name, asked) == want && table.len() == many,
         Err(_) => false,
     }
 }
@@ -75,11 +76,8 @@ fn first_other(table: &mut NameTable<u64>) -> Option<usize> {
     None
 }
 
-// The same of a new table. Without keys or memory no row is answered.
-fn first_other_of_new(alloc: Global, keys: Option<RandomState>) -> Option<usize> {
-    let Some(keys) = keys else {
-        return Some(0);
-    };
+// The same of a new table. Without memory no row is answered.
+fn first_other_of_new(alloc: Global, keys: RandomState) -> Option<usize> {
     match NameTable::new(alloc, keys, 3) {
         Ok(mut table) => first_other(&mut table),
         Err(_) => Some(0),
@@ -88,6 +86,5 @@ fn first_other_of_new(alloc: Global, keys: Option<RandomState>) -> Option<usize>
 
 #[test]
 fn names_in_and_out(rt: HostRuntime) {
-    let keys = RandomState::new(&rt).ok();
-    assert_eq!(rt; first_other_of_new(rt.alloc(), keys), None);
+    assert_none(&rt, first_other_of_new(rt.alloc(), keys(&rt)));
 }

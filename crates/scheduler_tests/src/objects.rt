@@ -12,7 +12,7 @@ pub fn request(cpu: u64, mem: u64) -> Option<Request> {
 }
 
 /// A node with so many thousandths of a core and bytes, and room for so many pods.
-pub fn node(name: Name, cpu: u64, mem: u64, pods: u32) -> Node {
+fn node(name: Name, cpu: u64, mem: u64, pods: u32) -> Node {
     Node {
         name,
         allocatable: Res {
@@ -26,32 +26,56 @@ pub fn node(name: Name, cpu: u64, mem: u64, pods: u32) -> Node {
     }
 }
 
-/// A node is there, as it is told at this version.
-pub fn node_set(alloc: Global, version: u64, node: Node) -> Option<Event> {
-    Some(Event::NodeSet {
-        version: Version(version),
-        node: SharedNode::new(alloc, node).ok()?,
-    })
+/// The same, whose name is a letter.
+pub fn shared_node(alloc: Global, letter: u8, cpu: u64, mem: u64, pods: u32) -> Option<SharedNode> {
+    SharedNode::new(alloc, node(named(letter)?, cpu, mem, pods)).ok()
 }
 
-/// A pod that asks for so many thousandths of a core and bytes.
-pub fn pod(alloc: Global, uid: Name, cpu: u64, mem: u64) -> Option<SharedPod> {
-    let pod = Pod {
+/// It is there, as it is told at this version.
+pub fn node_told(
+    alloc: Global,
+    version: u64,
+    letter: u8,
+    cpu: u64,
+    mem: u64,
+    pods: u32,
+) -> Option<Event> {
+    let node = shared_node(alloc, letter, cpu, mem, pods)?;
+    let version = Version(version);
+    Some(Event::NodeSet { version, node })
+}
+
+fn bare_pod(uid: Name, priority: i32, request: Request) -> Pod {
+    Pod {
         uid,
-        priority: 0,
-        request: request(cpu, mem)?,
+        priority,
+        request,
         labels: Default::default(),
         tolerations: Default::default(),
-    };
-    SharedPod::new(alloc, pod).ok()
+    }
+}
+
+/// A pod of this priority, which asks for so many thousandths of a core and bytes.
+pub fn pod(alloc: Global, uid: &Name, priority: i32, cpu: u64, mem: u64) -> Option<SharedPod> {
+    let request = request(cpu, mem)?;
+    SharedPod::new(alloc, bare_pod(uid.copied(), priority, request)).ok()
 }
 
 /// A pod is bound to a node, as it is told at this version.
-pub fn pod_bound(version: u64, uid: Name, node: Name, cpu: u64, mem: u64) -> Option<Event> {
+pub fn pod_bound(version: u64, uid: &Name, node: &Name, cpu: u64, mem: u64) -> Option<Event> {
+    let request = request(cpu, mem)?;
     Some(Event::PodBound {
         version: Version(version),
-        uid,
-        node,
-        request: request(cpu, mem)?,
+        uid: uid.copied(),
+        node: node.copied(),
+        request,
     })
+}
+
+/// Whether there is an event, and room for it.
+pub fn adds(events: &mut Vec<Event>, event: Option<Event>) -> bool {
+    match event {
+        Some(event) => events.push(event).is_ok(),
+        None => false,
+    }
 }

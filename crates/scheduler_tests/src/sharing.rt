@@ -2,18 +2,19 @@
 ghost use Rattle.std.specs.Prelude.{◌≡◌, IfOk};
 ghost use Rattle.desk.specs.Shared.{IsPassOf};
 
+use crate::desks;
+use crate::desks::Trial;
+use crate::outcome::{assert_none, keys};
 use crate::steps::{Answer, Call, News, Row, first_other, is_answered, one_place};
-use desk::{Blank, Desk, Limits, MAX_PASSES, Naming, NoPlace, Pass, Refusal};
+use desk::{Desk, MAX_PASSES, Naming, NoPlace, Pass, Refusal};
 use quant::Ticket;
 use std::alloc::Global;
-use std::hash::RandomState;
-use std::marker::Brand;
 use std::sync::Wait;
 
 /// Which of two passes makes a call, and the call.
 type Shared = (By, Row);
 
-#[derive(Clone, Copy, PartialEq, Eq)]
+#[derive(Clone, Copy)]
 enum By {
     First,
     Second,
@@ -86,15 +87,6 @@ fn pod_again() -> &'static [Shared] {
     POD_AGAIN
 }
 
-/// What is tried on a new desk.
-#[derive(Clone, Copy)]
-enum Trial {
-    OnePass,
-    TwoMeet,
-    PodAgain,
-    LastPass,
-}
-
 /// The first row of two passes at which a call answers otherwise.
 fn first_other_of_two<J: Naming, R: Wait>(
     rt: &R,
@@ -140,29 +132,54 @@ fn first_other_around_a_meeting<J: Naming, R: Wait>(
     first_other_of_two(rt, alloc, desk, first, second, one_taken())
 }
 
-fn by_one<J: Naming, R: Wait>(rt: &R, alloc: Global, desk: &mut Desk<J>) -> Option<usize> {
+/// One pass alone.
+pub fn by_one<J: Naming, R: Wait>(rt: &R, alloc: Global, desk: &mut Desk<J>) -> bool {
     match desk.pass() {
-        Ok(mut pass) => first_other(rt, alloc, desk, &mut pass, one_place()),
-        Err(NoPlace) => Some(0),
+        Ok(mut pass) => first_other(rt, alloc, desk, &mut pass, one_place()).is_none(),
+        Err(NoPlace) => false,
     }
 }
 
-fn by_two<J: Naming, R: Wait>(
+/// Two passes, of which one gets a pod again, or which meet.
+fn work_as_two<J: Naming, R: Wait>(
+    rt: &R,
+    alloc: Global,
+    desk: &Desk<J>,
+    first: &mut Pass<J>,
+    second: &mut Pass<J>,
+    again: bool,
+) -> bool
+    requires first { IsPassOf first.old desk.now }
+    requires second { IsPassOf second.old desk.now }
+{
+    let other = if again {
+        first_other_of_two(rt, alloc, desk, first, second, pod_again())
+    } else {
+        first_other_around_a_meeting(rt, alloc, desk, first, second)
+    };
+    other.is_none()
+}
+
+fn beside<J: Naming, R: Wait>(
     rt: &R,
     alloc: Global,
     desk: &mut Desk<J>,
+    first: &mut Pass<J>,
     again: bool,
-) -> Option<usize> {
-    let Ok(mut first) = desk.pass() else {
-        return Some(0);
-    };
-    let Ok(mut second) = desk.pass() else {
-        return Some(0);
-    };
-    if again {
-        first_other_of_two(rt, alloc, desk, &mut first, &mut second, pod_again())
-    } else {
-        first_other_around_a_meeting(rt, alloc, desk, &mut first, &mut second)
+) -> bool
+    requires { IsPassOf first.old desk.old }
+{
+    match desk.pass() {
+        Ok(mut second) => work_as_two(rt, alloc, desk, first, &mut second, again),
+        Err(NoPlace) => false,
+    }
+}
+
+/// The same of a new desk.
+pub fn by_two<J: Naming, R: Wait>(rt: &R, alloc: Global, desk: &mut Desk<J>, again: bool) -> bool {
+    match desk.pass() {
+        Ok(mut first) => beside(rt, alloc, desk, &mut first, again),
+        Err(NoPlace) => false,
     }
 }
 
@@ -177,63 +194,44 @@ fn last_of<J: Naming>(desk: &mut Desk<J>) -> Result<Pass<J>, NoPlace>
     Ok(last)
 }
 
-/// The last pass works as the first does, and there is none after it.
-fn by_last<J: Naming, R: Wait>(rt: &R, alloc: Global, desk: &mut Desk<J>) -> Option<usize> {
-    let Ok(mut last) = last_of(desk) else {
-        return Some(0);
-    };
-    match desk.pass() {
-        Ok(_) => Some(0),
-        Err(NoPlace) => first_other(rt, alloc, desk, &mut last, one_place()),
-    }
-}
-
-fn tried_on<J: Naming, R: Wait>(
+/// No pass is left, and this one works as the first does.
+fn works_as_last<J: Naming, R: Wait>(
     rt: &R,
     alloc: Global,
     desk: &mut Desk<J>,
-    trial: Trial,
-) -> Option<usize> {
-    match trial {
-        Trial::OnePass => by_one(rt, alloc, desk),
-        Trial::TwoMeet => by_two(rt, alloc, desk, false),
-        Trial::PodAgain => by_two(rt, alloc, desk, true),
-        Trial::LastPass => by_last(rt, alloc, desk),
+    last: &mut Pass<J>,
+) -> bool
+    requires { IsPassOf last.old desk.old }
+{
+    match desk.pass() {
+        Ok(_) => false,
+        Err(NoPlace) => first_other(rt, alloc, desk, last, one_place()).is_none(),
     }
 }
 
-/// The first row of a trial on a new desk at which a call answers otherwise, and the first where
-/// there is no memory or no pass.
-fn opened<J: Naming, R: Wait>(
-    rt: &R,
-    alloc: Global,
-    keys: RandomState,
-    limits: Limits,
-    blank: Blank,
-    trial: Trial,
-) -> Option<usize>
-    requires { (blank.seen.book ≡ J.book) × (limits ≡ J.limits) }
-{
-    let Ok(mut desk) = Desk::<J>::new(blank, alloc, keys, limits) else {
-        return Some(0);
-    };
-    let other = tried_on(rt, alloc, &mut desk, trial);
-    desk.discard(rt);
-    other
+/// The last pass works as the first does, and there is none after it.
+pub fn by_last<J: Naming, R: Wait>(rt: &R, alloc: Global, desk: &mut Desk<J>) -> bool {
+    match last_of(desk) {
+        Ok(mut last) => works_as_last(rt, alloc, desk, &mut last),
+        Err(NoPlace) => false,
+    }
 }
 
-fn tried<R: Wait>(rt: &R, alloc: Global, keys: Option<RandomState>, trial: Trial) -> Option<usize> {
-    let Some(keys) = keys else {
-        return Some(0);
-    };
-    opened::<Brand, _>(rt, alloc, keys, Limits::greatest(), Blank::new(), trial)
+const TRIALS: &[Trial] = &[
+    Trial::OnePass,
+    Trial::TwoMeet,
+    Trial::PodAgain,
+    Trial::LastPass,
+];
+
+fn trials() -> &'static [Trial] {
+    TRIALS
 }
 
 #[test]
 fn passes_share_a_desk(rt: HostRuntime) {
-    let keys = RandomState::new(&rt).ok();
-    assert_eq!(rt; tried(&rt, rt.alloc(), keys, Trial::OnePass), None);
-    assert_eq!(rt; tried(&rt, rt.alloc(), keys, Trial::TwoMeet), None);
-    assert_eq!(rt; tried(&rt, rt.alloc(), keys, Trial::PodAgain), None);
-    assert_eq!(rt; tried(&rt, rt.alloc(), keys, Trial::LastPass), None);
+    assert_none(
+        &rt,
+        desks::first_other(&rt, rt.alloc(), keys(&rt), trials()),
+    );
 }

@@ -3,7 +3,7 @@ ghost use Rattle.std.specs.Prelude.{◌≡◌, IfSome};
 ghost use Rattle.desk.specs.Caller.{IsTimely};
 ghost use Rattle.desk.specs.Shared.{IsPassOf};
 
-use crate::objects::{named, node, node_set, pod, pod_bound};
+use crate::objects::{named, node_told, pod, pod_bound};
 use desk::{Counts, Desk, Naming, Pass, Refusal, Reply, Snapshot, Step};
 use quant::{Event, Moment, Ticket, Version};
 use queue::Failure;
@@ -67,21 +67,13 @@ pub fn in_short(reply: &Reply) -> Answer {
     }
 }
 
-fn node_told(alloc: Global, version: u64, letter: u8) -> Option<Event> {
-    node_set(
-        alloc,
-        version,
-        node(named(letter)?, 1_000, 1_073_741_824, 2),
-    )
-}
-
 fn node_gone(version: Version, letter: u8) -> Option<Event> {
     let name = named(letter)?;
     Some(Event::NodeGone { version, name })
 }
 
 fn pod_pending(alloc: Global, version: Version, letter: u8) -> Option<Event> {
-    let pod = pod(alloc, named(letter)?, 600, 0)?;
+    let pod = pod(alloc, &named(letter)?, 0, 600, 0)?;
     Some(Event::PodPending { version, pod })
 }
 
@@ -91,12 +83,12 @@ fn pod_gone(version: Version, letter: u8) -> Option<Event> {
 }
 
 fn bound(version: u64, uid: u8, node: u8) -> Option<Event> {
-    pod_bound(version, named(uid)?, named(node)?, 600, 0)
+    pod_bound(version, &named(uid)?, &named(node)?, 600, 0)
 }
 
 fn event_of(alloc: Global, version: u64, news: News) -> Option<Event> {
     match news {
-        News::Node(name) => node_told(alloc, version, name),
+        News::Node(name) => node_told(alloc, version, name, 1_000, 1_073_741_824, 2),
         News::NodeGone(name) => node_gone(Version(version), name),
         News::Pod(uid) => pod_pending(alloc, Version(version), uid),
         News::PodGone(uid) => pod_gone(Version(version), uid),
@@ -177,7 +169,8 @@ fn look<J: Naming>(desk: &Desk<J>, pass: &mut Pass<J>) -> Option<Answer>
     }
 }
 
-fn apply<J: Naming, R: Wait>(
+/// What a step answers, if there is memory.
+pub fn apply<J: Naming, R: Wait>(
     rt: &R,
     desk: &Desk<J>,
     pass: &mut Pass<J>,

@@ -5,7 +5,9 @@ ghost use Rattle.std.specs.Prelude.{◌≤◌};
 mod plain;
 
 use self::plain::{Plain, Waiting};
-use quant::{Bytes, Cpu, MAX_QUEUED, Moment, Name, Pod, Request, SharedPod};
+use crate::objects::pod;
+use crate::outcome::{assert_none, keys};
+use quant::{MAX_QUEUED, Moment, Name};
 use queue::{Counts, Failure, PassNumber, Queue, Refusal, State};
 use std::alloc::Global;
 use std::hash::RandomState;
@@ -37,8 +39,8 @@ enum Call {
     IsInFlight(PassNumber, bool),
     /// The priority of the pod that is lent.
     PodOf(i32),
-    /// How many are active, back off, are unschedulable and are in flight.
-    Counts(usize, usize, usize, usize),
+    /// How many stand where.
+    Counts(Counts),
     /// How many comparisons the last call made.
     Compared(u32),
     /// Three pods come in each order, and are popped by priority, by arrival or by uid.
@@ -53,17 +55,6 @@ enum Call {
 /// The number of the pod that a call is at, and the call.
 type Row = (u32, Call);
 
-fn pod(alloc: Global, uid: &Name, priority: i32) -> Option<SharedPod> {
-    let pod = Pod {
-        uid: uid.copied(),
-        priority,
-        request: Request::new(Cpu(100), Bytes(0)).ok()?,
-        labels: Default::default(),
-        tolerations: Default::default(),
-    };
-    SharedPod::new(alloc, pod).ok()
-}
-
 fn adds(
     queue: &mut Queue,
     alloc: Global,
@@ -71,27 +62,70 @@ fn adds(
     priority: i32,
     now: u32,
 ) -> Option<Result<(), Refusal>> {
-    let pod = pod(alloc, uid, priority)?;
+    let pod = pod(alloc, uid, priority, 100, 0)?;
     Some(queue.add(pod, Moment(u64::from(now))))
 }
 
-fn pops(queue: &mut Queue, uid: &Name) -> bool {
-    let lent = match queue.peek() {
+fn is_next(queue: &Queue, uid: &Name) -> bool {
+    match queue.peek() {
         Some(pod) => pod.uid == *uid,
         None => false,
-    };
-    lent && queue.pop(MINE) == Some(uid.copied())
+    }
+}
+
+fn pops_next(queue: &mut Queue, uid: &Name) -> bool {
+    match queue.pop(MINE) {
+        Some(popped) => popped == *uid,
+        None => false,
+    }
+}
+
+fn pops(queue: &mut Queue, uid: &Name) -> bool {
+    is_next(queue, uid) && pops_next(queue, uid)
+}
+
+fn pops_none(queue: &mut Queue) -> bool {
+    queue.pop(MINE).is_none()
+}
+
+fn tick(queue: &mut Queue, now: u32) {
+    queue.tick(Moment(u64::from(now)));
+}
+
+fn move_all(queue: &mut Queue, now: u32) {
+    queue.move_all(Moment(u64::from(now)));
+}
+
+/// Whether the pod goes and is handed out, or there is none.
+fn removes(queue: &mut Queue, uid: &Name, there: bool) -> bool {
+    match queue.remove(uid) {
+        Some(pod) => there && pod.uid == *uid,
+        None => !there,
+    }
+}
+
+fn fails(
+    queue: &mut Queue,
+    uid: &Name,
+    pass: PassNumber,
+    how: Failure,
+    now: u32,
+) -> Result<(), Refusal> {
+    queue.fail(uid, pass, how, Moment(u64::from(now)))
+}
+
+fn goes_back(queue: &mut Queue, uid: &Name, now: u32) -> Result<(), Refusal> {
+    queue.forget_back(uid, Moment(u64::from(now)))
 }
 
 fn backs_off(queue: &mut Queue, uid: &Name, failed: u32, until: u32) -> bool {
-    if !pops(queue, uid) {
+    if !pops(queue, uid) || fails(queue, uid, MINE, Failure::Again, failed).is_err() {
         return false;
     }
-    let failure = queue.fail(uid, MINE, Failure::Again, Moment(u64::from(failed)));
-    queue.tick(Moment(u64::from(until.saturating_sub(1))));
-    let popped = queue.pop(MINE);
-    queue.tick(Moment(u64::from(until)));
-    failure.is_ok() && popped.is_none()
+    tick(queue, until.saturating_sub(1));
+    let none = pops_none(queue);
+    tick(queue, until);
+    none
 }
 
 /// The uid `p` and five digits.
@@ -105,20 +139,18 @@ fn uid_of(number: u32) -> [u8; 6] {
     uid
 }
 
-fn falling(queue: &mut Queue, alloc: Global) -> bool {
+fn come_falling(queue: &mut Queue, alloc: Global) -> bool {
     for number in (0..10_000u32).rev() {
-        let Ok(uid) = Name::new(&uid_of(number)) else {
-            return false;
-        };
-        if adds(queue, alloc, &uid, 0, 0) != Some(Ok(())) {
+        if !comes(queue, alloc, &uid_of(number), 0, 0) {
             return false;
         }
     }
+    true
+}
+
+fn pop_rising(queue: &mut Queue) -> bool {
     for number in 0..10_000u32 {
-        let Ok(uid) = Name::new(&uid_of(number)) else {
-            return false;
-        };
-        if !pops(queue, &uid) {
+        if !pops_named(queue, &uid_of(number)) {
             return false;
         }
     }
@@ -129,13 +161,13 @@ fn falling(queue: &mut Queue, alloc: Global) -> bool {
 type Arriving = (&'static [u8], i32, u32);
 
 /// Three pods each, the first to be popped first: by priority, by arrival, and by uid.
-const THREES: [[Arriving; 3]; 3] = [
+const THREES: &[[Arriving; 3]] = &[
     [(b"c", 7, 9), (b"b", 0, 1), (b"a", -7, 0)],
     [(b"c", 1, 0), (b"b", 1, 5), (b"a", 1, 6)],
     [(b"a", 1, 3), (b"a.b", 1, 3), (b"b", 1, 3)],
 ];
 
-const ORDERS: [[usize; 3]; 6] = [
+const ORDERS: &[[usize; 3]] = &[
     [0, 1, 2],
     [0, 2, 1],
     [1, 0, 2],
@@ -144,36 +176,51 @@ const ORDERS: [[usize; 3]; 6] = [
     [2, 1, 0],
 ];
 
-fn comes(queue: &mut Queue, alloc: Global, (uid, priority, now): Arriving) -> bool {
+fn threes() -> &'static [[Arriving; 3]] {
+    THREES
+}
+
+fn orders() -> &'static [[usize; 3]] {
+    ORDERS
+}
+
+fn comes(queue: &mut Queue, alloc: Global, uid: &[u8], priority: i32, now: u32) -> bool {
     match Name::new(uid) {
         Ok(uid) => adds(queue, alloc, &uid, priority, now) == Some(Ok(())),
         Err(_) => false,
     }
 }
 
-fn pops_and_goes(queue: &mut Queue, uid: &[u8]) -> bool {
+fn pops_named(queue: &mut Queue, uid: &[u8]) -> bool {
     match Name::new(uid) {
-        Ok(uid) => pops(queue, &uid) && queue.remove(&uid).is_some(),
+        Ok(uid) => pops(queue, &uid),
         Err(_) => false,
     }
 }
 
-/// Three pods come in this order, and are popped as they are listed.
-fn pops_as_listed(
-    queue: &mut Queue,
-    alloc: Global,
-    pods: [Arriving; 3],
-    order: [usize; 3],
-) -> bool {
+fn pops_and_goes(queue: &mut Queue, uid: &[u8]) -> bool {
+    match Name::new(uid) {
+        Ok(uid) => pops(queue, &uid) && removes(queue, &uid, true),
+        Err(_) => false,
+    }
+}
+
+/// Pods come in this order.
+fn come(queue: &mut Queue, alloc: Global, pods: &[Arriving], order: &[usize]) -> bool {
     for at in order {
-        let came = match pods.get(at) {
-            Some(pod) => comes(queue, alloc, *pod),
+        let came = match pods.get(*at) {
+            Some((uid, priority, now)) => comes(queue, alloc, uid, *priority, *now),
             None => false,
         };
         if !came {
             return false;
         }
     }
+    true
+}
+
+/// Pods are popped as they are listed.
+fn pop_and_go(queue: &mut Queue, pods: &[Arriving]) -> bool {
     for (uid, _, _) in pods {
         if !pops_and_goes(queue, uid) {
             return false;
@@ -182,26 +229,39 @@ fn pops_as_listed(
     true
 }
 
-fn every_order(queue: &mut Queue, alloc: Global) -> bool {
-    for order in ORDERS {
-        for pods in THREES {
-            if !pops_as_listed(queue, alloc, pods, order) {
-                return false;
-            }
+/// All three are popped as they are listed that come in this order.
+fn in_this_order(queue: &mut Queue, alloc: Global, order: &[usize]) -> bool {
+    for pods in threes() {
+        if !come(queue, alloc, pods, order) || !pop_and_go(queue, pods) {
+            return false;
         }
     }
     true
 }
 
+fn every_order(queue: &mut Queue, alloc: Global) -> bool {
+    for order in orders() {
+        if !in_this_order(queue, alloc, order) {
+            return false;
+        }
+    }
+    true
+}
+
+/// Whether there is this number, and the uid is of it.
+fn is_of(uid: &Name, number: Option<u32>) -> bool {
+    match number {
+        Some(number) => uid.as_bytes() == uid_of(number).as_slice(),
+        None => false,
+    }
+}
+
 /// One pop of both by this pass.
 fn both_pop(queue: &mut Queue, plain: &mut Plain, mine: PassNumber) -> bool {
-    let popped = queue.pop(mine);
-    match plain.pop(mine) {
-        Some(number) => match popped {
-            Some(uid) => uid.as_bytes() == uid_of(number).as_slice(),
-            None => false,
-        },
-        None => popped.is_none(),
+    let number = plain.pop(mine);
+    match queue.pop(mine) {
+        Some(uid) => is_of(&uid, number),
+        None => number.is_none(),
     }
 }
 
@@ -214,22 +274,22 @@ fn both_change(queue: &mut Queue, plain: &mut Plain, uid: &Name, draw: u32, now:
     } else {
         Failure::Unschedulable
     };
-    let moment = Moment(u64::from(now));
+    let moment = u64::from(now);
     match draw / 900 % 16 {
         5..=8 => both_pop(queue, plain, mine),
-        9..=11 => queue.fail(uid, mine, how, moment) == plain.fail(number, mine, how, moment.0),
-        12 => queue.forget_back(uid, moment) == plain.forget_back(number, moment.0),
+        9..=11 => fails(queue, uid, mine, how, now) == plain.fail(number, mine, how, moment),
+        12 => goes_back(queue, uid, now) == plain.forget_back(number, moment),
         13 => {
-            queue.tick(moment);
-            plain.tick(moment.0);
+            tick(queue, now);
+            plain.tick(moment);
             true
         }
         14 => {
-            queue.move_all(moment);
-            plain.move_all(moment.0);
+            move_all(queue, now);
+            plain.move_all(moment);
             true
         }
-        _ => queue.remove(uid).is_some() == plain.remove(number),
+        _ => removes(queue, uid, plain.remove(number)),
     }
 }
 
@@ -256,18 +316,44 @@ fn both_call(queue: &mut Queue, plain: &mut Plain, alloc: Global, draw: u32, now
     }
 }
 
-fn beside_plain(queue: &mut Queue, plain: &mut Plain, alloc: Global) -> bool {
+/// Both answer alike, and have as many pods where they stand.
+fn both_are_alike(
+    queue: &mut Queue,
+    plain: &mut Plain,
+    alloc: Global,
+    draw: u32,
+    now: u32,
+) -> bool {
+    both_call(queue, plain, alloc, draw, now) && queue.counts() == plain.counts()
+}
+
+fn stays_beside(queue: &mut Queue, plain: &mut Plain, alloc: Global) -> bool {
     let mut seed = 1u64;
     for call in 0..5_000u32 {
         seed = seed
             .wrapping_mul(6_364_136_223_846_793_005)
             .wrapping_add(1_442_695_040_888_963_407);
-        let alike = both_call(queue, plain, alloc, (seed >> 33) as u32, call * 150);
-        if !alike || queue.counts() != plain.counts() {
+        if !both_are_alike(queue, plain, alloc, (seed >> 33) as u32, call * 150) {
             return false;
         }
     }
     true
+}
+
+/// The same beside a new plain list.
+fn beside_plain(queue: &mut Queue, alloc: Global) -> bool {
+    match Plain::new(alloc, 40) {
+        Ok(mut plain) => stays_beside(queue, &mut plain, alloc),
+        Err(_) => false,
+    }
+}
+
+/// Whether a pod of this priority is lent.
+fn has_priority(queue: &Queue, uid: &Name, priority: i32) -> bool {
+    match queue.pod_of(uid) {
+        Some(pod) => pod.priority == priority,
+        None => false,
+    }
 }
 
 /// Whether a question answers as its row says.
@@ -276,19 +362,8 @@ fn tells(queue: &Queue, uid: &Name, call: Call) -> bool {
         Call::Has(there) => queue.has(uid) == there,
         Call::IsFull(full) => queue.is_full() == full,
         Call::IsInFlight(pass, flying) => queue.is_in_flight(uid, pass) == flying,
-        Call::PodOf(priority) => match queue.pod_of(uid) {
-            Some(pod) => pod.priority == priority,
-            None => false,
-        },
-        Call::Counts(active, backoff, unschedulable, in_flight) => {
-            let counts = Counts {
-                active,
-                backoff,
-                unschedulable,
-                in_flight,
-            };
-            queue.counts() == counts
-        }
+        Call::PodOf(priority) => has_priority(queue, uid, priority),
+        Call::Counts(counts) => queue.counts() == counts,
         Call::Compared(many) => queue.compared() == many,
         _ => false,
     }
@@ -301,30 +376,22 @@ fn answers(queue: &mut Queue, alloc: Global, uid: &Name, call: Call) -> bool {
             adds(queue, alloc, uid, priority, now) == Some(answer)
         }
         Call::Pop => pops(queue, uid),
-        Call::PopNone => queue.pop(MINE).is_none(),
-        Call::Fail(pass, how, now, answer) => {
-            queue.fail(uid, pass, how, Moment(u64::from(now))) == answer
-        }
-        Call::ForgetBack(now, answer) => queue.forget_back(uid, Moment(u64::from(now))) == answer,
+        Call::PopNone => pops_none(queue),
+        Call::Fail(pass, how, now, answer) => fails(queue, uid, pass, how, now) == answer,
+        Call::ForgetBack(now, answer) => goes_back(queue, uid, now) == answer,
         Call::BacksOff(failed, until) => backs_off(queue, uid, failed, until),
         Call::Tick(now) => {
-            queue.tick(Moment(u64::from(now)));
+            tick(queue, now);
             true
         }
         Call::Move(now) => {
-            queue.move_all(Moment(u64::from(now)));
+            move_all(queue, now);
             true
         }
-        Call::Remove(there) => match queue.remove(uid) {
-            Some(pod) => there && pod.uid == *uid,
-            None => !there,
-        },
+        Call::Remove(there) => removes(queue, uid, there),
         Call::EveryOrder => every_order(queue, alloc),
-        Call::Falling => falling(queue, alloc),
-        Call::BesidePlain => match Plain::new(alloc, 40) {
-            Ok(mut plain) => beside_plain(queue, &mut plain, alloc),
-            Err(_) => false,
-        },
+        Call::Falling => come_falling(queue, alloc) && pop_rising(queue),
+        Call::BesidePlain => beside_plain(queue, alloc),
         _ => tells(queue, uid, call),
     }
 }
@@ -347,23 +414,39 @@ fn differs(queue: &mut Queue, alloc: Global, rows: &[Row]) -> Option<usize> {
     None
 }
 
-/// The first row at which a new queue of this limit answers otherwise. It has compared nothing yet.
-fn first_difference(
-    alloc: Global,
-    keys: Option<RandomState>,
-    limit: usize,
-    rows: &[Row],
-) -> Option<usize>
+/// The same of a new queue, which has compared nothing yet.
+fn differs_from_new(queue: &mut Queue, alloc: Global, rows: &[Row]) -> Option<usize> {
+    if queue.compared() != 0 {
+        return Some(0);
+    }
+    differs(queue, alloc, rows)
+}
+
+/// The first row at which a new queue of this limit answers otherwise.
+fn first_difference(alloc: Global, keys: RandomState, limit: usize, rows: &[Row]) -> Option<usize>
     requires { limit ≤ MAX_QUEUED }
 {
-    let Some(keys) = keys else {
-        return Some(0);
-    };
     match Queue::new(alloc, keys, limit) {
-        Ok(mut queue) if queue.compared() == 0 => differs(&mut queue, alloc, rows),
-        _ => Some(0),
+        Ok(mut queue) => differs_from_new(&mut queue, alloc, rows),
+        Err(_) => Some(0),
     }
 }
+
+const NONE: Counts = Counts {
+    active: 0,
+    backoff: 0,
+    unschedulable: 0,
+    in_flight: 0,
+};
+
+const ONE_ACTIVE: Counts = Counts { active: 1, ..NONE };
+
+const ONE_BACKS_OFF: Counts = Counts { backoff: 1, ..NONE };
+
+const ONE_UNSCHEDULABLE: Counts = Counts {
+    unschedulable: 1,
+    ..NONE
+};
 
 /// What a pod does that backs off, that a move wakes, that time releases, that a move finds in
 /// flight, and that fails twelve times. Refused calls change nothing.
@@ -382,9 +465,9 @@ const WORKED: &[Row] = &[
     (1, Call::Add(0, 0, Ok(()))),
     (1, Call::Pop),
     (1, Call::Fail(MINE, Failure::Unschedulable, 0, Ok(()))),
-    (1, Call::Counts(0, 0, 1, 0)),
+    (1, Call::Counts(ONE_UNSCHEDULABLE)),
     (1, Call::Move(0)),
-    (1, Call::Counts(0, 1, 0, 0)),
+    (1, Call::Counts(ONE_BACKS_OFF)),
     (1, Call::PopNone),
     (1, Call::Tick(1_000)),
     (1, Call::Pop),
@@ -394,7 +477,7 @@ const WORKED: &[Row] = &[
     (1, Call::Pop),
     (1, Call::Fail(MINE, Failure::Unschedulable, 0, Ok(()))),
     (1, Call::Tick(299_999)),
-    (1, Call::Counts(0, 0, 1, 0)),
+    (1, Call::Counts(ONE_UNSCHEDULABLE)),
     (1, Call::Tick(300_000)),
     (1, Call::Pop),
     (1, Call::Remove(true)),
@@ -415,7 +498,7 @@ const WORKED: &[Row] = &[
     ),
     (1, Call::Move(0)),
     (1, Call::Fail(MINE, Failure::Unschedulable, 0, Ok(()))),
-    (1, Call::Counts(0, 1, 0, 0)),
+    (1, Call::Counts(ONE_BACKS_OFF)),
     (1, Call::PodOf(5)),
     (2, Call::Remove(false)),
     (1, Call::Remove(true)),
@@ -433,7 +516,7 @@ const WORKED: &[Row] = &[
     (1, Call::BacksOff(65_000, 75_000)),
     (1, Call::BacksOff(75_000, 85_000)),
     (1, Call::BacksOff(85_000, 95_000)),
-    (1, Call::Counts(1, 0, 0, 0)),
+    (1, Call::Counts(ONE_ACTIVE)),
 ];
 
 const ORDERED: &[Row] = &[
@@ -472,21 +555,21 @@ fn beside_a_list() -> &'static [Row] {
 
 #[test]
 fn calls_answer_as_worked(rt: HostRuntime) {
-    let keys = RandomState::new(&rt).ok();
-    assert_eq!(rt; first_difference(rt.alloc(), keys, 1, worked()), None);
+    assert_none(&rt, first_difference(rt.alloc(), keys(&rt), 1, worked()));
 }
 
 #[test]
 fn pods_are_popped_in_order(rt: HostRuntime) {
-    let keys = RandomState::new(&rt).ok();
-    assert_eq!(rt; first_difference(rt.alloc(), keys, 10_000, ordered()), None);
+    assert_none(
+        &rt,
+        first_difference(rt.alloc(), keys(&rt), 10_000, ordered()),
+    );
 }
 
 #[test]
 fn as_a_plain_list(rt: HostRuntime) {
-    let keys = RandomState::new(&rt).ok();
-    assert_eq!(rt;
-        first_difference(rt.alloc(), keys, 40, beside_a_list()),
-        None
+    assert_none(
+        &rt,
+        first_difference(rt.alloc(), keys(&rt), 40, beside_a_list()),
     );
 }

@@ -1,17 +1,22 @@
 //! Kits that count how often they are asked, what is told that pieces begin, and a look at some
 //! nodes.
 use crate::looks;
-use crate::objects::{named, node, node_set, pod};
+use crate::objects::{adds, node_told, pod};
 use choose::Decision;
 use desk::Snapshot;
 use fleet::Gate;
 use quant::{Event, Name, Pod, Res, SharedNode, SharedPod};
 use rules::{Cause, FilterVerdict, Rules, ScoreVerdict};
-use std::alloc::{AllocError, Global};
+use std::alloc::Global;
 use std::hash::RandomState;
+use std::panic::Expect;
+use std::process::Abort;
 use std::sync::atomic::{AtomicBool, AtomicU64, Ordering};
 use std::sync::{Arc, Wait};
 use std::thread;
+
+/// What is said where there is none.
+pub const MEMORY: &str = "there is memory";
 
 /// How often each of some came, by their places: kits that are asked, or pieces that begin.
 #[derive(Drop)]
@@ -21,12 +26,17 @@ pub struct Counts {
 
 impl Counts {
     /// None of so many came yet.
-    pub fn new(alloc: Global, many: usize) -> Result<Counts, AllocError> {
+    pub fn new<R: Abort>(rt: &R, alloc: Global, many: usize) -> Counts {
         let mut counts = Vec::new(alloc);
         for _ in 0..many {
-            counts.push(AtomicU64::new(0))?;
+            counts.push(AtomicU64::new(0)).expect(rt, MEMORY);
         }
-        Ok(Counts { counts })
+        Counts { counts }
+    }
+
+    /// The same, for several owners.
+    pub fn shared<R: Abort>(rt: &R, alloc: Global, many: usize) -> Arc<Counts> {
+        Arc::new(alloc, Counts::new(rt, alloc, many)).expect(rt, MEMORY)
     }
 
     fn add(&self, place: usize) {
@@ -121,6 +131,14 @@ impl Rules for Tally {
     } };
 }
 
+impl Tally {
+    /// A kit in this place, which counts there.
+    pub fn new<R: Abort>(rt: &R, asked: &Arc<Counts>, place: usize) -> Tally {
+        let asked = Arc::try_clone(asked).expect(rt, MEMORY);
+        Tally { asked, place }
+    }
+}
+
 /// Two pieces, each of which waits where it begins until the other has begun.
 #[derive(Drop)]
 pub struct Both {
@@ -169,33 +187,34 @@ impl Gate for Both {
     }
 }
 
+fn pod_of_a_tenth(alloc: Global) -> Option<SharedPod> {
+    pod(alloc, &Name::new(b"p1").ok()?, 0, 100, 67_108_864)
+}
+
 /// A pod that asks for a tenth of a core.
-pub fn small_pod(alloc: Global) -> Option<SharedPod> {
-    pod(alloc, Name::new(b"p1").ok()?, 100, 67_108_864)
+pub fn small_pod<R: Abort>(rt: &R, alloc: Global) -> SharedPod {
+    pod_of_a_tenth(alloc).expect(rt, MEMORY)
 }
 
-// A node of this name, with 4 cores, 8 GiB and room for 110 pods.
-fn node_told(alloc: Global, version: u64, letter: u8) -> Option<Event> {
-    node_set(
-        alloc,
-        version,
-        node(named(letter)?, 4_000, 8_589_934_592, 110),
-    )
-}
-
+// Nodes of these names, each with 4 cores, 8 GiB and room for 110 pods.
 fn nodes_told(alloc: Global, letters: &[u8]) -> Option<Vec<Event>> {
     let mut events = Vec::new(alloc);
-    let mut version = 0u64;
+    let (mut version, mut all) = (0u64, true);
     for letter in letters {
         version = version.saturating_add(1);
-        events.push(node_told(alloc, version, *letter)?).ok()?;
+        let event = node_told(alloc, version, *letter, 4_000, 8_589_934_592, 110);
+        all = all && adds(&mut events, event);
     }
-    Some(events)
+    if all { Some(events) } else { None }
+}
+
+fn shown<R: Wait>(rt: &R, alloc: Global, keys: RandomState, letters: &[u8]) -> Option<Snapshot> {
+    looks::look(rt, alloc, keys, nodes_told(alloc, letters)?)
 }
 
 /// A look at nodes of these names.
-pub fn look<R: Wait>(rt: &R, alloc: Global, keys: RandomState, letters: &[u8]) -> Option<Snapshot> {
-    looks::look(rt, alloc, keys, nodes_told(alloc, letters)?)
+pub fn look<R: Wait + Abort>(rt: &R, alloc: Global, keys: RandomState, letters: &[u8]) -> Snapshot {
+    shown(rt, alloc, keys, letters).expect(rt, MEMORY)
 }
 
 /// Whether node a, of the least name, is told, since its filter used up its fuel.

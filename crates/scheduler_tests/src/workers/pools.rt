@@ -3,14 +3,15 @@
 ghost use Rattle.std.specs.Prelude.{◌≡◌, ◌<◌, ◌≤◌};
 ghost use Rattle.fleet.specs.Speaking.{SpeaksFor};
 
-use super::kits::{Both, Counts, Tally, is_by_the_least, look, small_pod};
-use desk::Snapshot;
+use super::kits::{Both, Counts, MEMORY, Tally, is_by_the_least, look, small_pod};
+use crate::outcome::{assert_none, keys};
 use fleet::{Blank, Gate, Pool, Site};
-use quant::SharedPod;
 use rules::Rules;
 use std::alloc::Global;
 use std::hash::RandomState;
 use std::marker::Brand;
+use std::panic::Expect;
+use std::process::Abort;
 use std::sync::{Arc, Wait};
 use std::thread::Threads;
 
@@ -18,34 +19,35 @@ use std::thread::Threads;
 fn pool_of<
     J: Site + Send + Sync + 'static,
     G: Gate + Drop + Send + Sync + 'static,
-    R: Threads + Wait + Copy + Send + 'static,
->(rt: R, alloc: Global, blank: Blank, kits: usize, gate: &Arc<G>) -> Option<Pool<J, Tally, G>>
+    R: Threads + Wait + Abort + Copy + Send + 'static,
+>(rt: R, alloc: Global, blank: Blank, kits: usize, gate: &Arc<G>) -> Pool<J, Tally, G>
     requires most { kits ≤ 64 }
     requires pool { blank.seen.book ≡ J.book }
     requires speak { (kit : _) → SpeaksFor J.Says (⟦<Tally as Rules>⟧.answers kit) }
 {
-    let asked = Arc::new(alloc, Counts::new(alloc, kits).ok()?).ok()?;
-    let gate: Arc<G> = Arc::try_clone(gate).ok()?;
+    let asked = Counts::shared(&rt, alloc, kits);
+    let gate: Arc<G> = Arc::try_clone(gate).expect(&rt, MEMORY);
     let mut others = Vec::new(alloc);
     for place in 1..kits {
-        let asked: Arc<Counts> = Arc::try_clone(&asked).ok()?;
-        others.push(Tally { asked, place }).ok()?;
+        others
+            .push(Tally::new(&rt, &asked, place))
+            .expect(&rt, MEMORY);
     }
     let first = Tally { asked, place: 0 };
-    Pool::start(rt, alloc, blank, first, others, gate).ok()
+    Pool::start(rt, alloc, blank, first, others, gate).expect(&rt, MEMORY)
 }
 
-// Whether a decision among some nodes tells the one of the least name.
-fn decides<J: Site, G: Gate + Drop, R: Wait>(
+// Whether a decision among these nodes tells the one of the least name.
+fn decides<J: Site, G: Gate + Drop, R: Wait + Abort>(
     rt: &R,
+    alloc: Global,
+    keys: RandomState,
     pool: &mut Pool<J, Tally, G>,
-    shown: Snapshot,
-    pod: &SharedPod,
+    letters: &[u8],
 ) -> bool {
-    match pool.decide(rt, shown, pod, true) {
-        Ok(decision) => is_by_the_least(&decision),
-        Err(_) => false,
-    }
+    let shown = look(rt, alloc, keys, letters);
+    let decision = pool.decide(rt, shown, &small_pod(rt, alloc), true);
+    is_by_the_least(&decision.expect(rt, MEMORY))
 }
 
 // Whether, of five nodes in so many pieces, each piece that has one has begun so often, and no
@@ -64,22 +66,8 @@ fn each_began(begun: &Counts, kits: usize, often: u64) -> bool
     true
 }
 
-// Whether a decision among five nodes is as it is to be the next time.
-fn turns<J: Site, R: Wait>(
-    rt: &R,
-    alloc: Global,
-    keys: RandomState,
-    pool: &mut Pool<J, Tally, Counts>,
-    pod: &SharedPod,
-) -> bool {
-    match look(rt, alloc, keys, b"ecdab") {
-        Some(shown) => decides(rt, pool, shown, pod),
-        None => false,
-    }
-}
-
 // The first of three decisions among five nodes that is otherwise.
-fn first_other_turn<J: Site, R: Wait>(
+fn first_other_turn<J: Site, R: Wait + Abort>(
     rt: &R,
     alloc: Global,
     keys: RandomState,
@@ -90,11 +78,8 @@ fn first_other_turn<J: Site, R: Wait>(
     requires some { 0 < kits }
     requires most { kits ≤ 64 }
 {
-    let Some(pod) = small_pod(alloc) else {
-        return Some(0);
-    };
     for turn in 1..4u64 {
-        if !turns(rt, alloc, keys, pool, &pod) || !each_began(begun, kits, turn) {
+        if !decides(rt, alloc, keys, pool, b"ecdab") || !each_began(begun, kits, turn) {
             return Some(turn);
         }
     }
@@ -102,7 +87,7 @@ fn first_other_turn<J: Site, R: Wait>(
 }
 
 // The same by a new pool of so many kits, none of whose workers is left once it has ended.
-fn turns_of<J: Site + Send + Sync + 'static, R: Threads + Wait + Copy + Send + 'static>(
+fn turns_of<J: Site + Send + Sync + 'static, R: Threads + Wait + Abort + Copy + Send + 'static>(
     rt: R,
     alloc: Global,
     keys: RandomState,
@@ -114,15 +99,8 @@ fn turns_of<J: Site + Send + Sync + 'static, R: Threads + Wait + Copy + Send + '
     requires pool { blank.seen.book ≡ J.book }
     requires speak { (kit : _) → SpeaksFor J.Says (⟦<Tally as Rules>⟧.answers kit) }
 {
-    let Ok(counts) = Counts::new(alloc, kits) else {
-        return Some(0);
-    };
-    let Ok(begun) = Arc::new(alloc, counts) else {
-        return Some(0);
-    };
-    let Some(mut pool) = pool_of::<J, _, R>(rt, alloc, blank, kits, &begun) else {
-        return Some(0);
-    };
+    let begun = Counts::shared(&rt, alloc, kits);
+    let mut pool = pool_of::<J, _, R>(rt, alloc, blank, kits, &begun);
     let other = first_other_turn(&rt, alloc, keys, &mut pool, &begun, kits);
     pool.end(&rt);
     // Each worker has a part in the gate until it is gone.
@@ -134,16 +112,13 @@ fn turns_of<J: Site + Send + Sync + 'static, R: Threads + Wait + Copy + Send + '
 }
 
 // The first number of kits that don't decide as they are to.
-fn first_other<R: Threads + Wait + Copy + Send + 'static>(
+fn first_other<R: Threads + Wait + Abort + Copy + Send + 'static>(
     rt: R,
     alloc: Global,
-    keys: Option<RandomState>,
+    keys: RandomState,
 ) -> Option<usize> {
     for kits in [1, 2, 64] {
-        let other = match keys {
-            Some(keys) => turns_of::<Brand, _>(rt, alloc, keys, Blank::new(), kits),
-            None => Some(0),
-        };
+        let other = turns_of::<Brand, _>(rt, alloc, keys, Blank::new(), kits);
         if other.is_some() {
             return Some(kits);
         }
@@ -153,26 +128,13 @@ fn first_other<R: Threads + Wait + Copy + Send + 'static>(
 
 #[test]
 fn few_and_most_kits_decide(rt: HostRuntime) {
-    let keys = RandomState::new(&rt).ok();
-    assert_eq!(rt; first_other(rt, rt.alloc(), keys), None);
+    assert_none(&rt, first_other(rt, rt.alloc(), keys(&rt)));
 }
 
-// Whether two pieces decide that wait for each other where they begin.
-fn decides_of_two<J: Site, R: Wait>(
-    rt: &R,
-    alloc: Global,
-    keys: RandomState,
-    pool: &mut Pool<J, Tally, Both>,
-) -> bool {
-    match (look(rt, alloc, keys, b"ab"), small_pod(alloc)) {
-        (Some(shown), Some(pod)) => decides(rt, pool, shown, &pod),
-        _ => false,
-    }
-}
-
-// How many of three decisions come to what they are to, until one doesn't. In each of them the
-// pieces wait for each other anew, so that the worker and its kit are there each time.
-fn decisions_of_two<J: Site, R: Wait>(
+// How many of three decisions come to what they are to, until one doesn't. In each of them two
+// pieces wait for each other anew where they begin, so that the worker and its kit are there each
+// time.
+fn decisions_of_two<J: Site, R: Wait + Abort>(
     rt: &R,
     alloc: Global,
     keys: RandomState,
@@ -181,7 +143,7 @@ fn decisions_of_two<J: Site, R: Wait>(
 ) -> u32 {
     for turn in 0..3u32 {
         gate.set_back();
-        if !decides_of_two(rt, alloc, keys, pool) || gate.gave_up() {
+        if !decides(rt, alloc, keys, pool, b"ab") || gate.gave_up() {
             return turn;
         }
     }
@@ -189,7 +151,7 @@ fn decisions_of_two<J: Site, R: Wait>(
 }
 
 // The same by a new pool, and neither gave up waiting.
-fn two_meet<J: Site + Send + Sync + 'static, R: Threads + Wait + Copy + Send + 'static>(
+fn two_meet<J: Site + Send + Sync + 'static, R: Threads + Wait + Abort + Copy + Send + 'static>(
     rt: R,
     alloc: Global,
     keys: RandomState,
@@ -198,30 +160,22 @@ fn two_meet<J: Site + Send + Sync + 'static, R: Threads + Wait + Copy + Send + '
     requires pool { blank.seen.book ≡ J.book }
     requires speak { (kit : _) → SpeaksFor J.Says (⟦<Tally as Rules>⟧.answers kit) }
 {
-    let Ok(gate) = Arc::new(alloc, Both::new()) else {
-        return false;
-    };
-    let Some(mut pool) = pool_of::<J, _, R>(rt, alloc, blank, 2, &gate) else {
-        return false;
-    };
+    let gate = Arc::new(alloc, Both::new()).expect(&rt, MEMORY);
+    let mut pool = pool_of::<J, _, R>(rt, alloc, blank, 2, &gate);
     let decided = decisions_of_two(&rt, alloc, keys, &mut pool, &gate);
     pool.end(&rt);
     decided == 3
 }
 
-fn two_meet_in_a_pool<R: Threads + Wait + Copy + Send + 'static>(
+fn two_meet_in_a_pool<R: Threads + Wait + Abort + Copy + Send + 'static>(
     rt: R,
     alloc: Global,
-    keys: Option<RandomState>,
+    keys: RandomState,
 ) -> bool {
-    match keys {
-        Some(keys) => two_meet::<Brand, _>(rt, alloc, keys, Blank::new()),
-        None => false,
-    }
+    two_meet::<Brand, _>(rt, alloc, keys, Blank::new())
 }
 
 #[test]
 fn pieces_are_judged_at_once(rt: HostRuntime) {
-    let keys = RandomState::new(&rt).ok();
-    assert!(rt; two_meet_in_a_pool(rt, rt.alloc(), keys));
+    assert!(rt; two_meet_in_a_pool(rt, rt.alloc(), keys(&rt)));
 }

@@ -1,4 +1,4 @@
-use Rattle.scheduler_tests.proofs.sharing.tried.Given as goal
+use Rattle.scheduler_tests.proofs.desks.is_so.Given as goal
 
 -- the desk that was just opened, and its limits
 abbrev pub ghosts-opened : goal.ghosts-opened
