@@ -7,6 +7,7 @@ mod rows;
 mod sides;
 mod worked_module;
 
+use crate::outcome::assert_none;
 use generated::MODULES;
 use rows::{CALLS, ELEMENT_CALLS, RECORD_CALLS, Row, START_CALLS};
 use sides::{AMPLE, EXHAUSTED, Ended, Sides, invoked, machine, put_data, put_elements};
@@ -52,30 +53,24 @@ fn is_wanted(wanted: Wanted, fuel: u64, ended: Ended) -> bool {
     trap == EXHAUSTED && cost <= fuel && may_be_left(wanted.copies, fuel, fuel - cost)
 }
 
-// With how much fuel they don't agree, and what they give.
-#[derive(Clone, Copy, PartialEq, Eq, Debug)]
-struct Given {
-    fuel: u64,
-    by_machine: (Ended, u64),
-    by_definition: (Ended, u64),
+// Whether both give what is wanted with so much fuel, and leave the same store.
+fn are_alike<R: Abort>(rt: &R, sides: &mut Sides, wanted: Wanted, fuel: u64) -> bool {
+    let by_machine = sides.by_machine(fuel);
+    let by_definition = sides.by_definition(rt, fuel);
+    by_machine == by_definition && is_wanted(wanted, fuel, by_machine.0)
 }
 
-// The least fuel of these with which they don't both give what is wanted, and leave the same store.
+// The least fuel of these with which they aren't alike.
 fn difference_within<R: Abort>(
     rt: &R,
     sides: &mut Sides,
     wanted: Wanted,
     first: u64,
     last: u64,
-) -> Option<Given> {
+) -> Option<u64> {
     for fuel in first..=last {
-        let given = Given {
-            fuel,
-            by_machine: sides.by_machine(fuel),
-            by_definition: sides.by_definition(rt, fuel),
-        };
-        if given.by_machine != given.by_definition || !is_wanted(wanted, fuel, given.by_machine.0) {
-            return Some(given);
+        if !are_alike(rt, sides, wanted, fuel) {
+            return Some(fuel);
         }
     }
     None
@@ -85,7 +80,7 @@ fn difference_within<R: Abort>(
 const MOST: u64 = 300;
 
 // The first difference with up to 2 more than the call costs, at most 300 and those round the cost.
-fn difference<R: Abort>(rt: &R, sides: &mut Sides, wanted: Wanted) -> Option<Given> {
+fn difference<R: Abort>(rt: &R, sides: &mut Sides, wanted: Wanted) -> Option<u64> {
     let enough = wanted.cost.saturating_add(2);
     let found = difference_within(rt, sides, wanted, 0, enough.min(MOST));
     if found.is_some() || enough <= MOST || wanted.cost > AMPLE {
@@ -104,7 +99,7 @@ struct Kind {
 }
 
 // The same of a worked call.
-fn difference_at<R: Abort>(rt: &R, alloc: Global, row: Row, kind: Kind) -> Option<Given> {
+fn difference_at<R: Abort>(rt: &R, alloc: Global, row: Row, kind: Kind) -> Option<u64> {
     let (body, trap, value, cost) = row;
     let bytes = module_around(rt, alloc, body);
     let mut sides = Sides::new(rt, alloc, bytes.as_slice(), kind.export, kind.segments);
@@ -145,18 +140,42 @@ const STARTING: Kind = Kind {
     copies: Copies::Nowhere,
 };
 
-#[test]
-fn worked_calls(rt: HostRuntime) {
-    for (rows, kind) in [
-        (CALLS, ALONE),
-        (ELEMENT_CALLS, WITH_ELEMENTS),
-        (RECORD_CALLS, COPYING),
-        (START_CALLS, STARTING),
-    ] {
-        for (i, row) in rows.iter().enumerate() {
-            assert_eq!(rt; difference_at(&rt, rt.alloc(), *row, kind), None, "row {i}");
+const TABLES: &[(&[Row], Kind)] = &[
+    (CALLS, ALONE),
+    (ELEMENT_CALLS, WITH_ELEMENTS),
+    (RECORD_CALLS, COPYING),
+    (START_CALLS, STARTING),
+];
+
+fn tables() -> &'static [(&'static [Row], Kind)] {
+    TABLES
+}
+
+// The first row of a table at which they differ.
+fn first_row<R: Abort>(rt: &R, alloc: Global, rows: &[Row], kind: Kind) -> Option<usize> {
+    for (at, row) in rows.iter().enumerate() {
+        if difference_at(rt, alloc, *row, kind).is_some() {
+            return Some(at);
         }
     }
+    None
+}
+
+// The same of all tables: no row of one has the number of another's.
+fn first_worked<R: Abort>(rt: &R, alloc: Global) -> Option<usize> {
+    let mut before = 0usize;
+    for (rows, kind) in tables() {
+        if let Some(at) = first_row(rt, alloc, rows, *kind) {
+            return Some(before.saturating_add(at));
+        }
+        before = before.saturating_add(rows.len());
+    }
+    None
+}
+
+#[test]
+fn worked_calls(rt: HostRuntime) {
+    assert_none(&rt, first_worked(&rt, rt.alloc()));
 }
 
 // A number in so many bytes of a table, the lower ones first.
@@ -171,13 +190,13 @@ fn number(table: &[u8], at: usize, count: usize) -> u64 {
 
 // The first difference in the generated module that stands there in a table. What a call costs is
 // asked of the machine, with ample fuel.
-fn difference_in<R: Abort>(rt: &R, alloc: Global, table: &[u8], at: usize) -> Option<Given> {
+fn difference_in<R: Abort>(rt: &R, alloc: Global, table: &[u8], at: usize) -> Option<u64> {
     let begin = at.saturating_add(HEAD);
     let end = begin.saturating_add(number(table, at, 2) as usize);
     let bytes = table.get(begin..end).expect(rt, "a whole module");
     let mut sides = Sides::new(rt, alloc, bytes, Export::Filter, true);
     let ((_, _, cost), digest) = sides.by_machine(AMPLE);
-    assert_eq!(rt; digest, number(table, at.saturating_add(7), 8));
+    assert!(rt; digest == number(table, at.saturating_add(7), 8));
     let wanted = Wanted {
         trap: table.get(at.saturating_add(2)).copied().unwrap_or(0),
         value: number(table, at.saturating_add(3), 4),
@@ -191,23 +210,27 @@ fn difference_in<R: Abort>(rt: &R, alloc: Global, table: &[u8], at: usize) -> Op
 const HEAD: usize = 15;
 
 // The first module of a table in which they differ.
-fn first_module<R: Abort>(rt: &R, alloc: Global, table: &[u8]) -> Option<(usize, Given)> {
+fn first_module<R: Abort>(rt: &R, alloc: Global, table: &[u8]) -> Option<usize> {
     let mut at = 0usize;
     for i in 0..200 {
-        if let Some(given) = difference_in(rt, alloc, table, at) {
-            return Some((i, given));
+        if difference_in(rt, alloc, table, at).is_some() {
+            return Some(i);
         }
         at = at
             .saturating_add(HEAD)
             .saturating_add(number(table, at, 2) as usize);
     }
-    assert_eq!(rt; at, table.len());
+    assert!(rt; at == table.len());
     None
+}
+
+fn modules() -> &'static [u8] {
+    MODULES
 }
 
 #[test]
 fn generated_modules(rt: HostRuntime) {
-    assert_eq!(rt; first_module(&rt, rt.alloc(), MODULES), None);
+    assert_none(&rt, first_module(&rt, rt.alloc(), modules()));
 }
 
 // A body that calls itself inside 256 blocks.
@@ -231,18 +254,33 @@ fn machine_around<R: Abort>(rt: &R, alloc: Global, body: &[u8]) -> Machine {
     machine(rt, alloc, bytes.as_slice())
 }
 
+// So much fuel, and how the call is to end.
+const NESTED: &[(u64, Ended)] = &[
+    (1_000_000, (8, 0, 65_792)),
+    (65_792, (8, 0, 65_792)),
+    (65_791, (EXHAUSTED, 0, 65_791)),
+];
+
+fn nested() -> &'static [(u64, Ended)] {
+    NESTED
+}
+
+// The first fuel with which such a call ends otherwise.
+fn first_other_nested<R: Abort>(rt: &R, alloc: Global) -> Option<usize> {
+    let body = nested_calls(rt, alloc);
+    let mut machine = machine_around(rt, alloc, body.as_slice());
+    for (at, (fuel, want)) in nested().iter().enumerate() {
+        if invoked(&mut machine, Export::Filter, *fuel) != *want {
+            return Some(at);
+        }
+    }
+    None
+}
+
 // The plain evaluator would walk down 65,536 labels at each reduction.
 #[test]
 fn the_machine_alone_calls_inside_many_blocks(rt: HostRuntime) {
-    let body = nested_calls(&rt, rt.alloc());
-    let mut machine = machine_around(&rt, rt.alloc(), body.as_slice());
-    for (fuel, want) in [
-        (1_000_000, (8, 0, 65_792)),
-        (65_792, (8, 0, 65_792)),
-        (65_791, (EXHAUSTED, 0, 65_791)),
-    ] {
-        assert_eq!(rt; invoked(&mut machine, Export::Filter, fuel), want);
-    }
+    assert_none(&rt, first_other_nested(&rt, rt.alloc()));
 }
 
 // What is done with a machine.
@@ -305,41 +343,52 @@ const CALLING: &[Step] = &[
     Step::Call(100, (0, 14, 15)),
 ];
 
-// What a call gave that isn't what is wanted.
-fn unwanted(machine: &mut Machine, step: Step) -> Option<Ended> {
+// Whether a call gives what is wanted.
+fn is_done(machine: &mut Machine, step: Step) -> bool {
     match step {
-        Step::Call(fuel, want) => {
-            let ended = invoked(machine, Export::Filter, fuel);
-            if ended != want {
-                return Some(ended);
-            }
-        }
+        Step::Call(fuel, want) => return invoked(machine, Export::Filter, fuel) == want,
         Step::Elements => put_elements(machine),
         Step::Data => put_data(machine),
         Step::Keep => machine.keep(),
         Step::Reset => machine.reset(),
     }
-    None
+    true
 }
 
-// The first step that gives something else, and what.
-fn first_unwanted(machine: &mut Machine, steps: &[Step]) -> Option<(usize, Ended)> {
-    for (i, step) in steps.iter().enumerate() {
-        if let Some(ended) = unwanted(machine, *step) {
-            return Some((i, ended));
+// The first step that gives something else.
+fn first_other(machine: &mut Machine, steps: &[Step]) -> Option<usize> {
+    for (at, step) in steps.iter().enumerate() {
+        if !is_done(machine, *step) {
+            return Some(at);
         }
     }
     None
 }
 
-fn stepped<R: Abort>(rt: &R, alloc: Global, body: &[u8], steps: &[Step]) -> Option<(usize, Ended)> {
+fn writing() -> &'static [Step] {
+    WRITING
+}
+
+fn calling() -> &'static [Step] {
+    CALLING
+}
+
+// The same of a module around this body.
+fn first_other_around<R: Abort>(
+    rt: &R,
+    alloc: Global,
+    body: &[u8],
+    steps: &[Step],
+) -> Option<usize> {
     let mut machine = machine_around(rt, alloc, body);
-    first_unwanted(&mut machine, steps)
+    first_other(&mut machine, steps)
 }
 
 #[test]
 fn images_are_kept_and_brought_back(rt: HostRuntime) {
-    for (body, steps) in [(WRITES, WRITING), (CALLS_ELEMENT, CALLING)] {
-        assert_eq!(rt; stepped(&rt, rt.alloc(), body, steps), None);
-    }
+    assert_none(&rt, first_other_around(&rt, rt.alloc(), WRITES, writing()));
+    assert_none(
+        &rt,
+        first_other_around(&rt, rt.alloc(), CALLS_ELEMENT, calling()),
+    );
 }

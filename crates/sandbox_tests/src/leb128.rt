@@ -1,13 +1,14 @@
 //! Outside vectors: WebAssembly Core 1.0, 5.2.2 (its examples), and DWARF 4, 7.6 (figures 22 and
 //! 23). And the texts of faults that the program prints nowhere.
 
+use crate::outcome::assert_none;
 use leb::LebFault::{BadLastByte, TooLong, Truncated};
 use leb::{LebFault, read_i32, read_i64, read_u32};
 use std::alloc::Global;
 use wcode::BinFault;
 
 // Bytes, and the number that begins them with the place behind it, or its fault.
-const UNSIGNED: [(&[u8], Result<(u32, usize), LebFault>); 12] = [
+const UNSIGNED: &[(&[u8], Result<(u32, usize), LebFault>)] = &[
     (&[2], Ok((2, 1))),
     (&[127], Ok((127, 1))),
     (&[0x80, 1], Ok((128, 2))),
@@ -22,10 +23,13 @@ const UNSIGNED: [(&[u8], Result<(u32, usize), LebFault>); 12] = [
     (&[], Err(Truncated)),
 ];
 
-// Each of these says at which row, if at any, something else is read.
+fn unsigned_rows() -> &'static [(&'static [u8], Result<(u32, usize), LebFault>)] {
+    UNSIGNED
+}
 
+// The first row of which another is read.
 fn unsigned() -> Option<usize> {
-    for (row, (bytes, want)) in UNSIGNED.iter().enumerate() {
+    for (row, (bytes, want)) in unsigned_rows().iter().enumerate() {
         if read_u32(bytes, 0) != *want {
             return Some(row);
         }
@@ -33,7 +37,7 @@ fn unsigned() -> Option<usize> {
     None
 }
 
-const SIGNED: [(&[u8], Result<(i32, usize), LebFault>); 13] = [
+const SIGNED: &[(&[u8], Result<(i32, usize), LebFault>)] = &[
     (&[0x7E], Ok((-2, 1))),
     (&[0xFE, 0x7F], Ok((-2, 2))),
     (&[0xFF, 0x00], Ok((127, 2))),
@@ -49,8 +53,13 @@ const SIGNED: [(&[u8], Result<(i32, usize), LebFault>); 13] = [
     (&[0xFF, 0x7B], Ok((-513, 2))),
 ];
 
+fn signed_rows() -> &'static [(&'static [u8], Result<(i32, usize), LebFault>)] {
+    SIGNED
+}
+
+// The first row of which another is read.
 fn signed() -> Option<usize> {
-    for (row, (bytes, want)) in SIGNED.iter().enumerate() {
+    for (row, (bytes, want)) in signed_rows().iter().enumerate() {
         if read_i32(bytes, 0) != *want {
             return Some(row);
         }
@@ -58,7 +67,7 @@ fn signed() -> Option<usize> {
     None
 }
 
-const LONG: [(&[u8], Result<(i64, usize), LebFault>); 7] = [
+const LONG: &[(&[u8], Result<(i64, usize), LebFault>)] = &[
     (
         &[0x80, 0x80, 0x80, 0x80, 0x80, 0x80, 0x80, 0x80, 0x80, 0x7F],
         Ok((-9_223_372_036_854_775_808, 10)),
@@ -82,8 +91,13 @@ const LONG: [(&[u8], Result<(i64, usize), LebFault>); 7] = [
     (&[0xC0, 0xBB, 0x78], Ok((-123_456, 3))),
 ];
 
+fn long_rows() -> &'static [(&'static [u8], Result<(i64, usize), LebFault>)] {
+    LONG
+}
+
+// The first row of which another is read.
 fn long() -> Option<usize> {
-    for (row, (bytes, want)) in LONG.iter().enumerate() {
+    for (row, (bytes, want)) in long_rows().iter().enumerate() {
         if read_i64(bytes, 0) != *want {
             return Some(row);
         }
@@ -91,10 +105,16 @@ fn long() -> Option<usize> {
     None
 }
 
+fn is_read_behind_a_byte() -> bool {
+    read_u32(&[9, 0xB9, 0x64, 7], 1) == Ok((12857, 3))
+}
+
 #[test]
 fn numbers(rt: HostRuntime) {
-    assert_eq!(rt; (unsigned(), signed(), long()), (None, None, None));
-    assert!(rt; read_u32(&[9, 0xB9, 0x64, 7], 1) == Ok((12857, 3)));
+    assert_none(&rt, unsigned());
+    assert_none(&rt, signed());
+    assert_none(&rt, long());
+    assert!(rt; is_read_behind_a_byte());
 }
 
 fn are_printed(alloc: Global) -> bool {

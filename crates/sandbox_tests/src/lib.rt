@@ -23,3 +23,5 @@ mod instructions;
 mod leb128;
 #[cfg(test)]
 mod memory;
+#[cfg(test)]
+mod outcome;

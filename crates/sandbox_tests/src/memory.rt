@@ -1,4 +1,5 @@
 //! Which pages a write notes.
+use crate::outcome::assert_none;
 use std::alloc::Global;
 use wmem::{Load, MAX_PAGES, Memory, Width};
 
@@ -71,5 +72,5 @@ fn first_other_of_new(alloc: Global) -> Option<usize> {
 
 #[test]
 fn writes_note_their_pages(rt: HostRuntime) {
-    assert_eq!(rt; first_other_of_new(rt.alloc()), None);
+    assert_none(&rt, first_other_of_new(rt.alloc()));
 }

@@ -5,7 +5,7 @@ use std::alloc::Global;
 use std::panic::Expect;
 use std::process::Abort;
 use wbin::{FunctionCode, FunctionType, Import, Module};
-use wcode::{Op, Value, ValueType, read_constant, read_op};
+use wcode::{Instr, Value, ValueType, read_constant, read_expr};
 use wmem::{MAX_PAGES, Memory};
 use wplain::{Code, Function, Program, Records, Setting, Store};
 
@@ -13,61 +13,52 @@ const SPELLED: &str = "what was validated is spelled";
 
 const MEMORY: &str = "there is memory";
 
-// Instructions, whether an `else` ends them, and the place behind that.
-type Tree = (Box<Code>, bool, usize);
-
-// Labels of a br_table, of which each has a byte.
-fn labels<R: Abort>(rt: &R, alloc: Global, bytes: &[u8]) -> Vec<u32> {
-    let mut labels = Vec::new(alloc);
-    for byte in bytes {
-        labels.push(u32::from(*byte)).expect(rt, MEMORY);
+// An instruction with its bodies, and behind it the rest.
+#[cycle(reading)]
+fn code_before<R: Abort>(
+    rt: &R,
+    alloc: Global,
+    instruction: &Instr,
+    rest: Box<Code>,
+    room: u32,
+) -> Code {
+    match instruction {
+        Instr::Plain(plain) => Code::Plain(*plain, rest),
+        Instr::Block(t, inside) => Code::Block(*t, code_of(rt, alloc, inside, room), rest),
+        Instr::Loop(t, inside) => Code::Loop(*t, code_of(rt, alloc, inside, room), rest),
+        Instr::If(t, yes_arm, no_arm) => Code::If(
+            *t,
+            code_of(rt, alloc, yes_arm, room),
+            code_of(rt, alloc, no_arm, room),
+            rest,
+        ),
+        Instr::BrTable(labels, default) => Code::BrTable(
+            Vec::from_slice(alloc, labels).expect(rt, MEMORY),
+            *default,
+            rest,
+        ),
     }
-    labels
 }
 
-// What the bytes spell from there up to an `else` or an `end`.
+// Instructions as a tree of at most this height.
 #[cycle(reading)]
-fn tree<R: Abort>(rt: &R, alloc: Global, bytes: &[u8], at: usize, room: u32) -> Tree {
-    assert!(rt; room > 0 && at <= bytes.len());
-    let (op, next) = read_op(bytes, at).expect(rt, SPELLED);
-    let (code, by_else, end) = match op {
-        Op::Else => (Code::Done, true, next),
-        Op::End => (Code::Done, false, next),
-        Op::Plain(p) => {
-            let (rest, by_else, end) = tree(rt, alloc, bytes, next, room - 1);
-            (Code::Plain(p, rest), by_else, end)
-        }
-        Op::BrTable { count, labels_at } => {
-            // the default label stands behind the others
-            let behind = labels_at.saturating_add(count as usize).saturating_add(1);
-            let listed = bytes.get(labels_at..behind).expect(rt, SPELLED);
-            let mut labels = labels(rt, alloc, listed);
-            let default = labels.pop().unwrap_or(0);
-            let (rest, by_else, end) = tree(rt, alloc, bytes, next, room - 1);
-            (Code::BrTable(labels, default, rest), by_else, end)
-        }
-        Op::Block(t) => {
-            let (inside, _, end) = tree(rt, alloc, bytes, next, room - 1);
-            let (rest, by_else, end) = tree(rt, alloc, bytes, end, room - 1);
-            (Code::Block(t, inside, rest), by_else, end)
-        }
-        Op::Loop(t) => {
-            let (inside, _, end) = tree(rt, alloc, bytes, next, room - 1);
-            let (rest, by_else, end) = tree(rt, alloc, bytes, end, room - 1);
-            (Code::Loop(t, inside, rest), by_else, end)
-        }
-        Op::If(t) => {
-            let (first, has_else, end) = tree(rt, alloc, bytes, next, room - 1);
-            let (second, _, end) = if has_else {
-                tree(rt, alloc, bytes, end, room - 1)
-            } else {
-                (Box::new(alloc, Code::Done).expect(rt, MEMORY), false, end)
-            };
-            let (rest, by_else, end) = tree(rt, alloc, bytes, end, room - 1);
-            (Code::If(t, first, second, rest), by_else, end)
+fn code_of<R: Abort>(rt: &R, alloc: Global, body: &[Instr], room: u32) -> Box<Code> {
+    assert!(rt; room > 0);
+    let code = match body {
+        [] => Code::Done,
+        [first, others @ ..] => {
+            let rest = code_of(rt, alloc, others, room - 1);
+            code_before(rt, alloc, first, rest, room - 1)
         }
     };
-    (Box::new(alloc, code).expect(rt, MEMORY), by_else, end)
+    Box::new(alloc, code).expect(rt, MEMORY)
+}
+
+// The body that begins there.
+fn body_at<R: Abort>(rt: &R, alloc: Global, bytes: &[u8], begin: usize) -> Code {
+    assert!(rt; begin <= bytes.len());
+    let (body, _) = read_expr(alloc, bytes, begin).expect(rt, SPELLED);
+    Box::into_inner(code_of(rt, alloc, &body, 1_000))
 }
 
 // The locals of a function, one by one.
@@ -85,11 +76,10 @@ fn functions<R: Abort>(rt: &R, alloc: Global, module: &Module) -> Vec<Function> 
     let tables = module.tables();
     let mut functions = Vec::new(alloc);
     for (code, signature) in tables.codes.iter().zip(tables.signatures.iter()) {
-        let (body, _, _) = tree(rt, alloc, module.bytes(), code.body.begin, 1_000);
         let function = Function {
             signature: *signature,
             locals: locals(rt, alloc, code),
-            body: Box::into_inner(body),
+            body: body_at(rt, alloc, module.bytes(), code.body.begin),
         };
         functions.push(function).expect(rt, MEMORY);
     }
