@@ -7,7 +7,8 @@
 #
 # makes that folder, with main.rt.txt of the folder of the script that runs as the crate NAME, which
 # stands on these libraries, and goes into the crate. The folder is a temporary one. A folder that
-# BENCH_FOLDER names is kept, so that what is proved and built there is run again at once.
+# BENCH_FOLDER names is kept, so that what is proved and built there is run again at once. With
+# BENCH_READ its text is only read and typed over the crates as they are: nothing is proved or run.
 set -eu
 here=$(cd "$(dirname "$0")" && pwd)
 top=$(cd "$here/../.." && pwd)
@@ -63,4 +64,8 @@ program() {
     done
     cp "$here/main.rt.txt" "$folder/crates/$name/src/main.rt"
     cd "$folder/crates/$name"
+    if [ -n "${BENCH_READ:-}" ]; then
+        rt check --only ""
+        exit
+    fi
 }
