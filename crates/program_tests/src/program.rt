@@ -13,9 +13,11 @@ use serving::{
     Cause, Fault, FileFault, Folder, Input, LineUncounted, Output, PluginUnread, Refusal, answer,
     excerpt_of,
 };
-use std::alloc::{AllocError, Global};
+use std::alloc::Global;
 use std::hash::RandomState;
 use std::io::{Read, Write};
+use std::panic::Expect;
+use std::process::Abort;
 use std::sync::Wait;
 use std::thread::Threads;
 use std::{fs, io};
@@ -137,14 +139,15 @@ struct Ended {
     err: Vec<u8>,
 }
 
-fn run_program<R: fs::Files + Wait + Threads + Copy + Send + Sync + 'static>(
+fn run_program<R: fs::Files + Wait + Threads + Abort + Copy + Send + Sync + 'static>(
     rt: &R,
     alloc: Global,
     keys: Option<RandomState>,
     given: Given,
-) -> Result<Ended, AllocError> {
-    let mut args = Vec::from_slice(alloc, given.args)?;
-    args.extend_from_slice(given.plugins)?;
+) -> Ended {
+    let mut args = Vec::from_slice(alloc, given.args).expect(rt, "there is memory");
+    args.extend_from_slice(given.plugins)
+        .expect(rt, "there is memory");
     let mut folder = Folder::new(rt);
     let mut source = Input::new(Pieces {
         rest: given.script,
@@ -171,11 +174,11 @@ fn run_program<R: fs::Files + Wait + Threads + Copy + Send + Sync + 'static>(
         &mut out,
         &mut err,
     );
-    Ok(Ended {
+    Ended {
         status,
         out: out.into_inner().text,
         err: err.into_inner().text,
-    })
+    }
 }
 
 // Where a read or a write fails a beginning of the output is written, and else the whole.
@@ -188,21 +191,18 @@ fn is_end(ended: &Ended, want: Want) -> bool {
 }
 
 // Whether the program ends with this.
-fn ends<R: fs::Files + Wait + Threads + Copy + Send + Sync + 'static>(
+fn ends<R: fs::Files + Wait + Threads + Abort + Copy + Send + Sync + 'static>(
     rt: &R,
     alloc: Global,
     keys: Option<RandomState>,
     given: Given,
     want: Want,
 ) -> bool {
-    match run_program(rt, alloc, keys, given) {
-        Ok(ended) => is_end(&ended, want),
-        Err(_) => false,
-    }
+    is_end(&run_program(rt, alloc, keys, given), want)
 }
 
 // The first row that ends otherwise.
-fn first_other_end<R: fs::Files + Wait + Threads + Copy + Send + Sync + 'static>(
+fn first_other_end<R: fs::Files + Wait + Threads + Abort + Copy + Send + Sync + 'static>(
     rt: &R,
     alloc: Global,
     keys: Option<RandomState>,
@@ -216,6 +216,36 @@ fn first_other_end<R: fs::Files + Wait + Threads + Copy + Send + Sync + 'static>
     None
 }
 
+// The first of so many reads that fails and isn't told, or of so many writes, behind a beginning of
+// the output.
+fn first_untold<R: fs::Files + Wait + Threads + Abort + Copy + Send + Sync + 'static>(
+    rt: &R,
+    alloc: Global,
+    keys: Option<RandomState>,
+    given: Given,
+    many: (u64, u64),
+    out: &str,
+) -> Option<u64> {
+    let (reads, writes) = many;
+    for n in 1..=reads.max(writes) {
+        let bad_read = Given {
+            bad_read: n,
+            ..given
+        };
+        let bad_write = Given {
+            bad_write: n,
+            ..given
+        };
+        if n <= reads && !ends(rt, alloc, keys, bad_read, (4, out, "wsched: 3 Read\n")) {
+            return Some(n);
+        }
+        if n <= writes && !ends(rt, alloc, keys, bad_write, (4, out, "wsched: 4 Write\n")) {
+            return Some(n);
+        }
+    }
+    None
+}
+
 // How many bytes are moved at a time, at most.
 const PIECES: &[usize] = &[1, 9, 65_536];
 
@@ -224,7 +254,7 @@ fn piece_sizes() -> &'static [usize] {
 }
 
 // Whether the program ends with this, however many bytes are moved at a time.
-fn ends_in_pieces<R: fs::Files + Wait + Threads + Copy + Send + Sync + 'static>(
+fn ends_in_pieces<R: fs::Files + Wait + Threads + Abort + Copy + Send + Sync + 'static>(
     rt: &R,
     alloc: Global,
     keys: Option<RandomState>,
@@ -261,6 +291,19 @@ fn removes_files<R: fs::Files>(rt: &R, files: Stored) -> bool {
         }
     }
     true
+}
+
+// Whether the program ends as each row says, with these files in the folder that it runs in.
+fn ends_over<R: fs::Files + Wait + Threads + Abort + Copy + Send + Sync + 'static>(
+    rt: &R,
+    alloc: Global,
+    keys: Option<RandomState>,
+    files: Stored,
+    rows: &'static [Row],
+) -> bool {
+    writes_files(rt, files)
+        && first_other_end(rt, alloc, keys, rows).is_none()
+        && removes_files(rt, files)
 }
 
 const FAULTS: &str =

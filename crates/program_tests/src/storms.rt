@@ -1,6 +1,6 @@
 //! Storms whose binds, and whose decisions, wait for one another: each is to be in a thread of its
 //! own.
-ghost use Rattle.std.specs.Prelude.{◌≡◌, vec_len, IfSome};
+ghost use Rattle.std.specs.Prelude.{◌≡◌, vec_len};
 
 use crate::two_pools::storm_of_pools;
 use binder::{BindAnswer, Binder, Tally};
@@ -9,12 +9,17 @@ use fleet::Gate;
 use itoa::Buffer;
 use plugin::{Kit, KitRules, Plugins};
 use quant::Name;
-use std::alloc::{AllocError, Global};
+use std::alloc::Global;
 use std::hash::RandomState;
+use std::panic::Expect;
+use std::process::Abort;
+use std::random::RandomSource;
 use std::sync::atomic::{AtomicBool, AtomicU64, Ordering};
 use std::sync::{Arc, Wait};
 use std::thread;
 use std::thread::Threads;
+
+const MEMORY: &str = "there is memory";
 
 /// A script in memory.
 #[derive(Drop)]
@@ -141,41 +146,53 @@ impl Binder for Hand {
 }
 
 /// A pair's half, which has not begun.
-fn pair_by(begun: &Arc<AtomicU64, Global>) -> Option<Pair> {
-    Some(Pair {
-        begun: Arc::try_clone(begun).ok()?,
+fn pair_by<R: Abort>(rt: &R, begun: &Arc<AtomicU64, Global>) -> Pair {
+    Pair {
+        begun: Arc::try_clone(begun).expect(rt, MEMORY),
         has_begun: AtomicBool::new(false),
-    })
+    }
 }
 
-fn waiting_hand(alloc: Global, begun: &Arc<AtomicU64, Global>) -> Option<Box<dyn Binder + Send>> {
+fn none_begun<R: Abort>(rt: &R, alloc: Global) -> Arc<AtomicU64, Global> {
+    Arc::new(alloc, AtomicU64::new(0)).expect(rt, MEMORY)
+}
+
+fn waiting_hand<R: Abort>(
+    rt: &R,
+    alloc: Global,
+    begun: &Arc<AtomicU64, Global>,
+) -> Box<dyn Binder + Send> {
     let hand = Hand {
-        pair: pair_by(begun)?,
+        pair: pair_by(rt, begun),
         tally: Tally::new(),
     };
-    let binder: Box<dyn Binder + Send> = Box::new(alloc, hand).ok()?;
-    Some(binder)
+    let binder: Box<dyn Binder + Send> = Box::new(alloc, hand).expect(rt, MEMORY);
+    binder
 }
 
 /// Two binders, each of which waits for the other.
-fn two_hands(alloc: Global) -> Option<Vec<Box<dyn Binder + Send>>>
-    ensures { IfSome result (λ hands. vec_len hands ≡ 2) }
+fn two_hands<R: Abort>(rt: &R, alloc: Global) -> Vec<Box<dyn Binder + Send>>
+    ensures { vec_len result ≡ 2 }
 {
-    let begun = Arc::new(alloc, AtomicU64::new(0)).ok()?;
+    let begun = none_begun(rt, alloc);
     let mut hands = Vec::new(alloc);
-    hands.push(waiting_hand(alloc, &begun)?).ok()?;
-    hands.push(waiting_hand(alloc, &begun)?).ok()?;
-    Some(hands)
+    hands
+        .push(waiting_hand(rt, alloc, &begun))
+        .expect(rt, MEMORY);
+    hands
+        .push(waiting_hand(rt, alloc, &begun))
+        .expect(rt, MEMORY);
+    hands
 }
 
 /// A kit without plugins.
-fn bare_kit(alloc: Global) -> Option<KitRules> {
+fn bare_kit<R: Abort>(rt: &R, alloc: Global) -> KitRules {
     let plugins = Plugins::new(alloc);
-    Some(KitRules::new(Kit::new(alloc, &plugins).ok()?))
+    KitRules::new(Kit::new(alloc, &plugins).expect(rt, MEMORY))
 }
 
-fn gate_by(alloc: Global, begun: &Arc<AtomicU64, Global>) -> Option<Arc<Pair>> {
-    Arc::new(alloc, pair_by(begun)?).ok()
+fn gate_by<R: Abort>(rt: &R, alloc: Global, begun: &Arc<AtomicU64, Global>) -> Arc<Pair> {
+    Arc::new(alloc, pair_by(rt, begun)).expect(rt, MEMORY)
 }
 
 /// A node with room for both pods.
@@ -198,15 +215,25 @@ const NODE: &[u8] = br#"{"op":"node","v":1,"name":"a","cpu":"4","mem":"8Gi","pod
 const PODS: &[u8] = br#"{"op":"pod","v":2,"uid":"p1","containers":[["100m","64Mi"]]}
 {"op":"pod","v":3,"uid":"p2","containers":[["100m","64Mi"]]}"#;
 
-fn behind_a_thousand_lines(alloc: Global) -> Result<Vec<u8>, AllocError> {
-    let mut script = Vec::from_slice(alloc, NODE)?;
+/// Adds a line that lets this moment come.
+fn add_tick<R: Abort>(rt: &R, script: &mut Vec<u8>, moment: u32) {
+    add(rt, script, br#"{"op":"tick","at":"#);
+    add(rt, script, Buffer::new().format(moment).as_bytes());
+    add(rt, script, b"}\n");
+}
+
+fn add<R: Abort>(rt: &R, script: &mut Vec<u8>, bytes: &[u8]) {
+    script.extend_from_slice(bytes).expect(rt, MEMORY);
+}
+
+fn behind_a_thousand_lines<R: Abort>(rt: &R, alloc: Global) -> Vec<u8> {
+    let mut script = Vec::new(alloc);
+    add(rt, &mut script, NODE);
     for moment in 1..1_001u32 {
-        script.extend_from_slice(br#"{"op":"tick","at":"#)?;
-        script.extend_from_slice(Buffer::new().format(moment).as_bytes())?;
-        script.extend_from_slice(b"}\n")?;
+        add_tick(rt, &mut script, moment);
     }
-    script.extend_from_slice(PODS)?;
-    Ok(script)
+    add(rt, &mut script, PODS);
+    script
 }
 
 const LATE_PLACED: &[u8] = b"node a cpu 200/4000 mem 134217728/8589934592 pods 2/110
@@ -216,19 +243,20 @@ clock 1000 version 3
 audit ok
 ";
 
-/// What a storm of two pools writes, each of which waits in its first decision for the other's,
-/// with two binders that wait for each other in their first binds: if it is audited well and
-/// neither pool waited in vain.
-fn stormed<T: Wait + Threads + Copy + Send + Sync + 'static>(
+/// Whether a storm of two pools writes this, each of which waits in its first decision for the
+/// other's, with two binders that wait for each other in their first binds: if it is audited well
+/// and neither pool waited in vain. Then both pods are placed, and both binds done.
+fn both_are_placed<T: Wait + Threads + Abort + Copy + Send + Sync + 'static>(
     rt: &T,
     alloc: Global,
     keys: RandomState,
     script: &[u8],
-) -> Option<Vec<u8>> {
-    let begun = Arc::new(alloc, AtomicU64::new(0)).ok()?;
-    let kits = (bare_kit(alloc)?, bare_kit(alloc)?);
-    let gates = (gate_by(alloc, &begun)?, gate_by(alloc, &begun)?);
-    let binders = two_hands(alloc)?;
+    output: &[u8],
+) -> bool {
+    let begun = none_begun(rt, alloc);
+    let kits = (bare_kit(rt, alloc), bare_kit(rt, alloc));
+    let gates = (gate_by(rt, alloc, &begun), gate_by(rt, alloc, &begun));
+    let binders = two_hands(rt, alloc);
     let mut source = Script {
         bytes: script,
         left: script.len(),
@@ -247,45 +275,27 @@ fn stormed<T: Wait + Threads + Copy + Send + Sync + 'static>(
         &mut sink,
         binders,
     );
-    if answer == Some(true) && begun.load(Ordering::SeqCst) == 2 {
-        Some(sink.bytes)
-    } else {
-        None
-    }
-}
-
-/// Whether both pods are placed, and both binds done.
-fn both_are_placed<T: Wait + Threads + Copy + Send + Sync + 'static>(
-    rt: &T,
-    alloc: Global,
-    keys: Option<RandomState>,
-    script: &[u8],
-    output: &[u8],
-) -> bool {
-    let Some(keys) = keys else {
-        return false;
-    };
-    match stormed(rt, alloc, keys, script) {
-        Some(written) => written.as_slice() == output,
-        None => false,
-    }
+    answer == Some(true) && begun.load(Ordering::SeqCst) == 2 && sink.bytes.as_slice() == output
 }
 
 /// The same where both come late.
-fn both_are_placed_late<T: Wait + Threads + Copy + Send + Sync + 'static>(
+fn both_are_placed_late<T: Wait + Threads + Abort + Copy + Send + Sync + 'static>(
     rt: &T,
     alloc: Global,
-    keys: Option<RandomState>,
+    keys: RandomState,
 ) -> bool {
-    match behind_a_thousand_lines(alloc) {
-        Ok(script) => both_are_placed(rt, alloc, keys, &script, LATE_PLACED),
-        Err(_) => false,
-    }
+    let script = behind_a_thousand_lines(rt, alloc);
+    both_are_placed(rt, alloc, keys, &script, LATE_PLACED)
+}
+
+/// New keys. Without any a test ends.
+pub fn keys<R: RandomSource + Abort>(rt: &R) -> RandomState {
+    RandomState::new(rt).expect(rt, "keys")
 }
 
 #[test]
 fn cycles_and_binds_run_at_once(rt: HostRuntime) {
-    let keys = RandomState::new(&rt).ok();
+    let keys = keys(&rt);
     assert!(rt; both_are_placed(&rt, rt.alloc(), keys, TWO, BOTH_PLACED));
     assert!(rt; both_are_placed_late(&rt, rt.alloc(), keys));
 }

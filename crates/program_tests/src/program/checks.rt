@@ -1,7 +1,7 @@
 //! Checks of a module in a file, whose line can't be written. What checks come to is told by
 //! tests/rows.
-use super::{Given, PASSES, RUN, Stored, Want, ends, removes_files, writes_files};
-use std::hash::RandomState;
+use super::{Given, PASSES, RUN, Row, Stored, ends_over};
+use crate::storms::keys;
 
 // A module that is accepted, and a file that is none, in the folder that a test runs in.
 const FILES: Stored = &[("checked.wasm", PASSES), ("no_module.wasm", b"\0asm")];
@@ -24,19 +24,23 @@ const REFUSED: Given<'static> = Given {
     ..RUN
 };
 
-const ACCEPTED_UNTOLD: Want<'static> = (4, "accepted\n", "wsched: 4 Write\n");
+const UNTOLD: &[Row] = &[
+    (ACCEPTED, (4, "accepted\n", "wsched: 4 Write\n")),
+    (
+        REFUSED,
+        (
+            4,
+            "refused decode 1 Malformed 1 Truncated at 4\n",
+            "wsched: 4 Write\n",
+        ),
+    ),
+];
 
-const REFUSED_UNTOLD: Want<'static> = (
-    4,
-    "refused decode 1 Malformed 1 Truncated at 4\n",
-    "wsched: 4 Write\n",
-);
+fn untold() -> &'static [Row] {
+    UNTOLD
+}
 
 #[test]
 fn a_verdict_that_cant_be_written_is_told(rt: HostRuntime) {
-    let keys = RandomState::new(&rt).ok();
-    assert!(rt; writes_files(&rt, files()));
-    assert!(rt; ends(&rt, rt.alloc(), keys, ACCEPTED, ACCEPTED_UNTOLD));
-    assert!(rt; ends(&rt, rt.alloc(), keys, REFUSED, REFUSED_UNTOLD));
-    assert!(rt; removes_files(&rt, files()));
+    assert!(rt; ends_over(&rt, rt.alloc(), Some(keys(&rt)), files(), untold()));
 }

@@ -1,6 +1,6 @@
 //! A storm over failing devices. What storms come to is told by tests/rows.
 use super::{Given, RUN, Row, first_other_end};
-use std::hash::RandomState;
+use crate::storms::keys;
 
 // A node, and three pods for which it has room.
 const THREE: &[u8] = br#"{"op":"node","v":1,"name":"a","cpu":"4","mem":"8Gi","pods":110}
@@ -47,6 +47,5 @@ fn failed() -> &'static [Row] {
 
 #[test]
 fn a_failed_read_or_write_of_a_storm_is_told(rt: HostRuntime) {
-    let keys = RandomState::new(&rt).ok();
-    assert_eq!(rt; first_other_end(&rt, rt.alloc(), keys, failed()), None);
+    assert!(rt; first_other_end(&rt, rt.alloc(), Some(keys(&rt)), failed()).is_none());
 }

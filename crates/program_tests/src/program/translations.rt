@@ -1,10 +1,6 @@
 //! A translation of objects of the Kubernetes API, in pieces and over failing devices. What words,
 //! lines and objects come to is told by tests/rows.
-use super::{Given, RUN, Want, ends, ends_in_pieces};
-use std::alloc::Global;
-use std::fs::Files;
-use std::sync::Wait;
-use std::thread::Threads;
+use super::{Given, RUN, ends, ends_in_pieces, first_untold};
 
 // A node; what tells nothing; a pod that waits; a line of spaces; a pod that stands on a node; a
 // line of no bytes; a pod that is to be placed by another scheduler now; and, on a last line
@@ -57,39 +53,15 @@ const PLAIN: &[u8] = br#"{"type":"DELETED","object":{"kind":"Node","metadata":{"
 const PLAIN_LINES: &str =
     "{\"op\":\"gone\",\"v\":1,\"name\":\"a\"}\n{\"op\":\"gone\",\"v\":2,\"name\":\"b\"}\n";
 
-const READ_FAILS: Want<'static> = (4, PLAIN_LINES, "wsched: 3 Read\n");
+const DELETIONS: Given<'static> = Given {
+    script: PLAIN,
+    most: 10,
+    ..TRANSLATE
+};
 
-const WRITE_FAILS: Want<'static> = (4, PLAIN_LINES, "wsched: 4 Write\n");
-
-// The first read or write that fails and isn't told.
-//
 // 136 bytes in pieces of 10 and the end are 15 reads. Each of the first 6 writes has at most 10 of
 // the 62 bytes, so there are as many.
-fn first_untold<R: Files + Wait + Threads + Copy + Send + Sync + 'static>(
-    rt: &R,
-    alloc: Global,
-) -> Option<u64> {
-    for n in 1..7u64 {
-        let bad_read = Given {
-            args: &["translate"],
-            script: PLAIN,
-            most: 10,
-            bad_read: n,
-            ..RUN
-        };
-        let bad_write = Given {
-            bad_read: 0,
-            bad_write: n,
-            ..bad_read
-        };
-        if !ends(rt, alloc, None, bad_read, READ_FAILS)
-            || !ends(rt, alloc, None, bad_write, WRITE_FAILS)
-        {
-            return Some(n);
-        }
-    }
-    None
-}
+const MANY: (u64, u64) = (6, 6);
 
 // What is left out can't be told.
 const UNTOLD: Given<'static> = Given {
@@ -99,6 +71,6 @@ const UNTOLD: Given<'static> = Given {
 
 #[test]
 fn faults_of_devices_are_told(rt: HostRuntime) {
-    assert_eq!(rt; first_untold(&rt, rt.alloc()), None);
+    assert!(rt; first_untold(&rt, rt.alloc(), None, DELETIONS, MANY, PLAIN_LINES).is_none());
     assert!(rt; ends(&rt, rt.alloc(), None, UNTOLD, (4, LINES, "")));
 }
