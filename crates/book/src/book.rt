@@ -234,7 +234,8 @@ impl Book {
         queued: bool,
         queue_full: bool,
     ) -> Result<SharedPod, Refusal>
-        ensures taken { IsTaken self.old (steps.Event (event.PodPending version pod) queued queue_full) result self.new }
+        ensures taken { IsTaken self.old (steps.Event (event.PodPending version pod) queued queue_full) result
+            self.new }
         ensures pod { IfOk result (λ same. same ≡ pod) }
     {
         self.check_version(version)?;

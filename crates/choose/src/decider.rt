@@ -38,8 +38,8 @@ pub trait Decider {
     ) -> Result<Decision, NoMemory>
         requires { IsSync R.row }
         ensures chosen { IfOk result (Choice (rules_of Self.Kit.answers (kits self.old)) snapshot pod.now) }
-        ensures judged { IsTrue explains → OnOk result (AreVerdicts (rules_of Self.Kit.answers (kits self.old)) pod.now
-            snapshot (last self.new)) }
+        ensures judged { IsTrue explains → OnOk result (AreVerdicts (rules_of Self.Kit.answers (kits self.old))
+            pod.now snapshot (last self.new)) }
         ensures kits { kits self.new ≡ kits self.old };
 
     /// What the rules of the first kit alone say of each node, for a pod, or what their filters

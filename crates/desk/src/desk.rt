@@ -198,7 +198,8 @@ impl<J: Naming> Desk<J> {
     /// Errors: as those of `apply`.
     pub fn count<R: Wait>(&self, rt: &R, pass: &mut Pass<J>) -> Result<Counts, NoMemory>
         requires { IsPassOf pass.old self.now }
-        ensures counted { IfOk result (λ counts. IsApplied self.now pass.old Step.Count (Reply.Counts counts) pass.new) }
+        ensures counted { IfOk result (λ counts. IsApplied self.now pass.old Step.Count (Reply.Counts counts)
+            pass.new) }
         ensures used_up { MAX_CALLS ≤ pass.old.caller.calls → IsErr result }
         ensures err { OnErr result (pass.new ≡ pass.old) }
     {

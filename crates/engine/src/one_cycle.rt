@@ -219,8 +219,8 @@ pub fn cycle<J: Naming, T: Wait + Threads + Sync, D: Decider>(
     requires { IsPassOf pass.old desk.now }
     ensures cycled { IfOk result (λ came. IsCycle (rules_of D.Kit.answers (D.kits decider.old)) desk.now pass.old came
         pass.new) }
-    ensures verdicts { IsTrue explains → OnOk result (DecideCycle (rules_of D.Kit.answers (D.kits decider.old)) desk.now
-        pass.old (D.last decider.new)) }
+    ensures verdicts { IsTrue explains → OnOk result (DecideCycle (rules_of D.Kit.answers (D.kits decider.old))
+        desk.now pass.old (D.last decider.new)) }
     ensures cut_short { IfErr result (λ short. IsCutShort desk.now pass.old short.held pass.new) }
     ensures kits { D.kits decider.new ≡ D.kits decider.old }
 {

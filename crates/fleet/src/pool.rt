@@ -107,8 +107,8 @@ impl<J: Site, K: Rules + Drop, G: Gate + Drop> Pool<J, K, G> {
         explains: bool,
     ) -> Result<Decision, NoMemory>
         ensures chosen { IfOk result (Choice (rules_of K.answers self.old.kits) snapshot pod.now) }
-        ensures judged { IsTrue explains → OnOk result (AreVerdicts (rules_of K.answers self.old.kits) pod.now snapshot
-            self.new.verdicts) }
+        ensures judged { IsTrue explains → OnOk result (AreVerdicts (rules_of K.answers self.old.kits) pod.now
+            snapshot self.new.verdicts) }
         ensures kits { self.new.kits ≡ self.old.kits }
     {
         let nodes = snapshot.rows().len();
