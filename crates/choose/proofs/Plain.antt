@@ -12,10 +12,10 @@ neither true b h = absurd (cc)
 neither false b h = (refl, h)
 
 -- a plain node has no mark and no taints
-has_none : (node : Node) → is_plain node ≡ true → (node.unschedulable ≡ false) × (node.taints.items ≡ [])
+has_none : (node : Node) → is_plain node ≡ true → (node.unschedulable ≡ false) × (node.taints ≡ [])
 has_none node plain =
-    let parts : (node.unschedulable ≡ false) × ((length node.taints.items == 0) ≡ true) = neither node.unschedulable _ plain in
-    (parts.0, nil_from_length node.taints.items (eqb-true (length node.taints.items) 0 parts.1))
+    let parts : (node.unschedulable ≡ false) × ((length node.taints == 0) ≡ true) = neither node.unschedulable _ plain in
+    (parts.0, nil_from_length node.taints (eqb-true (length node.taints) 0 parts.1))
 
 -- so no pod is kept off it
 pub keeps_none_off : (node : Node) (pod : Pod) → is_plain node ≡ true → rejection node pod ≡ None

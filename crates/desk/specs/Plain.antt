@@ -4,4 +4,4 @@ use Rattle.quant.specs.declared.objects.Node.{Node}
 
 -- a node is plain: it isn't marked unschedulable, and has no taints
 abbrev pub is_plain : Node → Bool
-is_plain node = not node.unschedulable && (length node.taints.items == 0)
+is_plain node = not node.unschedulable && (length node.taints == 0)

@@ -47,8 +47,8 @@ node_in json = do
   Ok (commands.Event (NodeSet version (record {
     name = name;
     allocatable = record { cpu = cpu; mem = mem; pods = pods };
-    labels = record { items = labels };
-    taints = record { items = taints };
+    labels = labels;
+    taints = taints;
     unschedulable = unschedulable;
   })))
 
@@ -77,8 +77,8 @@ row_in json = do
       uid = uid;
       priority = priority;
       request = whole;
-      labels = record { items = labels };
-      tolerations = record { items = tolerations };
+      labels = labels;
+      tolerations = tolerations;
     },
   )
 

@@ -1,6 +1,5 @@
 //! Fields that are arrays, and the items in them.
 ghost use Rattle.std.specs.Prelude.{◌≡◌, ◌+◌, ◌≤◌, [], List, Result, length, IfOk, option_map};
-ghost use Rattle.arrayvec.specs.ArrayVec.{array_vec_len};
 ghost use Rattle.serde_json.specs.Data.{Data};
 ghost use Rattle.serde_json.specs.Find.{get_item};
 ghost use Rattle.serde_json.specs.View.{view, items_view};
@@ -12,7 +11,7 @@ ghost use Rattle.manifest.specs.Item.{items, each, list, parts, part};
 use crate::fault::LineFault;
 use crate::field::Field;
 use crate::reading::{member, text};
-use arrayvec::ArrayVec;
+use quant::AtMost;
 use serde_json::Value;
 
 // What stands in an array, one a place.
@@ -28,24 +27,24 @@ pub(crate) trait Item: Drop + Sized {
 // Fills an empty row from a field that has to be there, and holds an item at least.
 #[tactic(auto, unfolding(crate::specs::Reading::member))]
 pub(crate) fn fill_at<T: Item, const N: usize>(
-    row: &mut ArrayVec<T, N>,
+    row: &mut AtMost<T, N>,
     object: &Value,
     field: Field,
 ) -> Result<(), LineFault>
-    requires { row.old.items ≡ [] }
-    ensures { Gives (λ _. row.new.items) result (at field (list 1 N T.reading) (view object.now)) }
+    requires { row.old ≡ [] }
+    ensures { Gives (λ _. row.new) result (at field (list 1 N T.reading) (view object.now)) }
 {
     fill_from(row, member(object, field)?, field, 1)
 }
 
 // Fills an empty row from a field that may be absent.
 pub(crate) fn fill_at_or_leave<T: Item, const N: usize>(
-    row: &mut ArrayVec<T, N>,
+    row: &mut AtMost<T, N>,
     object: &Value,
     field: Field,
 ) -> Result<(), LineFault>
-    requires { row.old.items ≡ [] }
-    ensures { Gives (λ _. row.new.items) result (at_or field [] (list 0 N T.reading) (view object.now)) }
+    requires { row.old ≡ [] }
+    ensures { Gives (λ _. row.new) result (at_or field [] (list 0 N T.reading) (view object.now)) }
 {
     match object.get(field.key()) {
         Some(value) => fill_from(row, value, field, 0),
@@ -56,13 +55,13 @@ pub(crate) fn fill_at_or_leave<T: Item, const N: usize>(
 // Fills an empty row from an array of so many items or more, as many as the row has places.
 #[tactic(auto, unfolding(crate::specs::Item::list))]
 fn fill_from<T: Item, const N: usize>(
-    row: &mut ArrayVec<T, N>,
+    row: &mut AtMost<T, N>,
     value: &Value,
     field: Field,
     least: usize,
 ) -> Result<(), LineFault>
-    requires { row.old.items ≡ [] }
-    ensures { Gives (λ _. row.new.items) result (list least N T.reading field (view value.now)) }
+    requires { row.old ≡ [] }
+    ensures { Gives (λ _. row.new) result (list least N T.reading field (view value.now)) }
 {
     let found = items(value, field, least, N)?;
     fill(row, found, field)
@@ -70,16 +69,17 @@ fn fill_from<T: Item, const N: usize>(
 
 // Puts the items of an array behind those of a row, each read beside those before it.
 fn fill<T: Item, const N: usize>(
-    row: &mut ArrayVec<T, N>,
+    row: &mut AtMost<T, N>,
     found: &[Value],
     field: Field,
 ) -> Result<(), LineFault>
-    requires { array_vec_len row.old + length found.now ≤ N }
-    ensures { Gives (λ _. row.new.items) result (each (T.reading field) row.old.items (items_view found.now)) }
+    requires { length row.old + length found.now ≤ N }
+    ensures { Gives (λ _. row.new) result (each (T.reading field) row.old (items_view found.now)) }
 {
+    row.reserve(found.len()).map_err(|_| LineFault::NoMemory)?;
     for item in found {
         let next = T::read(item, row.as_slice(), field)?;
-        row.push(next);
+        row.push(next).map_err(|_| LineFault::NoMemory)?;
     }
     Ok(())
 }

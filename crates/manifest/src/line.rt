@@ -12,10 +12,9 @@ use crate::item::{fill_at, fill_at_or_leave};
 use crate::members::{cpu_at, flag_at, memory_at, name_at, natural_at, signed_at, text_at};
 use crate::operation::Operation;
 use crate::reading::parse;
-use arrayvec::ArrayVec;
 use quant::{
-    Event, LATEST_MOMENT, MAX_CONTAINERS, MAX_INIT_CONTAINERS, MAX_PLACED, MAX_TICKET, MAX_VERSION,
-    Moment, Node, Pod, Request, Res, SharedNode, SharedPod, Ticket, Version, request,
+    AtMost, Event, LATEST_MOMENT, MAX_CONTAINERS, MAX_INIT_CONTAINERS, MAX_PLACED, MAX_TICKET,
+    MAX_VERSION, Moment, Node, Pod, Request, Res, SharedNode, SharedPod, Ticket, Version, request,
 };
 use serde_json::Value;
 use std::alloc::Global;
@@ -102,8 +101,8 @@ fn node_of(alloc: Global, object: &Value) -> Result<Command, LineFault>
             mem,
             pods: pods as u32,
         },
-        labels: ArrayVec::new(),
-        taints: ArrayVec::new(),
+        labels: AtMost::new(alloc),
+        taints: AtMost::new(alloc),
         unschedulable: false,
     };
     fill_at_or_leave(&mut node.labels, object, Field::Labels)?;
@@ -153,17 +152,17 @@ fn row_of(alloc: Global, object: &Value) -> Result<(Version, SharedPod), LineFau
     let version = version_at(object)?;
     let uid = name_at(object, Field::Uid)?;
     let priority = signed_at(object, Field::Priority)?;
-    let mut containers: ArrayVec<Request, MAX_CONTAINERS> = ArrayVec::new();
+    let mut containers: AtMost<Request, MAX_CONTAINERS> = AtMost::new(alloc);
     fill_at(&mut containers, object, Field::Containers)?;
-    let mut init: ArrayVec<Request, MAX_INIT_CONTAINERS> = ArrayVec::new();
+    let mut init: AtMost<Request, MAX_INIT_CONTAINERS> = AtMost::new(alloc);
     fill_at_or_leave(&mut init, object, Field::Init)?;
     // The row is filled where it stands, and what it asks is known last.
     let mut pod = Pod {
         uid,
         priority,
         request: Request::default(),
-        labels: ArrayVec::new(),
-        tolerations: ArrayVec::new(),
+        labels: AtMost::new(alloc),
+        tolerations: AtMost::new(alloc),
     };
     fill_at_or_leave(&mut pod.labels, object, Field::Labels)?;
     fill_at_or_leave(&mut pod.tolerations, object, Field::Tolerations)?;

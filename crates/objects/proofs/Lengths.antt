@@ -150,7 +150,7 @@ node_room : (version : Version) (node : Node) → IsVersion version → IsNodeRo
 unfolding line_json escape_byte
 node_room version node v row =
     let last = member (codes "unschedulable") (boolean node.unschedulable) no_members in
-    let taints = member (codes "taints") (array (items_json taint_json node.taints.items)) last in
+    let taints = member (codes "taints") (array (items_json taint_json node.taints)) last in
     omega (
       arith,
       version_short version v,
@@ -161,12 +161,12 @@ node_room version node v row =
       string_room (memory_text node.allocatable.mem),
       memory_short node.allocatable.mem row.memory,
       length-decimal-le 20 node.allocatable.pods (omega arith) (omega (arith, row.pods)) (omega (arith, row.pods)),
-      items_room label_json says_label 766 label_room [] node.labels.items row.labels,
+      items_room label_json says_label 766 label_room [] node.labels row.labels,
       row.few_labels,
-      items_room taint_json says_taint 865 taint_room [] node.taints.items row.taints,
+      items_room taint_json says_taint 865 taint_room [] node.taints row.taints,
       row.few_taints,
-      room-append (items_tokens (items_json label_json node.labels.items)) (members_tokens taints),
-      room-append (items_tokens (items_json taint_json node.taints.items)) (members_tokens last),
+      room-append (items_tokens (items_json label_json node.labels)) (members_tokens taints),
+      room-append (items_tokens (items_json taint_json node.taints)) (members_tokens last),
       boolean_short node.unschedulable,
     )
 
@@ -177,7 +177,7 @@ gone_room version bytes v named = omega (arith, version_short version v, string_
 pod_room : (version : Version) (pod : Pod) → IsVersion version → IsPodRow pod → room (json_tokens (line_json (PodPending version pod))) ≤ MAX_LINE
 unfolding line_json escape_byte
 pod_room version pod v row =
-    let last = member (codes "tolerations") (array (items_json toleration_json pod.tolerations.items)) no_members in
+    let last = member (codes "tolerations") (array (items_json toleration_json pod.tolerations)) no_members in
     omega (
       arith,
       version_short version v,
@@ -188,12 +188,12 @@ pod_room version pod v row =
       cpu_short pod.request.cpu pod.request.within_cpu,
       string_room (memory_text pod.request.mem),
       memory_short pod.request.mem pod.request.within_mem,
-      items_room label_json says_label 766 label_room [] pod.labels.items row.labels,
+      items_room label_json says_label 766 label_room [] pod.labels row.labels,
       row.few_labels,
-      items_room toleration_json says_toleration 904 toleration_room [] pod.tolerations.items row.tolerations,
+      items_room toleration_json says_toleration 904 toleration_room [] pod.tolerations row.tolerations,
       row.few_tolerations,
-      room-append (items_tokens (items_json label_json pod.labels.items)) (members_tokens last),
-      room-append (items_tokens (items_json toleration_json pod.tolerations.items)) (members_tokens no_members),
+      room-append (items_tokens (items_json label_json pod.labels)) (members_tokens last),
+      room-append (items_tokens (items_json toleration_json pod.tolerations)) (members_tokens no_members),
     )
 
 bound_room : (version : Version) (uid node : List ℕ) (r : Request) → IsVersion version → is_name uid ≡ true → is_name node ≡ true

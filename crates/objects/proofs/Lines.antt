@@ -117,8 +117,8 @@ node_back : (d : Data) (version : Version) (node : Node)
     → get (key fields.Cpu) d ≡ Some (string (cpu_text node.allocatable.cpu))
     → get (key fields.Memory) d ≡ Some (string (memory_text node.allocatable.mem))
     → get (key fields.Pods) d ≡ Some (number (unsigned node.allocatable.pods))
-    → get (key fields.Labels) d ≡ Some (array (items_data label_data node.labels.items))
-    → get (key fields.Taints) d ≡ Some (array (items_data taint_data node.taints.items))
+    → get (key fields.Labels) d ≡ Some (array (items_data label_data node.labels))
+    → get (key fields.Taints) d ≡ Some (array (items_data taint_data node.taints))
     → get (key fields.Unschedulable) d ≡ Some (boolean node.unschedulable)
     → IsVersion version → IsNodeRow node → node_in d ≡ Ok (commands.Event (NodeSet version node))
 unfolding node_in
@@ -134,9 +134,9 @@ node_back d version node in_version in_name in_cpu in_memory in_pods in_labels i
       member_is fields.Pods d _ in_pods,
       natural_back 0 MAX_PLACED node.allocatable.pods fields.Pods (omega arith) row.pods,
       in_labels,
-      labels_back fields.Labels MAX_LABELS node.labels.items row.few_labels row.labels,
+      labels_back fields.Labels MAX_LABELS node.labels row.few_labels row.labels,
       in_taints,
-      taints_back fields.Taints MAX_TAINTS node.taints.items row.few_taints row.taints,
+      taints_back fields.Taints MAX_TAINTS node.taints row.few_taints row.taints,
       in_unschedulable,
       flag_back fields.Unschedulable node.unschedulable,
     ) refl
@@ -162,8 +162,8 @@ pod_back : (d : Data) (version : Version) (pod : Pod)
     → get (key fields.Priority) d ≡ Some (number (signed_data pod.priority))
     → get (key fields.Containers) d ≡ Some (array (items_data request_data (pod.request ∷ [])))
     → get (key fields.Init) d ≡ None
-    → get (key fields.Labels) d ≡ Some (array (items_data label_data pod.labels.items))
-    → get (key fields.Tolerations) d ≡ Some (array (items_data toleration_data pod.tolerations.items))
+    → get (key fields.Labels) d ≡ Some (array (items_data label_data pod.labels))
+    → get (key fields.Tolerations) d ≡ Some (array (items_data toleration_data pod.tolerations))
     → IsVersion version → IsPodRow pod → pod_in d ≡ Ok (commands.Event (PodPending version pod))
 unfolding pod_in row_in
 pod_back d version pod in_version in_uid in_priority in_containers in_init in_labels in_tolerations v row =
@@ -177,9 +177,9 @@ pod_back d version pod in_version in_uid in_priority in_containers in_init in_la
       request_back fields.Containers MAX_CONTAINERS pod.request (omega arith),
       in_init,
       in_labels,
-      labels_back fields.Labels MAX_LABELS pod.labels.items row.few_labels row.labels,
+      labels_back fields.Labels MAX_LABELS pod.labels row.few_labels row.labels,
       in_tolerations,
-      tolerations_back fields.Tolerations MAX_TOLERATIONS pod.tolerations.items row.few_tolerations row.tolerations,
+      tolerations_back fields.Tolerations MAX_TOLERATIONS pod.tolerations row.few_tolerations row.tolerations,
       alone pod.request,
     ) refl
 
@@ -232,8 +232,8 @@ node_line : (version : Version) (node : Node) → IsVersion version → IsNodeRo
 unfolding line_json key operation_named fields_of
 node_line version node v row =
     let d : Data = object (put (codes "unschedulable") (boolean node.unschedulable)
-    (put (codes "taints") (array (items_data taint_data node.taints.items))
-    (put (codes "labels") (array (items_data label_data node.labels.items))
+    (put (codes "taints") (array (items_data taint_data node.taints))
+    (put (codes "labels") (array (items_data label_data node.labels))
     (put (codes "pods") (number (unsigned node.allocatable.pods))
     (put (codes "mem") (string (memory_text node.allocatable.mem))
     (put (codes "cpu") (string (cpu_text node.allocatable.cpu))
@@ -241,9 +241,9 @@ node_line version node v row =
     (put (codes "v") (number (unsigned version.0))
     (put (codes "op") (string (codes "node")) no_members))))))))) in (
       d,
-      rw (number_of-decimal version.0 (omega (arith, v.most)), number_of-decimal node.allocatable.pods (omega (arith, row.pods)), of_labels node.labels.items, of_taints node.taints.items) refl,
+      rw (number_of-decimal version.0 (omega (arith, v.most)), number_of-decimal node.allocatable.pods (omega (arith, row.pods)), of_labels node.labels, of_taints node.taints) refl,
       command_is d (codes "node") refl ∙ node_back d version node refl refl refl refl refl refl refl refl v row,
-      omega (arith, shallow_items label_json (λ x. omega arith) node.labels.items, shallow_items taint_json (λ x. omega arith) node.taints.items),
+      omega (arith, shallow_items label_json (λ x. omega arith) node.labels, shallow_items taint_json (λ x. omega arith) node.taints),
     )
 
 gone_line : (version : Version) (bytes : List ℕ) → IsVersion version → is_name bytes ≡ true → Back (NodeGone version bytes)
@@ -259,17 +259,17 @@ gone_line version bytes v named =
 pod_line : (version : Version) (pod : Pod) → IsVersion version → IsPodRow pod → Back (PodPending version pod)
 unfolding line_json key operation_named fields_of
 pod_line version pod v row =
-    let d : Data = object (put (codes "tolerations") (array (items_data toleration_data pod.tolerations.items))
-    (put (codes "labels") (array (items_data label_data pod.labels.items))
+    let d : Data = object (put (codes "tolerations") (array (items_data toleration_data pod.tolerations))
+    (put (codes "labels") (array (items_data label_data pod.labels))
     (put (codes "containers") (array (items_data request_data (pod.request ∷ [])))
     (put (codes "priority") (number (signed_data pod.priority))
     (put (codes "uid") (string pod.uid)
     (put (codes "v") (number (unsigned version.0))
     (put (codes "op") (string (codes "pod")) no_members))))))) in (
       d,
-      rw (number_of-decimal version.0 (omega (arith, v.most)), of_signed pod.priority row.low row.high, of_labels pod.labels.items, of_tolerations pod.tolerations.items) refl,
+      rw (number_of-decimal version.0 (omega (arith, v.most)), of_signed pod.priority row.low row.high, of_labels pod.labels, of_tolerations pod.tolerations) refl,
       command_is d (codes "pod") refl ∙ pod_back d version pod refl refl refl refl refl refl refl v row,
-      omega (arith, shallow_items label_json (λ x. omega arith) pod.labels.items, shallow_items toleration_json (λ x. omega arith) pod.tolerations.items),
+      omega (arith, shallow_items label_json (λ x. omega arith) pod.labels, shallow_items toleration_json (λ x. omega arith) pod.tolerations),
     )
 
 bound_line : (version : Version) (uid node : List ℕ) (r : Request) → IsVersion version → is_name uid ≡ true → is_name node ≡ true

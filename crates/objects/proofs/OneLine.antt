@@ -141,16 +141,16 @@ unfolding line_json
 node_quiet version node v row =
     and_from _ _ (version_one_line version v)
     (and_from _ _ (number_one_line node.allocatable.pods (omega (arith, row.pods)))
-    (both_quiet (items_tokens (items_json label_json node.labels.items)) _ (labels_quiet node.labels.items)
-    (both_quiet (items_tokens (items_json taint_json node.taints.items)) _ (taints_quiet node.taints.items) refl)))
+    (both_quiet (items_tokens (items_json label_json node.labels)) _ (labels_quiet node.labels)
+    (both_quiet (items_tokens (items_json taint_json node.taints)) _ (taints_quiet node.taints) refl)))
 
 pod_quiet : (version : Version) (pod : Pod) → IsVersion version → IsPodRow pod → list_all is_quiet (json_tokens (line_json (PodPending version pod))) ≡ true
 unfolding line_json
 pod_quiet version pod v row =
     and_from _ _ (version_one_line version v)
     (and_from _ _ (signed_one_line pod.priority row.low row.high)
-    (both_quiet (items_tokens (items_json label_json pod.labels.items)) _ (labels_quiet pod.labels.items)
-    (both_quiet (items_tokens (items_json toleration_json pod.tolerations.items)) _ (tolerations_quiet pod.tolerations.items) refl)))
+    (both_quiet (items_tokens (items_json label_json pod.labels)) _ (labels_quiet pod.labels)
+    (both_quiet (items_tokens (items_json toleration_json pod.tolerations)) _ (tolerations_quiet pod.tolerations) refl)))
 
 event_quiet : (event : Event) → IsSayable event → list_all is_quiet (json_tokens (line_json event)) ≡ true
 unfolding line_json

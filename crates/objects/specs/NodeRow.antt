@@ -50,8 +50,8 @@ node_of parts labels = record {
   item = record {
     name = parts.0;
     allocatable = parts.1;
-    labels = record { items = labels.item };
-    taints = record { items = parts.2 };
+    labels = labels.item;
+    taints = parts.2;
     unschedulable = parts.3;
   };
   left_out = labels.left_out;

@@ -89,8 +89,8 @@ pod_of parts labels tolerations = record {
     uid = parts.0;
     priority = parts.1;
     request = parts.2;
-    labels = record { items = labels };
-    tolerations = record { items = tolerations.item };
+    labels = labels;
+    tolerations = tolerations.item;
   };
   left_out = tolerations.left_out;
 }

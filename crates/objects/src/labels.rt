@@ -10,50 +10,50 @@ ghost use Rattle.objects.specs.inside.Members.{members_or_none, kept};
 
 use crate::fault::{ObjectFault, Why};
 use crate::left_out::put_left_out;
-use arrayvec::ArrayVec;
 use manifest::has_key;
-use quant::{Label, MAX_LABELS, Name, Text};
+use quant::{AtMost, Label, MAX_LABELS, Name, Text};
 use serde_json::{Map, Value};
-use std::alloc::AllocError;
+use std::alloc::{AllocError, Global};
 
-// Fills an empty row with the labels of an object's members, which may be absent: those that are
-// named first. Puts the names of those that are left out.
+// The labels of an object's members, which may be absent: those that are named first. Puts the names
+// of those that are left out.
 #[tactic(auto, unfolding(crate::specs::Labels::row_labels))]
-pub(crate) fn fill_labels(
-    labels: &mut ArrayVec<Label, MAX_LABELS>,
+pub(crate) fn labels_of(
+    alloc: Global,
     out: &mut Vec<u8>,
     found: Option<&Map<String, Value>>,
     names: &str,
-) -> Result<(), ObjectFault>
-    requires { labels.old.items ≡ [] }
-    ensures value { Gives (λ _. kept labels.new.items out.new.items) result (row_labels names.now out.old.items
+) -> Result<AtMost<Label, MAX_LABELS>, ObjectFault>
+    ensures value { Gives (λ labels. kept labels out.new.items) result (row_labels names.now out.old.items
         (members_or_none (option_map (λ m. members_view m.now.entries) found.entry))) }
-    ensures sayable { OnOk result (each_beside says_label [] labels.new.items ≡ true) }
-    ensures few { OnOk result (length labels.new.items ≤ 32) }
+    ensures sayable { IfOk result (λ labels. each_beside says_label [] labels ≡ true) }
+    ensures few { IfOk result (λ labels. length labels ≤ 32) }
 {
-    match found {
-        Some(members) => take_labels(labels, out, members, names),
-        None => Ok(()),
+    let mut labels = AtMost::new(alloc);
+    if let Some(members) = found {
+        take_labels(&mut labels, out, members, names)?;
     }
+    Ok(labels)
 }
 
 // Fills an empty row with the labels of an object's members.
 #[tactic(auto, unfolding(crate::specs::Labels::row_labels), using(crate::proofs::Items::count_of_members_view))]
 fn take_labels(
-    labels: &mut ArrayVec<Label, MAX_LABELS>,
+    labels: &mut AtMost<Label, MAX_LABELS>,
     out: &mut Vec<u8>,
     members: &Map<String, Value>,
     names: &str,
 ) -> Result<(), ObjectFault>
-    requires { labels.old.items ≡ [] }
-    ensures value { Gives (λ _. kept labels.new.items out.new.items) result
+    requires { labels.old ≡ [] }
+    ensures value { Gives (λ _. kept labels.new out.new.items) result
         (row_labels names.now out.old.items (members_view members.now.entries)) }
-    ensures sayable { OnOk result (each_beside says_label [] labels.new.items ≡ true) }
-    ensures few { OnOk result (length labels.new.items ≤ 32) }
+    ensures sayable { OnOk result (each_beside says_label [] labels.new ≡ true) }
+    ensures few { OnOk result (length labels.new ≤ 32) }
 {
     if members.len() > MAX_LABELS && names.is_empty() {
         return Err(ObjectFault::Refused(Why::TooMany, "labels"));
     }
+    labels.reserve(members.len().min(MAX_LABELS))?;
     take_named(labels, members, names)?;
     take_others(labels, out, members, names)?;
     Ok(())
@@ -61,15 +61,15 @@ fn take_labels(
 
 // Takes the labels of an object's members that are named, behind others.
 fn take_named(
-    labels: &mut ArrayVec<Label, MAX_LABELS>,
+    labels: &mut AtMost<Label, MAX_LABELS>,
     members: &Map<String, Value>,
     names: &str,
 ) -> Result<(), ObjectFault>
-    ensures value { Gives (λ _. labels.new.items) result
-        (named_labels names.now labels.old.items (members_view members.now.entries)) }
-    ensures sayable { each_beside says_label [] labels.old.items ≡ true
-        → OnOk result (each_beside says_label [] labels.new.items ≡ true) }
-    ensures few { length labels.old.items ≤ 32 → OnOk result (length labels.new.items ≤ 32) }
+    ensures value { Gives (λ _. labels.new) result
+        (named_labels names.now labels.old (members_view members.now.entries)) }
+    ensures sayable { each_beside says_label [] labels.old ≡ true
+        → OnOk result (each_beside says_label [] labels.new ≡ true) }
+    ensures few { length labels.old ≤ 32 → OnOk result (length labels.new ≤ 32) }
 {
     for (key, value) in members.iter() {
         take_if_named(labels, key.as_str(), value, names)?;
@@ -80,22 +80,22 @@ fn take_named(
 // Takes a label behind others, where it is named.
 #[tactic(auto, unfolding(crate::specs::Labels::if_named), using(crate::proofs::Beside::label_beside))]
 fn take_if_named(
-    labels: &mut ArrayVec<Label, MAX_LABELS>,
+    labels: &mut AtMost<Label, MAX_LABELS>,
     key: &str,
     value: &Value,
     names: &str,
 ) -> Result<(), ObjectFault>
-    ensures value { Gives (λ _. labels.new.items) result (if_named names.now labels.old.items key.now (view value.now)) }
-    ensures sayable { each_beside says_label [] labels.old.items ≡ true
-        → OnOk result (each_beside says_label [] labels.new.items ≡ true) }
-    ensures few { length labels.old.items ≤ 32 → OnOk result (length labels.new.items ≤ 32) }
+    ensures value { Gives (λ _. labels.new) result (if_named names.now labels.old key.now (view value.now)) }
+    ensures sayable { each_beside says_label [] labels.old ≡ true
+        → OnOk result (each_beside says_label [] labels.new ≡ true) }
+    ensures few { length labels.old ≤ 32 → OnOk result (length labels.new ≤ 32) }
 {
     if !is_named(names, key) {
         return Ok(());
     }
     match label_of(labels.as_slice(), key, value) {
         Some(label) => {
-            labels.push(label);
+            labels.push(label)?;
             Ok(())
         }
         None => Err(ObjectFault::Refused(Why::BadName, "labels")),
@@ -105,16 +105,16 @@ fn take_if_named(
 // Takes the labels of an object's members that aren't named, behind others, and puts the names of
 // those that are left out.
 fn take_others(
-    labels: &mut ArrayVec<Label, MAX_LABELS>,
+    labels: &mut AtMost<Label, MAX_LABELS>,
     out: &mut Vec<u8>,
     members: &Map<String, Value>,
     names: &str,
 ) -> Result<(), AllocError>
-    ensures value { IfOk result (λ _. other_labels names.now (kept labels.old.items out.old.items)
-        (members_view members.now.entries) ≡ kept labels.new.items out.new.items) }
-    ensures sayable { each_beside says_label [] labels.old.items ≡ true
-        → OnOk result (each_beside says_label [] labels.new.items ≡ true) }
-    ensures few { length labels.old.items ≤ 32 → OnOk result (length labels.new.items ≤ 32) }
+    ensures value { IfOk result (λ _. other_labels names.now (kept labels.old out.old.items)
+        (members_view members.now.entries) ≡ kept labels.new out.new.items) }
+    ensures sayable { each_beside says_label [] labels.old ≡ true
+        → OnOk result (each_beside says_label [] labels.new ≡ true) }
+    ensures few { length labels.old ≤ 32 → OnOk result (length labels.new ≤ 32) }
 {
     for (key, value) in members.iter() {
         take_unless_named(labels, out, key.as_str(), value, names)?;
@@ -125,17 +125,17 @@ fn take_others(
 // Takes a label behind others, unless it is named, or puts the name of one that is left out.
 #[tactic(auto, unfolding(crate::specs::Labels::unless_named))]
 fn take_unless_named(
-    labels: &mut ArrayVec<Label, MAX_LABELS>,
+    labels: &mut AtMost<Label, MAX_LABELS>,
     out: &mut Vec<u8>,
     key: &str,
     value: &Value,
     names: &str,
 ) -> Result<(), AllocError>
-    ensures value { IfOk result (λ _. unless_named names.now (kept labels.old.items out.old.items) key.now
-        (view value.now) ≡ kept labels.new.items out.new.items) }
-    ensures sayable { each_beside says_label [] labels.old.items ≡ true
-        → OnOk result (each_beside says_label [] labels.new.items ≡ true) }
-    ensures few { length labels.old.items ≤ 32 → OnOk result (length labels.new.items ≤ 32) }
+    ensures value { IfOk result (λ _. unless_named names.now (kept labels.old out.old.items) key.now
+        (view value.now) ≡ kept labels.new out.new.items) }
+    ensures sayable { each_beside says_label [] labels.old ≡ true
+        → OnOk result (each_beside says_label [] labels.new ≡ true) }
+    ensures few { length labels.old ≤ 32 → OnOk result (length labels.new ≤ 32) }
 {
     if is_named(names, key) {
         return Ok(());
@@ -146,22 +146,19 @@ fn take_unless_named(
 // Takes a label behind others, or puts the name of one that is left out.
 #[tactic(auto, using(crate::proofs::Beside::label_beside))]
 fn take_label(
-    labels: &mut ArrayVec<Label, MAX_LABELS>,
+    labels: &mut AtMost<Label, MAX_LABELS>,
     out: &mut Vec<u8>,
     key: &str,
     value: &Value,
 ) -> Result<(), AllocError>
-    ensures value { IfOk result (λ _. with_item (codes "label ") key.now (kept labels.old.items out.old.items)
-        (label_of labels.old.items key.now (view value.now)) ≡ kept labels.new.items out.new.items) }
-    ensures sayable { each_beside says_label [] labels.old.items ≡ true
-        → OnOk result (each_beside says_label [] labels.new.items ≡ true) }
-    ensures few { length labels.old.items ≤ 32 → OnOk result (length labels.new.items ≤ 32) }
+    ensures value { IfOk result (λ _. with_item (codes "label ") key.now (kept labels.old out.old.items)
+        (label_of labels.old key.now (view value.now)) ≡ kept labels.new out.new.items) }
+    ensures sayable { each_beside says_label [] labels.old ≡ true
+        → OnOk result (each_beside says_label [] labels.new ≡ true) }
+    ensures few { length labels.old ≤ 32 → OnOk result (length labels.new ≤ 32) }
 {
     match label_of(labels.as_slice(), key, value) {
-        Some(label) => {
-            labels.push(label);
-            Ok(())
-        }
+        Some(label) => labels.push(label),
         None => put_left_out(out, "label ", key.as_bytes()),
     }
 }

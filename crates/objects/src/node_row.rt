@@ -7,26 +7,26 @@ ghost use Rattle.objects.specs.NodeRow.{node_parts, node_row};
 
 use crate::amounts::allocatable;
 use crate::fault::ObjectFault;
-use crate::labels::fill_labels;
+use crate::labels::labels_of;
 use crate::reading::{flag_of, members_at, members_of, name_at, part_of, within};
 use crate::taints::fill_taints;
-use arrayvec::ArrayVec;
-use quant::Node;
+use quant::{AtMost, Node};
 use serde_json::Value;
+use std::alloc::Global;
 
 // A node's row without its labels, unless a fault comes first.
 #[tactic(auto, unfolding(crate::specs::NodeRow::node_parts))]
-fn node_alone(meta: &Value, json: &Value) -> Result<Node, ObjectFault>
-    ensures value { Gives (λ node. (node.name, node.allocatable, node.taints.items, node.unschedulable)) result
+fn node_alone(alloc: Global, meta: &Value, json: &Value) -> Result<Node, ObjectFault>
+    ensures value { Gives (λ node. (node.name, node.allocatable, node.taints, node.unschedulable)) result
         (node_parts (view meta.now) (view json.now)) }
-    ensures bare { IfOk result (λ node. node.labels.items ≡ []) }
+    ensures bare { IfOk result (λ node. node.labels ≡ []) }
     ensures sayable { IfOk result IsNodeRow }
 {
     let mut node = Node {
         name: name_at(meta, "name")?,
         allocatable: allocatable(json)?,
-        labels: ArrayVec::new(),
-        taints: ArrayVec::new(),
+        labels: AtMost::new(alloc),
+        taints: AtMost::new(alloc),
         unschedulable: false,
     };
     fill_taints(&mut node.taints, within(json, "spec", "taints"))?;
@@ -37,16 +37,21 @@ fn node_alone(meta: &Value, json: &Value) -> Result<Node, ObjectFault>
 // The row of a node's object, in which the labels of these names come first, and beside it the
 // names of what it leaves out, unless a fault comes first.
 #[tactic(auto, unfolding(crate::specs::NodeRow::node_row))]
-pub(crate) fn node_row(json: &Value, names: &str, out: &mut Vec<u8>) -> Result<Node, ObjectFault>
+pub(crate) fn node_row(
+    alloc: Global,
+    json: &Value,
+    names: &str,
+    out: &mut Vec<u8>,
+) -> Result<Node, ObjectFault>
     requires { out.old.items ≡ [] }
     ensures value { Gives (λ node. record { item = node; left_out = out.new.items }) result
         (node_row names.now (view json.now)) }
     ensures sayable { IfOk result IsNodeRow }
 {
     let meta = part_of(json, "metadata")?;
-    let mut node = node_alone(meta, json)?;
+    let mut node = node_alone(alloc, meta, json)?;
     let labels = members_at(meta, "labels")?;
     members_of(within(json, "status", "allocatable"), "allocatable")?;
-    fill_labels(&mut node.labels, out, labels, names)?;
+    node.labels = labels_of(alloc, out, labels, names)?;
     Ok(node)
 }

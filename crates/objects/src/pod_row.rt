@@ -4,46 +4,23 @@ ghost use Rattle.quant.specs.Name.{is_name};
 ghost use Rattle.serde_json.specs.Find.{as_number, as_i64};
 ghost use Rattle.serde_json.specs.View.{view};
 ghost use Rattle.objects.specs.inside.Answers.{Gives, Answers};
-ghost use Rattle.objects.specs.PodRow.{pod_name, a_priority, priority, pod_parts, pod_row};
+ghost use Rattle.objects.specs.PodRow.{pod_name, a_priority, priority, pod_row};
 ghost use Rattle.objects.specs.inside.Events.{IsPodRow};
 
 use crate::demands::put_wishes;
 use crate::fault::{ObjectFault, Why};
-use crate::labels::fill_labels;
+use crate::labels::labels_of;
 use crate::reading::{field, items_at, members_at, name_at, part_of, text_at, text_or};
 use crate::request::{Reckoned, request};
-use crate::tolerations::take_tolerations;
+use crate::tolerations::tolerations_in;
 use arrayvec::ArrayVec;
 use quant::{MAX_NAME, Name, Pod};
 use serde_json::Value;
 use std::alloc::Global;
 
-// A pod's row without its labels and its tolerations, unless a fault comes first.
-#[tactic(auto, unfolding(crate::specs::PodRow::pod_parts))]
-fn pod_alone(
-    alloc: Global,
-    meta: &Value,
-    spec: &Value,
-    json: &Value,
-    by_uid: bool,
-) -> Result<Pod, ObjectFault>
-    ensures value { Gives (λ pod. (pod.uid, pod.priority, pod.request)) result
-        (pod_parts by_uid (view meta.now) (view spec.now) (view json.now)) }
-    ensures bare { IfOk result (λ pod. (pod.labels.items ≡ []) × (pod.tolerations.items ≡ [])) }
-    ensures sayable { IfOk result IsPodRow }
-{
-    Ok(Pod {
-        uid: pod_name(meta, by_uid)?,
-        priority: priority(spec)?,
-        request: request(alloc, json, spec, Reckoned::Waiting)?,
-        labels: ArrayVec::new(),
-        tolerations: ArrayVec::new(),
-    })
-}
-
 // The row of a pod's object, in which the labels of these names come first, and beside it the names
 // of what it leaves out, unless a fault comes first.
-#[tactic(auto, unfolding(crate::specs::PodRow::pod_row))]
+#[tactic(auto, unfolding(crate::specs::PodRow::pod_row, crate::specs::PodRow::pod_parts))]
 pub(crate) fn pod_row(
     alloc: Global,
     json: &Value,
@@ -58,13 +35,21 @@ pub(crate) fn pod_row(
 {
     let meta = part_of(json, "metadata")?;
     let spec = part_of(json, "spec")?;
-    let mut pod = pod_alone(alloc, meta, spec, json, by_uid)?;
+    let uid = pod_name(meta, by_uid)?;
+    let priority = priority(spec)?;
+    let request = request(alloc, json, spec, Reckoned::Waiting)?;
     let labels = members_at(meta, "labels")?;
     let tolerations = items_at(spec, "tolerations")?;
     put_wishes(out, spec)?;
-    fill_labels(&mut pod.labels, out, labels, names)?;
-    take_tolerations(&mut pod.tolerations, out, tolerations)?;
-    Ok(pod)
+    let labels = labels_of(alloc, out, labels, names)?;
+    let tolerations = tolerations_in(alloc, out, tolerations)?;
+    Ok(Pod {
+        uid,
+        priority,
+        request,
+        labels,
+        tolerations,
+    })
 }
 
 // How a script calls a pod: by its namespace and name, where that is a name of a script and its uid

@@ -1,7 +1,6 @@
 //! The taints of a node.
 ghost use Rattle.std.specs.Prelude.{◌≡◌, ◌+◌, ◌≤◌, ◌&&◌, true, [], length, bytes_eq, IfOk, OnOk, option_map};
 ghost use Rattle.std.specs.List.{list_any};
-ghost use Rattle.arrayvec.specs.ArrayVec.{array_vec_len};
 ghost use Rattle.serde_json.specs.View.{view, items_view};
 ghost use Rattle.quant.specs.Effect.{same_effect};
 ghost use Rattle.manifest.specs.Rows.{effect_named};
@@ -13,41 +12,41 @@ ghost use Rattle.objects.specs.inside.Events.{each_beside};
 
 use crate::fault::{ObjectFault, Why};
 use crate::reading::{items_of, text_at, text_or};
-use arrayvec::ArrayVec;
 use manifest::{effect_named, has_taint};
-use quant::{Effect, MAX_TAINTS, Name, Taint, Text};
+use quant::{AtMost, Effect, MAX_TAINTS, Name, Taint, Text};
 use serde_json::Value;
 
 // Fills an empty row with the taints of a field, which may be absent.
 #[tactic(auto, unfolding(crate::specs::NodeRow::taints), using(crate::proofs::Items::count_of_items_view))]
 pub(crate) fn fill_taints(
-    row: &mut ArrayVec<Taint, MAX_TAINTS>,
+    row: &mut AtMost<Taint, MAX_TAINTS>,
     value: Option<&Value>,
 ) -> Result<(), ObjectFault>
-    requires { row.old.items ≡ [] }
-    ensures value { Gives (λ _. row.new.items) result (taints (option_map (λ v. view v.now) value.entry)) }
-    ensures sayable { OnOk result (each_beside says_taint [] row.new.items ≡ true) }
-    ensures few { OnOk result (length row.new.items ≤ 8) }
+    requires { row.old ≡ [] }
+    ensures value { Gives (λ _. row.new) result (taints (option_map (λ v. view v.now) value.entry)) }
+    ensures sayable { OnOk result (each_beside says_taint [] row.new ≡ true) }
+    ensures few { OnOk result (length row.new ≤ 8) }
 {
     let found = items_of(value, "taints")?;
     if found.len() > MAX_TAINTS {
         return Err(ObjectFault::Refused(Why::TooMany, "taints"));
     }
+    row.reserve(found.len())?;
     take_taints(row, found)
 }
 
 // Puts the taints of an array behind those of a row, each read beside those before it.
 #[tactic(auto, using(crate::proofs::Beside::taint_beside))]
-fn take_taints(row: &mut ArrayVec<Taint, MAX_TAINTS>, found: &[Value]) -> Result<(), ObjectFault>
-    requires { array_vec_len row.old + length found.now ≤ 8 }
-    ensures value { Gives (λ _. row.new.items) result (each taint_of row.old.items (items_view found.now)) }
-    ensures sayable { each_beside says_taint [] row.old.items ≡ true
-        → OnOk result (each_beside says_taint [] row.new.items ≡ true) }
-    ensures few { OnOk result (length row.new.items ≤ 8) }
+fn take_taints(row: &mut AtMost<Taint, MAX_TAINTS>, found: &[Value]) -> Result<(), ObjectFault>
+    requires { length row.old + length found.now ≤ 8 }
+    ensures value { Gives (λ _. row.new) result (each taint_of row.old (items_view found.now)) }
+    ensures sayable { each_beside says_taint [] row.old ≡ true
+        → OnOk result (each_beside says_taint [] row.new ≡ true) }
+    ensures few { OnOk result (length row.new ≤ 8) }
 {
     for item in found {
         let taint = taint_of(row.as_slice(), item)?;
-        row.push(taint);
+        row.push(taint)?;
     }
     Ok(())
 }

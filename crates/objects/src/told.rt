@@ -134,7 +134,7 @@ fn node_told(
     ensures value { Gives (as_told out.new.items) result (there_told (how_told how.now) kinds.Node (view json.now)) }
     ensures said { IfOk result IsSaid }
 {
-    match node_row(json, how.site.labels, out) {
+    match node_row(alloc, json, how.site.labels, out) {
         Ok(node) => {
             let node = SharedNode::new(alloc, node)?;
             Ok(Some(Event::NodeSet {

@@ -11,24 +11,40 @@ ghost use Rattle.objects.specs.inside.Members.{kept};
 
 use crate::left_out::put_left_out;
 use crate::reading::{field, spelled};
-use arrayvec::ArrayVec;
 use manifest::{effect_or_none, is_lawful, operator_named};
-use quant::{Effect, MAX_TOLERATIONS, Operator, Text, Toleration};
+use quant::{AtMost, Effect, MAX_TOLERATIONS, Operator, Text, Toleration};
 use serde_json::Value;
-use std::alloc::AllocError;
+use std::alloc::{AllocError, Global};
+
+// The tolerations of an array's items. Puts the names of those that are left out.
+pub(crate) fn tolerations_in(
+    alloc: Global,
+    out: &mut Vec<u8>,
+    found: &[Value],
+) -> Result<AtMost<Toleration, MAX_TOLERATIONS>, AllocError>
+    ensures value { IfOk result (λ tolerations. tolerations_of (kept [] out.old.items) (items_view found.now)
+        ≡ kept tolerations out.new.items) }
+    ensures sayable { IfOk result (λ tolerations. each_beside says_toleration [] tolerations ≡ true) }
+    ensures few { IfOk result (λ tolerations. length tolerations ≤ 16) }
+{
+    let mut tolerations = AtMost::new(alloc);
+    tolerations.reserve(found.len().min(MAX_TOLERATIONS))?;
+    take_tolerations(&mut tolerations, out, found)?;
+    Ok(tolerations)
+}
 
 // Takes the tolerations of an array's items behind others, and puts the names of those that are
 // left out.
-pub(crate) fn take_tolerations(
-    tolerations: &mut ArrayVec<Toleration, MAX_TOLERATIONS>,
+fn take_tolerations(
+    tolerations: &mut AtMost<Toleration, MAX_TOLERATIONS>,
     out: &mut Vec<u8>,
     found: &[Value],
 ) -> Result<(), AllocError>
-    ensures value { IfOk result (λ _. tolerations_of (kept tolerations.old.items out.old.items) (items_view found.now)
-        ≡ kept tolerations.new.items out.new.items) }
-    ensures sayable { each_beside says_toleration [] tolerations.old.items ≡ true
-        → OnOk result (each_beside says_toleration [] tolerations.new.items ≡ true) }
-    ensures few { length tolerations.old.items ≤ 16 → OnOk result (length tolerations.new.items ≤ 16) }
+    ensures value { IfOk result (λ _. tolerations_of (kept tolerations.old out.old.items) (items_view found.now)
+        ≡ kept tolerations.new out.new.items) }
+    ensures sayable { each_beside says_toleration [] tolerations.old ≡ true
+        → OnOk result (each_beside says_toleration [] tolerations.new ≡ true) }
+    ensures few { length tolerations.old ≤ 16 → OnOk result (length tolerations.new ≤ 16) }
 {
     for item in found {
         take_toleration(tolerations, out, item)?;
@@ -39,22 +55,19 @@ pub(crate) fn take_tolerations(
 // Takes a toleration behind others, or puts the name of one that is left out.
 #[tactic(auto, using(crate::proofs::Beside::toleration_beside))]
 fn take_toleration(
-    tolerations: &mut ArrayVec<Toleration, MAX_TOLERATIONS>,
+    tolerations: &mut AtMost<Toleration, MAX_TOLERATIONS>,
     out: &mut Vec<u8>,
     item: &Value,
 ) -> Result<(), AllocError>
-    ensures value { IfOk result (λ _. with_item (codes "toleration of ") (spelled (codes "key") (view item.now)) (kept tolerations.old.items out.old.items)
-        (toleration_of tolerations.old.items (view item.now))
-        ≡ kept tolerations.new.items out.new.items) }
-    ensures sayable { each_beside says_toleration [] tolerations.old.items ≡ true
-        → OnOk result (each_beside says_toleration [] tolerations.new.items ≡ true) }
-    ensures few { length tolerations.old.items ≤ 16 → OnOk result (length tolerations.new.items ≤ 16) }
+    ensures value { IfOk result (λ _. with_item (codes "toleration of ") (spelled (codes "key") (view item.now)) (kept tolerations.old out.old.items)
+        (toleration_of tolerations.old (view item.now))
+        ≡ kept tolerations.new out.new.items) }
+    ensures sayable { each_beside says_toleration [] tolerations.old ≡ true
+        → OnOk result (each_beside says_toleration [] tolerations.new ≡ true) }
+    ensures few { length tolerations.old ≤ 16 → OnOk result (length tolerations.new ≤ 16) }
 {
     match toleration_of(tolerations.as_slice(), item) {
-        Some(toleration) => {
-            tolerations.push(toleration);
-            Ok(())
-        }
+        Some(toleration) => tolerations.push(toleration),
         None => put_left_out(out, "toleration of ", spelled(item, "key").as_bytes()),
     }
 }

@@ -1,5 +1,5 @@
 -- Labels and taints that are packed alike are the same.
-use Rattle.std.proofs.Common.{◌≡◌, ℕ, List, [], ◌∷◌, ◌++◌, length, take, drop, refl, sym, ap, ◌∙◌}
+use Rattle.std.proofs.Common.{◌≡◌, ℕ, ◌+◌, List, [], ◌∷◌, ◌++◌, length, take, drop, refl, sym, ap, ◌∙◌, arith}
 use Rattle.std.proofs.lemmas.List.{append_assoc}
 use Rattle.std.proofs.Math.Seq.{take-append_seam, drop-append_seam}
 use Rattle.std.specs.List.{flat_map}
@@ -9,7 +9,8 @@ use Rattle.quant.specs.declared.objects.Node.{Node}
 use Rattle.quant.specs.declared.taint.Effect.{Effect}
 use Rattle.quant.specs.declared.taint.Effect.TheVariants.{NoSchedule, PreferNoSchedule, NoExecute}
 use Rattle.quant.specs.declared.taint.Taint.{Taint}
-use Rattle.quant.specs.inside.Packed.{packed_text, packed_label, packed_taint, packed_effect}
+use Rattle.quant.specs.Packed.{packed_text, packed_label}
+use Rattle.quant.specs.inside.Packed.{packed_taint, packed_effect}
 
 -- of two lists that begin with texts of one length these are the same, and so is what follows
 first_same : (a b x y : List ℕ) → length a ≡ length b → a ++ x ≡ b ++ y → a ≡ b
@@ -75,16 +76,22 @@ pub amounts_same : (a b : Res) → a.cpu.0 ≡ b.cpu.0 → a.mem.0 ≡ b.mem.0 �
 amounts_same a b cpu mem pods = λ j. record { cpu = record { 0 = cpu j }; mem = record { 0 = mem j }; pods = pods j }
 
 pub row_same : (a b : Node) → a.allocatable ≡ b.allocatable → a.unschedulable ≡ b.unschedulable
-    → flat_map packed_taint a.taints.items ≡ flat_map packed_taint b.taints.items
-    → packed_text a.name ++ flat_map packed_label a.labels.items ≡ packed_text b.name ++ flat_map packed_label b.labels.items → a ≡ b
+    → flat_map packed_taint a.taints ≡ flat_map packed_taint b.taints
+    → packed_text a.name ++ flat_map packed_label a.labels ≡ packed_text b.name ++ flat_map packed_label b.labels → a ≡ b
 row_same a b allocatable mark taints named =
     let apart = texts_apart a.name b.name _ _ named in
-    let same_taints = taints_same a.taints.items b.taints.items taints in
-    let same_labels = labels_same a.labels.items b.labels.items apart.1 in
+    let same_taints = taints_same a.taints b.taints taints in
+    let same_labels = labels_same a.labels b.labels apart.1 in
     λ j. record {
       name = apart.0 j;
       allocatable = allocatable j;
-      labels = record { items = same_labels j };
-      taints = record { items = same_taints j };
+      labels = same_labels j;
+      taints = same_taints j;
       unschedulable = mark j;
     }
+
+-- behind a name's text stands what was put there
+pub behind_name : (named : ℕ) (name rest : List ℕ) → named ≡ 1 + length name → drop named (packed_text name ++ rest) ≡ rest
+behind_name named name rest e =
+    let whole : named ≡ length (packed_text name) = e ∙ omega arith in
+    ap (λ n. drop n (packed_text name ++ rest)) whole ∙ drop-append_seam (packed_text name) rest

@@ -1,5 +1,7 @@
 pub mod Fault
+pub mod Packed
 pub mod Name
+pub mod LabelOrder
 pub mod Effect
 pub mod Amount
 pub mod Request

@@ -2,8 +2,11 @@
 //!
 //! A row is kilobytes large and never changes, so it has many owners and is never copied by
 //! content: the reader of a line makes it, and book, queue, snapshots and messages share it.
-ghost use Rattle.std.specs.Prelude.{◌≡◌, IfOk};
+ghost use Rattle.std.specs.Prelude.{◌≡◌, ◌≤◌, true, false, length, IfOk, IfSome, OnSome, IfNone};
 ghost use Rattle.std.specs.Bool.{IsTrue};
+ghost use Rattle.std.specs.List.{flat_map};
+ghost use Rattle.quant.specs.LabelOrder.{are_in_order};
+ghost use Rattle.quant.specs.Packed.{packed_label};
 
 use crate::amount::Request;
 use crate::name::Name;
@@ -68,6 +71,17 @@ impl SharedNode {
         ensures { IsTrue result → self.now ≡ other.now }
     {
         self.row.is_same(&other.row)
+    }
+
+    /// The labels as they stand in a record, each its key and its value as texts with their lengths,
+    /// where they are in rising order of their keys; that was found out when the row was made.
+    pub fn labels_in_order(&self) -> Option<&[u8]>
+        ensures packed { IfSome result (λ packed. packed.now ≡ flat_map packed_label self.now.labels) }
+        ensures in_order { OnSome result (are_in_order self.now.labels ≡ true) }
+        ensures not_in_order { IfNone result (are_in_order self.now.labels ≡ false) }
+        ensures few { IfSome result (λ packed. length packed.now ≤ 4096) }
+    {
+        self.row.labels_in_order()
     }
 
     /// One more owner of the row.

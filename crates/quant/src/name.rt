@@ -132,30 +132,6 @@ impl Text {
     }
 }
 
-/// The name `-`, which stands in the unused places of a list of labels or taints.
-impl Default for Name {
-    ghost is_default = { λ name. name ≡ 45 ∷ [] };
-
-    #[tactic(auto, unfolding(crate::specs::Name::is_name, crate::specs::Name::is_text))]
-    fn default() -> Self {
-        let mut bytes = ArrayVec::new();
-        bytes.push(b'-');
-        Name { bytes }
-    }
-}
-
-/// The empty text.
-impl Default for Text {
-    ghost is_default = { λ text. text ≡ [] };
-
-    #[tactic(auto, unfolding(crate::specs::Name::is_text))]
-    fn default() -> Self {
-        Text {
-            bytes: ArrayVec::new(),
-        }
-    }
-}
-
 // ASCII bytes as text.
 fn ascii_text(bytes: &[u8]) -> &str
     requires { IsAscii bytes.now }

@@ -1,13 +1,13 @@
-//! Nodes and pods. A row is immutable once made and is some kilobytes large, so it travels by its
-//! owners, a `SharedNode` or a `SharedPod`, and is never copied by content.
+//! Nodes and pods. A row is immutable once made and may be some kilobytes large, so it travels by
+//! its owners, a `SharedNode` or a `SharedPod`, and is never copied by content.
 use crate::amount::{Request, Res};
+use crate::at_most::AtMost;
 use crate::limits::{MAX_LABELS, MAX_TAINTS, MAX_TOLERATIONS};
 use crate::name::{Name, Text};
 use crate::taint::{Taint, Toleration};
-use arrayvec::ArrayVec;
 
 /// A label of a node or a pod.
-#[derive(Default, Drop, Clone, PartialEq, Eq, Hash)]
+#[derive(Drop)]
 pub struct Label {
     /// The label's key.
     pub key: Name,
@@ -23,9 +23,9 @@ pub struct Node {
     /// What the node has for pods.
     pub allocatable: Res,
     /// At most 32 labels.
-    pub labels: ArrayVec<Label, MAX_LABELS>,
+    pub labels: AtMost<Label, MAX_LABELS>,
     /// At most 8 taints.
-    pub taints: ArrayVec<Taint, MAX_TAINTS>,
+    pub taints: AtMost<Taint, MAX_TAINTS>,
     /// Whether the node takes no new pods, but for those that tolerate this mark.
     pub unschedulable: bool,
 }
@@ -40,7 +40,7 @@ pub struct Pod {
     /// What the pod asks of a node.
     pub request: Request,
     /// At most 32 labels.
-    pub labels: ArrayVec<Label, MAX_LABELS>,
+    pub labels: AtMost<Label, MAX_LABELS>,
     /// At most 16 tolerations.
-    pub tolerations: ArrayVec<Toleration, MAX_TOLERATIONS>,
+    pub tolerations: AtMost<Toleration, MAX_TOLERATIONS>,
 }

@@ -1,11 +1,14 @@
 //! A node's row with its labels and its taints packed, so that two rows are compared by a few
 //! hundred bytes that lie together.
-ghost use Rattle.std.specs.Prelude.{◌≡◌, ◌∷◌, ◌++◌, ◌≤◌, IfOk, OnOk, length};
+ghost use Rattle.std.specs.Prelude.{◌≡◌, ◌+◌, ◌*◌, ◌∷◌, ◌++◌, ◌≤◌, true, false, IfOk, OnOk, IfSome, OnSome, IfNone, length};
 ghost use Rattle.std.specs.Bool.{IsTrue};
 ghost use Rattle.std.specs.List.{flat_map};
-ghost use Rattle.quant.specs.inside.Packed.{packed_text, packed_label, packed_taint, packed_effect};
+ghost use Rattle.quant.specs.LabelOrder.{are_in_order};
+ghost use Rattle.quant.specs.Packed.{packed_text, packed_label};
+ghost use Rattle.quant.specs.inside.Packed.{packed_taint, packed_effect};
 
 use crate::amount::Res;
+use crate::label_order::are_in_order;
 use crate::name::Name;
 use crate::objects::{Label, Node};
 use crate::taint::{Effect, Taint};
@@ -17,13 +20,21 @@ use std::alloc::{AllocError, Global};
 pub(crate) struct SharedRow {
     allocatable: Res,
     unschedulable: bool,
+    // Whether the labels stand in rising order of their keys.
+    in_order: bool,
+    // The bytes in front of the labels.
+    named: usize,
     labels: Vec<u8>,
     taints: Vec<u8>,
     pub(crate) node: Node,
     ghost allocatable_is: { allocatable ≡ node.allocatable },
     ghost unschedulable_is: { unschedulable ≡ node.unschedulable },
-    ghost labels_are: { labels.items ≡ packed_text node.name ++ flat_map packed_label node.labels.items },
-    ghost taints_are: { taints.items ≡ flat_map packed_taint node.taints.items },
+    ghost in_order_is: { in_order ≡ are_in_order node.labels },
+    ghost named_is: { named ≡ 1 + length node.name },
+    ghost named_within: { named ≤ length labels.items },
+    ghost few_labels: { length labels.items ≤ named + 4096 },
+    ghost labels_are: { labels.items ≡ packed_text node.name ++ flat_map packed_label node.labels },
+    ghost taints_are: { taints.items ≡ flat_map packed_taint node.taints },
 }
 
 impl SharedRow {
@@ -38,10 +49,27 @@ impl SharedRow {
         Ok(SharedRow {
             allocatable: node.allocatable,
             unschedulable: node.unschedulable,
+            in_order: are_in_order(node.labels.as_slice()),
+            named: 1 + node.name.as_bytes().len(),
             labels,
             taints,
             node,
         })
+    }
+
+    /// The labels, packed, where they stand in rising order of their keys.
+    #[tactic(auto, using(crate::proofs::PackedLemmas::behind_name))]
+    pub(crate) fn labels_in_order(&self) -> Option<&[u8]>
+        ensures packed { IfSome result (λ packed. packed.now ≡ flat_map packed_label self.now.node.labels) }
+        ensures in_order { OnSome result (are_in_order self.now.node.labels ≡ true) }
+        ensures not_in_order { IfNone result (are_in_order self.now.node.labels ≡ false) }
+        ensures few { IfSome result (λ packed. length packed.now ≤ 4096) }
+    {
+        if self.in_order {
+            Some(&self.labels[self.named..])
+        } else {
+            None
+        }
     }
 
     /// Whether both rows tell the same.
@@ -106,7 +134,9 @@ fn are_same_marks(a: bool, b: bool) -> bool
 
 // A name, and labels, each as its key and its value.
 fn pack_labels(alloc: Global, name: &Name, labels: &[Label]) -> Result<Vec<u8>, AllocError>
-    ensures { IfOk result (λ packed. packed.items ≡ packed_text name.now ++ flat_map packed_label labels.now) }
+    ensures packed { IfOk result (λ packed. packed.items ≡ packed_text name.now ++ flat_map packed_label labels.now) }
+    ensures least { IfOk result (λ packed. 1 + length name.now ≤ length packed.items) }
+    ensures most { IfOk result (λ packed. length packed.items ≤ 1 + length name.now + 128 * length labels.now) }
 {
     let mut packed = Vec::new(alloc);
     put_text(&mut packed, name.as_bytes())?;
@@ -129,7 +159,9 @@ fn pack_taints(alloc: Global, taints: &[Taint]) -> Result<Vec<u8>, AllocError>
 
 // Writes a label behind what is packed already.
 fn put_label(packed: &mut Vec<u8>, label: &Label) -> Result<(), AllocError>
-    ensures { OnOk result (packed.new.items ≡ packed.old.items ++ packed_label label.now) }
+    ensures put { OnOk result (packed.new.items ≡ packed.old.items ++ packed_label label.now) }
+    ensures least { OnOk result (length packed.old.items ≤ length packed.new.items) }
+    ensures most { OnOk result (length packed.new.items ≤ length packed.old.items + 128) }
 {
     put_text(packed, label.key.as_bytes())?;
     put_text(packed, label.value.as_bytes())
@@ -147,7 +179,8 @@ fn put_taint(packed: &mut Vec<u8>, taint: &Taint) -> Result<(), AllocError>
 // Writes a text: its length and its bytes.
 fn put_text(packed: &mut Vec<u8>, text: &[u8]) -> Result<(), AllocError>
     requires { length text.now ≤ 63 }
-    ensures { OnOk result (packed.new.items ≡ packed.old.items ++ packed_text text.now) }
+    ensures put { OnOk result (packed.new.items ≡ packed.old.items ++ packed_text text.now) }
+    ensures count { OnOk result (length packed.new.items ≡ length packed.old.items + 1 + length text.now) }
 {
     put_bytes(packed, &[text.len() as u8])?;
     put_bytes(packed, text)

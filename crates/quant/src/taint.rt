@@ -3,10 +3,9 @@
 use crate::name::{Name, Text};
 
 /// What a taint does to a pod that does not tolerate it.
-#[derive(Clone, Copy, Default, PartialEq, Eq, Hash)]
+#[derive(Clone, Copy, PartialEq, Eq)]
 pub enum Effect {
     /// The pod is not placed on the node.
-    #[default]
     NoSchedule,
     /// The node is avoided where another serves.
     PreferNoSchedule,
@@ -15,7 +14,7 @@ pub enum Effect {
 }
 
 /// A mark on a node that keeps off pods which do not tolerate it.
-#[derive(Default, Drop, Clone, PartialEq, Eq, Hash)]
+#[derive(Drop)]
 pub struct Taint {
     /// What the taint is about.
     pub key: Name,
@@ -26,17 +25,16 @@ pub struct Taint {
 }
 
 /// How a toleration's value is compared with a taint's.
-#[derive(Clone, Copy, Default, PartialEq, Eq, Hash)]
+#[derive(Clone, Copy, PartialEq, Eq)]
 pub enum Operator {
     /// The values are equal.
-    #[default]
     Equal,
     /// Every value will do.
     Exists,
 }
 
 /// A pod's leave to stand on nodes with certain taints.
-#[derive(Default, Drop, Clone, PartialEq, Eq, Hash)]
+#[derive(Drop)]
 pub struct Toleration {
     /// The taint's key. An empty key, with `Exists`, stands for every key.
     pub key: Text,

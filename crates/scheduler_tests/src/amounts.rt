@@ -79,7 +79,10 @@ fn is_no_text(bytes: &[u8]) -> bool {
 }
 
 fn is_the_empty_text(bytes: &[u8]) -> bool {
-    Text::new(bytes) == Ok(Text::default())
+    match Text::new(bytes) {
+        Ok(text) => text.as_bytes().is_empty(),
+        Err(_) => false,
+    }
 }
 
 fn is_spelled_so(text: &str) -> bool {

@@ -1,5 +1,7 @@
 //! Names, nodes and pods without labels, taints and tolerations.
-use quant::{Bytes, Cpu, Event, Name, Node, Pod, Request, Res, SharedNode, SharedPod, Version};
+use quant::{
+    AtMost, Bytes, Cpu, Event, Name, Node, Pod, Request, Res, SharedNode, SharedPod, Version,
+};
 use std::alloc::Global;
 
 pub fn named(letter: u8) -> Option<Name> {
@@ -12,7 +14,7 @@ pub fn request(cpu: u64, mem: u64) -> Option<Request> {
 }
 
 /// A node with so many thousandths of a core and bytes, and room for so many pods.
-fn node(name: Name, cpu: u64, mem: u64, pods: u32) -> Node {
+fn node(alloc: Global, name: Name, cpu: u64, mem: u64, pods: u32) -> Node {
     Node {
         name,
         allocatable: Res {
@@ -20,15 +22,15 @@ fn node(name: Name, cpu: u64, mem: u64, pods: u32) -> Node {
             mem: Bytes(mem),
             pods,
         },
-        labels: Default::default(),
-        taints: Default::default(),
+        labels: AtMost::new(alloc),
+        taints: AtMost::new(alloc),
         unschedulable: false,
     }
 }
 
 /// The same, whose name is a letter.
 pub fn shared_node(alloc: Global, letter: u8, cpu: u64, mem: u64, pods: u32) -> Option<SharedNode> {
-    SharedNode::new(alloc, node(named(letter)?, cpu, mem, pods)).ok()
+    SharedNode::new(alloc, node(alloc, named(letter)?, cpu, mem, pods)).ok()
 }
 
 /// It is there, as it is told at this version.
@@ -45,20 +47,20 @@ pub fn node_told(
     Some(Event::NodeSet { version, node })
 }
 
-fn bare_pod(uid: Name, priority: i32, request: Request) -> Pod {
+fn bare_pod(alloc: Global, uid: Name, priority: i32, request: Request) -> Pod {
     Pod {
         uid,
         priority,
         request,
-        labels: Default::default(),
-        tolerations: Default::default(),
+        labels: AtMost::new(alloc),
+        tolerations: AtMost::new(alloc),
     }
 }
 
 /// A pod of this priority, which asks for so many thousandths of a core and bytes.
 pub fn pod(alloc: Global, uid: &Name, priority: i32, cpu: u64, mem: u64) -> Option<SharedPod> {
     let request = request(cpu, mem)?;
-    SharedPod::new(alloc, bare_pod(uid.copied(), priority, request)).ok()
+    SharedPod::new(alloc, bare_pod(alloc, uid.copied(), priority, request)).ok()
 }
 
 /// A pod is bound to a node, as it is told at this version.

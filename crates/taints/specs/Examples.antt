@@ -26,8 +26,8 @@ node_with taints unschedulable =
     record {
       name = codes "a";
       allocatable = record { cpu = record { 0 = 0 }; mem = record { 0 = 0 }; pods = 0 };
-      labels = record { items = [] };
-      taints = record { items = taints };
+      labels = [];
+      taints = taints;
       unschedulable = unschedulable;
     }
 
@@ -38,8 +38,8 @@ pod_with tolerations =
       uid = codes "p1";
       priority = pos 0;
       request = record { cpu = record { 0 = 0 }; mem = record { 0 = 0 }; within_cpu = lit≤ tt; within_mem = lit≤ tt };
-      labels = record { items = [] };
-      tolerations = record { items = tolerations };
+      labels = [];
+      tolerations = tolerations;
     }
 
 abbrev pub key1 : Taint

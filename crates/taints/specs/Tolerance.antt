@@ -55,17 +55,17 @@ unschedulable_mark =
 -- why a node's marks keep off a pod, if they do: its mark as unschedulable first, and then a taint
 unfoldable pub rejection : Node → Pod → Option Rejection
 rejection node pod =
-    if node.unschedulable && not (tolerated pod.tolerations.items unschedulable_mark) then Some Marked
-    else if list_any (λ taint. keeps_off taint.effect && not (tolerated pod.tolerations.items taint)) node.taints.items
+    if node.unschedulable && not (tolerated pod.tolerations unschedulable_mark) then Some Marked
+    else if list_any (λ taint. keeps_off taint.effect && not (tolerated pod.tolerations taint)) node.taints
     then Some Tainted
     else None
 
 -- the first of a node's taints that keeps off a pod which doesn't tolerate it
 unfoldable pub first_untolerated : Node → Pod → Option Taint
-first_untolerated node pod = find (λ taint. keeps_off taint.effect && not (tolerated pod.tolerations.items taint)) node.taints.items
+first_untolerated node pod = find (λ taint. keeps_off taint.effect && not (tolerated pod.tolerations taint)) node.taints
 
 -- how many of a node's taints a pod doesn't tolerate, among those that only make the node less
 -- preferred
 unfoldable pub prefer_not : Node → Pod → ℕ
 prefer_not node pod =
-    count_by (λ taint. same_effect taint.effect PreferNoSchedule && not (tolerated pod.tolerations.items taint)) node.taints.items
+    count_by (λ taint. same_effect taint.effect PreferNoSchedule && not (tolerated pod.tolerations taint)) node.taints

@@ -74,7 +74,7 @@ unfolding pod_bytes
 pod_fields pod =
     let n = length pod.uid in
     let priority = cast_unsigned w32 pod.priority in
-    let at = five 1 1 (text_field pod.uid) (number_field 4 priority) (number_field 8 pod.request.cpu.0) (number_field 8 pod.request.mem.0) (labels_field pod.labels.items)
+    let at = five 1 1 (text_field pod.uid) (number_field 4 priority) (number_field 8 pod.request.cpu.0) (number_field 8 pod.request.mem.0) (labels_field pod.labels)
     (n + 3) (n + 7) (n + 15) (n + 23) (omega arith) (omega (arith, number_length 4 priority)) (omega (arith, number_length 8 pod.request.cpu.0)) (omega (arith, number_length 8 pod.request.mem.0)) in
     record {
       version = refl;
@@ -90,7 +90,7 @@ pub node_fields : (node : Node) (used : Res) → NodeFieldsStand node used
 unfolding node_bytes
 node_fields node used =
     let n = length node.name in
-    let at = five 1 2 (text_field node.name) (mark_field node.unschedulable) (amounts_field node.allocatable) (amounts_field used) (labels_field node.labels.items)
+    let at = five 1 2 (text_field node.name) (mark_field node.unschedulable) (amounts_field node.allocatable) (amounts_field used) (labels_field node.labels)
     (n + 3) (n + 4) (n + 24) (n + 44) (omega arith) (omega (arith, mark_length node.unschedulable)) (omega (arith, amounts_length node.allocatable)) (omega (arith, amounts_length used)) in
     record {
       version = refl;

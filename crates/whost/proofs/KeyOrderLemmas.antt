@@ -1,5 +1,6 @@
 -- What it does to the order of labels to insert a place.
-use Rattle.std.proofs.Common.{◌≡◌, ℕ, zero, suc, ◌+◌, ◌<◌, ◌≤◌, Bool, true, false, cond, List, [], ◌∷◌, length, take, drop, get_or, map, All, if◌then◌else◌, refl, sym, ap, subst, ◌∙◌, arith, drop-cons, add-one}
+use Rattle.std.proofs.Common.{◌≡◌, ℕ, zero, suc, ◌+◌, ◌<◌, ◌≤◌, Bool, true, false, cond, not, List, [], ◌∷◌, length, take, drop, get_or, map, All, if◌then◌else◌, refl, sym, ap, subst, ◌∙◌, arith, drop-cons, add-one}
+use Rattle.std.proofs.lemmas.Bool.{and_parts}
 use Rattle.std.proofs.lemmas.List.{get_or_default, length-map}
 use Rattle.std.proofs.lemmas.List.Elements.{All-append, All-take, All-drop, All-cons}
 use Rattle.std.proofs.lemmas.List.Sorted.{IsPermutation-refl, IsPermutation-swap, IsPermutation-cons, IsPermutation-trans, searchable_from_sorted}
@@ -13,6 +14,7 @@ use Rattle.quant.specs.declared.objects.Label.{Label}
 use Rattle.whost.specs.KeyOrder.{put_in_order, in_key_order}
 use Rattle.whost.specs.inside.KeyOrder.{label_at}
 use Rattle.quant.specs.Name.{is_before}
+use Rattle.quant.specs.LabelOrder.{are_in_order}
 
 -- places in order, with one more behind those whose keys come before its own, are in order
 pub inserted : {X : Type 0} (f : X → Label) (place : X) (order : List X)
@@ -37,31 +39,18 @@ one_more labels place h = rw (drop-cons labels place (record { key = []; value =
 put_front : (label first : Label) (rest : List Label) → is_before first.key label.key ≡ false → put_in_order label (first ∷ rest) ≡ label ∷ first ∷ rest
 put_front label first rest behind = rw behind refl
 
--- where the labels behind a place are in order as they stand, and the first of them doesn't come
--- before that at the place, those from the place on are
-pub one_in_front : (labels : List Label) (place : ℕ) → place + 1 < length labels
-    → is_before (label_at labels (place + 1)).key (label_at labels place).key ≡ false
-    → in_key_order (drop (place + 1) labels) ≡ drop (place + 1) labels → in_key_order (drop place labels) ≡ drop place labels
-one_in_front labels place h behind later =
-    let none : Label = record { key = []; value = [] } in
-    let inside : place < length labels = omega arith in
-    let first : Label = label_at labels place in
-    let rest : List Label = drop (suc (place + 1)) labels in
-    let from_there : drop (place + 1) labels ≡ label_at labels (place + 1) ∷ rest = drop-cons labels (place + 1) none h in
-    let from_here : drop place labels ≡ first ∷ drop (place + 1) labels = rw (drop-cons labels place none inside, add-one) refl in
-    one_more labels place inside
-    ∙ ap (λ (ls : List Label). put_in_order first ls) (later ∙ from_there)
-    ∙ put_front first (label_at labels (place + 1)) rest behind
-    ∙ ap (λ (ls : List Label). first ∷ ls) (sym from_there)
-    ∙ sym from_here
+not_true : (b : Bool) → not b ≡ true → b ≡ false
+not_true false e = refl
+not_true true e = sym e
 
--- what is left behind all labels but one is in order
-pub last_in_order : (labels : List Label) (n : ℕ) → length labels ≤ n + 1 → in_key_order (drop n labels) ≡ drop n labels
-last_in_order [] zero h = refl
-last_in_order [] (suc n) h = refl
-last_in_order (label ∷ []) zero h = refl
-last_in_order (label ∷ next ∷ rest) zero h = absurd (omega (arith, h))
-last_in_order (label ∷ rest) (suc n) h = last_in_order rest n (omega (arith, h))
+-- labels that stand in order are in order as they stand
+pub as_they_stand : (labels : List Label) → are_in_order labels ≡ true → in_key_order labels ≡ labels
+as_they_stand [] h = refl
+as_they_stand (label ∷ []) h = refl
+as_they_stand (label ∷ next ∷ rest) h =
+    let parts = and_parts (not (is_before next.key label.key)) (are_in_order (next ∷ rest)) h in
+    ap (λ (ls : List Label). put_in_order label ls) (as_they_stand (next ∷ rest) parts.1)
+    ∙ put_front label next rest (not_true (is_before next.key label.key) parts.0)
 
 -- how many pass in front, of the labels at some places
 prefix_mapped : {X : Type 0} (f : X → Label) (p : Label → Bool) (order : List X) → prefix_len p (map f order) ≡ prefix_len (λ q. p (f q)) order

@@ -88,7 +88,7 @@ abbrev memory_of : Pod → List ℕ
 memory_of pod = number_field 8 pod.request.mem.0
 
 abbrev labels_of : Pod → List ℕ
-labels_of pod = labels_field pod.labels.items
+labels_of pod = labels_field pod.labels
 
 abbrev behind : Pod → List ℕ
 behind pod = priority_of pod ++ cpu_of pod ++ memory_of pod ++ labels_of pod
@@ -99,7 +99,7 @@ behind_apart p q s t e =
     let one = numbers_apart 4 _ _ _ _ whole in
     let two = numbers_apart 8 _ _ _ _ one.1 in
     let three = numbers_apart 8 _ _ _ _ two.1 in
-    let labels = labels_same p.labels.items q.labels.items s t three.1 in
+    let labels = labels_same p.labels q.labels s t three.1 in
     λ j. one.0 j ++ two.0 j ++ three.0 j ++ labels j
 
 -- the records by what stands behind the uid
@@ -110,14 +110,14 @@ firsts : (p q : Pod) → p.uid ≡ q.uid → behind p ≡ behind q → pod_bytes
 unfolding pod_bytes
 firsts p q uid same = ap (λ l. 1 ∷ 1 ∷ l) (fields p ∙ (λ j. text_field (uid j) ++ same j) ∙ sym (fields q))
 
-seconds : (p q : Pod) → p.uid ≡ q.uid → behind p ++ tolerations_field p.tolerations.items ≡ behind q ++ tolerations_field q.tolerations.items → pod_bytes2 p ≡ pod_bytes2 q
+seconds : (p q : Pod) → p.uid ≡ q.uid → behind p ++ tolerations_field p.tolerations ≡ behind q ++ tolerations_field q.tolerations → pod_bytes2 p ≡ pod_bytes2 q
 unfolding pod_bytes2
 seconds p q uid same =
-    let split = λ (pod : Pod). let more = tolerations_field pod.tolerations.items in
+    let split = λ (pod : Pod). let more = tolerations_field pod.tolerations in
     ap (λ l. l ++ more) (fields pod) ∙ append_assoc (text_field pod.uid) (behind pod) more in
     ap (λ l. 2 ∷ 1 ∷ l) (split p ∙ (λ j. text_field (uid j) ++ same j) ∙ sym (split q))
 
-thirds : (p q : Pod) → pod_bytes3 p ≡ pod_bytes3 q → behind p ++ tolerations_field p.tolerations.items ≡ behind q ++ tolerations_field q.tolerations.items
+thirds : (p q : Pod) → pod_bytes3 p ≡ pod_bytes3 q → behind p ++ tolerations_field p.tolerations ≡ behind q ++ tolerations_field q.tolerations
 unfolding pod_bytes3
 thirds p q same = tail_is 0 0 _ _ (tail_is 1 1 _ _ (tail_is 3 3 _ _ same))
 

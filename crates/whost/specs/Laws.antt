@@ -33,7 +33,7 @@ pub record PodFieldsStand (pod : Pod) : Type 0 where
   pub priority : Stands (pod_bytes pod) (length pod.uid + 3) (number_field 4 (cast_unsigned w32 pod.priority))
   pub cpu : Stands (pod_bytes pod) (length pod.uid + 7) (number_field 8 pod.request.cpu.0)
   pub mem : Stands (pod_bytes pod) (length pod.uid + 15) (number_field 8 pod.request.mem.0)
-  pub labels : Stands (pod_bytes pod) (length pod.uid + 23) (labels_field pod.labels.items)
+  pub labels : Stands (pod_bytes pod) (length pod.uid + 23) (labels_field pod.labels)
 
 -- where the fields of a node's record stand
 pub record NodeFieldsStand (node : Node) (used : Res) : Type 0 where
@@ -43,4 +43,4 @@ pub record NodeFieldsStand (node : Node) (used : Res) : Type 0 where
   pub mark : Stands (node_bytes node used) (length node.name + 3) (mark_field node.unschedulable)
   pub allocatable : Stands (node_bytes node used) (length node.name + 4) (amounts_field node.allocatable)
   pub occupied : Stands (node_bytes node used) (length node.name + 24) (amounts_field used)
-  pub labels : Stands (node_bytes node used) (length node.name + 44) (labels_field node.labels.items)
+  pub labels : Stands (node_bytes node used) (length node.name + 44) (labels_field node.labels)

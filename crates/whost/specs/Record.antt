@@ -100,7 +100,7 @@ pod_fields pod =
     ++ number_field 4 (cast_unsigned w32 pod.priority)  -- n + 3, two's complement
     ++ number_field 8 pod.request.cpu.0  -- n + 7
     ++ number_field 8 pod.request.mem.0  -- n + 15
-    ++ labels_field pod.labels.items  -- n + 23
+    ++ labels_field pod.labels  -- n + 23
 
 -- What both versions tell of a node, with what the pods on it use. Behind each field stands its
 -- offset in the record where the name has n bytes.
@@ -111,21 +111,21 @@ node_fields node used =
     ++ mark_field node.unschedulable  -- n + 3
     ++ amounts_field node.allocatable  -- n + 4
     ++ amounts_field used  -- n + 24
-    ++ labels_field node.labels.items  -- n + 44
+    ++ labels_field node.labels  -- n + 44
 
 -- a pod's record of version 1, and of version 2
 unfoldable pub pod_bytes : Pod → List ℕ
 pod_bytes pod = first_version ∷ pod_fields pod
 
 unfoldable pub pod_bytes2 : Pod → List ℕ
-pod_bytes2 pod = second_version ∷ pod_fields pod ++ tolerations_field pod.tolerations.items
+pod_bytes2 pod = second_version ∷ pod_fields pod ++ tolerations_field pod.tolerations
 
 -- a node's record of version 1, and of version 2
 unfoldable pub node_bytes : Node → (used : Res) → List ℕ
 node_bytes node used = first_version ∷ node_fields node used
 
 unfoldable pub node_bytes2 : Node → (used : Res) → List ℕ
-node_bytes2 node used = second_version ∷ node_fields node used ++ taints_field node.taints.items
+node_bytes2 node used = second_version ∷ node_fields node used ++ taints_field node.taints
 
 -- a pod without its uid: pods that differ in nothing else are one then
 abbrev pub without_uid : Pod → Pod
@@ -137,10 +137,10 @@ nothing_used = record { cpu = record { 0 = 0 }; mem = record { 0 = 0 }; pods = 0
 
 -- a pod's record of version 3, and a node's
 unfoldable pub pod_bytes3 : Pod → List ℕ
-pod_bytes3 pod = third_version ∷ pod_fields (without_uid pod) ++ tolerations_field pod.tolerations.items
+pod_bytes3 pod = third_version ∷ pod_fields (without_uid pod) ++ tolerations_field pod.tolerations
 
 unfoldable pub node_bytes3 : Node → List ℕ
-node_bytes3 node = third_version ∷ node_fields node nothing_used ++ taints_field node.taints.items
+node_bytes3 node = third_version ∷ node_fields node nothing_used ++ taints_field node.taints
 
 -- how many bytes labels take
 abbrev pub labels_size : List Label → ℕ
@@ -155,8 +155,8 @@ tolerations_size tolerations = 1 + sum_by (λ toleration. 4 + length toleration.
 
 -- how many bytes a pod's record of version 1 has; that of version 2 has those of the list more
 abbrev pub pod_size : Pod → ℕ
-pod_size pod = 23 + length pod.uid + labels_size pod.labels.items
+pod_size pod = 23 + length pod.uid + labels_size pod.labels
 
 -- how many bytes a node's record of version 1 has; that of version 2 has those of the list more
 abbrev pub node_size : Node → ℕ
-node_size node = 44 + length node.name + labels_size node.labels.items
+node_size node = 44 + length node.name + labels_size node.labels

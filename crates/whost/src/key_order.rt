@@ -1,6 +1,5 @@
 //! The order of labels in a record.
 ghost use Rattle.std.specs.Prelude.{◌≡◌, ◌<◌, ◌≤◌, length, map, All};
-ghost use Rattle.std.specs.Bool.{IsTrue};
 ghost use Rattle.std.specs.Ordering.{nat_cmp};
 ghost use Rattle.std.specs.Cmp.Lexicographic.{slice_cmp};
 ghost use Rattle.std.specs.List.{prefix_len};
@@ -25,19 +24,6 @@ pub fn key_order(labels: &[Label]) -> ArrayVec<u8, MAX_LABELS>
         order.insert(at, place as u8);
     }
     order
-}
-
-/// Whether labels stand in rising order of their keys' bytes as they are. Most do: who makes a
-/// node's row sorts them.
-pub fn are_in_order(labels: &[Label]) -> bool
-    ensures { IsTrue result → in_key_order labels.now ≡ labels.now }
-{
-    for place in (1..labels.len()).rev() {
-        if labels[place].key.cmp(&labels[place - 1].key).is_lt() {
-            return false;
-        }
-    }
-    true
 }
 
 // How many labels stand in front of the first whose key doesn't come before `key`. Where that is

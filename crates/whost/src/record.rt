@@ -2,13 +2,14 @@
 ghost use Rattle.std.specs.Prelude.{◌≡◌, ◌+◌, ◌*◌, ◌<◌, ◌≤◌, [], ◌∷◌, ◌++◌, drop, length};
 ghost use Rattle.std.specs.List.{AllByRecursion, flat_map};
 ghost use Rattle.whost.specs.KeyOrder.{in_key_order};
+ghost use Rattle.whost.specs.inside.Packed.{ArePacked};
 ghost use Rattle.std.specs.Int.{cast_unsigned, w32};
 ghost use Rattle.whost.specs.Record.{number_field, text_field, mark_field, amounts_field, label_field, labels_field, labels_size, effect_code as defined_effect, operator_code as defined_operator, taint_field, taints_field, taints_size, toleration_field, tolerations_field, tolerations_size};
 
-use crate::key_order::{are_in_order, key_order};
+use crate::key_order::key_order;
 use arrayvec::ArrayVec;
 use byteorder::{ByteOrder, LittleEndian};
-use quant::{Effect, Label, Operator, Res, Taint, Toleration};
+use quant::{Effect, Label, Operator, Res, Taint, Toleration, are_in_order};
 use std::marker::Model;
 
 /// The most bytes of a record.
@@ -201,7 +202,22 @@ impl Record {
         self.put_in_order(labels);
     }
 
+    /// The same of labels that stand in this order and are packed already, each its key and its
+    /// value.
+    pub(crate) fn put_packed(&mut self, labels: &[Label], packed: &[u8])
+        requires packed { ArePacked labels.now packed.now }
+        requires few { length labels.now ≤ 32 }
+        requires room { length self.old + 4097 ≤ 8192 }
+        ensures field { self.new ≡ self.old ++ labels_field labels.now }
+        ensures count { length self.new ≡ length self.old + labels_size labels.now }
+        ensures most { length self.new ≤ length self.old + 4097 }
+    {
+        self.put_byte(labels.len() as u8);
+        self.put(packed);
+    }
+
     // Writes labels in rising order of their keys' bytes, without their count.
+    #[tactic(auto, using(crate::proofs::KeyOrderLemmas::as_they_stand))]
     fn put_in_order(&mut self, labels: &[Label])
         requires few { length labels.now ≤ 32 }
         requires room { length self.old + 4096 ≤ 8192 }

@@ -4,8 +4,8 @@ ghost use Rattle.std.specs.Prelude.{◌≡◌, []};
 ghost use Rattle.whost.specs.Handed.{pod_records, node_records};
 
 use crate::record::Record;
-use crate::rows::{node_record, node_record3, pod_record, pod_record3};
-use quant::{Node, Pod, Res};
+use crate::rows::{pod_record, pod_record3, shared_record, shared_record3};
+use quant::{Pod, Res, SharedNode};
 use wmach::Host;
 
 /// A record in versions 1, 2 and 3.
@@ -43,13 +43,13 @@ impl Versions {
 
     // Makes them those of a node on which pods use so much.
     #[tactic(auto, unfolding(crate::specs::Record::node_bytes, crate::specs::Record::node_bytes2))]
-    fn show_node(&mut self, node: &Node, used: &Res)
+    fn show_node(&mut self, node: &SharedNode, used: &Res)
         ensures { self.new ≡ node_records node.now used.now }
     {
-        node_record(node, used, &mut self.first);
+        shared_record(node, used, &mut self.first);
         self.second.copy_as_second(&self.first);
         self.second.put_taints(node.taints.as_slice());
-        node_record3(node, &mut self.third);
+        shared_record3(node, &mut self.third);
     }
 }
 
@@ -109,7 +109,7 @@ impl Records {
     }
 
     /// Makes the node's records those of this node, on which pods use so much. The pod's stay.
-    pub fn show_node(&mut self, node: &Node, used: &Res)
+    pub fn show_node(&mut self, node: &SharedNode, used: &Res)
         ensures { self.new ≡ record self.old { node = node_records node.now used.now } }
     {
         self.node.show_node(node, used);

@@ -20,20 +20,20 @@ pub record IsNodeRow (node : Node) : Type 0 where
   pub cpu : node.allocatable.cpu.0 ≤ 2 ^ 30
   pub memory : node.allocatable.mem.0 ≤ 2 ^ 44
   pub pods : node.allocatable.pods ≤ MAX_PLACED
-  pub few_labels : length node.labels.items ≤ MAX_LABELS
-  pub labels : each_beside says_label [] node.labels.items ≡ true
-  pub few_taints : length node.taints.items ≤ MAX_TAINTS
-  pub taints : each_beside says_taint [] node.taints.items ≡ true
+  pub few_labels : length node.labels ≤ MAX_LABELS
+  pub labels : each_beside says_label [] node.labels ≡ true
+  pub few_taints : length node.taints ≤ MAX_TAINTS
+  pub taints : each_beside says_taint [] node.taints ≡ true
 
 -- a row of a pod that waits
 pub record IsPodRow (pod : Pod) : Type 0 where
   pub uid : is_name pod.uid ≡ true
   pub low : int_le (negsuc 2147483647) pod.priority ≡ true
   pub high : int_le pod.priority (pos 2147483647) ≡ true
-  pub few_labels : length pod.labels.items ≤ MAX_LABELS
-  pub labels : each_beside says_label [] pod.labels.items ≡ true
-  pub few_tolerations : length pod.tolerations.items ≤ MAX_TOLERATIONS
-  pub tolerations : each_beside says_toleration [] pod.tolerations.items ≡ true
+  pub few_labels : length pod.labels ≤ MAX_LABELS
+  pub labels : each_beside says_label [] pod.labels ≡ true
+  pub few_tolerations : length pod.tolerations ≤ MAX_TOLERATIONS
+  pub tolerations : each_beside says_toleration [] pod.tolerations ≡ true
 
 -- an event that a line can say
 abbrev pub IsSayable : Event → Type 0

@@ -67,8 +67,8 @@ line_json (NodeSet version node) = object (
     member (codes "cpu") (string (cpu_text node.allocatable.cpu)) (
     member (codes "mem") (string (memory_text node.allocatable.mem)) (
     member (codes "pods") (number (decimal node.allocatable.pods)) (
-    member (codes "labels") (array (items_json label_json node.labels.items)) (
-    member (codes "taints") (array (items_json taint_json node.taints.items)) (
+    member (codes "labels") (array (items_json label_json node.labels)) (
+    member (codes "taints") (array (items_json taint_json node.taints)) (
     member (codes "unschedulable") (boolean node.unschedulable)
     no_members)))))))))
 line_json (NodeGone version name) = object (
@@ -82,8 +82,8 @@ line_json (PodPending version pod) = object (
     member (codes "uid") (string pod.uid) (
     member (codes "priority") (number (signed_decimal pod.priority)) (
     member (codes "containers") (array (items_json request_json (pod.request ∷ []))) (
-    member (codes "labels") (array (items_json label_json pod.labels.items)) (
-    member (codes "tolerations") (array (items_json toleration_json pod.tolerations.items))
+    member (codes "labels") (array (items_json label_json pod.labels)) (
+    member (codes "tolerations") (array (items_json toleration_json pod.tolerations))
     no_members)))))))
 line_json (PodBound version uid node request) = object (
     member (codes "op") (string (codes "bound")) (

@@ -1,11 +1,10 @@
 use Rattle.std.proofs.Common.{◌≡◌, ◌+◌, ◌≤◌, length, drop}
-use Rattle.arrayvec.specs.ArrayVec.{array_vec_len}
 use Rattle.serde_json.specs.View.{items_view}
 use Rattle.manifest.specs.Item.{each}
 use Rattle.manifest.proofs.item.fill.Given as goal
 
 abbrev pub invariant-loop-item : goal.invariant-loop-item
 invariant-loop-item g l = record {
-  room : array_vec_len l.row + length l.found ≤ g.row.N + l.item-index;
-  same : each (g.T.Item.reading l.field) l.initial.row.items (items_view l.found) ≡ each (g.T.Item.reading l.field) l.row.items (items_view (drop l.item-index l.found));
+  room : length l.row + length l.found ≤ g.row.N + l.item-index;
+  same : each (g.T.Item.reading l.field) l.initial.row (items_view l.found) ≡ each (g.T.Item.reading l.field) l.row (items_view (drop l.item-index l.found));
 }

@@ -7,7 +7,7 @@ use Rattle.objects.proofs.labels.take_named.Given as goal
 
 abbrev pub invariant-loop-key : goal.invariant-loop-key
 invariant-loop-key l = record {
-  same : named_labels l.names l.initial.labels.items (members_view l.members.entries) ≡ named_labels l.names l.labels.items (members_view l.key-iterator);
-  sayable : each_beside says_label [] l.initial.labels.items ≡ true → each_beside says_label [] l.labels.items ≡ true;
-  few : length l.initial.labels.items ≤ 32 → length l.labels.items ≤ 32;
+  same : named_labels l.names l.initial.labels (members_view l.members.entries) ≡ named_labels l.names l.labels (members_view l.key-iterator);
+  sayable : each_beside says_label [] l.initial.labels ≡ true → each_beside says_label [] l.labels ≡ true;
+  few : length l.initial.labels ≤ 32 → length l.labels ≤ 32;
 }

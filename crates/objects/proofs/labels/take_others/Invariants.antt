@@ -8,8 +8,8 @@ use Rattle.objects.proofs.labels.take_others.Given as goal
 
 abbrev pub invariant-loop-key : goal.invariant-loop-key
 invariant-loop-key l = record {
-  same : other_labels l.names (kept l.initial.labels.items l.initial.out.items) (members_view l.members.entries)
-      ≡ other_labels l.names (kept l.labels.items l.out.items) (members_view l.key-iterator);
-  sayable : each_beside says_label [] l.initial.labels.items ≡ true → each_beside says_label [] l.labels.items ≡ true;
-  few : length l.initial.labels.items ≤ 32 → length l.labels.items ≤ 32;
+  same : other_labels l.names (kept l.initial.labels l.initial.out.items) (members_view l.members.entries)
+      ≡ other_labels l.names (kept l.labels l.out.items) (members_view l.key-iterator);
+  sayable : each_beside says_label [] l.initial.labels ≡ true → each_beside says_label [] l.labels ≡ true;
+  few : length l.initial.labels ≤ 32 → length l.labels ≤ 32;
 }

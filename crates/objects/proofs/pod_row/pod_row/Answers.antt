@@ -1,11 +1,22 @@
-use Rattle.std.proofs.Common.{rules}
+use Rattle.std.proofs.Common.{rules, refl, ap, ◌≡◌, ◌∙◌, ◌++◌, to_z-of_z, to_z, of_z, w32}
+use Rattle.serde_json.specs.View.{view}
+use Rattle.objects.specs.Demands.{wishes}
+use Rattle.objects.specs.PodRow.{pod_row, pod_parts}
 use Rattle.objects.proofs.pod_row.pod_row.Goals as goal
+
+pub returns-clause-value : goal.returns-clause-value
+unfolding pod_row pod_parts
+returns-clause-value c =
+    let same : to_z w32 (of_z w32 c.in_ok-priority.priority) ≡ c.in_ok-priority.priority = search (rules, to_z-of_z) in
+    let wished : c.put_wishes.new.out.items ≡ wishes (view c.in_ok-spec.spec.now) =
+    c.in_ok-put_wishes.ensures ∙ ap (λ left. left ++ wishes (view c.in_ok-spec.spec.now)) c.requires in
+    rw (same, c.in_ok-meta.ensures, c.in_ok-spec.ensures, c.in_ok-uid.ensures, c.in_ok-priority.ensures, c.in_ok-request.ensures, c.in_ok-labels.ensures, c.in_ok-tolerations.ensures, ← wished, c.in_ok-labels-2.ensures.value, c.in_ok-tolerations-2.ensures.value) refl
 
 pub returns-clause-sayable : goal.returns-clause-sayable
 returns-clause-sayable c = record {
-  uid = c.in_ok-pod.ensures.sayable.uid;
-  low = c.in_ok-pod.ensures.sayable.low;
-  high = c.in_ok-pod.ensures.sayable.high;
+  uid = search rules;
+  low = search rules;
+  high = search rules;
   few_labels = search rules;
   labels = search rules;
   few_tolerations = search rules;

@@ -8,8 +8,8 @@ use Rattle.objects.proofs.tolerations.take_tolerations.Given as goal
 
 abbrev pub invariant-loop-item : goal.invariant-loop-item
 invariant-loop-item l = record {
-  value : tolerations_of (kept l.initial.tolerations.items l.initial.out.items) (items_view l.found)
-      ≡ tolerations_of (kept l.tolerations.items l.out.items) (items_view (drop l.item-index l.found));
-  sayable : each_beside says_toleration [] l.initial.tolerations.items ≡ true → each_beside says_toleration [] l.tolerations.items ≡ true;
-  few : length l.initial.tolerations.items ≤ 16 → length l.tolerations.items ≤ 16;
+  value : tolerations_of (kept l.initial.tolerations l.initial.out.items) (items_view l.found)
+      ≡ tolerations_of (kept l.tolerations l.out.items) (items_view (drop l.item-index l.found));
+  sayable : each_beside says_toleration [] l.initial.tolerations ≡ true → each_beside says_toleration [] l.tolerations ≡ true;
+  few : length l.initial.tolerations ≤ 16 → length l.tolerations ≤ 16;
 }
