@@ -1,5 +1,5 @@
 //! The buffer that a record is written into, field after field.
-ghost use Rattle.std.specs.Prelude.{◌≡◌, ◌+◌, ◌*◌, ◌<◌, ◌≤◌, [], ◌∷◌, ◌++◌, drop, length};
+ghost use Rattle.std.specs.Prelude.{◌≡◌, ◌+◌, ◌*◌, ◌<◌, ◌≤◌, [], ◌∷◌, ◌++◌, drop, length, IfSome};
 ghost use Rattle.std.specs.List.{AllByRecursion, flat_map};
 ghost use Rattle.whost.specs.KeyOrder.{in_key_order};
 ghost use Rattle.whost.specs.inside.Packed.{ArePacked};
@@ -190,8 +190,9 @@ impl Record {
         self.put_text(label.value.as_bytes());
     }
 
-    /// Writes labels in rising order of their keys' bytes.
-    pub(crate) fn put_labels(&mut self, labels: &[Label])
+    /// Writes labels in rising order of their keys' bytes. They may be packed so already.
+    pub(crate) fn put_labels(&mut self, labels: &[Label], packed: Option<&[u8]>)
+        requires packed { IfSome packed (λ packed. ArePacked labels.now packed.now) }
         requires few { length labels.now ≤ 32 }
         requires room { length self.old + 4097 ≤ 8192 }
         ensures field { self.new ≡ self.old ++ labels_field labels.now }
@@ -199,21 +200,21 @@ impl Record {
         ensures most { length self.new ≤ length self.old + 4097 }
     {
         self.put_byte(labels.len() as u8);
-        self.put_in_order(labels);
+        self.put_counted(labels, packed);
     }
 
-    /// The same of labels that stand in this order and are packed already, each its key and its
-    /// value.
-    pub(crate) fn put_packed(&mut self, labels: &[Label], packed: &[u8])
-        requires packed { ArePacked labels.now packed.now }
+    // The same without their count.
+    fn put_counted(&mut self, labels: &[Label], packed: Option<&[u8]>)
+        requires packed { IfSome packed (λ packed. ArePacked labels.now packed.now) }
         requires few { length labels.now ≤ 32 }
-        requires room { length self.old + 4097 ≤ 8192 }
-        ensures field { self.new ≡ self.old ++ labels_field labels.now }
-        ensures count { length self.new ≡ length self.old + labels_size labels.now }
-        ensures most { length self.new ≤ length self.old + 4097 }
+        requires room { length self.old + 4096 ≤ 8192 }
+        ensures fields { self.new ≡ self.old ++ flat_map label_field (in_key_order labels.now) }
+        ensures most { length self.new ≤ length self.old + 4096 }
     {
-        self.put_byte(labels.len() as u8);
-        self.put(packed);
+        match packed {
+            Some(packed) => self.put(packed),
+            None => self.put_in_order(labels),
+        }
     }
 
     // Writes labels in rising order of their keys' bytes, without their count.

@@ -34,7 +34,7 @@ fn put_pod(pod: &Pod, uid: &[u8], out: &mut Record)
     out.put_i32(pod.priority);
     out.put_u64(pod.request.cpu.0);
     out.put_u64(pod.request.mem.0);
-    out.put_labels(pod.labels.as_slice());
+    out.put_labels(pod.labels.as_slice(), None);
 }
 
 // Writes what all versions tell of a node behind the version. Its labels may be packed already.
@@ -50,10 +50,7 @@ fn put_node(node: &Node, packed: Option<&[u8]>, used: &Res, out: &mut Record)
     out.put_mark(node.unschedulable);
     out.put_amounts(&node.allocatable);
     out.put_amounts(used);
-    match packed {
-        Some(packed) => out.put_packed(node.labels.as_slice(), packed),
-        None => out.put_labels(node.labels.as_slice()),
-    }
+    out.put_labels(node.labels.as_slice(), packed);
 }
 
 /// Makes `out` the record of a pod in version 1, whatever stood in it.

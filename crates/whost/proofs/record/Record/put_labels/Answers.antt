@@ -3,8 +3,8 @@ use Rattle.whost.specs.Record.{labels_field}
 use Rattle.whost.proofs.RecordLemmas.{labels_length, with_count}
 use Rattle.whost.proofs.record.Record.put_labels.Goals as goal
 
-written : (c : goal.After-put_in_order) → c.put_in_order.new.self ≡ c.args.self.now ++ labels_field c.args.labels.now
-written c = with_count c.args.self.now c.args.labels.now _ _ c.put_byte.ensures.field c.put_in_order.ensures.fields
+written : (c : goal.After-put_counted) → c.put_counted.new.self ≡ c.args.self.now ++ labels_field c.args.labels.now
+written c = with_count c.args.self.now c.args.labels.now _ _ c.put_byte.ensures.field c.put_counted.ensures.fields
 
 pub returns-clause-field : goal.returns-clause-field
 returns-clause-field c = written c
