@@ -27,7 +27,7 @@ const MAX_NODES: usize = 8_192;
 const MAX_LINES: usize = 131_072;
 
 // A class that isn't asked for while so many rows have changed lets go of its rows, each of which
-// is kilobytes large and may be nobody else's by then.
+// may be kilobytes large and nobody else's by then.
 const MAX_CHANGES: u64 = 4_096;
 
 // Besides twice the nodes that were shown a class keeps lines of so many, be they gone or too full

@@ -1,6 +1,6 @@
 //! The events of a cluster's watch, and the rows that they carry.
 //!
-//! A row is kilobytes large and never changes, so it has many owners and is never copied by
+//! A row may be kilobytes large and never changes, so it has many owners and is never copied by
 //! content: the reader of a line makes it, and book, queue, snapshots and messages share it.
 ghost use Rattle.std.specs.Prelude.{◌≡◌, ◌≤◌, true, false, length, IfOk, IfSome, OnSome, IfNone};
 ghost use Rattle.std.specs.Bool.{IsTrue};

@@ -15,7 +15,7 @@ use crate::taint::{Effect, Taint};
 use std::alloc::{AllocError, Global};
 
 /// A row, and all that it tells once more in front of it: its name and labels, and its taints, as
-/// texts with their lengths. What is compared lies together; the row itself is kilobytes large.
+/// texts with their lengths. What is compared lies together, where the row's own lists lie apart.
 #[derive(Drop)]
 pub(crate) struct SharedRow {
     allocatable: Res,
