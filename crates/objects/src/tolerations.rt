@@ -59,8 +59,8 @@ fn take_toleration(
     out: &mut Vec<u8>,
     item: &Value,
 ) -> Result<(), AllocError>
-    ensures value { IfOk result (λ _. with_item (codes "toleration of ") (spelled (codes "key") (view item.now)) (kept tolerations.old out.old.items)
-        (toleration_of tolerations.old (view item.now))
+    ensures value { IfOk result (λ _. with_item (codes "toleration of ") (spelled (codes "key") (view item.now))
+        (kept tolerations.old out.old.items) (toleration_of tolerations.old (view item.now))
         ≡ kept tolerations.new out.new.items) }
     ensures sayable { each_beside says_toleration [] tolerations.old ≡ true
         → OnOk result (each_beside says_toleration [] tolerations.new ≡ true) }

@@ -134,7 +134,8 @@ fn are_same_marks(a: bool, b: bool) -> bool
 
 // A name, and labels, each as its key and its value.
 fn pack_labels(alloc: Global, name: &Name, labels: &[Label]) -> Result<Vec<u8>, AllocError>
-    ensures packed { IfOk result (λ packed. packed.items ≡ packed_text name.now ++ flat_map packed_label labels.now) }
+    ensures packed { IfOk result (λ packed.
+        packed.items ≡ packed_text name.now ++ flat_map packed_label labels.now) }
     ensures least { IfOk result (λ packed. 1 + length name.now ≤ length packed.items) }
     ensures most { IfOk result (λ packed. length packed.items ≤ 1 + length name.now + 128 * length labels.now) }
 {

@@ -4,7 +4,7 @@ ghost use Rattle.std.specs.Prelude.{◌≡◌, []};
 ghost use Rattle.whost.specs.Handed.{pod_records, node_records};
 
 use crate::record::Record;
-use crate::rows::{pod_record, pod_record3, shared_record, shared_record3};
+use crate::rows::{node_record3, pod_record, pod_record3, shared_record};
 use quant::{Pod, Res, SharedNode};
 use wmach::Host;
 
@@ -49,7 +49,7 @@ impl Versions {
         shared_record(node, used, &mut self.first);
         self.second.copy_as_second(&self.first);
         self.second.put_taints(node.taints.as_slice());
-        shared_record3(node, &mut self.third);
+        node_record3(node, &mut self.third);
     }
 }
 

@@ -116,18 +116,6 @@ pub fn pod_record3(pod: &Pod, out: &mut Record)
     out.put_tolerations(tolerations);
 }
 
-/// Makes `out` the record of a node in version 3, whatever stood in it.
-#[tactic(auto, unfolding(crate::specs::Record::node_bytes3))]
-pub fn node_record3(node: &Node, out: &mut Record)
-    ensures bytes { out.new ≡ node_bytes3 node.now }
-    ensures most { length out.new ≤ 5237 }
-{
-    out.clear();
-    out.put_byte(THIRD_VERSION);
-    put_node(node, None, &NOTHING_USED, out);
-    out.put_taints(node.taints.as_slice());
-}
-
 /// Makes `out` the record in version 1 of a row that is shared, whose labels are mostly packed.
 #[tactic(auto, unfolding(crate::specs::Record::node_bytes))]
 pub(crate) fn shared_record(node: &SharedNode, used: &Res, out: &mut Record)
@@ -140,9 +128,9 @@ pub(crate) fn shared_record(node: &SharedNode, used: &Res, out: &mut Record)
     put_node(node, node.labels_in_order(), used, out);
 }
 
-/// Makes `out` the record in version 3 of a row that is shared.
+/// Makes `out` the record of a node in version 3, whatever stood in it. Its labels are mostly packed.
 #[tactic(auto, unfolding(crate::specs::Record::node_bytes3))]
-pub(crate) fn shared_record3(node: &SharedNode, out: &mut Record)
+pub fn node_record3(node: &SharedNode, out: &mut Record)
     ensures bytes { out.new ≡ node_bytes3 node.now }
     ensures most { length out.new ≤ 5237 }
 {

@@ -10,7 +10,19 @@ returns-clause-value c =
     let same : to_z w32 (of_z w32 c.in_ok-priority.priority) ≡ c.in_ok-priority.priority = search (rules, to_z-of_z) in
     let wished : c.put_wishes.new.out.items ≡ wishes (view c.in_ok-spec.spec.now) =
     c.in_ok-put_wishes.ensures ∙ ap (λ left. left ++ wishes (view c.in_ok-spec.spec.now)) c.requires in
-    rw (same, c.in_ok-meta.ensures, c.in_ok-spec.ensures, c.in_ok-uid.ensures, c.in_ok-priority.ensures, c.in_ok-request.ensures, c.in_ok-labels.ensures, c.in_ok-tolerations.ensures, ← wished, c.in_ok-labels-2.ensures.value, c.in_ok-tolerations-2.ensures.value) refl
+    rw (
+      same,
+      c.in_ok-meta.ensures,
+      c.in_ok-spec.ensures,
+      c.in_ok-uid.ensures,
+      c.in_ok-priority.ensures,
+      c.in_ok-request.ensures,
+      c.in_ok-labels.ensures,
+      c.in_ok-tolerations.ensures,
+      ← wished,
+      c.in_ok-labels-2.ensures.value,
+      c.in_ok-tolerations-2.ensures.value,
+    ) refl
 
 pub returns-clause-sayable : goal.returns-clause-sayable
 returns-clause-sayable c = record {
