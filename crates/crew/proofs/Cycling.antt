@@ -12,9 +12,9 @@ use Rattle.desk.specs.History.{Call, GoesOn}
 use Rattle.desk.specs.Shared.{Pass, Desk, IsLooked}
 use Rattle.rules.specs.RuleSet.{RuleSet}
 use Rattle.choose.specs.Kits.{rules_of}
-use Rattle.engine.specs.declared.one_cycle.Cycled.{Cycled}
-use Rattle.engine.specs.declared.one_cycle.Cycled.TheVariants as cycled
-use Rattle.engine.specs.Cycle.{IsFailed, IsAssumed, AfterAssume, EndsWith, AfterPop, IsCycle}
+use Rattle.cycle.specs.declared.one_cycle.Cycled.{Cycled}
+use Rattle.cycle.specs.declared.one_cycle.Cycled.TheVariants as cycled
+use Rattle.cycle.specs.Cycle.{IsFailed, IsAssumed, AfterAssume, EndsWith, AfterPop, IsCycle}
 use Rattle.crew.specs.Made.{BeginsWith, IsInformed}
 use Rattle.crew.specs.Cycles.{OneCycle, MakesCycles, HasCycled, EndsIdle}
 use Rattle.crew.proofs.Going.{begins_trans, goes_begins, goes_trans, Later, later_trans, later_same, informed_later, informed_refl, informed_trans, applied_later}

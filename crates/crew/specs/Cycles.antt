@@ -3,10 +3,10 @@ use Rattle.std.specs.Prelude.{◌≡◌, ℕ, List, [], ◌∷◌, ◌++◌}
 use Rattle.desk.specs.History.{Call, GoesOn}
 use Rattle.desk.specs.Shared.{Pass, Desk}
 use Rattle.rules.specs.RuleSet.{RuleSet}
-use Rattle.engine.specs.declared.one_cycle.Cycled.{Cycled}
-use Rattle.engine.specs.Cycle.{IsCycle}
+use Rattle.cycle.specs.declared.one_cycle.Cycled.{Cycled}
+use Rattle.cycle.specs.Cycle.{IsCycle}
 use Rattle.crew.specs.Made.{BeginsWith, newcomer, IsInformed}
-use Rattle.engine.specs.declared.one_cycle.Cycled.TheVariants as outcomes
+use Rattle.cycle.specs.declared.one_cycle.Cycled.TheVariants as outcomes
 
 -- one cycle of a pass: what it came to, and what the pass was before and after it
 pub record OneCycle : Type 0 where

@@ -3,9 +3,9 @@ ghost use Rattle.std.specs.Prelude.{◌≡◌, false, IfOk, OnOk, OnErr, List};
 ghost use Rattle.std.specs.Bool.{IsTrue};
 ghost use Rattle.desk.specs.Shared.{IsPassOf};
 ghost use Rattle.choose.specs.Kits.{rules_of};
-ghost use Rattle.engine.specs.Cycle.{IsCycle};
-ghost use Rattle.engine.specs.declared.one_cycle.Cycled.{Cycled as Came};
-ghost use Rattle.engine.specs.declared.one_cycle.Cycled.TheVariants as cycled;
+ghost use Rattle.cycle.specs.Cycle.{IsCycle};
+ghost use Rattle.cycle.specs.declared.one_cycle.Cycled.{Cycled as Came};
+ghost use Rattle.cycle.specs.declared.one_cycle.Cycled.TheVariants as cycled;
 ghost use Rattle.crew.specs.Cycles.{OneCycle, HasCycled, EndsIdle};
 
 use crate::bell::Bell;
@@ -13,8 +13,8 @@ use crate::worker::Worker;
 use binder::Job;
 use choose::Decider;
 use crossbeam_channel::Sender;
+use cycle::{Cycled, cycle};
 use desk::{Desk, Naming, NoMemory, Pass};
-use engine::{Cycled, cycle};
 use std::sync::Wait;
 use std::thread::Threads;
 

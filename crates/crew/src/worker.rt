@@ -5,8 +5,8 @@ ghost use Rattle.std.specs.List.{All};
 ghost use Rattle.crew.specs.Crew.{enlisted};
 
 use desk::{Desk, Naming, Pass};
-use engine::RunFault;
 use std::alloc::Global;
+use streams::RunFault;
 
 /// A pass of the desk, and what its thread works with.
 #[derive(Drop)]

@@ -1,13 +1,14 @@
 -- A run keeps its promise at each of its ends.
 use Rattle.std.proofs.Common.{◌≡◌, ◌≢◌, ◌⊎◌, ◌∙◌, ◌+◌, ◌<◌, ℕ, [], Option, Some, None, Result, Ok, Err, IfSome, IfErr, OnOk, OnErr, inl, inr, refl, sym, subst, ap, arith}
-use Rattle.engine.specs.Telling.{Telling}
+use Rattle.output_lines.specs.Telling.{Telling}
 use Rattle.manifest.specs.declared.fault.LineFault.{LineFault}
 use Rattle.rules.specs.RuleSet.{RuleSet}
 use Rattle.manifest.specs.declared.command.Command.{Command}
-use Rattle.engine.specs.declared.fault.RunFault.{RunFault}
-use Rattle.engine.specs.declared.fault.RunFault.TheVariants.{Line, NoMemory, Read, Write, NoPlace}
-use Rattle.engine.specs.Device.{DeviceUse, CountsFailure}
-use Rattle.engine.specs.Output.{first_fault, WritesOutput, WritesFront}
+use Rattle.streams.specs.declared.fault.RunFault.{RunFault}
+use Rattle.streams.specs.declared.fault.RunFault.TheVariants.{Line, NoMemory, Read, Write, NoPlace}
+use Rattle.streams.specs.Device.{DeviceUse, CountsFailure}
+use Rattle.streams.specs.Script.{first_fault}
+use Rattle.engine.specs.Output.{WritesOutput, WritesFront}
 use Rattle.engine.specs.inside.Output.{IsLineFault}
 use Rattle.engine.specs.Run.{IsRun}
 

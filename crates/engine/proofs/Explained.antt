@@ -5,19 +5,20 @@ use Rattle.std.proofs.lemmas.List.Elements.{All-nil, All-cons, All-head, All-tai
 use Rattle.rules.specs.RuleSet.{RuleSet, SayOneThing}
 use Rattle.desk.specs.declared.step.Step.{Step}
 use Rattle.desk.specs.Machine.{State, snapshot}
-use Rattle.engine.specs.declared.named_rule.NamedRule.{NamedRule}
+use Rattle.output_lines.specs.declared.named_rule.NamedRule.{NamedRule}
 use Rattle.manifest.specs.declared.command.Command.{Command}
 use Rattle.manifest.specs.declared.command.Question.{Question}
 use Rattle.manifest.specs.declared.command.Command.TheVariants as commands
 use Rattle.engine.specs.Answers.{opening, step_of, asked_of, Answered, AnsweredBy, AllAnswered}
-use Rattle.engine.specs.Indented.{AreLines, without_indented}
-use Rattle.engine.specs.Lines.{lines_of}
-use Rattle.engine.specs.Script.{asked_in}
-use Rattle.engine.specs.Output.{taken, IsOutput}
-use Rattle.engine.specs.Text.{cycle_line, judged_line}
-use Rattle.engine.specs.Telling.{Telling, telling, ruling_lines}
+use Rattle.output_lines.specs.Indented.{AreLines, without_indented}
+use Rattle.streams.specs.Lines.{lines_of}
+use Rattle.streams.specs.Script.{asked_in}
+use Rattle.streams.specs.Script.{taken}
+use Rattle.engine.specs.Output.{IsOutput}
+use Rattle.output_lines.specs.Text.{cycle_line, judged_line}
+use Rattle.output_lines.specs.Telling.{Telling, telling, ruling_lines}
 use Rattle.engine.specs.Laws.{AskingChangesNothing, ExplainedOutput, IsAnswer, IsWith, IsWithLines, PlainOutput, unless_asked, without_questions}
-use Rattle.engine.proofs.Indented.{left_in, left_out, no_lines, without-none}
+use Rattle.output_lines.proofs.Indented.{left_in, left_out, no_lines, without-none}
 use Rattle.engine.proofs.OneOutput.{one_output}
 
 -- ---- what is asked

@@ -1,10 +1,11 @@
 -- What runs that are cut short write of a script's output.
 use Rattle.std.proofs.Common.{◌≡◌, ℕ, ◌⊎◌, inl, inr, List, [], ◌∷◌, ◌++◌, refl, sym, ap, subst, ◌∙◌}
 use Rattle.std.proofs.lemmas.List.{append_assoc}
-use Rattle.engine.specs.Telling.{Telling}
+use Rattle.output_lines.specs.Telling.{Telling}
 use Rattle.rules.specs.RuleSet.{RuleSet, SayOneThing}
 use Rattle.manifest.specs.declared.command.Command.{Command}
-use Rattle.engine.specs.Answers.{State, opening, limits, AllAnswered}
+use Rattle.engine.specs.Answers.{State, opening, AllAnswered}
+use Rattle.streams.specs.Greatest.{limits}
 use Rattle.engine.specs.Laws.{Begins, FrontsBeginOutput, FrontsAgree}
 use Rattle.engine.proofs.OneOutput.{Agree, all_one}
 use Rattle.engine.proofs.OwnNames.{at_opening}

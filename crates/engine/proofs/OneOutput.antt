@@ -1,7 +1,7 @@
 -- A script has one output.
 use Rattle.std.proofs.Common.{◌≡◌, ℕ, Bool, true, false, List, [], ◌∷◌, ◌++◌, length, Option, Some, None, Result, Ok, Err, sym, ap, subst, ◌∙◌}
 use Rattle.quant.specs.declared.name.Name.{Name}
-use Rattle.engine.specs.Telling.{Telling, Explains, TellsNodes, ruling_lines, verdict_lines}
+use Rattle.output_lines.specs.Telling.{Telling, Explains, TellsNodes, ruling_lines, verdict_lines}
 use Rattle.quant.specs.declared.objects.Pod.{Pod}
 use Rattle.quant.specs.declared.version.Ticket.{Ticket}
 use Rattle.book.specs.declared.refusal.Refusal.{Refusal}
@@ -18,16 +18,17 @@ use Rattle.choose.proofs.OneDecision.{one_decision}
 use Rattle.choose.proofs.OneVerdict.{one_list, one_ruled}
 use Rattle.manifest.specs.declared.command.Command.{Command}
 use Rattle.manifest.specs.declared.command.Question.{Question}
-use Rattle.engine.specs.declared.named_rule.NamedRule.{NamedRule}
-use Rattle.engine.specs.declared.one_cycle.Cycled.{Cycled}
-use Rattle.engine.specs.CycleAlone.{AfterAssumeAlone, EndsAlone, IsDecidedAlone, AfterPopAlone}
-use Rattle.engine.specs.Answers.{after, opening, limits, step_of, asked_of, AnsweredBy, AllAnswered}
-use Rattle.engine.specs.Text.{cycle_line, judged_line}
-use Rattle.engine.specs.Lines.{lines_of}
-use Rattle.engine.specs.Script.{asked_in}
-use Rattle.engine.specs.Output.{taken}
+use Rattle.output_lines.specs.declared.named_rule.NamedRule.{NamedRule}
+use Rattle.cycle.specs.declared.one_cycle.Cycled.{Cycled}
+use Rattle.cycle.specs.CycleAlone.{AfterAssumeAlone, EndsAlone, IsDecidedAlone, AfterPopAlone}
+use Rattle.engine.specs.Answers.{after, opening, step_of, asked_of, AnsweredBy, AllAnswered}
+use Rattle.streams.specs.Greatest.{limits}
+use Rattle.output_lines.specs.Text.{cycle_line, judged_line}
+use Rattle.streams.specs.Lines.{lines_of}
+use Rattle.streams.specs.Script.{asked_in}
+use Rattle.streams.specs.Script.{taken}
 use Rattle.engine.specs.Laws.{OneOutput}
-use Rattle.engine.proofs.Cycles.{given_same}
+use Rattle.cycle.proofs.Cycles.{given_same}
 use Rattle.engine.proofs.OwnNames.{StandByName, kept, at_opening, shown_apart}
 
 -- what two answers agree in: the state after them, and what is told

@@ -2,7 +2,7 @@
 use Rattle.std.proofs.Common.{◌≡◌, ◌⊎◌, inl, inr, ℕ, Bool, true, false, List, [], ◌∷◌, Option, Some, None, refl, arith}
 use Rattle.std.specs.List.{All, AllZip}
 use Rattle.std.proofs.lemmas.List.Elements.{All-head, All-tail}
-use Rattle.engine.specs.Telling.{Telling, Explains, TellsNodes}
+use Rattle.output_lines.specs.Telling.{Telling, Explains, TellsNodes}
 use Rattle.quant.specs.declared.objects.Pod.{Pod}
 use Rattle.desk.specs.declared.step.Step.{Step}
 use Rattle.desk.specs.declared.step.Step.TheVariants.{Pop}
@@ -16,13 +16,13 @@ use Rattle.choose.specs.Verdict.{HasVerdict, HasRuling, asked}
 use Rattle.choose.specs.Choice.{AreVerdicts, Choice}
 use Rattle.manifest.specs.declared.command.Command.{Command}
 use Rattle.manifest.specs.declared.command.Question.{Question}
-use Rattle.engine.specs.declared.named_rule.NamedRule.{NamedRule}
-use Rattle.engine.specs.declared.one_cycle.Cycled.{Cycled}
-use Rattle.engine.specs.CycleAlone.{AfterPopAlone}
+use Rattle.output_lines.specs.declared.named_rule.NamedRule.{NamedRule}
+use Rattle.cycle.specs.declared.one_cycle.Cycled.{Cycled}
+use Rattle.cycle.specs.CycleAlone.{AfterPopAlone}
 use Rattle.engine.specs.Answers.{opening, step_of, asked_of, AnsweredBy, AllAnswered}
-use Rattle.engine.specs.Lines.{lines_of}
-use Rattle.engine.specs.Script.{asked_in}
-use Rattle.engine.specs.Output.{taken}
+use Rattle.streams.specs.Lines.{lines_of}
+use Rattle.streams.specs.Script.{asked_in}
+use Rattle.streams.specs.Script.{taken}
 use Rattle.choose.specs.Kits.{RuleAlike}
 use Rattle.engine.specs.Laws.{AsksNothing, SameOutput}
 

@@ -1,32 +1,23 @@
 -- What is answered to the lines of a script, by the machine of a desk that has one pass.
 use Rattle.std.specs.Prelude.{◌≡◌, ℕ, true, false, List, [], ◌∷◌, ◌++◌, Option, Some, None}
-use Rattle.std.specs.List.{flat_map}
-use Rattle.std.proofs.Common.{lit≤}
-use Rattle.quant.specs.declared.limits.TheConstants.{MAX_NODES, MAX_PLACED, MAX_QUEUED}
-use Rattle.book.specs.declared.limits.Limits.{Limits}
 use Rattle.desk.specs.declared.step.Step.{Step}
 use Rattle.desk.specs.declared.step.Step.TheVariants as steps
-use Rattle.desk.specs.declared.step.Reply.{Reply}
-use Rattle.desk.specs.declared.step.Reply.TheVariants.{Counts, Refused}
 use Rattle.desk.specs.Machine as machine
-use Rattle.desk.specs.Shown.{Shown}
 use Rattle.manifest.specs.declared.command.Command.{Command}
 use Rattle.manifest.specs.declared.command.Question.{Question}
 use Rattle.manifest.specs.declared.command.Command.TheVariants as commands
 use Rattle.rules.specs.RuleSet.{RuleSet}
-use Rattle.engine.specs.declared.one_cycle.Cycled.{Cycled}
-use Rattle.engine.specs.CycleAlone.{IsCycleAlone}
-use Rattle.engine.specs.Indented.{AreLines}
-use Rattle.engine.specs.Telling.{Telling, TellsNodes, Judges}
-use Rattle.engine.specs.Text.{ok_line, refused_line, node_line, places_line, queue_line, clock_line, cycle_line}
+use Rattle.streams.specs.Greatest.{limits}
+use Rattle.cycle.specs.declared.one_cycle.Cycled.{Cycled}
+use Rattle.cycle.specs.CycleAlone.{IsCycleAlone}
+use Rattle.output_lines.specs.Indented.{AreLines}
+use Rattle.output_lines.specs.Replies.{reply_lines, snapshot_lines}
+use Rattle.output_lines.specs.Telling.{Telling, TellsNodes, Judges}
+use Rattle.output_lines.specs.Text.{cycle_line}
 
 -- the state in which steps are done
 abbrev pub State : Type 0
 State = machine.State
-
--- the program's limits, the greatest that there are
-abbrev pub limits : Limits
-limits = record { nodes = MAX_NODES; placed = MAX_PLACED; queued = MAX_QUEUED; few_nodes = lit≤ tt; few_placed = lit≤ tt; few_queued = lit≤ tt }
 
 -- the state before the first line
 abbrev pub opening : State
@@ -51,16 +42,6 @@ asked_of _ = None
 -- the state after a step, which is by pass 0; a look changes nothing
 unfoldable pub after : State → Step → State
 after state step = machine.after state 0 step
-
--- the lines that answer a step. No step that a line asks for gives a pod or a ticket: a cycle does
-unfoldable pub reply_lines : Reply → List ℕ
-reply_lines (Counts n) = places_line n.bound n.assumed ++ queue_line n.active n.backoff n.unschedulable n.in_flight ++ clock_line n.clock.0 n.version.0
-reply_lines (Refused why) = refused_line why
-reply_lines _ = ok_line
-
--- the lines of a snapshot: its nodes in order
-abbrev pub snapshot_lines : List Shown → List ℕ
-snapshot_lines rows = flat_map (λ row. node_line row.node row.used) rows
 
 -- what is shown besides: where the desk's numbers are asked for, the nodes
 abbrev pub look_lines : State → Step → List ℕ

@@ -1,19 +1,20 @@
 -- What holds of every script.
 use Rattle.std.specs.Prelude.{◌≡◌, ℕ, ◌⊎◌, true, false, List, [], ◌∷◌, ◌++◌, Option, Some, None}
 use Rattle.std.specs.List.{All, flat_map}
-use Rattle.engine.specs.declared.named_rule.NamedRule.{NamedRule}
-use Rattle.engine.specs.Telling.{Telling, telling}
-use Rattle.engine.specs.Indented.{AreLines, without_indented}
+use Rattle.output_lines.specs.declared.named_rule.NamedRule.{NamedRule}
+use Rattle.output_lines.specs.Telling.{Telling, telling}
+use Rattle.output_lines.specs.Indented.{AreLines, without_indented}
 use Rattle.rules.specs.RuleSet.{RuleSet}
 use Rattle.choose.specs.Kits.{JudgeAlike, RuleAlike}
 use Rattle.quant.specs.declared.name.Name.{Name}
 use Rattle.manifest.specs.declared.command.Command.{Command}
 use Rattle.manifest.specs.declared.command.Question.{Question}
 use Rattle.engine.specs.Answers.{asked_of}
-use Rattle.engine.specs.Lines.{lines_of}
-use Rattle.engine.specs.Script.{asked_in}
-use Rattle.engine.specs.Text.{judged_line}
-use Rattle.engine.specs.Output.{taken, IsOutput, BeginsOutput}
+use Rattle.streams.specs.Lines.{lines_of}
+use Rattle.streams.specs.Script.{asked_in}
+use Rattle.output_lines.specs.Text.{judged_line}
+use Rattle.streams.specs.Script.{taken}
+use Rattle.engine.specs.Output.{IsOutput, BeginsOutput}
 
 -- There is one output of a script: it depends on the script, the rules, their names and weights as
 -- they are told, and whether verdicts are told alone.

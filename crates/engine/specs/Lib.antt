@@ -1,14 +1,5 @@
 pub mod Answers
-pub mod Cycle
-pub mod CycleAlone
-pub mod Device
-pub mod Fault
-pub mod Indented
 pub mod Laws
-pub mod Lines
 pub mod Output
 pub mod Run
-pub mod Script
-pub mod Telling
-pub mod Text
 pub mod inside

@@ -1,21 +1,12 @@
 -- The output of a script.
-use Rattle.std.specs.Prelude.{◌≡◌, ℕ, List, ◌++◌, Option, Result, Ok}
-use Rattle.manifest.specs.declared.fault.LineFault.{LineFault}
-use Rattle.engine.specs.Telling.{Telling}
+use Rattle.std.specs.Prelude.{◌≡◌, ℕ, List, ◌++◌, Option}
+use Rattle.output_lines.specs.Telling.{Telling}
 use Rattle.rules.specs.RuleSet.{RuleSet}
 use Rattle.manifest.specs.declared.command.Command.{Command}
-use Rattle.engine.specs.Script.{asked_in, fault_from}
-use Rattle.engine.specs.Lines.{lines_of}
+use Rattle.streams.specs.Script.{asked_in, taken}
+use Rattle.streams.specs.Lines.{lines_of}
 use Rattle.engine.specs.Answers.{State, opening, AllAnswered}
 use Rattle.std.specs.Io.KnownBytes.{Appends}
-
--- a run takes a command as it is
-abbrev pub taken : Command → Result Command LineFault
-taken command = Ok command
-
--- the first faulty line of a script, counted from 1, and its fault
-unfoldable pub first_fault : List ℕ → Option (ℕ × LineFault)
-first_fault script = fault_from taken 1 (lines_of script)
 
 -- the output of a script for these rules, which have these names: the answers to its lines in
 -- order, up to the first faulty one

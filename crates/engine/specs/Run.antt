@@ -1,12 +1,13 @@
 -- What a run of a script promises.
 use Rattle.std.specs.Prelude.{◌≡◌, ◌≢◌, ◌<◌, ℕ, [], Some, None, Result, Err, IfSome, OnOk, OnErr}
-use Rattle.engine.specs.Telling.{Telling}
+use Rattle.output_lines.specs.Telling.{Telling}
 use Rattle.manifest.specs.declared.fault.LineFault.{LineFault}
 use Rattle.rules.specs.RuleSet.{RuleSet}
-use Rattle.engine.specs.declared.fault.RunFault.{RunFault}
-use Rattle.engine.specs.declared.fault.RunFault.TheVariants.{Line, Read, Write}
-use Rattle.engine.specs.Device.{DeviceUse}
-use Rattle.engine.specs.Output.{first_fault, WritesOutput, WritesFront}
+use Rattle.streams.specs.declared.fault.RunFault.{RunFault}
+use Rattle.streams.specs.declared.fault.RunFault.TheVariants.{Line, Read, Write}
+use Rattle.streams.specs.Device.{DeviceUse}
+use Rattle.streams.specs.Script.{first_fault}
+use Rattle.engine.specs.Output.{WritesOutput, WritesFront}
 
 -- A run by these rules, which have these names, took its script from this source, wrote to this
 -- sink, and came to this.

@@ -1,31 +1,30 @@
 //! A script from its first line to its last.
 ghost use Rattle.std.specs.Prelude.{◌≡◌, ◌≢◌, ◌^◌, ◌<◌, Err, [], vec_len, IsTrue, IfSome, IfOk, OnOk, OnErr, IfErr};
 ghost use Rattle.std.specs.Io.KnownBytes.{Appends};
-ghost use Rattle.engine.specs.Device.{AppendsFront, CountsFailure, use_of};
-ghost use Rattle.engine.specs.inside.Device.{WritesSome};
+ghost use Rattle.streams.specs.Device.{AppendsFront, CountsFailure, use_of};
+ghost use Rattle.streams.specs.inside.Device.{WritesSome};
 ghost use Rattle.manifest.specs.Line.{IsTimely};
 ghost use Rattle.manifest.specs.Reading.{Answers};
 ghost use Rattle.choose.specs.Kits.{rules_of};
-ghost use Rattle.engine.specs.Script.{asked_by};
-ghost use Rattle.engine.specs.Output.{taken};
+ghost use Rattle.streams.specs.Script.{asked_by};
+ghost use Rattle.streams.specs.Script.{taken};
 ghost use Rattle.engine.specs.inside.Output.{IsAnswered, IsLineFault};
 ghost use Rattle.engine.specs.Run.{IsRun};
-ghost use Rattle.engine.specs.Telling.{telling};
-ghost use Rattle.engine.specs.Answers.{opening, limits};
+ghost use Rattle.output_lines.specs.Telling.{telling};
+ghost use Rattle.engine.specs.Answers.{opening};
+ghost use Rattle.streams.specs.Greatest.{limits};
 
-use crate::device::{Sink, Source, write_all};
-use crate::fault::RunFault;
-use crate::lines::LineReader;
-use crate::named_rule::NamedRule;
 use crate::session::Session;
 use choose::Decider;
 use desk::{Blank, Limits, Naming};
 use manifest::{Command, LineFault, read_line};
+use output_lines::NamedRule;
 use std::alloc::Global;
 use std::hash::RandomState;
 use std::marker::Brand;
 use std::sync::Wait;
 use std::thread::Threads;
+use streams::{LineReader, RunFault, Sink, Source, write_all};
 
 // So much output may wait before it is written, while whole lines are there to be answered. One
 // piece of input can ask for thousands of dumps, each as long as all nodes' lines.
@@ -63,7 +62,7 @@ fn flush_if<W: Sink>(sink: &mut W, pending: &mut Vec<u8>, due: bool) -> Result<(
 }
 
 // What a line asks for: nothing, where it is empty.
-#[tactic(auto, unfolding(crate::specs::Script::asked_by))]
+#[tactic(auto, unfolding(streams::specs::Script::asked_by))]
 fn asked_in(alloc: Global, line: &[u8]) -> Result<Option<Command>, LineFault>
     ensures asked { Answers result (asked_by taken line.now) }
     ensures timely { IfOk result (λ asked. IfSome asked IsTimely) }

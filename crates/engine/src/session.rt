@@ -4,27 +4,26 @@ ghost use Rattle.manifest.specs.Line as line;
 ghost use Rattle.manifest.specs.declared.command.Command.TheVariants as commands;
 ghost use Rattle.desk.specs.Caller as caller;
 ghost use Rattle.desk.specs.Machine as machine;
-ghost use Rattle.engine.specs.Answers.{after, text_of, opening, limits, look_lines, reply_lines, snapshot_lines, Answered};
+ghost use Rattle.engine.specs.Answers.{after, text_of, opening, look_lines, Answered};
+ghost use Rattle.streams.specs.Greatest.{limits};
+ghost use Rattle.output_lines.specs.Replies.{reply_lines, snapshot_lines};
 ghost use Rattle.choose.specs.Kits.{rules_of};
-ghost use Rattle.engine.specs.CycleAlone.{IsCycleAlone};
-ghost use Rattle.engine.specs.Indented.{AreLines};
-ghost use Rattle.engine.specs.Telling.{Judges, TellsNodes, telling};
+ghost use Rattle.cycle.specs.CycleAlone.{IsCycleAlone};
+ghost use Rattle.output_lines.specs.Indented.{AreLines};
+ghost use Rattle.output_lines.specs.Telling.{Judges, TellsNodes, telling};
 
-use crate::fault::RunFault;
-use crate::lone_desk::LoneDesk;
-use crate::named_rule::NamedRule;
-use crate::one_cycle::Cycled;
-use crate::text::{
-    push_clock, push_cycled, push_judged, push_node, push_places, push_queue, push_refused,
-};
-use crate::verdicts::{push_rulings, push_verdicts};
 use choose::Decider;
-use desk::{Blank, Counts, Limits, Naming, Reply, Snapshot, Step};
+use cycle::{Cycled, LoneDesk};
+use desk::{Blank, Limits, Naming, Step};
 use manifest::{Command, Question};
-use std::alloc::{AllocError, Global};
+use output_lines::{
+    NamedRule, push_cycled, push_judged, push_reply, push_rulings, push_snapshot, push_verdicts,
+};
+use std::alloc::Global;
 use std::hash::RandomState;
 use std::sync::Wait;
 use std::thread::Threads;
+use streams::RunFault;
 
 // A desk with its one pass, and room for an answer. It isn't `Drop`: end it by `end`.
 pub(crate) struct Session<J: Naming> {
@@ -247,57 +246,5 @@ fn add(out: &mut Vec<u8>, text: &[u8]) -> Result<(), RunFault>
     ensures faults { IfErr result (λ e. e ≡ RunFault.NoMemory) }
 {
     out.extend_from_slice(text)?;
-    Ok(())
-}
-
-// Adds the lines that answer a step.
-#[tactic(auto, unfolding(crate::specs::Answers::reply_lines))]
-fn push_reply(out: &mut Vec<u8>, reply: Reply) -> Result<(), AllocError>
-    ensures { OnOk result (out.new.items ≡ out.old.items ++ reply_lines reply) }
-{
-    match reply {
-        Reply::Done | Reply::Idle | Reply::Popped(_) | Reply::Ticket(_) => out.extend_from_slice(
-            b"ok\n",
-        ),
-        Reply::Counts(counts) => push_numbers(out, counts),
-        Reply::Refused(why) => push_refused(out, why),
-    }
-}
-
-// Adds the lines of a desk's numbers.
-#[tactic(auto, unfolding(crate::specs::Answers::reply_lines))]
-fn push_numbers(out: &mut Vec<u8>, n: Counts) -> Result<(), AllocError>
-    ensures { OnOk result (out.new.items ≡ out.old.items ++ reply_lines (Reply.Counts n)) }
-{
-    push_places(out, n.bound as u64, n.assumed as u64)?;
-    push_queue(
-        out,
-        n.active as u64,
-        n.backoff as u64,
-        n.unschedulable as u64,
-        n.in_flight as u64,
-    )?;
-    push_clock(out, n.clock.0, n.version.0)
-}
-
-/// Adds the lines of a dump: those of the nodes, and those of the desk's numbers.
-///
-/// Errors: `AllocError`. A beginning of them may be added.
-pub fn push_dump(out: &mut Vec<u8>, snapshot: &Snapshot, counts: Counts) -> Result<(), AllocError>
-    ensures { OnOk result (out.new.items ≡ out.old.items ++
-        (snapshot_lines snapshot.now ++ reply_lines (Reply.Counts counts))) }
-{
-    push_snapshot(out, snapshot)?;
-    push_numbers(out, counts)
-}
-
-// Adds the lines of the nodes, in the order of their names.
-fn push_snapshot(out: &mut Vec<u8>, snapshot: &Snapshot) -> Result<(), AllocError>
-    ensures text { OnOk result (out.new.items ≡ out.old.items ++ snapshot_lines snapshot.now) }
-    ensures lines { OnOk result (AreLines false (snapshot_lines snapshot.now)) }
-{
-    for row in snapshot.rows() {
-        push_node(out, &row.node, row.used)?;
-    }
     Ok(())
 }

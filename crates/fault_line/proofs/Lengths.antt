@@ -14,9 +14,9 @@ use Rattle.manifest.specs.declared.field.Field.{Field}
 use Rattle.manifest.specs.declared.field.Field.TheVariants.{Op, Version, Name, Cpu, Memory, Pods, Labels, Taints, Unschedulable, Uid, Priority, Containers, Init, Tolerations, Node, At, Ticket, Filters}
 use Rattle.manifest.specs.declared.fault.LineFault.{LineFault}
 use Rattle.manifest.specs.declared.fault.LineFault.TheVariants as line_fault
-use Rattle.engine.specs.Fault as run
-use Rattle.engine.specs.declared.fault.RunFault.{RunFault}
-use Rattle.engine.specs.declared.fault.RunFault.TheVariants as run_fault
+use Rattle.streams.specs.Fault as run
+use Rattle.streams.specs.declared.fault.RunFault.{RunFault}
+use Rattle.streams.specs.declared.fault.RunFault.TheVariants as run_fault
 use Rattle.rules.specs.Trap as trap
 use Rattle.rules.specs.declared.trap.Trap.{Trap}
 use Rattle.rules.specs.declared.trap.Trap.TheVariants as traps

@@ -1,6 +1,6 @@
 -- The faults that end the program, and the exit statuses.
 use Rattle.std.specs.Prelude.{ℕ}
-use Rattle.engine.specs.declared.fault.RunFault.TheVariants.{Line, NoMemory, Read, Write, NoPlace}
+use Rattle.streams.specs.declared.fault.RunFault.TheVariants.{Line, NoMemory, Read, Write, NoPlace}
 use Rattle.fault_line.specs.declared.fault.Fault.{Fault}
 use Rattle.fault_line.specs.declared.fault.Fault.TheVariants.{Words, Misused, Plugin, Unread, UnreadModule, Run, Uncounted}
 use Rattle.command.specs.declared.fault.WordFault.TheVariants as words

@@ -5,10 +5,10 @@ use Rattle.manifest.specs.Field.{key}
 use Rattle.manifest.specs.Fault as line
 use Rattle.manifest.specs.declared.field.Field.{Field}
 use Rattle.manifest.specs.declared.fault.LineFault.{LineFault}
-use Rattle.engine.specs.Device.{AppendsFront}
-use Rattle.engine.specs.Fault as run
-use Rattle.engine.specs.declared.fault.RunFault.{RunFault}
-use Rattle.engine.specs.declared.fault.RunFault.TheVariants.{Line, NoMemory, Read, Write, NoPlace}
+use Rattle.streams.specs.Device.{AppendsFront}
+use Rattle.streams.specs.Fault as run
+use Rattle.streams.specs.declared.fault.RunFault.{RunFault}
+use Rattle.streams.specs.declared.fault.RunFault.TheVariants.{Line, NoMemory, Read, Write, NoPlace}
 use Rattle.command.specs.Fault.{number_of, name_of}
 use Rattle.fault_line.specs.Text.{fault_text}
 use Rattle.fault_line.specs.Unread.{file_text, object_or_it}

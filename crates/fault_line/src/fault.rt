@@ -5,8 +5,8 @@ ghost use Rattle.fault_line.specs.Fault.{status_of};
 use crate::refusal::Refusal;
 use crate::unread::{FileFault, LineUncounted, PluginUnread};
 use command::{Misuse, WordFault};
-use engine::RunFault;
 use quant::Name;
+use streams::RunFault;
 use thiserror::Error;
 
 /// Why the program ends early.

@@ -12,10 +12,10 @@ use crate::refusal::{Refusal, push_refusal};
 use crate::unread::{FileFault, LineUncounted, PluginUnread};
 use arrayvec::ArrayVec;
 use command::{Count, Misuse, Part, WordFault};
-use engine::{RunFault, Sink, write_all};
 use itoa::Buffer;
 use manifest::LineFault;
 use quant::Name;
+use streams::{RunFault, Sink, write_all};
 
 // Room for the longest line: a number has up to 20 digits, a fault's name up to 20 bytes, a field's
 // key up to 13, and a plugin's name up to 63. Each `push_..` says how much of the room it wants at

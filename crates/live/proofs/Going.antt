@@ -4,9 +4,9 @@ use Rattle.std.proofs.KnownBytes.{Appends-trans, Appends-nil}
 use Rattle.std.proofs.lemmas.Bool.{lt-leb, cases_lt}
 use Rattle.std.proofs.lemmas.List.{length-take, append-nil, take_all}
 use Rattle.std.specs.Io.KnownBytes.{Appends, Consumes, IsAtEnd, prepend_known}
-use Rattle.engine.specs.inside.Device.{WritesSome}
-use Rattle.engine.specs.Lines.{lines_of, TakesFront}
-use Rattle.engine.proofs.Taking.{lines_of-nil}
+use Rattle.streams.specs.inside.Device.{WritesSome}
+use Rattle.streams.specs.Lines.{lines_of, TakesFront}
+use Rattle.streams.proofs.Taking.{lines_of-nil}
 use Rattle.objects.specs.Site.{Site}
 use Rattle.ledger.specs.State.{State}
 use Rattle.live.specs.Live.{AreAnswered, IsAnswered, IsBegun, IsWhole, first_state, together}

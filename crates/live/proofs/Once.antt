@@ -1,7 +1,7 @@
 -- The lines of an input have one output.
 use Rattle.std.proofs.Common.{◌≡◌, ◌∙◌, ℕ, List, [], ◌∷◌, ◌++◌, refl, sym, subst, ap, append_assoc}
 use Rattle.objects.specs.Site.{Site}
-use Rattle.engine.specs.Lines.{lines_of}
+use Rattle.streams.specs.Lines.{lines_of}
 use Rattle.ledger.specs.State.{State}
 use Rattle.ledger.proofs.OneAnswer.{one_answer}
 use Rattle.live.specs.Answer.{answer_text}

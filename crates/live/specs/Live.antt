@@ -1,10 +1,10 @@
 -- What is answered to the lines that a ledger is told, one answer a line.
 use Rattle.std.specs.Prelude.{◌≡◌, ◌≢◌, ◌⊎◌, ◌<◌, ℕ, List, [], ◌∷◌, ◌++◌, Some, IfSome}
 use Rattle.std.specs.Io.KnownBytes.{Appends}
-use Rattle.engine.specs.Answers.{limits}
-use Rattle.engine.specs.Device.{DeviceUse}
-use Rattle.engine.specs.Lines.{lines_of}
-use Rattle.engine.specs.declared.fault.RunFault.TheVariants as run_fault
+use Rattle.streams.specs.Greatest.{limits}
+use Rattle.streams.specs.Device.{DeviceUse}
+use Rattle.streams.specs.Lines.{lines_of}
+use Rattle.streams.specs.declared.fault.RunFault.TheVariants as run_fault
 use Rattle.fault_line.specs.declared.fault.Fault.{Fault}
 use Rattle.fault_line.specs.declared.fault.Fault.TheVariants.{Run}
 use Rattle.fault_line.specs.Message.{Tells, message_of}

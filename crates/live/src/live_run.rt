@@ -1,9 +1,9 @@
 //! A ledger that is told line by line, and whose answers are written.
 ghost use Rattle.std.specs.Prelude.{◌≡◌, ◌^◌, ◌<◌, ◌++◌, [], vec_len, None, IsTrue, IfOk, IfErr, OnOk, OnErr};
 ghost use Rattle.std.specs.Io.KnownBytes.{Appends};
-ghost use Rattle.engine.specs.Device.{AppendsFront, use_of};
-ghost use Rattle.engine.specs.inside.Device.{WritesSome};
-ghost use Rattle.engine.specs.declared.fault.RunFault.TheVariants as run_fault;
+ghost use Rattle.streams.specs.Device.{AppendsFront, use_of};
+ghost use Rattle.streams.specs.inside.Device.{WritesSome};
+ghost use Rattle.streams.specs.declared.fault.RunFault.TheVariants as run_fault;
 ghost use Rattle.objects.specs.Site.{site_of};
 ghost use Rattle.live.specs.Live.{IsAnswered, IsLive, first_state};
 ghost use Rattle.live.specs.Meaning.{meaning};
@@ -12,12 +12,12 @@ ghost use Rattle.live.specs.inside.Live.{IsLineAnswered, IsStopped};
 use crate::answer_text::{answer_text, faulty_text};
 use crate::meaning::{Meaning, meaning_of};
 use book::Limits;
-use engine::{LineReader, RunFault, Sink, Source, write_all};
 use fault_line::{Fault, report};
 use ledger::Ledger;
 use objects::{MAX_OBJECT, Site};
 use std::alloc::{AllocError, Global};
 use std::hash::RandomState;
+use streams::{LineReader, RunFault, Sink, Source, write_all};
 
 /// How many pods may be known at a time: those on nodes, and as many that wait as there is room
 /// for beside.

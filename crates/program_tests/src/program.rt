@@ -7,7 +7,6 @@ mod storms;
 mod translations;
 
 use command::{Misuse, Part, WordFault};
-use engine::RunFault;
 use quant::Name;
 use serving::{
     Cause, Fault, FileFault, Folder, Input, LineUncounted, Output, PluginUnread, Refusal, answer,
@@ -21,6 +20,7 @@ use std::process::Abort;
 use std::sync::Wait;
 use std::thread::Threads;
 use std::{fs, io};
+use streams::RunFault;
 use whost::InstanceFault;
 
 // A device's next call: each is interrupted once before it is made, and one of them fails.

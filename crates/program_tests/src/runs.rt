@@ -2,7 +2,7 @@
 ghost use Rattle.std.specs.Prelude.{◌≡◌, IfSome, vec_len};
 
 use crate::storms::{Paper, Script};
-use engine::NamedRule;
+use output_lines::NamedRule;
 use quant::{Name, Pod, Res, SharedNode};
 use rules::{Cause, FilterVerdict, Rules, ScoreVerdict};
 use serving::run_with_kits;

@@ -4,7 +4,6 @@ ghost use Rattle.std.specs.Prelude.{◌≡◌, vec_len};
 
 use crate::two_pools::storm_of_pools;
 use binder::{BindAnswer, Binder, Tally};
-use engine::{DeviceFailed, Sink, Source};
 use fleet::Gate;
 use itoa::Buffer;
 use plugin::{Kit, KitRules, Plugins};
@@ -18,6 +17,7 @@ use std::sync::atomic::{AtomicBool, AtomicU64, Ordering};
 use std::sync::{Arc, Wait};
 use std::thread;
 use std::thread::Threads;
+use streams::{DeviceFailed, Sink, Source};
 
 const MEMORY: &str = "there is memory";
 

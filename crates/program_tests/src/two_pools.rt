@@ -5,7 +5,6 @@ ghost use Rattle.fleet.specs.Speaking.{SpeaksFor};
 
 use binder::Binder;
 use choose::OneOf;
-use engine::{Sink, Source};
 use fleet::{Blank, Gate, Pool, Site};
 use rules::Rules;
 use std::alloc::Global;
@@ -14,6 +13,7 @@ use std::marker::Brand;
 use std::sync::{Arc, Wait};
 use std::thread::Threads;
 use storm::storm;
+use streams::{Sink, Source};
 
 // A storm of two pools of sites of their own, each of one kit.
 fn storm_of<

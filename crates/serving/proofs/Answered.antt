@@ -1,7 +1,7 @@
 -- What the words ask for is done, or its fault is told, at each end of an answer.
 use Rattle.std.proofs.Common.{◌≡◌, ℕ, List, Option, Some, None, Result, Ok, Err, inl, inr, refl, sym, subst, arith}
 use Rattle.std.specs.Prelude.{IfErr}
-use Rattle.engine.specs.Device.{DeviceUse}
+use Rattle.streams.specs.Device.{DeviceUse}
 use Rattle.command.specs.Misuse.{misuse_of}
 use Rattle.command.specs.Words.{Asked, asked_by, meaning, run, explain, check, storm, translate, live, version}
 use Rattle.command.specs.declared.fault.WordFault.{WordFault}
@@ -9,10 +9,11 @@ use Rattle.command.specs.declared.fault.WordFault.TheVariants as word_fault
 use Rattle.fault_line.specs.declared.fault.Fault.{Fault}
 use Rattle.fault_line.specs.declared.fault.Fault.TheVariants.{Words, Misused}
 use Rattle.fault_line.specs.Fault.{status_of}
-use Rattle.serving.specs.Answer.{FilesUse, IsAnswer, IsDone}
-use Rattle.serving.specs.Run.{TellsFault, told_of}
-use Rattle.serving.proofs.Ends.{not_begun, told}
-use Rattle.serving.proofs.Quiet.{no_memory_told}
+use Rattle.site.specs.Planned.{FilesUse}
+use Rattle.serving.specs.Answer.{IsAnswer, IsDone}
+use Rattle.site.specs.Run.{TellsFault, told_of}
+use Rattle.site.proofs.Ends.{not_begun, told}
+use Rattle.site.proofs.Quiet.{no_memory_told}
 use Rattle.serving.proofs.StormEnds.{storm_not_begun}
 use Rattle.translator.proofs.Translated.{nothing_translated}
 use Rattle.live.proofs.Lived.{nothing_lived}

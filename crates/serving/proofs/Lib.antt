@@ -1,12 +1,2 @@
-pub mod Agreeing
-pub mod Decisions
-pub mod Ends
-pub mod Fronts
-pub mod Kits
-pub mod Quiet
-pub mod Verdicts
-pub mod Sites
-pub mod SiteOutput
-pub mod SameSite
-pub mod StormEnds
 pub mod Answered
+pub mod StormEnds

@@ -7,9 +7,9 @@ use Rattle.desk.specs.History.{Call, Legal}
 use Rattle.desk.specs.Shared.{Desk}
 use Rattle.plugin.specs.Kit.{Ready, rules_of}
 use Rattle.choose.specs.Kits as choosing
-use Rattle.engine.specs.Device.{DeviceUse, AppendsFront}
-use Rattle.engine.specs.declared.fault.RunFault.{RunFault}
-use Rattle.engine.specs.declared.fault.RunFault.TheVariants as run_fault
+use Rattle.streams.specs.Device.{DeviceUse, AppendsFront}
+use Rattle.streams.specs.declared.fault.RunFault.{RunFault}
+use Rattle.streams.specs.declared.fault.RunFault.TheVariants as run_fault
 use Rattle.crew.specs.Cycles.{OneCycle, Cycles}
 use Rattle.std.specs.Io.KnownBytes.{Appends}
 use Rattle.storm.specs.Storm.{IsAudit, IsStormRun, Storms, StormsScript, cycler, desk_for}
@@ -17,11 +17,11 @@ use Rattle.command.specs.Words.{SpecSyntax}
 use Rattle.fault_line.specs.declared.fault.Fault.{Fault}
 use Rattle.fault_line.specs.declared.fault.Fault.TheVariants.{Run}
 use Rattle.fault_line.specs.Fault.{status_of}
-use Rattle.serving.specs.Run.{TellsFailures, TellsFault}
-use Rattle.serving.specs.Site.{AreSiteKits, SiteRefused, WhyNoSite}
+use Rattle.site.specs.Run.{TellsFailures, TellsFault}
+use Rattle.site.specs.Site.{AreSiteKits, SiteRefused, WhyNoSite}
 use Rattle.serving.specs.Storm.{IsSiteStorm, SiteStorms, StormFaulty}
 use Rattle.serving.specs.inside.Storm.{audit_status}
-use Rattle.serving.proofs.Ends.{Besides, site_status}
+use Rattle.site.proofs.Ends.{Besides, site_status}
 
 -- ---- deciders with one kit each, and their kits
 

@@ -1,7 +1,7 @@
 -- What the program's words get done, and by which exit status that is told.
 use Rattle.std.specs.Prelude.{◌≡◌, ◌≢◌, ◌⊎◌, ⊤, ℕ, Bool, true, false, List, Option, Some, None, Result, IfErr}
-use Rattle.engine.specs.Device.{DeviceUse}
-use Rattle.engine.specs.declared.fault.RunFault.TheVariants as run_fault
+use Rattle.streams.specs.Device.{DeviceUse}
+use Rattle.streams.specs.declared.fault.RunFault.TheVariants as run_fault
 use Rattle.command.specs.Words.{Asked, SpecSyntax, asked_by, run, explain, check, storm, translate, live, version}
 use Rattle.command.specs.declared.fault.WordFault.{WordFault}
 use Rattle.fault_line.specs.declared.fault.Fault.{Fault}
@@ -10,37 +10,15 @@ use Rattle.fault_line.specs.Fault.{status_of}
 use Rattle.live.specs.Live.{IsLive}
 use Rattle.objects.specs.Site.{Site}
 use Rattle.translator.specs.Translate.{Manner, IsTranslated}
-use Rattle.serving.specs.Check.{CannotRead, IsCheck}
-use Rattle.serving.specs.Run.{IsSiteRun, TellsFailures, TellsFault, told_of}
-use Rattle.serving.specs.Site.{AreFromFiles, UnreadPlugin}
+use Rattle.site.specs.Check.{CannotRead, IsCheck}
+use Rattle.site.specs.Planned.{FilesUse, IsPlannedRun}
+use Rattle.site.specs.Run.{TellsFailures, TellsFault, told_of}
+use Rattle.site.specs.Site.{AreFromFiles, UnreadPlugin}
 use Rattle.serving.specs.Storm.{IsSiteStorm}
-use Rattle.serving.specs.Version.{TellsVersion}
+use Rattle.site.specs.Version.{TellsVersion}
 
--- What a call makes of the files: what each has before it, where that is known, and how many
--- couldn't be opened or read, before and after.
-pub record FilesUse : Type 1 where
-  pub contents : List ℕ → Option (List ℕ)
-  pub failures_old : ℕ
-  pub failures_new : ℕ
-  -- they are as they were
-  pub IsUntouched : Type 0
-
--- the same, of files that were this before the call and are this after it
-abbrev pub files_of : {F : Type 0} → (contents : F → List ℕ → Option (List ℕ)) → (failures : F → ℕ) → (old new : F) → FilesUse
-files_of contents failures old new = record { contents = contents old; failures_old = failures old; failures_new = failures new; IsUntouched = new ≡ old }
-
--- A run by the plugins that the words configure, whose modules stand in their files, which explains
--- its cycles or not, ended with this status. `Unkeyed` says that there are no keys: then nothing is
--- begun.
-pub record IsPlannedRun (explains : Bool) (specs : List SpecSyntax) (Unkeyed : Type 0) (files : FilesUse) (source out err : DeviceUse) (ended : ℕ) : Type 0 where
-  pub run : IsSiteRun explains (AreFromFiles files.contents specs) specs source out err ended
-  -- without a place nothing is read; a file that failed is told by its name, with the plugin whose
-  -- file it is
-  pub failures : TellsFailures source.IsUntouched Unkeyed (UnreadPlugin specs files.failures_old files.failures_new) source out err ended
-  -- and at any other status no file has failed
-  pub files_told : ended ≢ 4 → files.failures_new ≡ files.failures_old
-
--- the same of a storm, which has read its script before there is a place
+-- A storm by the plugins that the words configure, as a run is planned, but that it has read its
+-- script before there is a place.
 pub record IsPlannedStorm (cycles binders : ℕ) (specs : List SpecSyntax) (Unkeyed : Type 0) (files : FilesUse) (source out err : DeviceUse) (ended : ℕ) : Type 0 where
   pub storm : IsSiteStorm (AreFromFiles files.contents specs) specs cycles binders source out err ended
   pub failures : TellsFailures ⊤ Unkeyed (UnreadPlugin specs files.failures_old files.failures_new) source out err ended

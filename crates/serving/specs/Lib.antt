@@ -1,10 +1,3 @@
 pub mod Answer
-pub mod Check
-pub mod Decision
-pub mod Laws
-pub mod Run
-pub mod Site
 pub mod Storm
-pub mod Verdict
-pub mod Version
 pub mod inside

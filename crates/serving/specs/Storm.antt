@@ -3,15 +3,15 @@ use Rattle.std.specs.Prelude.{◌≡◌, ◌⊎◌, ℕ, List, Option, Some, IfS
 use Rattle.std.specs.Io.KnownBytes.{Appends}
 use Rattle.plugin.specs.Kit.{Ready, rules_of}
 use Rattle.manifest.specs.declared.fault.LineFault.{LineFault}
-use Rattle.engine.specs.Device.{DeviceUse, AppendsFront}
-use Rattle.engine.specs.declared.fault.RunFault.TheVariants as run_fault
+use Rattle.streams.specs.Device.{DeviceUse, AppendsFront}
+use Rattle.streams.specs.declared.fault.RunFault.TheVariants as run_fault
 use Rattle.watch_script.specs.Script.{first_storm_fault}
 use Rattle.storm.specs.Storm.{StormsScript}
 use Rattle.command.specs.Words.{SpecSyntax}
 use Rattle.fault_line.specs.declared.fault.Fault.{Fault}
 use Rattle.fault_line.specs.declared.fault.Fault.TheVariants.{Run}
-use Rattle.serving.specs.Run.{TellsFault}
-use Rattle.serving.specs.Site.{AreSiteKits, SiteRefused}
+use Rattle.site.specs.Run.{TellsFault}
+use Rattle.site.specs.Site.{AreSiteKits, SiteRefused}
 
 -- By kits of a site's plugins, one a cycle thread, a storm of the script's steps came to this
 -- answer, and of what tells it so much was written. Where the source tells its bytes, no line of

@@ -1,2 +1,1 @@
-pub mod Site
 pub mod Storm

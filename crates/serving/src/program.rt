@@ -1,23 +1,21 @@
 //! What the program does, from its words to its exit status.
 ghost use Rattle.std.specs.Prelude.{◌≡◌, ◌^◌, ◌<◌, ℕ, List, None, Ok, map};
-ghost use Rattle.engine.specs.Device.{use_of};
-ghost use Rattle.serving.specs.Answer.{IsAnswer, files_of};
+ghost use Rattle.streams.specs.Device.{use_of};
+ghost use Rattle.site.specs.Planned.{files_of};
+ghost use Rattle.serving.specs.Answer.{IsAnswer};
 
-use crate::check::check_file;
-use crate::folder::Files;
-use crate::site_run::serve_plan;
 use crate::storm_run::storm_plan;
-use crate::version::tell_version;
 use command::{WordFault, Words, misuse_of, words};
-use engine::{Sink, Source};
 use fault_line::{Fault, report};
 use live::serve_live;
 use objects::Site;
+use site::{Files, check_file, serve_plan, tell_version};
 use std::alloc::Global;
 use std::convert::AsStr;
 use std::hash::RandomState;
 use std::sync::Wait;
 use std::thread::Threads;
+use streams::{Sink, Source};
 use translator::serve_translation;
 
 /// Does what the words that follow the program's name ask for, and gives the exit status. Words

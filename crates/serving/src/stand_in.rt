@@ -1,12 +1,11 @@
 //! Binders that stand in for a cluster.
 ghost use Rattle.std.specs.Prelude.{◌≡◌, ◌<◌, ◌^◌, ◌∷◌, [], vec_len};
-ghost use Rattle.engine.specs.Device.{use_of};
+ghost use Rattle.streams.specs.Device.{use_of};
 ghost use Rattle.choose.specs.Kits as choosing;
 ghost use Rattle.plugin.specs.Kit.{rules_of};
 ghost use Rattle.storm.specs.Storm.{IsStormRun};
 
 use binder::{BindAnswer, Binder, Tally};
-use engine::{RunFault, Sink, Source};
 use plugin::KitRules;
 use quant::Name;
 use std::alloc::Global;
@@ -14,6 +13,7 @@ use std::hash::RandomState;
 use std::sync::Wait;
 use std::thread::Threads;
 use storm::{OneKit, storm};
+use streams::{RunFault, Sink, Source};
 
 /// A binder that tells no cluster. Each bind that it is asked for is done, but where it is flaky
 /// every third one fails.

@@ -1,25 +1,25 @@
 //! A storm of a script, by the rules of a site's plugins.
 ghost use Rattle.std.specs.Prelude.{◌≡◌, ◌≢◌, ◌∷◌, [], ◌^◌, ◌<◌, ⊤, None, IfOk, length, map};
-ghost use Rattle.engine.specs.Device.{use_of};
+ghost use Rattle.streams.specs.Device.{use_of};
 ghost use Rattle.command.specs.Within.{IsStormPlan};
 ghost use Rattle.command.specs.Words.{syntax_of};
-ghost use Rattle.serving.specs.Answer.{IsPlannedStorm, files_of};
-ghost use Rattle.serving.specs.Run.{TellsFailures};
+ghost use Rattle.site.specs.Planned.{files_of};
+ghost use Rattle.serving.specs.Answer.{IsPlannedStorm};
+ghost use Rattle.site.specs.Run.{TellsFailures};
 ghost use Rattle.serving.specs.Storm.{IsSiteStorm};
 ghost use Rattle.serving.specs.inside.Storm.{audit_status};
 
-use crate::folder::Files;
-use crate::site::{modules_in, site_kits};
 use crate::stand_in::storm_by;
 use command::StormPlan;
-use engine::{RunFault, Sink, Source};
 use fault_line::{Fault, report};
 use plugin::KitRules;
+use site::{Files, modules_in, site_kits};
 use std::alloc::{AllocError, Global};
 use std::hash::RandomState;
 use std::sync::Wait;
 use std::thread::Threads;
 use storm::OneKit;
+use streams::{RunFault, Sink, Source};
 
 /// Reads a script whole from `source` and makes a storm of it: cycle threads that decide by the
 /// plugins that are planned, whose modules' bytes stand in their order, and binders that stand in

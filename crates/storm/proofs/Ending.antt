@@ -13,9 +13,9 @@ use Rattle.desk.specs.Shown.{Shown}
 use Rattle.rules.specs.RuleSet.{RuleSet}
 use Rattle.choose.specs.Kits.{rules_of}
 use Rattle.audit.specs.Audit.{ShowsSums}
-use Rattle.engine.specs.declared.fault.RunFault.{RunFault}
-use Rattle.engine.specs.declared.fault.RunFault.TheVariants.{Line, NoMemory, Read, Write, NoPlace}
-use Rattle.engine.specs.Device.{DeviceUse, AppendsFront}
+use Rattle.streams.specs.declared.fault.RunFault.{RunFault}
+use Rattle.streams.specs.declared.fault.RunFault.TheVariants.{Line, NoMemory, Read, Write, NoPlace}
+use Rattle.streams.specs.Device.{DeviceUse, AppendsFront}
 use Rattle.crew.specs.declared.worker.Worker.{Worker}
 use Rattle.crew.specs.Made.{BeginsWith, newcomer}
 use Rattle.crew.specs.Crew.{Each, IsDumped, enlisted}

@@ -14,11 +14,12 @@ use Rattle.desk.specs.Shared.{Desk}
 use Rattle.desk.specs.Shown.{Shown}
 use Rattle.rules.specs.RuleSet.{RuleSet}
 use Rattle.audit.specs.Audit.{ShowsSums}
-use Rattle.engine.specs.declared.fault.RunFault.{RunFault}
-use Rattle.engine.specs.declared.fault.RunFault.TheVariants.{Line, Read, Write}
-use Rattle.engine.specs.Answers.{limits, snapshot_lines, reply_lines}
-use Rattle.engine.specs.Device.{DeviceUse, AppendsFront}
-use Rattle.engine.specs.Text.{line_of}
+use Rattle.streams.specs.declared.fault.RunFault.{RunFault}
+use Rattle.streams.specs.declared.fault.RunFault.TheVariants.{Line, Read, Write}
+use Rattle.streams.specs.Greatest.{limits}
+use Rattle.output_lines.specs.Replies.{snapshot_lines, reply_lines}
+use Rattle.streams.specs.Device.{DeviceUse, AppendsFront}
+use Rattle.streams.specs.Lines.{line_of}
 use Rattle.watch_script.specs.Script.{script_steps, first_storm_fault}
 use Rattle.crew.specs.Made.{BeginsWith, steps_of, IsReportOrCount}
 use Rattle.crew.specs.Cycles.{OneCycle, Cycles, IsIdleAfter}

@@ -7,8 +7,8 @@ ghost use Rattle.desk.specs.Caller.{IsTimely};
 ghost use Rattle.desk.specs.Shared.{IsPassOf};
 ghost use Rattle.choose.specs.Kits.{rules_of};
 ghost use Rattle.audit.specs.Audit.{ShowsSums};
-ghost use Rattle.engine.specs.Answers.{limits};
-ghost use Rattle.engine.specs.Device.{use_of, AppendsFront};
+ghost use Rattle.streams.specs.Greatest.{limits};
+ghost use Rattle.streams.specs.Device.{use_of, AppendsFront};
 ghost use Rattle.crew.specs.Made.{newcomer};
 ghost use Rattle.crew.specs.Crew.{ArePassesOf, enlisted};
 ghost use Rattle.storm.specs.inside.Ending.{IsWorked, HasEnded, IsStormOf};
@@ -22,13 +22,14 @@ use choose::Decider;
 use crew::{Bell, FEEDERS, Worker, all_done, enlist, take_dump};
 use crossbeam_channel::unbounded;
 use desk::{Blank, Counts, Desk, Limits, Naming, Pass, Snapshot, Step};
-use engine::{RunFault, Sink, Source, push_dump, write_all};
+use output_lines::push_dump;
 use rules::Rules;
 use std::alloc::{AllocError, Global};
 use std::hash::RandomState;
 use std::marker::Brand;
 use std::sync::Wait;
 use std::thread::Threads;
+use streams::{RunFault, Sink, Source, write_all};
 use watch_script::read_script;
 
 // All passes of a desk: the feeders', one for each decider, one for each binder, and the last that

@@ -11,8 +11,8 @@ use Rattle.objects.specs.Shown.{AreTexts, in_marks, stands_for_itself}
 use Rattle.objects.specs.Told.{Told, told}
 use Rattle.objects.specs.Translation.{IsTranslation}
 use Rattle.objects.proofs.Shown.{names_are_texts}
-use Rattle.engine.specs.Lines.{IsLine, is_newline, lines_of}
-use Rattle.engine.proofs.Taking.{lines_of-newline, lines_of-nil}
+use Rattle.streams.specs.Lines.{IsLine, is_newline, lines_of}
+use Rattle.streams.proofs.Taking.{lines_of-newline, lines_of-nil}
 use Rattle.translator.specs.Translate.{Manner, AreTranslated, answer_object, answer_text, answers_text, line_or_null, next_version, told_under}
 use Rattle.translator.specs.Laws.{OneAnswerALine}
 use Rattle.translator.proofs.Scripts.{one_line, spelled_line, split_and}

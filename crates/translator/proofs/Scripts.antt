@@ -8,10 +8,10 @@ use Rattle.manifest.specs.declared.command.Command.{Command}
 use Rattle.manifest.specs.declared.command.Command.TheVariants as commands
 use Rattle.objects.specs.declared.translation.Translation.{Translation}
 use Rattle.objects.specs.Translation.{Spells, is_one_line}
-use Rattle.engine.specs.Lines.{IsLine, is_newline, lines_of}
-use Rattle.engine.specs.Script.{asked_by, asked_in, asked_then, fault_from, fault_or}
-use Rattle.engine.specs.Output.{first_fault, taken}
-use Rattle.engine.proofs.Taking.{lines_of-newline, lines_of-nil}
+use Rattle.streams.specs.Lines.{IsLine, is_newline, lines_of}
+use Rattle.streams.specs.Script.{asked_by, asked_in, asked_then, fault_from, fault_or}
+use Rattle.streams.specs.Script.{first_fault, taken}
+use Rattle.streams.proofs.Taking.{lines_of-newline, lines_of-nil}
 use Rattle.translator.specs.Translate.{Manner, AreTranslated, answer_text, answers_text, next_version}
 use Rattle.translator.specs.Laws.{TranslationIsScript, event_then, events_from, events_then}
 use Rattle.translator.proofs.Given.{no_meaning}

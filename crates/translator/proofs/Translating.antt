@@ -7,9 +7,9 @@ use Rattle.std.proofs.lemmas.List.{length-append, length-take, append-nil, take_
 use Rattle.std.specs.Io.KnownBytes.{Appends, Consumes, IsAtEnd, prepend_known}
 use Rattle.quant.specs.declared.limits.TheConstants.{MAX_VERSION}
 use Rattle.quant.specs.declared.version.Version.{Version}
-use Rattle.engine.specs.inside.Device.{WritesSome}
-use Rattle.engine.specs.Lines.{lines_of, TakesFront}
-use Rattle.engine.proofs.Taking.{lines_of-nil}
+use Rattle.streams.specs.inside.Device.{WritesSome}
+use Rattle.streams.specs.Lines.{lines_of, TakesFront}
+use Rattle.streams.proofs.Taking.{lines_of-nil}
 use Rattle.objects.specs.declared.translation.Translation.{Translation}
 use Rattle.objects.specs.ObjectName.{name_in}
 use Rattle.objects.specs.Site.{Site}

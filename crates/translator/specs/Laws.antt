@@ -4,9 +4,9 @@ use Rattle.quant.specs.declared.event.Event.{Event}
 use Rattle.manifest.specs.declared.command.Command.TheVariants as commands
 use Rattle.objects.specs.declared.translation.Translation.{Translation}
 use Rattle.objects.specs.Told.{Told}
-use Rattle.engine.specs.Lines.{lines_of}
-use Rattle.engine.specs.Script.{asked_in}
-use Rattle.engine.specs.Output.{first_fault, taken}
+use Rattle.streams.specs.Lines.{lines_of}
+use Rattle.streams.specs.Script.{asked_in}
+use Rattle.streams.specs.Script.{first_fault, taken}
 use Rattle.translator.specs.Translate.{Manner, AreTranslated, answers_text, next_version, told_under}
 
 -- an event, where there is one, and later ones

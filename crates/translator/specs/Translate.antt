@@ -9,9 +9,9 @@ use Rattle.objects.specs.ObjectName.{name_in}
 use Rattle.objects.specs.Site.{Site}
 use Rattle.objects.specs.Told.{Told, told}
 use Rattle.objects.specs.Translation.{IsTranslation}
-use Rattle.engine.specs.Device.{DeviceUse}
-use Rattle.engine.specs.Lines.{lines_of}
-use Rattle.engine.specs.declared.fault.RunFault.TheVariants as run_fault
+use Rattle.streams.specs.Device.{DeviceUse}
+use Rattle.streams.specs.Lines.{lines_of}
+use Rattle.streams.specs.declared.fault.RunFault.TheVariants as run_fault
 use Rattle.fault_line.specs.declared.fault.Fault.{Fault}
 use Rattle.fault_line.specs.declared.fault.Fault.TheVariants.{Run, Uncounted}
 use Rattle.fault_line.specs.declared.unread.LineUncounted.{LineUncounted}

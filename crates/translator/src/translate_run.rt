@@ -1,6 +1,6 @@
 //! A translation of objects of the Kubernetes API to the lines of a script, one for each.
 ghost use Rattle.std.specs.Prelude.{◌≡◌, ◌^◌, ◌<◌, ◌≤◌, ◌++◌, ◌&&◌, not, None, IfOk, IfErr, OnOk, OnErr};
-ghost use Rattle.engine.specs.Device.{use_of};
+ghost use Rattle.streams.specs.Device.{use_of};
 ghost use Rattle.objects.specs.Told.{Told};
 ghost use Rattle.objects.specs.Translation.{IsTranslation};
 ghost use Rattle.translator.specs.Translate.{IsTranslated, answer_text, left_out_text, manner_of, next_version, told_under};
@@ -9,11 +9,11 @@ ghost use Rattle.translator.specs.inside.Translate.{IsLineAnswered, IsLineEnd, I
 use crate::answer_text::{answer_text, left_out_text};
 use crate::waiting::{Stopped, Waiting};
 use command::TranslatePlan;
-use engine::{LineReader, RunFault, Sink, Source};
 use fault_line::{Fault, LineUncounted, excerpt_of, report};
 use objects::{MAX_OBJECT, Site, Translation, object_name, translate};
 use quant::{MAX_VERSION, Version};
 use std::alloc::{AllocError, Global};
+use streams::{LineReader, RunFault, Sink, Source};
 
 // The most bytes of a line that are kept: one more than an object may have, by which it is known to
 // be too long.

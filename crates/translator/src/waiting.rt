@@ -1,16 +1,16 @@
 //! What a translation has yet to write.
 ghost use Rattle.std.specs.Prelude.{◌≡◌, ◌<◌, ◌++◌, ◌^◌, [], vec_len, IsTrue, OnOk, OnErr, IfErr};
 ghost use Rattle.std.specs.Io.KnownBytes.{Appends};
-ghost use Rattle.engine.specs.Device.{AppendsFront};
-ghost use Rattle.engine.specs.declared.fault.RunFault.TheVariants as run_fault;
+ghost use Rattle.streams.specs.Device.{AppendsFront};
+ghost use Rattle.streams.specs.declared.fault.RunFault.TheVariants as run_fault;
 ghost use Rattle.fault_line.specs.declared.fault.Fault.TheVariants as faults;
 ghost use Rattle.translator.specs.declared.waiting.Stopped.TheVariants as stops;
-ghost use Rattle.engine.specs.inside.Device.{WritesSome};
+ghost use Rattle.streams.specs.inside.Device.{WritesSome};
 ghost use Rattle.translator.specs.inside.Waiting.{IsUnwritten};
 
-use engine::{RunFault, Sink, write_all};
 use fault_line::Fault;
 use std::alloc::{AllocError, Global};
+use streams::{RunFault, Sink, write_all};
 
 // So much may wait before it is written, while whole lines are there to be answered.
 const MAX_WAITING: usize = 65_536;

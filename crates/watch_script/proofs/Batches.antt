@@ -12,9 +12,9 @@ use Rattle.manifest.specs.declared.fault.LineFault.TheVariants as faults
 use Rattle.manifest.specs.Reading.{Fails}
 use Rattle.desk.specs.Caller.{IsTimely}
 use Rattle.desk.specs.declared.step.Step.{Step}
-use Rattle.engine.specs.Lines.{lines_of, TakesLine}
-use Rattle.engine.specs.Script.{asked_by, asked_then, asked_in, fault_or, fault_from}
-use Rattle.engine.proofs.Progress.{asked_by-kept}
+use Rattle.streams.specs.Lines.{lines_of, TakesLine}
+use Rattle.streams.specs.Script.{asked_by, asked_then, asked_in, fault_or, fault_from}
+use Rattle.streams.proofs.Asked.{asked_by-kept}
 use Rattle.watch_script.specs.Script.{watched}
 use Rattle.watch_script.specs.declared.batch.Faulty.{Faulty}
 use Rattle.watch_script.specs.inside.Lines.{AreSteps, IsFaulty, AreRead, TakesLines, kept}

@@ -10,9 +10,9 @@ use Rattle.manifest.specs.declared.fault.LineFault.TheVariants.{NoMemory}
 use Rattle.desk.specs.Caller.{IsTimely}
 use Rattle.std.specs.Io.KnownBytes.{Consumes, IsAtEnd, prepend_known}
 use Rattle.desk.specs.declared.step.Step.{Step}
-use Rattle.engine.specs.Lines.{lines_of}
-use Rattle.engine.proofs.Taking.{lines_of-nil}
-use Rattle.engine.specs.Script.{asked_in, fault_from}
+use Rattle.streams.specs.Lines.{lines_of}
+use Rattle.streams.proofs.Taking.{lines_of-nil}
+use Rattle.streams.specs.Script.{asked_in, fault_from}
 use Rattle.watch_script.specs.Script.{watched, script_steps, first_storm_fault}
 use Rattle.watch_script.specs.declared.batch.Faulty.{Faulty}
 use Rattle.watch_script.specs.inside.Lines.{AreSteps, IsFaulty, AreRead, TakesLines, kept}

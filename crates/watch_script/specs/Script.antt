@@ -7,8 +7,8 @@ use Rattle.manifest.specs.declared.fault.LineFault.TheVariants.{BadField}
 use Rattle.manifest.specs.declared.field.Field.TheVariants.{Op}
 use Rattle.desk.specs.declared.step.Step.{Step}
 use Rattle.desk.specs.declared.step.Step.TheVariants as steps
-use Rattle.engine.specs.Lines.{lines_of}
-use Rattle.engine.specs.Script.{asked_in, fault_from}
+use Rattle.streams.specs.Lines.{lines_of}
+use Rattle.streams.specs.Script.{asked_in, fault_from}
 
 -- the step that a command asks for; what the watch doesn't tell is a bad operation
 abbrev pub watched : Command → Result Step LineFault

@@ -7,10 +7,10 @@ ghost use Rattle.watch_script.specs.inside.Lines.{AreRead, TakesLines, TakesLast
 
 use crate::script::step_in;
 use desk::Step;
-use engine::{LineReader, RunFault, Source};
 use manifest::LineFault;
 use std::alloc::Global;
 use std::thread::{Threads, join};
+use streams::{LineReader, RunFault, Source};
 
 /// How many lines are read at once, at most.
 pub(crate) const BATCH: usize = 4_096;

@@ -5,15 +5,15 @@ ghost use Rattle.desk.specs.Caller as caller;
 ghost use Rattle.manifest.specs.Line as line;
 ghost use Rattle.manifest.specs.Reading.{Answers};
 ghost use Rattle.manifest.specs.declared.fault.LineFault.{LineFault as Fault};
-ghost use Rattle.engine.specs.Script.{asked_by};
+ghost use Rattle.streams.specs.Script.{asked_by};
 ghost use Rattle.watch_script.specs.Script.{watched, script_steps, first_storm_fault};
 
 use crate::batch::{read_in_four, take_lines};
 use desk::Step;
-use engine::{LineReader, RunFault, Source};
 use manifest::{Command, Field, LineFault, read_line};
 use std::alloc::{AllocError, Global};
 use std::thread::Threads;
+use streams::{LineReader, RunFault, Source};
 
 // The step that a command asks for. What the watch doesn't tell is refused.
 fn step_for(command: Command) -> Result<Step, LineFault>
@@ -33,7 +33,7 @@ fn step_for(command: Command) -> Result<Step, LineFault>
 }
 
 // The step that a line asks for: none, where it is empty.
-#[tactic(auto, unfolding(engine::specs::Script::asked_by))]
+#[tactic(auto, unfolding(streams::specs::Script::asked_by))]
 pub(crate) fn step_in(alloc: Global, line: &[u8]) -> Result<Option<Step>, LineFault>
     ensures asked { Answers result (asked_by watched line.now) }
     ensures timely { IfOk result (λ step. IfSome step caller.IsTimely) }

@@ -1,11 +1,11 @@
 -- What one line is answered, and which answers tell its fault.
 use Rattle.std.specs.Prelude.{◌≡◌, ℕ, List, ◌++◌, Option, Some, None, Result, Ok, Err}
 use Rattle.manifest.specs.declared.fault.LineFault.{LineFault}
-use Rattle.engine.specs.Telling.{Telling}
+use Rattle.output_lines.specs.Telling.{Telling}
 use Rattle.rules.specs.RuleSet.{RuleSet}
 use Rattle.manifest.specs.declared.command.Command.{Command}
-use Rattle.engine.specs.declared.fault.RunFault.{RunFault}
-use Rattle.engine.specs.declared.fault.RunFault.TheVariants.{Line, NoMemory}
+use Rattle.streams.specs.declared.fault.RunFault.{RunFault}
+use Rattle.streams.specs.declared.fault.RunFault.TheVariants.{Line, NoMemory}
 use Rattle.engine.specs.Answers.{State, Answered}
 
 -- what a line asks for is done and answered: nothing, where it is empty

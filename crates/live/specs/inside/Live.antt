@@ -1,9 +1,9 @@
 -- How the answers go from line to line, and where they end.
 use Rattle.std.specs.Prelude.{◌≡◌, ◌<◌, ◌++◌, ℕ, [], List, Some, Result, IfSome, IfErr, OnOk}
 use Rattle.std.specs.Io.KnownBytes.{Appends}
-use Rattle.engine.specs.Device.{DeviceUse}
-use Rattle.engine.specs.declared.fault.RunFault.{RunFault}
-use Rattle.engine.specs.declared.fault.RunFault.TheVariants as run_fault
+use Rattle.streams.specs.Device.{DeviceUse}
+use Rattle.streams.specs.declared.fault.RunFault.{RunFault}
+use Rattle.streams.specs.declared.fault.RunFault.TheVariants as run_fault
 use Rattle.objects.specs.Site.{Site}
 use Rattle.ledger.specs.State.{State}
 use Rattle.live.specs.Meaning.{meaning}

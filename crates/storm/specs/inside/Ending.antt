@@ -2,9 +2,9 @@
 use Rattle.std.specs.Prelude.{◌≡◌, ◌≢◌, ◌⊎◌, ◌<◌, ℕ, Bool, false, List, length, slice_index_or, Result, Err, IfOk, IfErr, OnErr}
 use Rattle.std.specs.List.{All}
 use Rattle.std.specs.Io.KnownBytes.{Appends}
-use Rattle.engine.specs.Device.{DeviceUse, AppendsFront}
-use Rattle.engine.specs.declared.fault.RunFault.{RunFault}
-use Rattle.engine.specs.declared.fault.RunFault.TheVariants.{NoMemory, NoPlace, Write}
+use Rattle.streams.specs.Device.{DeviceUse, AppendsFront}
+use Rattle.streams.specs.declared.fault.RunFault.{RunFault}
+use Rattle.streams.specs.declared.fault.RunFault.TheVariants.{NoMemory, NoPlace, Write}
 use Rattle.desk.specs.declared.step.Step.{Step}
 use Rattle.desk.specs.declared.step.Counts.{Counts}
 use Rattle.desk.specs.Shared.{Pass, Desk, IsPassOf}

@@ -4,8 +4,8 @@ use Rattle.std.specs.Io.KnownBytes.{Appends}
 use Rattle.objects.specs.declared.translation.Translation.{Translation}
 use Rattle.objects.specs.Told.{Told}
 use Rattle.objects.specs.Translation.{IsTranslation}
-use Rattle.engine.specs.Device.{DeviceUse}
-use Rattle.engine.specs.declared.fault.RunFault.TheVariants as run_fault
+use Rattle.streams.specs.Device.{DeviceUse}
+use Rattle.streams.specs.declared.fault.RunFault.TheVariants as run_fault
 use Rattle.fault_line.specs.declared.fault.Fault.{Fault}
 use Rattle.fault_line.specs.declared.fault.Fault.TheVariants.{Run, Uncounted}
 use Rattle.translator.specs.declared.waiting.Stopped.{Stopped}

@@ -1,6 +1,6 @@
 -- Why what waits couldn't be written.
 use Rattle.std.specs.Prelude.{◌≡◌, ◌<◌, ℕ}
-use Rattle.engine.specs.declared.fault.RunFault.TheVariants as run_fault
+use Rattle.streams.specs.declared.fault.RunFault.TheVariants as run_fault
 use Rattle.fault_line.specs.declared.fault.Fault.TheVariants.{Run}
 use Rattle.translator.specs.declared.waiting.Stopped.{Stopped}
 use Rattle.translator.specs.declared.waiting.Stopped.TheVariants.{By, Untold}

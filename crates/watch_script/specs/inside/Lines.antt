@@ -5,8 +5,8 @@ use Rattle.std.specs.Io.KnownBytes.{Consumes, IsAtEnd, prepend_known}
 use Rattle.manifest.specs.declared.fault.LineFault.TheVariants.{NoMemory}
 use Rattle.desk.specs.Caller.{IsTimely}
 use Rattle.desk.specs.declared.step.Step.{Step}
-use Rattle.engine.specs.Lines.{lines_of}
-use Rattle.engine.specs.Script.{asked_in, fault_from}
+use Rattle.streams.specs.Lines.{lines_of}
+use Rattle.streams.specs.Script.{asked_in, fault_from}
 use Rattle.watch_script.specs.Script.{watched}
 use Rattle.watch_script.specs.declared.batch.Faulty.{Faulty}
 

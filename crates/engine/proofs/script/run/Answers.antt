@@ -1,4 +1,4 @@
-use Rattle.engine.proofs.Steps.{limits_same}
+use Rattle.streams.proofs.Greatest.{limits_same}
 use Rattle.engine.proofs.script.run.Goals as goal
 
 -- the program's limits are the greatest

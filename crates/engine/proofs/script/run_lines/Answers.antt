@@ -1,10 +1,10 @@
 use Rattle.std.proofs.Common.{◌≡◌, ◌≢◌, ℕ, ◌+◌, ◌<◌, ◌≤◌, Ok, Err, Result, List, [], length, refl, ap, sym, subst, ◌∙◌, arith}
 use Rattle.std.proofs.lemmas.Result.{err_from_is_err_and, on_ok_weaker, on_err_weaker}
-use Rattle.engine.specs.declared.fault.RunFault.{RunFault}
-use Rattle.engine.specs.declared.fault.RunFault.TheVariants.{NoMemory, Read}
-use Rattle.engine.specs.Device.{AppendsFront}
-use Rattle.engine.specs.Script.{asked_by}
-use Rattle.engine.specs.Output.{taken}
+use Rattle.streams.specs.declared.fault.RunFault.{RunFault}
+use Rattle.streams.specs.declared.fault.RunFault.TheVariants.{NoMemory, Read}
+use Rattle.streams.specs.Device.{AppendsFront}
+use Rattle.streams.specs.Script.{asked_by}
+use Rattle.streams.specs.Script.{taken}
 use Rattle.engine.proofs.Ends.{no_memory, write_failed, unread, at_end, at_line, placed-line, placed-no_memory, placed-by_write, placed-unread, placed-write}
 use Rattle.engine.proofs.Progress.{nothing-written, IsRunning-begin, IsRunning-partly, IsRunning-flushed, IsRunning-answered, front-now, front-flushed, fault-flushed, end-flushed}
 use Rattle.engine.proofs.script.run_lines.Goals as goal

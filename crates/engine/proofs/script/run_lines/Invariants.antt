@@ -1,7 +1,7 @@
 use Rattle.std.proofs.Common.{◌≡◌, ◌+◌, ◌≤◌, length}
 use Rattle.std.specs.Io.KnownBytes.{prepend_known}
 use Rattle.choose.specs.Kits.{rules_of}
-use Rattle.engine.specs.Telling.{telling}
+use Rattle.output_lines.specs.Telling.{telling}
 use Rattle.engine.proofs.Progress.{IsRunning}
 use Rattle.engine.proofs.script.run_lines.Given as goal
 

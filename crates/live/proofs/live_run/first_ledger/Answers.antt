@@ -1,5 +1,5 @@
 use Rattle.std.proofs.Common.{◌∙◌, ap}
-use Rattle.engine.proofs.Steps.{limits_same}
+use Rattle.streams.proofs.Greatest.{limits_same}
 use Rattle.ledger.specs.State.{opening}
 use Rattle.live.proofs.live_run.first_ledger.Goals as goal
 

@@ -1,9 +1,9 @@
 use Rattle.std.proofs.Common.{inl, refl, map, ◌∷◌, []}
 use Rattle.command.specs.Words.{syntax_of}
-use Rattle.engine.specs.Device.{use_of}
-use Rattle.engine.specs.declared.fault.RunFault.TheVariants.{NoMemory}
+use Rattle.streams.specs.Device.{use_of}
+use Rattle.streams.specs.declared.fault.RunFault.TheVariants.{NoMemory}
 use Rattle.fault_line.specs.declared.fault.Fault.TheVariants.{Run}
-use Rattle.serving.proofs.Ends.{no_site_told, told}
+use Rattle.site.proofs.Ends.{no_site_told, told}
 use Rattle.serving.proofs.StormEnds.{audited, audit_told, besides_storm, no_storm_site, storm_cut_short, storm_not_begun}
 use Rattle.serving.proofs.storm_run.serve_storm.Goals as goal
 

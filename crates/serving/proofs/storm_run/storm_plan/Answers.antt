@@ -1,10 +1,10 @@
 use Rattle.std.proofs.Common.{◌≡◌, ◌∙◌, ℕ, List, None, map, inl, inr, refl, sym, subst, rules}
 use Rattle.command.specs.Words.{syntax_of}
-use Rattle.engine.specs.declared.fault.RunFault.TheVariants as run_fault
+use Rattle.streams.specs.declared.fault.RunFault.TheVariants as run_fault
 use Rattle.fault_line.specs.declared.fault.Fault.TheVariants.{Run}
-use Rattle.serving.specs.Site.{AreFromFiles}
-use Rattle.serving.proofs.Ends.{failures_given, modules_status, no_file_failed, no_modules_told, told}
-use Rattle.serving.proofs.Sites.{many_modules}
+use Rattle.site.specs.Site.{AreFromFiles}
+use Rattle.site.proofs.Ends.{failures_given, modules_status, no_file_failed, no_modules_told, told}
+use Rattle.site.proofs.Sites.{many_modules}
 use Rattle.serving.proofs.StormEnds.{storm_given, storm_not_begun}
 use Rattle.serving.proofs.storm_run.storm_plan.Goals as goal
 

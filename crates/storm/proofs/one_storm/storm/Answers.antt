@@ -1,7 +1,7 @@
 use Rattle.std.proofs.Common.{length}
 use Rattle.choose.specs.Kits.{rules_of}
-use Rattle.engine.specs.Device.{use_of}
-use Rattle.engine.proofs.Steps.{limits_same}
+use Rattle.streams.specs.Device.{use_of}
+use Rattle.streams.proofs.Greatest.{limits_same}
 use Rattle.storm.proofs.Ending.{run_of}
 use Rattle.storm.proofs.one_storm.storm.Goals as goal
 

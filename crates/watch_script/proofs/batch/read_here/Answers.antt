@@ -2,7 +2,7 @@ use Rattle.std.proofs.Common.{◌≡◌, Ok, ◌∙◌, ap, refl, sym}
 use Rattle.std.specs.Prelude.{option_to_list}
 use Rattle.std.proofs.lemmas.List.Elements.{All-append, All-same}
 use Rattle.desk.specs.Caller.{IsTimely}
-use Rattle.engine.specs.Script.{asked_by}
+use Rattle.streams.specs.Script.{asked_by}
 use Rattle.watch_script.specs.Script.{watched}
 use Rattle.watch_script.proofs.Batches.{asked_line, asked_timely, one_more_line, faulty_at}
 use Rattle.watch_script.proofs.batch.read_here.Goals as goal

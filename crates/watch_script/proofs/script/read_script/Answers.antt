@@ -3,7 +3,7 @@ use Rattle.std.proofs.lemmas.List.{length-map}
 use Rattle.std.proofs.lemmas.List.Elements.{All-nil, All-same}
 use Rattle.std.specs.Io.KnownBytes.{prepend_known}
 use Rattle.desk.specs.Caller.{IsTimely}
-use Rattle.engine.specs.declared.fault.RunFault.TheVariants.{Line}
+use Rattle.streams.specs.declared.fault.RunFault.TheVariants.{Line}
 use Rattle.watch_script.specs.inside.Lines.{TakesLines}
 use Rattle.watch_script.proofs.Reading.{reading-begin, reading-end, read-more, read-fault, read-timely}
 use Rattle.watch_script.proofs.script.read_script.Goals as goal

@@ -1,5 +1,5 @@
 use Rattle.std.proofs.Common.{◌∙◌, ◌++◌, ap, append_assoc, refl}
-use Rattle.engine.specs.Text.{cycle_line}
+use Rattle.output_lines.specs.Text.{cycle_line}
 use Rattle.engine.proofs.session.Session.cycle.Goals as goal
 
 -- what is told of the nodes, and then the line

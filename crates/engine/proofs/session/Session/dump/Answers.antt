@@ -1,5 +1,5 @@
 use Rattle.desk.specs.declared.step.Step.TheVariants.{Count}
-use Rattle.engine.proofs.OutputLines.{text_lines}
+use Rattle.engine.proofs.Filled.{text_lines}
 use Rattle.engine.proofs.session.Session.dump.Goals as goal
 
 pub returns-clause-lines : goal.returns-clause-lines

@@ -7,9 +7,9 @@ use Rattle.choose.specs.Kits.{rules_of}
 use Rattle.choose.specs.Verdict.{asked}
 use Rattle.choose.specs.Choice.{AreRulings}
 use Rattle.choose.proofs.Verdicts.{all_zip_length}
-use Rattle.engine.specs.Indented.{AreLines}
-use Rattle.engine.specs.Telling.{ruling_lines}
-use Rattle.engine.specs.Text.{judged_line}
+use Rattle.output_lines.specs.Indented.{AreLines}
+use Rattle.output_lines.specs.Telling.{ruling_lines}
+use Rattle.output_lines.specs.Text.{judged_line}
 use Rattle.engine.proofs.Nodes.{judged_by}
 use Rattle.engine.proofs.session.Session.judge.Goals as goal
 

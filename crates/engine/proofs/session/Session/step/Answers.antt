@@ -1,7 +1,8 @@
 use Rattle.std.proofs.Common.{◌++◌, ◌∙◌, ap, sym}
 use Rattle.desk.specs.Machine as machine
-use Rattle.engine.specs.Answers.{text_of, reply_lines}
-use Rattle.engine.proofs.OutputLines.{plain_lines}
+use Rattle.engine.specs.Answers.{text_of}
+use Rattle.output_lines.specs.Replies.{reply_lines}
+use Rattle.engine.proofs.Filled.{plain_lines}
 use Rattle.engine.proofs.session.Session.step.Goals as goal
 
 pub returns-clause-text : goal.returns-clause-text

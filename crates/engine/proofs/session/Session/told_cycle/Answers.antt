@@ -4,8 +4,8 @@ use Rattle.desk.specs.Machine.{State, snapshot}
 use Rattle.desk.specs.Shown.{shown}
 use Rattle.choose.specs.Kits.{rules_of}
 use Rattle.choose.proofs.Verdicts.{all_zip_length}
-use Rattle.engine.specs.Telling.{TellsNodes, verdict_lines}
-use Rattle.engine.proofs.Indented.{no_lines}
+use Rattle.output_lines.specs.Telling.{TellsNodes, verdict_lines}
+use Rattle.output_lines.proofs.Indented.{no_lines}
 use Rattle.engine.proofs.Nodes.{idle_cycle, placed_cycle, told, unexplained, untold}
 use Rattle.engine.proofs.session.Session.told_cycle.Goals as goal
 

@@ -1,9 +1,0 @@
-use Rattle.std.proofs.Common.{false, sym, subst}
-use Rattle.engine.specs.Indented.{AreLines}
-use Rattle.engine.specs.Text.{cycle_line}
-use Rattle.engine.proofs.OutputLines.{always, idle_lines}
-use Rattle.engine.proofs.text.push_cycled.Goals as goal
-
-pub returns-in-Idle-clause-lines : goal.returns-in-Idle-clause-lines
-unfolding cycle_line
-returns-in-Idle-clause-lines c = always _ (subst (λ came. AreLines false (cycle_line c.args.named.now came)) (sym c.in-Idle.is) idle_lines)

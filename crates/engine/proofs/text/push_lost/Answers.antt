@@ -1,5 +1,0 @@
-use Rattle.engine.proofs.OutputLines.{always, lost_lines}
-use Rattle.engine.proofs.text.push_lost.Goals as goal
-
-pub returns-clause-lines : goal.returns-clause-lines
-returns-clause-lines c = always _ (lost_lines _ _ c.as_bytes.ensures.valid)

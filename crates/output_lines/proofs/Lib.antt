@@ -1,0 +1,4 @@
+pub mod Indented
+pub mod OutputLines
+pub mod Pairs
+pub mod Rows

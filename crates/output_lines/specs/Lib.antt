@@ -1,0 +1,4 @@
+pub mod Indented
+pub mod Replies
+pub mod Telling
+pub mod Text

@@ -1,5 +1,0 @@
-use Rattle.serving.proofs.Decisions.{decided_by_calls}
-use Rattle.serving.proofs.laws.decided_by_calls.Goals as goal
-
-pub returns : goal.returns
-returns c = decided_by_calls c.rules_are_calls.ensures

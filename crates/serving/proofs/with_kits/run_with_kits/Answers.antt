@@ -1,5 +1,0 @@
-use Rattle.serving.proofs.Kits.{first_speaks}
-use Rattle.serving.proofs.with_kits.run_with_kits.Goals as goal
-
-pub run_in-requires-clause-first : goal.run_in-requires-clause-first
-run_in-requires-clause-first g c κs within = first_speaks _

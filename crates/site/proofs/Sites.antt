@@ -1,0 +1,210 @@
+-- How plugins are configured one after the other, and kits made of them.
+use Rattle.std.proofs.Common.{◌≡◌, ℕ, zero, suc, ◌+◌, ◌<◌, ◌≤◌, List, [], ◌∷◌, ◌++◌, length, map, take, Option, Some, IfSome, slice_get, slice_index_or, All, refl, sym, ap, subst, ◌∙◌, arith, add-one}
+use Rattle.std.proofs.lemmas.List.{length-map, map-append, take_all}
+use Rattle.std.proofs.lemmas.List.Elements.{All-contains}
+use Rattle.rules.specs.RuleSet.{RuleSet}
+use Rattle.plugin.specs.Plugins.{Configured, IsTaken, names}
+use Rattle.plugin.specs.Kit.{Ready, IsKitOf}
+use Rattle.plugin.specs.Laws.{KitsAreAlike}
+use Rattle.choose.specs.Kits.{JudgeAlike}
+use Rattle.fleet.proofs.Alike.{alike_where_same}
+use Rattle.command.specs.Words.{SpecSyntax, syntax_of}
+use Rattle.command.specs.Within.{HaveDistinctNames}
+use Rattle.command.specs.declared.asked.Spec.{Spec}
+use Rattle.site.specs.Verdict.{front_of}
+use Rattle.streams.specs.declared.fault.RunFault.TheVariants as run_fault
+use Rattle.output_lines.specs.declared.named_rule.NamedRule.{NamedRule}
+use Rattle.fault_line.specs.declared.fault.Fault.{Fault}
+use Rattle.fault_line.specs.declared.fault.Fault.TheVariants.{Words, Misused, Plugin, Unread, UnreadModule, Run, Uncounted}
+use Rattle.site.specs.Site.{ArePlugins, IsPlugin, ModuleRefused, WhyNoModules, WhyNoPlugin, AreFromFiles, named_of}
+use Rattle.site.specs.inside.Site.{WhyNoModule}
+
+-- ---- lists
+
+-- what stands in a list's front stands in the list
+in_front : {A : Type 0} (xs : List A) (i j : ℕ) (x : A) → slice_get (take i xs) j ≡ Some x → (j < i) × (slice_get xs j ≡ Some x)
+in_front [] zero j x there = cc
+in_front [] (suc i) j x there = cc
+in_front (a ∷ xs) zero j x there = cc
+in_front (a ∷ xs) (suc i) zero x there = (omega arith, there)
+in_front (a ∷ xs) (suc i) (suc j) x there =
+    let rest = in_front xs i j x there in
+    (omega (arith, rest.0), rest.1)
+
+-- what stands in a list of images is an image
+image_at : {A B : Type 0} (f : A → B) (xs : List A) (j : ℕ) (y : B) → slice_get (map f xs) j ≡ Some y → (x : A) × (slice_get xs j ≡ Some x) × (f x ≡ y)
+image_at f [] j y there = cc
+image_at f (a ∷ xs) zero y there =
+    let same : f a ≡ y = cc in
+    (a, refl, same)
+image_at f (a ∷ xs) (suc j) y there = image_at f xs j y there
+
+at_image : {A B : Type 0} (f : A → B) (xs : List A) (j : ℕ) (x : A) → slice_get xs j ≡ Some x → slice_get (map f xs) j ≡ Some (f x)
+at_image f [] j x there = cc
+at_image f (a ∷ xs) zero x there =
+    let same : a ≡ x = cc in
+    ap (λ o. Some (f o)) same
+at_image f (a ∷ xs) (suc j) x there = at_image f xs j x there
+
+-- ---- plugins
+
+-- there are as many plugins as are configured
+pub as_many : (specs : List SpecSyntax) (modules : List (List ℕ)) (plugins : List Configured) → ArePlugins specs modules plugins → length plugins ≡ length specs
+as_many [] [] [] are = refl
+as_many [] [] (p ∷ plugins) are = absurd are
+as_many [] (b ∷ modules) plugins are = absurd are
+as_many (s ∷ specs) [] plugins are = absurd are
+as_many (s ∷ specs) (b ∷ modules) [] are = absurd are
+as_many (s ∷ specs) (b ∷ modules) (p ∷ plugins) are = ap suc (as_many specs modules plugins are.1)
+
+-- each has a configured name
+named_at : (specs : List SpecSyntax) (modules : List (List ℕ)) (plugins : List Configured) (j : ℕ) (name : List ℕ) → ArePlugins specs modules plugins
+    → j < length (names plugins) → slice_index_or (names plugins) j name ≡ name → (s : SpecSyntax) × (slice_get specs j ≡ Some s) × (s.name ≡ name)
+named_at [] [] [] j name are below at = absurd (omega (arith, below))
+named_at [] [] (p ∷ plugins) j name are below at = absurd are
+named_at [] (b ∷ modules) plugins j name are below at = absurd are
+named_at (s ∷ specs) [] plugins j name are below at = absurd are
+named_at (s ∷ specs) (b ∷ modules) [] j name are below at = absurd are
+named_at (s ∷ specs) (b ∷ modules) (p ∷ plugins) zero name are below at = (s, refl, sym are.0.name ∙ at)
+named_at (s ∷ specs) (b ∷ modules) (p ∷ plugins) (suc j) name are below at = named_at specs modules plugins j name are.1 (omega (arith, below)) at
+
+-- the next one's name is taken by none of those before it
+pub alone : (specs : List Spec) (modules : List (List ℕ)) (plugins : List Configured) (i : ℕ) (spec : Spec) → HaveDistinctNames specs → slice_get specs i ≡ Some spec
+    → ArePlugins (take i (map syntax_of specs)) (take i modules) plugins → ¬ (IsTaken plugins spec.name)
+alone specs modules plugins i spec distinct at are taken =
+    let named = named_at (take i (map syntax_of specs)) (take i modules) plugins taken.0 spec.name are taken.1 taken.2 in
+    let front = in_front (map syntax_of specs) i taken.0 named.0 named.1 in
+    let other = image_at syntax_of specs taken.0 named.0 front.1 in
+    let same : other.0.name ≡ spec.name = ap (λ s. s.name) other.2 ∙ named.2 in
+    let one : taken.0 ≡ i = distinct taken.0 i other.0 spec other.1 at same in
+    omega (arith, one, front.0)
+
+-- one more plugin is had
+pub plugins_more : (specs : List SpecSyntax) (modules : List (List ℕ)) (plugins : List Configured) (i : ℕ) (s : SpecSyntax) (b : List ℕ) (p : Configured)
+    → slice_get specs i ≡ Some s → slice_get modules i ≡ Some b → ArePlugins (take i specs) (take i modules) plugins → IsPlugin s b p
+    → ArePlugins (take (suc i) specs) (take (suc i) modules) (plugins ++ p ∷ [])
+plugins_more [] modules plugins i s b p at there are is = cc
+plugins_more (t ∷ specs) [] plugins i s b p at there are is = cc
+plugins_more (t ∷ specs) (c ∷ modules) [] zero s b p at there are is =
+    let same : s ≡ t = cc in
+    let alike : b ≡ c = cc in
+    (subst (λ x. IsPlugin x c p) same (subst (λ x. IsPlugin s x p) alike is), tt)
+plugins_more (t ∷ specs) (c ∷ modules) (q ∷ plugins) zero s b p at there are is = absurd are
+plugins_more (t ∷ specs) (c ∷ modules) [] (suc i) s b p at there are is = absurd are
+plugins_more (t ∷ specs) (c ∷ modules) (q ∷ plugins) (suc i) s b p at there are is =
+    (are.0, plugins_more specs modules plugins i s b p at there are.1 is)
+
+-- the same, from the code's own lists
+pub plugin_joins : {M : Type 0} (bytes_of : M → List ℕ) (specs : List Spec) (modules : List M) (old new : List Configured) (i : ℕ) (spec : Spec) (given : M)
+    → slice_get specs i ≡ Some spec → slice_get modules i ≡ Some given
+    → ArePlugins (take i (map syntax_of specs)) (take i (map bytes_of modules)) old
+    → (p : Configured) × IsPlugin (syntax_of spec) (bytes_of given) p × (new ≡ old ++ p ∷ [])
+    → ArePlugins (take (i + 1) (map syntax_of specs)) (take (i + 1) (map bytes_of modules)) new
+plugin_joins bytes_of specs modules old new i spec given at there are (p, is, joined) =
+    rw (add-one, joined) (plugins_more (map syntax_of specs) (map bytes_of modules) old i (syntax_of spec) (bytes_of given) p (at_image syntax_of specs i spec at) (at_image bytes_of modules i given there) are is)
+
+-- the module at a place is refused
+pub refused_at : {M : Type 0} (bytes_of : M → List ℕ) (specs : List Spec) (modules : List M) (before : List Configured) (i : ℕ) (spec : Spec) (given : M) (fault : Fault)
+    → slice_get specs i ≡ Some spec → slice_get modules i ≡ Some given
+    → ArePlugins (take i (map syntax_of specs)) (take i (map bytes_of modules)) before
+    → WhyNoPlugin spec.name (bytes_of given) fault → ModuleRefused (map syntax_of specs) (map bytes_of modules) fault
+refused_at bytes_of specs modules before i spec given fault at there are why = record {
+  place = i;
+  spec = syntax_of spec;
+  bytes = bytes_of given;
+  spec_is = at_image syntax_of specs i spec at;
+  bytes_are = at_image bytes_of modules i given there;
+  before = before;
+  are = are;
+  why = why;
+}
+
+-- all of them are had
+pub all_had : (specs : List SpecSyntax) (modules : List (List ℕ)) (plugins : List Configured) (i : ℕ) → length specs ≤ i → length modules ≡ length specs
+    → ArePlugins (take i specs) (take i modules) plugins → ArePlugins specs modules plugins
+all_had specs modules plugins i long same are =
+    subst (λ ms. ArePlugins specs ms plugins) (take_all i modules (omega (arith, long, same)))
+    (subst (λ ss. ArePlugins ss (take i modules) plugins) (take_all i specs long) are)
+
+-- one more rule as it is told
+one_named : (specs : List SpecSyntax) (i : ℕ) (s : SpecSyntax) → slice_get specs i ≡ Some s → named_of (take (suc i) specs) ≡ named_of (take i specs) ++ record { name = s.name; weight = s.weight } ∷ []
+one_named [] i s at = cc
+one_named (t ∷ specs) zero s at =
+    let same : s ≡ t = cc in
+    ap (λ x. record { name = x.name; weight = x.weight } ∷ []) (sym same)
+one_named (t ∷ specs) (suc i) s at = ap (λ rules. record { name = t.name; weight = t.weight } ∷ rules) (one_named specs i s at)
+
+-- the same, from the code's own list
+pub named_more : (specs : List Spec) (old new : List NamedRule) (i : ℕ) (spec : Spec) (name : List ℕ) → slice_get specs i ≡ Some spec → name ≡ spec.name
+    → old ≡ named_of (take i (map syntax_of specs)) → new ≡ old ++ record { name = name; weight = spec.weight } ∷ [] → new ≡ named_of (take (i + 1) (map syntax_of specs))
+named_more specs old new i spec name at same so_far joined =
+    rw (add-one, joined, so_far, same) (sym (one_named (map syntax_of specs) i (syntax_of spec) (at_image syntax_of specs i spec at)))
+
+-- ---- modules
+
+-- one more module is read
+read_more : (contents : List ℕ → Option (List ℕ)) (specs : List SpecSyntax) (modules : List (List ℕ)) (i : ℕ) (s : SpecSyntax) (b : List ℕ)
+    → slice_get specs i ≡ Some s → AreFromFiles contents (take i specs) modules → IfSome (contents s.file) (λ whole. b ≡ front_of whole)
+    → AreFromFiles contents (take (suc i) specs) (modules ++ b ∷ [])
+read_more contents [] modules i s b at are is = cc
+read_more contents (t ∷ specs) [] zero s b at are is =
+    let same : s ≡ t = cc in
+    (subst (λ x. IfSome (contents x.file) (λ whole. b ≡ front_of whole)) same is, tt)
+read_more contents (t ∷ specs) (c ∷ modules) zero s b at are is = absurd are
+read_more contents (t ∷ specs) [] (suc i) s b at are is = absurd are
+read_more contents (t ∷ specs) (c ∷ modules) (suc i) s b at are is = (are.0, read_more contents specs modules i s b at are.1 is)
+
+-- the same, from the code's own lists
+pub modules_more : {M : Type 0} (bytes_of : M → List ℕ) (contents : List ℕ → Option (List ℕ)) (specs : List Spec) (old new : List M) (i : ℕ) (spec : Spec) (given : M)
+    → slice_get specs i ≡ Some spec → new ≡ old ++ given ∷ [] → AreFromFiles contents (take i (map syntax_of specs)) (map bytes_of old)
+    → IfSome (contents spec.file.now) (λ whole. bytes_of given ≡ front_of whole)
+    → AreFromFiles contents (take (i + 1) (map syntax_of specs)) (map bytes_of new)
+modules_more bytes_of contents specs old new i spec given at joined are is =
+    rw (add-one, joined, map-append bytes_of old (given ∷ []))
+    (read_more contents (map syntax_of specs) (map bytes_of old) i (syntax_of spec) (bytes_of given) (at_image syntax_of specs i spec at) are is)
+
+-- all of them are read
+pub all_read : (contents : List ℕ → Option (List ℕ)) (specs : List SpecSyntax) (modules : List (List ℕ)) (i : ℕ) → length specs ≤ i
+    → AreFromFiles contents (take i specs) modules → AreFromFiles contents specs modules
+all_read contents specs modules i long are = subst (λ ss. AreFromFiles contents ss modules) (take_all i specs long) are
+
+-- as many as there are plugins
+as_many_read : (contents : List ℕ → Option (List ℕ)) (specs : List SpecSyntax) (modules : List (List ℕ)) → AreFromFiles contents specs modules → length modules ≡ length specs
+as_many_read contents [] [] are = refl
+as_many_read contents [] (b ∷ modules) are = absurd are
+as_many_read contents (s ∷ specs) [] are = absurd are
+as_many_read contents (s ∷ specs) (b ∷ modules) are = ap suc (as_many_read contents specs modules are.1)
+
+pub many_modules : {M : Type 0} (bytes_of : M → List ℕ) (contents : List ℕ → Option (List ℕ)) (specs : List Spec) (modules : List M)
+    → AreFromFiles contents (map syntax_of specs) (map bytes_of modules) → length modules ≡ length specs
+many_modules bytes_of contents specs modules are =
+    sym (length-map modules bytes_of) ∙ as_many_read contents (map syntax_of specs) (map bytes_of modules) are ∙ length-map specs syntax_of
+
+-- where one can't be had, there are none
+pub no_modules : (specs : List Spec) (first old new : ℕ) (i : ℕ) (spec : Spec) (fault : Fault) → slice_get specs i ≡ Some spec → old ≡ first
+    → WhyNoModule (syntax_of spec) old new fault → WhyNoModules (map syntax_of specs) first new fault
+no_modules specs first old new i spec (Words fault) at same why = absurd why
+no_modules specs first old new i spec (Misused fault) at same why = absurd why
+no_modules specs first old new i spec (Plugin name fault) at same why = absurd why
+no_modules specs first old new i spec (Uncounted line) at same why = absurd why
+no_modules specs first old new i spec (UnreadModule unread) at same why = absurd why
+no_modules specs first old new i spec (Unread unread) at same why = record {
+  place = i;
+  spec = syntax_of spec;
+  spec_is = at_image syntax_of specs i spec at;
+  named = sym why.0;
+  file = why.1;
+  failed = omega (arith, same, why.2);
+}
+no_modules specs first old new i spec (Run run_fault.NoMemory) at same why = why ∙ same
+no_modules specs first old new i spec (Run (run_fault.Line number fault)) at same why = absurd why
+no_modules specs first old new i spec (Run run_fault.Read) at same why = absurd why
+no_modules specs first old new i spec (Run run_fault.Write) at same why = absurd why
+no_modules specs first old new i spec (Run run_fault.NoPlace) at same why = absurd why
+
+-- ---- kits
+
+-- kits of the same plugins judge alike
+pub kits_judge_alike : (answers : List Ready → RuleSet) (plugins : List Configured) (kits : List (List Ready)) → KitsAreAlike → All (IsKitOf plugins) kits → JudgeAlike answers kits
+kits_judge_alike answers plugins kits alike all =
+    alike_where_same answers kits (λ one other first second. alike plugins one other (All-contains (IsKitOf plugins) kits one all first) (All-contains (IsKitOf plugins) kits other all second))

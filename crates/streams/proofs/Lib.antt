@@ -1,0 +1,5 @@
+pub mod Asked
+pub mod Greatest
+pub mod Known
+pub mod Pieces
+pub mod Taking

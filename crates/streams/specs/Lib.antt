@@ -1,0 +1,6 @@
+pub mod Device
+pub mod Fault
+pub mod Greatest
+pub mod Lines
+pub mod Script
+pub mod inside
