@@ -1,7 +1,6 @@
 //! The tests of runs and storms of whole scripts, and of what the program does over devices, where no
 //! shell sees it; what one sees is tested by tests/rows. They stand together since a crate with tests
-//! is proved twice, and apart from `scheduler_tests` so that neither takes too much memory. Nothing
-//! stands on this crate.
+//! is proved twice. Nothing stands on this crate.
 //!
 //! A table is a constant of a few dozen rows that a function of its own gives out: what loops over
 //! it is then not proved in the midst of the table's parts. What owns a kit or what a run wrote
