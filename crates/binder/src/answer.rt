@@ -6,7 +6,7 @@ use crate::job::Bind;
 use quant::Name;
 
 /// The answer to a bind.
-#[derive(Clone, Copy, PartialEq, Eq)]
+#[derive(Clone, Copy)]
 pub enum BindAnswer {
     /// The cluster took the bind.
     Done,

@@ -2,7 +2,7 @@
 use quant::Request;
 
 /// What the queue has of a pod that a pass wants to place.
-#[derive(Clone, Copy, PartialEq, Eq)]
+#[derive(Clone, Copy)]
 pub enum Entry {
     /// No entry.
     Missing,

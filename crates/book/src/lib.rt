@@ -35,7 +35,7 @@ pub use step::{ClusterStep, Reply};
 use thiserror::Error;
 
 /// Memory was asked for and refused.
-#[derive(Clone, Copy, Debug, PartialEq, Eq, Error)]
+#[derive(Clone, Copy, Debug, Error)]
 #[error("no memory")]
 pub struct NoMemory;
 

@@ -9,7 +9,7 @@ use quant::{MAX_NODES, MAX_PLACED, MAX_QUEUED};
 pub const EXPIRY: u64 = 30_000;
 
 /// How many nodes, placed pods and queued pods there is room for. Each may be 0.
-#[derive(Clone, Copy, PartialEq, Eq)]
+#[derive(Clone, Copy)]
 pub struct Limits {
     /// Nodes, at most `MAX_NODES`.
     pub nodes: usize,

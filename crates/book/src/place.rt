@@ -7,7 +7,7 @@ use crate::refusal::Refusal;
 use quant::{Moment, Name, Request, Ticket};
 
 /// How sure a place is.
-#[derive(Clone, Copy, PartialEq, Eq)]
+#[derive(Clone, Copy)]
 pub enum Status {
     /// The scheduler chose the place, and the cluster has not confirmed it yet.
     Assumed {
@@ -21,7 +21,7 @@ pub enum Status {
 }
 
 /// A pod's place.
-#[derive(PartialEq, Eq, Drop)]
+#[derive(Drop)]
 pub struct Place {
     /// The name of the node, which needn't be there.
     pub node: Name,

@@ -55,7 +55,7 @@ pub struct Counts {
 }
 
 /// What is decided of a pod.
-#[derive(PartialEq, Eq, Drop)]
+#[derive(Drop)]
 pub enum Decision {
     /// The node that the pod goes to, and its total.
     Node(Name, u32),

@@ -10,7 +10,7 @@ use thiserror::Error;
 pub const MAX_STORM_THREADS: usize = 8;
 
 /// A number that an option asks for, with its letter in the usage.
-#[derive(Clone, Copy, Debug, PartialEq, Eq, Error)]
+#[derive(Clone, Copy, Debug, Error)]
 pub enum Count {
     /// How many workers share each decision of a run.
     #[error("N")]

@@ -5,7 +5,7 @@ ghost use Rattle.command.specs.Fault.{number_of, name_of};
 use thiserror::Error;
 
 /// Why the program's words were refused.
-#[derive(Clone, Copy, Debug, PartialEq, Eq, Error)]
+#[derive(Clone, Copy, Debug, Error)]
 pub enum WordFault {
     /// The words ask for nothing that the program does.
     #[error("{} {}", self.number(), self.name())]

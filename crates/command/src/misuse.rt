@@ -10,7 +10,7 @@ use std::convert::AsStr;
 use thiserror::Error;
 
 /// The parts of a plugin, as a word spells it: `NAME:WEIGHT:FUEL:FILE`.
-#[derive(Clone, Copy, Debug, PartialEq, Eq, Error)]
+#[derive(Clone, Copy, Debug, Error)]
 pub enum Part {
     /// The word lacks one of its three colons.
     #[error("SPEC")]
@@ -28,7 +28,7 @@ pub enum Part {
 
 /// What is wrong with words that ask for nothing. Words are counted from 1, and the program's name
 /// isn't one.
-#[derive(Clone, Copy, Debug, PartialEq, Eq, Error)]
+#[derive(Clone, Copy, Debug, Error)]
 pub enum Misuse {
     /// The first word is no command, or there is none.
     #[error(" COMMAND")]
@@ -54,7 +54,7 @@ pub enum Misuse {
 }
 
 /// What a word behind a command is read as.
-#[derive(Clone, Copy, PartialEq, Eq)]
+#[derive(Clone, Copy)]
 enum ReadAs {
     /// An option, the end of the options, or another word.
     Anything,

@@ -5,7 +5,7 @@ ghost use Rattle.command.specs.Verb.{asks_name, is_flag, takes_plugins, value_of
 use crate::count::Count;
 
 /// A command with options.
-#[derive(Clone, Copy, PartialEq, Eq)]
+#[derive(Clone, Copy)]
 pub(crate) enum Verb {
     /// `run`, or `explain`, which takes the same.
     Run,
@@ -18,7 +18,7 @@ pub(crate) enum Verb {
 }
 
 /// What an option wants behind it, as the next word or behind a `=`.
-#[derive(Clone, Copy, PartialEq, Eq)]
+#[derive(Clone, Copy)]
 pub(crate) enum Wanted {
     /// A number.
     Number(Count),

@@ -48,7 +48,7 @@ pub enum Cycled {
 
 /// A cycle was cut short for want of memory. Where a pod was popped and could not be failed either,
 /// it is told: it stays in flight for the pass, which may fail it later.
-#[derive(Drop, PartialEq, Eq)]
+#[derive(Drop)]
 pub struct CutShort {
     /// The pod that is still in flight.
     pub held: Option<Name>,

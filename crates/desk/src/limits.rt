@@ -8,6 +8,6 @@ pub const MAX_PASSES: usize = 64;
 pub const MAX_CALLS: u64 = 1_000_000_000_000_000_000;
 
 /// All passes were handed out.
-#[derive(Clone, Copy, Debug, PartialEq, Eq, Error)]
+#[derive(Clone, Copy, Debug, Error)]
 #[error("no place")]
 pub struct NoPlace;

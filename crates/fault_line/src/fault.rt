@@ -10,7 +10,7 @@ use streams::RunFault;
 use thiserror::Error;
 
 /// Why the program ends early.
-#[derive(Debug, PartialEq, Eq, Drop, Error)]
+#[derive(Debug, Drop, Error)]
 pub enum Fault {
     /// Its words were refused.
     #[error("{0}")]

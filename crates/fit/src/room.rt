@@ -5,7 +5,7 @@ ghost use Rattle.fit.specs.Fit.{has_room, fit_of};
 use quant::{Request, Res};
 
 /// The first resource of which a node has too little for a pod.
-#[derive(Clone, Copy, PartialEq, Eq, Hash)]
+#[derive(Clone, Copy)]
 pub enum Shortage {
     /// Too little CPU.
     Cpu,

@@ -10,7 +10,7 @@ pub enum Kind {
 }
 
 /// What became of a bind that was asked for.
-#[derive(Clone, Copy, PartialEq, Eq)]
+#[derive(Clone, Copy)]
 pub enum Outcome {
     /// The server bound the pod.
     Created,

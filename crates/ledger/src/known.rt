@@ -2,7 +2,7 @@
 use quant::{Request, Ticket, Version};
 
 /// How sure it is what became of a bind that was asked for.
-#[derive(Clone, Copy, PartialEq, Eq)]
+#[derive(Clone, Copy)]
 pub enum Asking {
     /// No answer is known.
     Sent,

@@ -6,7 +6,7 @@ use crate::field::Field;
 use thiserror::Error;
 
 /// The first fault of a line.
-#[derive(Clone, Copy, Debug, PartialEq, Eq, Error)]
+#[derive(Clone, Copy, Debug, Error)]
 pub enum LineFault {
     /// The line is not JSON, or nests too deep.
     #[error("NotJson")]

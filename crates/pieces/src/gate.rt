@@ -9,7 +9,7 @@ pub trait Gate {
 }
 
 /// A gate that holds nothing up.
-#[derive(Clone, Copy, Default, Drop)]
+#[derive(Clone, Copy, Drop)]
 pub struct NoGate;
 
 impl Gate for NoGate {

@@ -1,7 +1,7 @@
 //! What a rule said when it was asked, and how far that reaches.
 
 /// How far an answer reaches.
-#[derive(Clone, Copy, PartialEq, Eq)]
+#[derive(Clone, Copy)]
 pub enum Reach {
     /// To each pod of the class, on all nodes.
     Class,

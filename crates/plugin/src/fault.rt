@@ -7,7 +7,7 @@ use thiserror::Error;
 use whost::InstanceFault;
 
 /// What keeps a plugin from being added to those that are configured.
-#[derive(Clone, Copy, PartialEq, Eq, Debug, Error)]
+#[derive(Clone, Copy, Debug, Error)]
 pub enum AddFault {
     /// One of this name is configured already.
     #[error("{} {}", self.number(), self.name())]
@@ -22,7 +22,7 @@ pub enum AddFault {
 
 /// Of all plugins, in the order in which they are configured, the first of which no instance can be
 /// made, and why.
-#[derive(PartialEq, Eq, Debug, Drop, Error)]
+#[derive(Debug, Drop, Error)]
 #[error("{} {}", self.plugin.as_str(), self.fault)]
 pub struct KitFault {
     /// The plugin's name.

@@ -30,7 +30,7 @@ pub const MAX_WEIGHT: u8 = quant::MAX_WEIGHT;
 pub const MAX_FUEL: u64 = quant::MAX_FUEL;
 
 /// How a plugin is configured.
-#[derive(PartialEq, Eq, Drop)]
+#[derive(Drop)]
 pub struct Plugin {
     /// Its name, which no other plugin has.
     pub name: Name,

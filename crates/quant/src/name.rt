@@ -31,7 +31,7 @@ impl Model for Name {
 }
 
 /// A text beside a key, as a label's value: 0 to 63 of the bytes that a name may have.
-#[derive(Drop, Clone, PartialEq, Eq, PartialOrd, Ord, Hash)]
+#[derive(Drop, Clone, PartialEq, Eq)]
 pub struct Text {
     bytes: ArrayVec<u8, MAX_NAME>,
 }

@@ -3,7 +3,7 @@
 use crate::name::{Name, Text};
 
 /// What a taint does to a pod that does not tolerate it.
-#[derive(Clone, Copy, PartialEq, Eq)]
+#[derive(Clone, Copy)]
 pub enum Effect {
     /// The pod is not placed on the node.
     NoSchedule,
@@ -25,7 +25,7 @@ pub struct Taint {
 }
 
 /// How a toleration's value is compared with a taint's.
-#[derive(Clone, Copy, PartialEq, Eq)]
+#[derive(Clone, Copy)]
 pub enum Operator {
     /// The values are equal.
     Equal,

@@ -27,7 +27,7 @@ pub enum State {
 }
 
 /// How an attempt at a pod failed.
-#[derive(Clone, Copy, PartialEq, Eq)]
+#[derive(Clone, Copy)]
 pub enum Failure {
     /// No node would take it.
     Unschedulable,

@@ -24,7 +24,7 @@ pub enum Cause {
 }
 
 /// What a rule's filter says of a node.
-#[derive(Clone, Copy, PartialEq, Eq)]
+#[derive(Clone, Copy)]
 pub enum FilterVerdict {
     Passes,
     Rejects(Rejection),
@@ -32,7 +32,7 @@ pub enum FilterVerdict {
 }
 
 /// What a rule's score says of a node.
-#[derive(Clone, Copy, PartialEq, Eq)]
+#[derive(Clone, Copy)]
 pub enum ScoreVerdict {
     /// A score from 0 to 100.
     Good(u8),

@@ -34,7 +34,7 @@ impl Verdict {
 }
 
 /// Why no accepted module was had from bytes.
-#[derive(Clone, Copy, PartialEq, Eq)]
+#[derive(Clone, Copy)]
 pub enum Unaccepted {
     /// They deserve none.
     Refused(Refusal),

@@ -5,7 +5,7 @@ ghost use Rattle.std.specs.Io.KnownBytes.{ReadConsumes, WriteAppends, Appends};
 ghost use Rattle.streams.specs.Device.{CountsFailure, AppendsFront};
 
 /// A read or a write failed.
-#[derive(Clone, Copy, PartialEq, Eq)]
+#[derive(Clone, Copy)]
 pub struct DeviceFailed;
 
 /// What a script is read from.

@@ -9,7 +9,7 @@ use std::alloc::AllocError;
 use thiserror::Error;
 
 /// Why a run ended early.
-#[derive(Clone, Copy, Debug, PartialEq, Eq, Error)]
+#[derive(Clone, Copy, Debug, Error)]
 pub enum RunFault {
     /// The line of this number, counted from 1, is the script's first faulty one, by this fault.
     #[error("line {0}: {1}")]

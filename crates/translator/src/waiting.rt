@@ -16,7 +16,7 @@ use streams::{RunFault, Sink, write_all};
 const MAX_WAITING: usize = 65_536;
 
 /// Why a translation ends early.
-#[derive(PartialEq, Eq, Drop)]
+#[derive(Drop)]
 pub(crate) enum Stopped {
     /// By this fault, which is to be told.
     By(Fault),

@@ -15,14 +15,14 @@ pub struct FunctionType {
 
 /// The size at first, and the greatest one, if there is one: in pages of 65,536 bytes for a memory,
 /// in elements for a table.
-#[derive(Clone, Copy, PartialEq, Eq)]
+#[derive(Clone, Copy)]
 pub struct Limits {
     pub least: u32,
     pub most: Option<u32>,
 }
 
 /// What a global holds, and whether it can be written.
-#[derive(Clone, Copy, PartialEq, Eq)]
+#[derive(Clone, Copy)]
 pub struct GlobalType {
     pub value: ValueType,
     pub mutable: bool,
@@ -46,7 +46,7 @@ pub struct Import {
 }
 
 /// As many locals of one type. Runs of one function may have more than 2^32 locals in all.
-#[derive(Clone, Copy, PartialEq, Eq)]
+#[derive(Clone, Copy)]
 pub struct LocalRun {
     pub count: u32,
     pub value: ValueType,
@@ -54,7 +54,7 @@ pub struct LocalRun {
 
 /// An expression in the module's bytes: the place of its first opcode, and the place behind the
 /// `end` that closes it.
-#[derive(Clone, Copy, PartialEq, Eq)]
+#[derive(Clone, Copy)]
 pub struct Place {
     pub begin: usize,
     pub end: usize,
@@ -70,14 +70,14 @@ pub struct FunctionCode {
 }
 
 /// A global of the module, and where the expression of its first value is.
-#[derive(Clone, Copy, PartialEq, Eq)]
+#[derive(Clone, Copy)]
 pub struct GlobalVariable {
     pub kind: GlobalType,
     pub first: Place,
 }
 
 /// What kind of thing is exported.
-#[derive(Clone, Copy, PartialEq, Eq)]
+#[derive(Clone, Copy)]
 pub enum ExportKind {
     Function,
     Table,
@@ -104,7 +104,7 @@ pub struct ElementSegment {
 
 /// Bytes that are written into a memory, from the offset that an expression gives: those of the
 /// module from `contents.begin` to `contents.end`.
-#[derive(Clone, Copy, PartialEq, Eq)]
+#[derive(Clone, Copy)]
 pub struct DataSegment {
     pub memory: u32,
     pub offset: Place,

@@ -2,7 +2,7 @@
 
 /// A block, loop or `if` in bytes: where its else arm begins, behind the `else`, if it has one, and
 /// the place behind its `end`.
-#[derive(Clone, Copy, PartialEq, Eq)]
+#[derive(Clone, Copy)]
 pub struct Block {
     pub else_arm: Option<usize>,
     pub after: usize,

@@ -74,7 +74,7 @@ impl Kind {
 }
 
 /// Why one instruction isn't read. No memory is taken, so none is wanting.
-#[derive(Clone, Copy, PartialEq, Eq, Debug, Error)]
+#[derive(Clone, Copy, Debug, Error)]
 pub enum OpFault {
     /// What is wrong, and the offset in the bytes of what can't be read.
     #[error("Malformed {} {} at {place}", kind.number(), kind.name())]

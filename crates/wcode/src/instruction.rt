@@ -5,7 +5,7 @@ use crate::value::{BlockType, Value, ValueType};
 
 /// What a load or store adds to its operand: 2 to the power `align` is the alignment that it hints
 /// at, and `offset` is added to the address.
-#[derive(Clone, Copy, PartialEq, Eq)]
+#[derive(Clone, Copy)]
 pub struct MemArg {
     pub align: u32,
     pub offset: u32,

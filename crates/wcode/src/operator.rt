@@ -7,7 +7,7 @@ ghost use Rattle.wcode.specs.Operators.{load_type, load_bytes, store_type, store
 use crate::value::ValueType;
 
 /// An operator from one number to one of its type.
-#[derive(Clone, Copy, PartialEq, Eq)]
+#[derive(Clone, Copy)]
 pub enum UnOp {
     Clz,
     Ctz,
@@ -16,7 +16,7 @@ pub enum UnOp {
 
 /// An operator from two numbers to one of their type. `S` and `U` at an end mean that it takes them
 /// with a sign or without.
-#[derive(Clone, Copy, PartialEq, Eq)]
+#[derive(Clone, Copy)]
 pub enum BinOp {
     Add,
     Sub,
@@ -36,13 +36,13 @@ pub enum BinOp {
 }
 
 /// A test of one number, whose answer is an i32.
-#[derive(Clone, Copy, PartialEq, Eq)]
+#[derive(Clone, Copy)]
 pub enum TestOp {
     Eqz,
 }
 
 /// A comparison of two numbers, whose answer is an i32.
-#[derive(Clone, Copy, PartialEq, Eq)]
+#[derive(Clone, Copy)]
 pub enum RelOp {
     Eq,
     Ne,
@@ -58,7 +58,7 @@ pub enum RelOp {
 
 /// A conversion between the two types, or within a type: its lowest 8, 16 or 32 bits, widened by
 /// copies of their top bit.
-#[derive(Clone, Copy, PartialEq, Eq)]
+#[derive(Clone, Copy)]
 pub enum CvtOp {
     WrapI64,
     ExtendI32S,
@@ -70,7 +70,7 @@ pub enum CvtOp {
 }
 
 /// How the bytes of a narrow load are widened: by copies of their top bit, or by zeros.
-#[derive(Clone, Copy, PartialEq, Eq)]
+#[derive(Clone, Copy)]
 pub enum Sign {
     Signed,
     Unsigned,

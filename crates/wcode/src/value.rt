@@ -11,14 +11,14 @@ pub enum ValueType {
 }
 
 /// The type of a block: no result, or one.
-#[derive(Clone, Copy, PartialEq, Eq)]
+#[derive(Clone, Copy)]
 pub enum BlockType {
     Empty,
     Result(ValueType),
 }
 
 /// A value: its type, and its bits as a number without a sign.
-#[derive(Clone, Copy, PartialEq, Eq, Debug)]
+#[derive(Clone, Copy)]
 pub enum Value {
     I32(u32),
     I64(u64),

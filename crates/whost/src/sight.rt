@@ -6,7 +6,7 @@ use crate::records::Records;
 use wmach::Host;
 
 /// Which of the records a call is handed over. Where it asks for another one it is cut off.
-#[derive(Clone, Copy, PartialEq, Eq)]
+#[derive(Clone, Copy)]
 pub enum Shows {
     /// All of them.
     All,

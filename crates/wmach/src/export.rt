@@ -7,7 +7,7 @@ ghost use Rattle.wmach.specs.Call.{called_function};
 use wtype::Checked;
 
 /// A function of a module that is called by name, or its start function.
-#[derive(Clone, Copy, PartialEq, Eq)]
+#[derive(Clone, Copy)]
 pub enum Export {
     Filter,
     Score,

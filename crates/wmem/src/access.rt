@@ -3,7 +3,7 @@
 ghost use Rattle.std.specs.Prelude.{◌≡◌};
 
 /// A load instruction, in the order of the opcodes.
-#[derive(Clone, Copy, PartialEq, Eq, Hash)]
+#[derive(Clone, Copy)]
 pub enum Load {
     /// `i32.load`
     I32,
@@ -49,7 +49,7 @@ impl Load {
 }
 
 /// How many bytes a store writes.
-#[derive(Clone, Copy, PartialEq, Eq, Hash)]
+#[derive(Clone, Copy)]
 pub enum Width {
     /// `i32.store8` and `i64.store8`
     One,

@@ -5,7 +5,7 @@ use thiserror::Error;
 
 /// Why an access to a memory isn't made. Each trap keeps the number that it has in the list of all
 /// traps.
-#[derive(Clone, Copy, Debug, PartialEq, Eq, Hash, Error)]
+#[derive(Clone, Copy, Debug, PartialEq, Eq, Error)]
 pub enum Trap {
     /// A load or a store that would pass the memory's end.
     #[error("MemoryOutOfBounds")]

@@ -5,7 +5,7 @@ use thiserror::Error;
 
 /// Why an integer operation has no result. Each trap keeps the number that it has in the list of
 /// all traps.
-#[derive(Clone, Copy, Debug, PartialEq, Eq, Hash, Error)]
+#[derive(Clone, Copy, Debug, PartialEq, Eq, Error)]
 pub enum Trap {
     /// A division or a remainder by zero.
     #[error("{}", Trap::DivideByZero.name())]
