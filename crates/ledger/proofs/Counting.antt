@@ -239,7 +239,7 @@ module _ (s : State) (each : EachCountsOnce s) where
   -- ---- the end of a list
 
   -- what is left of a pod by the end of a list: what was named, with its place
-  left_by : (lists : ℕ) (o : Option Known) (p : Option Place) → IsPlacedAs o p → IsPlacedAs (if is_named of_pods lists o then o else None) (if is_left of_pods lists o then p else None)
+  left_by : (lists : ℕ) (o : Option Known) (p : Option Place) → IsPlacedAs o p → IsPlacedAs (if is_named of_pods.list lists o then o else None) (if is_left of_pods lists o then p else None)
   left_by lists None p is = is
   left_by lists (Some k) p is = by (k.list == lists) k.stage refl is
     where

@@ -47,10 +47,10 @@ module _ (expected : Places) (room : List ℕ → Res) (s s' : State) (h : Holds
     by_fresh true is listed whole uid p there = let at = placed is whole uid p there in h.placed uid at.0 at.1 at.2
     by_fresh false is listed whole uid p there = h.covered (grind (arith, listed)) (grind (arith, whole)) uid p there
 
-    known_left : (uid : List ℕ) (k : Known) → (o : Option Known) → get s.pods uid ≡ o → (if is_named of_pods s.of_pods.lists o then o else None) ≡ Some k → (get s.pods uid ≡ Some k) × (is_left of_pods s.of_pods.lists (get s.pods uid) ≡ true)
+    known_left : (uid : List ℕ) (k : Known) → (o : Option Known) → get s.pods uid ≡ o → (if is_named of_pods.list s.of_pods.lists o then o else None) ≡ Some k → (get s.pods uid ≡ Some k) × (is_left of_pods s.of_pods.lists (get s.pods uid) ≡ true)
     known_left uid k None is there = cc
     known_left uid k (Some l) is there =
-        let both = if_there (is_named of_pods s.of_pods.lists (Some l)) (Some l) k there in
+        let both = if_there (is_named of_pods.list s.of_pods.lists (Some l)) (Some l) k there in
         (is ∙ both.1, grind (arith, is, both.0))
 
     -- a list of pods ends

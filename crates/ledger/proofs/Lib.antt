@@ -1,5 +1,6 @@
 pub mod Places
 pub mod Sweeps
+pub mod Omitted
 pub mod Included
 pub mod Holding
 pub mod Events

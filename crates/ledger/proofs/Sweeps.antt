@@ -20,7 +20,7 @@ module _ {X Y R : Type 0} (side : Side X Y R) where
   abbrev pub SameOrGone : ℕ → Slots X → Slots X → Cluster → Cluster → List ℕ → Type 0
   SameOrGone lists old now book left name =
       ((get (map_of now) name ≡ get (map_of old) name) × (get (side.table left) name ≡ get (side.table book) name))
-      ⊎ ((is_named side lists (get (map_of old) name) ≡ false) × (get (map_of now) name ≡ None) × (get (side.table left) name ≡ (if is_left side lists (get (map_of old) name) then get (side.table book) name else None)))
+      ⊎ ((is_named side.list lists (get (map_of old) name) ≡ false) × (get (map_of now) name ≡ None) × (get (side.table left) name ≡ (if is_left side lists (get (map_of old) name) then get (side.table book) name else None)))
 
   -- so many slots were swept
   pub record SoFar (lists i : ℕ) (old now : Slots X) (book left : Cluster) : Type 0 where
@@ -105,7 +105,7 @@ module _ {X Y R : Type 0} (side : Side X Y R) where
           let slot = slot_with now name k s.once is in
           s.earlier slot.0 (omega (arith, all, within now slot.0 _ slot.1)) (record { name = name; value = k }) slot.1
 
-      by : (name : List ℕ) (o : Option X) → get (map_of old) name ≡ o → SameOrGone lists old now book left name → get (map_of now) name ≡ (if is_named side lists (get (map_of old) name) then get (map_of old) name else None)
+      by : (name : List ℕ) (o : Option X) → get (map_of old) name ≡ o → SameOrGone lists old now book left name → get (map_of now) name ≡ (if is_named side.list lists (get (map_of old) name) then get (map_of old) name else None)
       by name None is (inl same) = grind (arith, is, same.0)
       by name (Some k) is (inl same) = grind (arith, nat_tests, is, same.0, named name k (same.0 ∙ is))
       by name o is (inr gone) = grind (arith, gone.0, gone.1)

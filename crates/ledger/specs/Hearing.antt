@@ -1,12 +1,13 @@
 -- What is heard of each kind, and what ends with a list.
-use Rattle.std.specs.Prelude.{◌≡◌, ℕ, ◌≤◌, ◌<◌, ◌+◌, Bool, true, false, not, ◌&&◌, ◌||◌, ◌==◌, if◌then◌else◌}
+use Rattle.std.specs.Prelude.{◌≡◌, ℕ, ◌≤◌, ◌<◌, ◌+◌, Bool, true, false, not, ◌&&◌, ◌||◌, ◌==◌, List, if◌then◌else◌}
+use Rattle.quant.specs.declared.name.Name.{Name}
 use Rattle.ledger.specs.declared.event.Answer.{Answer}
 use Rattle.ledger.specs.declared.event.Answer.TheVariants.{Told, Old, Full}
 use Rattle.ledger.specs.declared.event.Kind.{Kind}
 use Rattle.ledger.specs.declared.event.Kind.TheVariants.{Nodes, Pods}
 use Rattle.ledger.specs.declared.known.Heard.{Heard}
 use Rattle.ledger.specs.State.{State}
-use Rattle.ledger.specs.Lists.{of_pods as pods_side, of_nodes as nodes_side, IsSwept}
+use Rattle.ledger.specs.Lists.{of_pods as pods_side, of_nodes as nodes_side, unnamed_in, IsSwept}
 use Rattle.ledger.specs.Telling.{Became, became}
 
 -- what is heard of a kind
@@ -46,6 +47,12 @@ hears s kind = became Told (with_heard s kind (record (heard s kind) { hears = t
 -- a list ended
 abbrev pub ended : Heard → Heard
 ended h = record { lists = h.lists; listing = false; fresh = h.fresh; listed = h.listed || h.fresh; hears = true }
+
+-- the names of the objects of a kind that weren't told since its last list began, in the order of
+-- their bytes: they go where the list ends now
+abbrev pub unnamed : State → Kind → List Name
+unnamed s Nodes = unnamed_in nodes_side.list s.of_nodes.lists s.nodes
+unnamed s Pods = unnamed_in pods_side.list s.of_pods.lists s.pods
 
 -- what the end of a list of nodes makes of what is known
 pub record NodesEnd (old new : State) : Type 0 where

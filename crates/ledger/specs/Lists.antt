@@ -1,6 +1,6 @@
 -- What the end of a list says of what it didn't name.
-use Rattle.std.specs.Prelude.{◌≡◌, ℕ, ◌+◌, Bool, true, false, not, ◌||◌, ◌==◌, List, Option, None, Some, if◌then◌else◌}
-use Rattle.std.specs.FinMap.{FinMap, get, len}
+use Rattle.std.specs.Prelude.{◌≡◌, ℕ, ◌+◌, Bool, true, false, not, ◌||◌, ◌==◌, List, filter, Option, None, Some, if◌then◌else◌}
+use Rattle.std.specs.FinMap.{FinMap, get, keys, len}
 use Rattle.book.specs.Cluster.{name_cmp, Cluster, Nodes, Places}
 use Rattle.book.specs.declared.limits.Limits.{Limits}
 use Rattle.book.specs.declared.place.Place.{Place}
@@ -30,12 +30,18 @@ of_pods = record { list = λ known. known.list; stands = λ known. has_place kno
 abbrev pub of_nodes : Side Seen Node (Places × Limits × ℕ)
 of_nodes = record { list = λ seen. seen.list; stands = λ seen. true; table = λ c. c.nodes; rest = λ c. (c.places, c.limits, c.ticket) }
 
-module _ {X Y R : Type 0} (side : Side X Y R) (lists : ℕ) where
+-- where `list` is how many lists had begun when an object was last told
+module _ {X : Type 0} (list : X → ℕ) (lists : ℕ) where
   -- an object was told since so many lists had begun, or isn't known at all
   abbrev pub is_named : Option X → Bool
   is_named None = true
-  is_named (Some known) = side.list known == lists
+  is_named (Some known) = list known == lists
 
+  -- the names of those that are known and weren't told since, in the order of their bytes
+  abbrev pub unnamed_in : FinMap name_cmp X → List (List ℕ)
+  unnamed_in known = filter (λ name. not (is_named (get known name))) (keys known)
+
+module _ {X Y R : Type 0} (side : Side X Y R) (lists : ℕ) where
   -- what stands in the book of an object stays
   abbrev pub is_left : Option X → Bool
   is_left None = true
@@ -43,7 +49,7 @@ module _ {X Y R : Type 0} (side : Side X Y R) (lists : ℕ) where
 
   -- the objects that a list named stay, and what stands of them in the book, and the others are gone
   pub record IsSwept (old new : FinMap name_cmp X) (book left : Cluster) : Type 0 where
-    pub known : (name : List ℕ) → get new name ≡ (if is_named (get old name) then get old name else None)
+    pub known : (name : List ℕ) → get new name ≡ (if is_named side.list lists (get old name) then get old name else None)
     pub standing : (name : List ℕ) → get (side.table left) name ≡ (if is_left (get old name) then get (side.table book) name else None)
     pub rest : side.rest left ≡ side.rest book
     -- the book has one version more for each that is gone

@@ -1,4 +1,6 @@
 //! What is known of a pod, of a node, and of what is heard.
+ghost use Rattle.std.specs.Prelude.{◌≡◌, ℕ};
+
 use quant::{Request, Ticket, Version};
 
 /// How sure it is what became of a bind that was asked for.
@@ -50,6 +52,31 @@ pub struct Seen {
     pub version: Version,
     /// How many lists of nodes had begun when it was last told.
     pub list: u64,
+}
+
+/// What was told of an object of some kind, and when.
+pub(crate) trait Listed: Drop {
+    ghost list: { Self → ℕ };
+
+    /// How many lists of the kind had begun when it was last told.
+    fn list(&self) -> u64
+        ensures { result ≡ list self.now };
+}
+
+impl Listed for Known {
+    ghost list = { λ known. known.list };
+
+    fn list(&self) -> u64 {
+        self.list
+    }
+}
+
+impl Listed for Seen {
+    ghost list = { λ seen. seen.list };
+
+    fn list(&self) -> u64 {
+        self.list
+    }
 }
 
 /// What is heard of a kind of objects.

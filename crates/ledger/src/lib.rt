@@ -6,7 +6,8 @@
 //! - `event` is what a ledger is told and asked, and what it answers.
 //! - `known` is what it knows of a pod, of a node and of what is heard of each kind.
 //! - `ledger` takes the events, over the `book`, which counts; `pods`, `nodes`, `lists` and `binds`
-//!   take those of their kinds.
+//!   take those of their kinds. `unnamed` tells what a list didn't name so far, and `swept` takes it
+//!   away where the list ends.
 #![tactic(auto)]
 
 mod binds;
@@ -19,6 +20,7 @@ mod nodes;
 mod pods;
 mod swept;
 mod tables;
+mod unnamed;
 
 pub use event::{Answer, Event, Kind, Outcome, Said};
 pub use known::{Asking, Heard, Known, Seen, Stage};

@@ -1,5 +1,6 @@
 //! What is told of pods.
 ghost use Rattle.std.specs.Prelude.{◌≡◌, true, false};
+ghost use Rattle.std.specs.Option.{option_map};
 ghost use Rattle.std.specs.FinMap as fin;
 ghost use Rattle.std.specs.FinMap.{contains_key};
 ghost use Rattle.book.specs.Tables.{is_full_for};
@@ -148,6 +149,13 @@ impl Ledger {
         }
         self.pods.remove(&uid);
         Answer::Told
+    }
+
+    /// Where a pod stands, if it is known.
+    pub fn stage_of(&self, uid: &Name) -> Option<Stage>
+        ensures { result ≡ option_map (λ known. known.stage) (fin.get self.now.pods uid.now) }
+    {
+        Some(self.known(uid)?.stage)
     }
 
     /// What is known of a pod.
