@@ -3,7 +3,7 @@ ghost use Rattle.std.specs.Prelude.{◌≡◌, ◌≤◌, Some, None, Err, true,
 ghost use Rattle.clap.specs.Words.{app_of, new_app, found_of, rows_of, rule_of, subcommand_of, subcommand_rows_of, with_rule, with_subcommand};
 ghost use Rattle.command.specs.Count.{most_of};
 ghost use Rattle.command.specs.Words.{are_taken, asked_of, check_command, command_line, file_rule, flag_rule, found, is_told, labels_found, meaning, number_found, option_rule, plan_found, program, run_command, scheduler_found, specs_found, specs_rule, storm_command, storm_found, storm_planned, syntax_of, translate_command, translate_found, translate_planned, live_command, live_found, live_planned, version_command};
-ghost use Rattle.command.specs.inside.Words.{IsLocal, planned};
+ghost use Rattle.command.specs.inside.Words.{IsLocal, Means, found_behind, named, planned};
 ghost use Rattle.command.specs.Within.{AreWithinLimits, IsPlan, IsStormPlan, IsWithin};
 
 use crate::asked::{LivePlan, Plan, Spec, StormPlan, TranslatePlan, Words};
@@ -59,7 +59,7 @@ fn bare_command<'a>(alloc: Global, name: &'a str) -> Command<'a>
 
 // A command with one argument more, where there was memory to make it. Of all that `clap` says of it
 // this is what is needed here. A command is taken as it was made, so that it is let go in this one
-// place, and whoever makes one has one end.
+// place, and whoever makes one has one end. It is large, so it isn't handed on by a `?`.
 fn with_argument<'a>(
     command: Result<Command<'a>, AllocError>,
     argument: Arg<'a>,
@@ -69,7 +69,10 @@ fn with_argument<'a>(
         × IfOk command.entry (λ old. app_of new ≡ with_rule (app_of old) (rule_of argument.entry))) }
     ensures local { IfOk command.entry IsLocal → IfOk result IsLocal }
 {
-    command?.arg(argument)
+    match command {
+        Ok(command) => command.arg(argument),
+        Err(fault) => Err(fault),
+    }
 }
 
 // A command with one command more below it, where there was memory to make both.
@@ -82,7 +85,13 @@ fn with_command<'a>(
         × IfOk command.entry (λ line. IfOk below.entry (λ below.
         app_of new ≡ with_subcommand (app_of line) (app_of below).top))) }
 {
-    command?.subcommand(below?)
+    match command {
+        Ok(command) => match below {
+            Ok(below) => command.subcommand(below),
+            Err(fault) => Err(fault),
+        },
+        Err(fault) => Err(fault),
+    }
 }
 
 // A command of this name that asks for a run: `run` or `explain`.
@@ -274,35 +283,71 @@ fn live_of<'a>(matches: &ArgMatches<'a>) -> LivePlan<'a>
     }
 }
 
-// The command that was found.
-fn words_of<'a>(alloc: Global, matches: &ArgMatches<'a>) -> Result<Words<'a>, WordFault>
-    ensures ok { IfOk result (λ words. found (subcommand_rows_of matches.now) ≡ Some (asked_of words)) }
-    ensures refused { result ≡ Err WordFault.BadWords → found (subcommand_rows_of matches.now) ≡ None }
-    ensures within { IfOk result IsWithin }
+// A command, by its name.
+#[derive(Clone, Copy)]
+enum CommandName {
+    Run,
+    Explain,
+    Storm,
+    Translate,
+    Live,
+    Version,
+    Check,
+}
+
+// Which command this names, where it names one.
+fn named(name: &str) -> CommandName
+    ensures { result ≡ named name.now }
 {
-    let Some((name, behind)) = matches.subcommand() else {
-        return Err(WordFault::BadWords);
-    };
-    if name == "run" {
-        return Ok(Words::Run(plan_of(alloc, behind)?));
+    match name {
+        "run" => CommandName::Run,
+        "explain" => CommandName::Explain,
+        "storm" => CommandName::Storm,
+        "translate" => CommandName::Translate,
+        "live" => CommandName::Live,
+        "version" => CommandName::Version,
+        _ => CommandName::Check,
     }
-    if name == "explain" {
-        return Ok(Words::Explain(plan_of(alloc, behind)?));
+}
+
+// What is asked for by a command and what was found behind it.
+#[tactic(auto, unfolding(crate::specs::inside::Words::Means))]
+fn words_behind<'a>(
+    alloc: Global,
+    named: CommandName,
+    behind: &ArgMatches<'a>,
+) -> Result<Words<'a>, WordFault>
+    ensures { Means (found_behind named (rows_of (found_of behind.now))) result }
+{
+    match named {
+        CommandName::Run => Ok(Words::Run(plan_of(alloc, behind)?)),
+        CommandName::Explain => Ok(Words::Explain(plan_of(alloc, behind)?)),
+        CommandName::Storm => Ok(Words::Storm(storm_of(alloc, behind)?)),
+        CommandName::Translate => Ok(Words::Translate(translate_of(behind))),
+        CommandName::Live => Ok(Words::Live(live_of(behind))),
+        CommandName::Version => Ok(Words::Version),
+        CommandName::Check => check_of(behind),
     }
-    if name == "storm" {
-        return Ok(Words::Storm(storm_of(alloc, behind)?));
-    }
-    if name == "translate" {
-        return Ok(Words::Translate(translate_of(behind)));
-    }
-    if name == "live" {
-        return Ok(Words::Live(live_of(behind)));
-    }
-    if name == "version" {
-        return Ok(Words::Version);
-    }
-    match behind.get_str("MODULE") {
+}
+
+// The check that was found behind a command.
+#[tactic(auto, unfolding(crate::specs::inside::Words::Means))]
+fn check_of<'a>(matches: &ArgMatches<'a>) -> Result<Words<'a>, WordFault>
+    ensures { Means (found_behind CommandName.Check (rows_of (found_of matches.now))) result }
+{
+    match matches.get_str("MODULE") {
         Some(file) => Ok(Words::Check(file)),
+        None => Err(WordFault::BadWords),
+    }
+}
+
+// The command that was found.
+#[tactic(auto, unfolding(crate::specs::inside::Words::Means))]
+fn words_of<'a>(alloc: Global, matches: &ArgMatches<'a>) -> Result<Words<'a>, WordFault>
+    ensures { Means (found (subcommand_rows_of matches.now)) result }
+{
+    match matches.subcommand() {
+        Some((name, behind)) => words_behind(alloc, named(name), behind),
         None => Err(WordFault::BadWords),
     }
 }

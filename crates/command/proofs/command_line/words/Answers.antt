@@ -2,7 +2,7 @@ use Rattle.std.proofs.Common.{◌≡◌, ◌∙◌, Err, map, ap, sym, rules}
 use Rattle.std.proofs.lemmas.Result.{IfOk-weaker}
 use Rattle.command.specs.Words.{found}
 use Rattle.command.specs.declared.fault.WordFault.TheVariants.{BadWords}
-use Rattle.command.proofs.FoundLemmas.{meaning_taken, meaning_refused}
+use Rattle.command.proofs.FoundLemmas.{meaning_taken, meaning_refused, means_ok, means_refused, means_within}
 use Rattle.command.proofs.command_line.words.Goals as goal
 
 pub returns-in_err-matches-clause-refused : goal.returns-in_err-matches-clause-refused
@@ -13,9 +13,12 @@ returns-in_err-matches-clause-refused g c =
 pub returns-clause-ok : goal.returns-clause-ok
 returns-clause-ok g c =
     let means = meaning_taken (map g.S.AsStr.text c.args.args.now) c.in_ok-matches.ensures.taken ∙ ap found (sym c.in_ok-matches.ensures.found) in
-    IfOk-weaker c.words_of.result _ _ (λ w h. means ∙ h) c.words_of.ensures.ok
+    IfOk-weaker c.words_of.result _ _ (λ w h. means ∙ h) (means_ok _ c.words_of.result c.words_of.ensures)
 
 pub returns-clause-refused : goal.returns-clause-refused
 returns-clause-refused g c =
     let means = meaning_taken (map g.S.AsStr.text c.args.args.now) c.in_ok-matches.ensures.taken ∙ ap found (sym c.in_ok-matches.ensures.found) in
-    λ e. means ∙ c.words_of.ensures.refused e
+    λ e. means ∙ means_refused _ c.words_of.result c.words_of.ensures e
+
+pub returns-clause-within : goal.returns-clause-within
+returns-clause-within g c = means_within _ c.words_of.result c.words_of.ensures
