@@ -1,6 +1,5 @@
 //! What is told of pods.
 ghost use Rattle.std.specs.Prelude.{◌≡◌, true, false};
-ghost use Rattle.std.specs.Option.{option_map};
 ghost use Rattle.std.specs.FinMap as fin;
 ghost use Rattle.std.specs.FinMap.{contains_key};
 ghost use Rattle.book.specs.Tables.{is_full_for};
@@ -151,15 +150,8 @@ impl Ledger {
         Answer::Told
     }
 
-    /// Where a pod stands, if it is known.
-    pub fn stage_of(&self, uid: &Name) -> Option<Stage>
-        ensures { result ≡ option_map (λ known. known.stage) (fin.get self.now.pods uid.now) }
-    {
-        Some(self.known(uid)?.stage)
-    }
-
     /// What is known of a pod.
-    pub(crate) fn known(&self, uid: &Name) -> Option<Known>
+    pub fn known(&self, uid: &Name) -> Option<Known>
         ensures { result ≡ fin.get self.now.pods uid.now }
     {
         self.pods.get(uid).copied()
