@@ -1,2 +1,4 @@
 pub mod Cycles
 pub mod Either
+pub mod OneCycle
+pub mod OwnNames

@@ -7,8 +7,9 @@ use Rattle.manifest.specs.declared.command.Command.{Command}
 use Rattle.engine.specs.Answers.{State, opening, AllAnswered}
 use Rattle.streams.specs.Greatest.{limits}
 use Rattle.engine.specs.Laws.{Begins, FrontsBeginOutput, FrontsAgree}
-use Rattle.engine.proofs.OneOutput.{Agree, all_one}
-use Rattle.engine.proofs.OwnNames.{at_opening}
+use Rattle.cycle.proofs.OneCycle.{Agree}
+use Rattle.engine.proofs.OneOutput.{all_one}
+use Rattle.cycle.proofs.OwnNames.{at_opening}
 
 -- a list goes on from another
 abbrev pub GoesOn : {A : Type 0} → (front list : List A) → Type 0

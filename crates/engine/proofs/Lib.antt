@@ -4,6 +4,5 @@ pub mod Filled
 pub mod Fronts
 pub mod Nodes
 pub mod OneOutput
-pub mod OwnNames
 pub mod Progress
 pub mod SameOutput
