@@ -1,0 +1,4 @@
+pub mod OnlyDesk
+pub mod Once
+pub mod History
+pub mod Asking

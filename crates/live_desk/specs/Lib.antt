@@ -1,0 +1,5 @@
+pub mod SamePod
+pub mod State
+pub mod Telling
+pub mod Turns
+pub mod inside

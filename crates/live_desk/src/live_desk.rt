@@ -1,0 +1,619 @@
+//! A desk, and the ledger that it asks.
+ghost use Rattle.std.specs.Prelude.{◌≡◌, ◌⊎◌, ◌≤◌, None, OnOk, IfOk, IfErr, if◌then◌else◌, replicate};
+ghost use Rattle.std.specs.FinMap as fin;
+ghost use Rattle.quant.specs.declared.limits.TheConstants.{LATEST_MOMENT};
+ghost use Rattle.desk.specs.Caller as caller;
+ghost use Rattle.desk.specs.Machine as machine;
+ghost use Rattle.desk.specs.declared.step.Step.TheVariants.{Tick};
+ghost use Rattle.ledger.specs.declared.event.Event.TheVariants as events;
+ghost use Rattle.ledger.specs.State.{opening as ledger_opening};
+ghost use Rattle.ledger.specs.Hearing.{unnamed};
+ghost use Rattle.ledger.specs.Told.{IsTold};
+ghost use Rattle.live_desk.specs.declared.live_desk.Taken.TheVariants.{Answers, LeftOut};
+ghost use Rattle.live_desk.specs.State.{given_back, node_gone, node_set, numbered, offer, offer_new, opening, pod_bound, pod_gone, steps, ticket_of, version_of, with_ticket, without};
+ghost use Rattle.live_desk.specs.Telling.{IsPending, IsTaken, all_gone, bound_of, is_newest, left_out, place_of, put_aside, settled, takes, with_ledger};
+
+use crate::offered::Offered;
+use crate::same_pod::is_same_pod;
+use cycle::LoneDesk;
+use desk::{Blank, Limits, Naming, NoMemory, Reply, Step};
+use ledger::{Answer, Event, Kind, Known, Ledger, Said, Stage};
+use name_table::NameTable;
+use quant::{Event as Watched, Moment, Name, Request, SharedNode, SharedPod, Ticket, Version};
+use std::alloc::{AllocError, Global};
+use std::hash::RandomState;
+use std::marker::Model;
+use std::sync::Wait;
+use streams::RunFault;
+
+/// What is answered to what is told.
+#[derive(Clone, Copy)]
+pub enum Taken {
+    /// What the ledger answers.
+    Answers(Answer),
+    /// The ledger took it, and the desk has no room for a pod to place: it is to be told again.
+    LeftOut,
+}
+
+/// A desk that decides, and the ledger that knows what was told and which binds may be asked for.
+///
+/// It isn't `Drop`: end it by `end`.
+pub struct LiveDesk<J: Naming> {
+    pub(crate) desk: LoneDesk<J>,
+    pub(crate) ledger: Ledger,
+    pub(crate) offered: NameTable<Offered>,
+    pub(crate) told: u64,
+}
+
+impl<J: Naming> Model for LiveDesk<J> {
+    ghost use Rattle.live_desk.specs.State.{Live};
+
+    ghost Value = { Live };
+
+    ghost use Rattle.live_desk.specs.inside.Codes.{live_code};
+
+    ghost coded = { live_code };
+
+    ghost use Rattle.std.specs.Prelude.{length};
+    ghost use Rattle.name_table.specs.Slots.{map_of};
+
+    ghost view = { λ d. record { ledger = d.ledger; desk = d.desk; offered = map_of d.offered; room = length d.offered; told = d.told } };
+}
+
+impl<J: Naming> LiveDesk<J> {
+    /// One to which nothing was told, from what was laid out for a desk of these limits, with room
+    /// for so many pods in all. Names are looked up under the keys.
+    ///
+    /// Errors: `NoMemory`, and `NoPlace` where there is no pass of the desk.
+    pub fn new<R: Wait>(
+        rt: &R,
+        blank: Blank,
+        alloc: Global,
+        keys: RandomState,
+        limits: Limits,
+        known: usize,
+    ) -> Result<Self, RunFault>
+        requires named { blank.seen.book ≡ J.book }
+        requires limits { limits ≡ J.limits }
+        requires few { known ≤ 1000000 }
+        ensures opening { IfOk result (λ made. made ≡ opening limits known) }
+        ensures faults { IfErr result (λ e. (e ≡ RunFault.NoMemory) ⊎ (e ≡ RunFault.NoPlace)) }
+    {
+        let desk = LoneDesk::<J>::new(rt, blank, alloc, keys, limits)?;
+        match tables(alloc, keys, limits, known) {
+            Ok((ledger, offered)) => Ok(LiveDesk {
+                desk,
+                ledger,
+                offered,
+                told: 0,
+            }),
+            Err(NoMemory) => {
+                desk.end(rt);
+                Err(RunFault::NoMemory)
+            }
+        }
+    }
+
+    /// Ends it.
+    pub fn end<R: Wait>(self, rt: &R) {
+        let LiveDesk {
+            desk,
+            ledger: _,
+            offered: _,
+            told: _,
+        } = self;
+        desk.end(rt);
+    }
+
+    // ---- what the desk is told
+
+    // The desk takes a step.
+    pub(crate) fn step<R: Wait>(&mut self, rt: &R, step: Step) -> Result<Reply, NoMemory>
+        requires { caller.IsTimely step }
+        ensures reply { IfOk result (λ reply. reply ≡ machine.reply self.old.desk 0 step) }
+        ensures after { OnOk result (self.new ≡ steps self.old step) }
+    {
+        self.desk.apply(rt, step)
+    }
+
+    // The number of the next event that the desk is told.
+    fn next_version(&mut self) -> Version
+        ensures numbered { self.new ≡ numbered self.old }
+        ensures version { result ≡ version_of self.new }
+    {
+        self.told = self.told.saturating_add(1);
+        Version(self.told)
+    }
+
+    // A node is there, with this row.
+    fn set_node<R: Wait>(&mut self, rt: &R, node: SharedNode) -> Result<(), NoMemory>
+        ensures { OnOk result (self.new ≡ node_set self.old node) }
+    {
+        let version = self.next_version();
+        self.step(rt, Step::Event(Watched::NodeSet { version, node }))?;
+        Ok(())
+    }
+
+    // A node is gone.
+    fn drop_node<R: Wait>(&mut self, rt: &R, name: Name) -> Result<(), NoMemory>
+        ensures { OnOk result (self.new ≡ node_gone self.old name) }
+    {
+        let version = self.next_version();
+        self.step(rt, Step::Event(Watched::NodeGone { version, name }))?;
+        Ok(())
+    }
+
+    // A pod isn't to be placed, and takes nothing.
+    fn drop_pod<R: Wait>(&mut self, rt: &R, uid: Name) -> Result<(), NoMemory>
+        ensures gone { OnOk result (self.new ≡ pod_gone self.old uid) }
+        ensures unknown { OnOk result (fin.get self.new.offered uid ≡ None) }
+    {
+        self.withdraw(&uid);
+        let version = self.next_version();
+        self.step(rt, Step::Event(Watched::PodGone { version, uid }))?;
+        Ok(())
+    }
+
+    // A pod stands on a node, and takes so much there.
+    fn bind_pod<R: Wait>(
+        &mut self,
+        rt: &R,
+        uid: Name,
+        node: Name,
+        request: Request,
+    ) -> Result<(), NoMemory>
+        ensures { OnOk result (self.new ≡ pod_bound self.old uid node request) }
+    {
+        self.withdraw(&uid);
+        let version = self.next_version();
+        let bound = Watched::PodBound {
+            version,
+            uid,
+            node,
+            request,
+        };
+        self.step(rt, Step::Event(bound))?;
+        Ok(())
+    }
+
+    // A pod isn't one to place any more.
+    #[tactic(auto, using(book::proofs::SumLemmas::get_removed))]
+    fn withdraw(&mut self, uid: &Name)
+        ensures without { self.new ≡ without self.old uid.now }
+        ensures unknown { fin.get self.new.offered uid.now ≡ None }
+    {
+        self.offered.remove(uid);
+    }
+
+    // A pod that the desk doesn't have is to be placed, unless it refuses it.
+    fn offer_new<R: Wait>(&mut self, rt: &R, pod: SharedPod) -> Result<bool, NoMemory>
+        requires { fin.get self.old.offered pod.uid ≡ None }
+        ensures { IfOk result (λ there. record { is_there = there; state = self.new } ≡ offer_new self.old pod) }
+    {
+        if self.offered.is_full() {
+            return Ok(false);
+        }
+        let row = pod.share()?;
+        let version = self.next_version();
+        let reply = self.step(rt, Step::Event(Watched::PodPending { version, pod }))?;
+        if let Reply::Refused(_) = reply {
+            return Ok(false);
+        }
+        let uid = row.uid.copied();
+        self.offered.insert(
+            uid,
+            Offered {
+                pod: row,
+                ticket: None,
+            },
+        );
+        Ok(true)
+    }
+
+    // A pod is to be placed. One that the desk has by the same row stays as it is, and one by
+    // another row comes anew.
+    fn offer<R: Wait>(&mut self, rt: &R, pod: SharedPod) -> Result<bool, NoMemory>
+        ensures { IfOk result (λ there. record { is_there = there; state = self.new } ≡ offer self.old pod) }
+    {
+        if let Some(before) = self.offered.get(&pod.uid) {
+            if is_same_pod(&before.pod, &pod) {
+                return Ok(true);
+            }
+            self.drop_pod(rt, pod.uid.copied())?;
+        }
+        self.offer_new(rt, pod)
+    }
+
+    // A bind comes to nothing: its pod is tried again, where the desk chose its place, and is else
+    // none that the desk has.
+    fn give_back<R: Wait>(&mut self, rt: &R, uid: Name) -> Result<(), NoMemory>
+        ensures { OnOk result (self.new ≡ given_back self.old uid) }
+    {
+        let Some(ticket) = self.ticket_of(&uid) else {
+            return self.drop_pod(rt, uid);
+        };
+        self.set_ticket(&uid, None)?;
+        self.step(rt, Step::Forget { uid, ticket })?;
+        Ok(())
+    }
+
+    // What names the desk's choice of a pod's place, where a bind of it was asked for.
+    fn ticket_of(&self, uid: &Name) -> Option<Ticket>
+        ensures { result ≡ ticket_of (fin.get self.now.offered uid.now) }
+    {
+        self.offered.get(uid)?.ticket
+    }
+
+    // What names the desk's choice of a pod's place is this now.
+    pub(crate) fn set_ticket(
+        &mut self,
+        uid: &Name,
+        ticket: Option<Ticket>,
+    ) -> Result<(), AllocError>
+        ensures { OnOk result (self.new ≡ with_ticket self.old uid.now ticket) }
+    {
+        let Some(slot) = self.offered.find(uid) else {
+            return Ok(());
+        };
+        let pod = self.offered.value_at(slot).pod.share()?;
+        self.offered.replace_at(slot, Offered { pod, ticket });
+        Ok(())
+    }
+
+    // ---- what the ledger takes
+
+    /// Tells the ledger an event, and the desk what of it the ledger took. A pod that waits is told
+    /// by `pending`, with its row.
+    ///
+    /// Errors: `NoMemory`.
+    pub fn tell<R: Wait>(&mut self, rt: &R, alloc: Global, event: Event) -> Result<Answer, NoMemory>
+        ensures { IfOk result (λ answer. IsTaken self.old event answer self.new) }
+    {
+        match event {
+            Event::ListEnds(kind) => self.list_ends(rt, alloc, kind),
+            Event::Node { version, node } => self.node(rt, version, node),
+            Event::NodeGone { name } => self.node_goes(rt, name),
+            Event::Withheld { version, uid } => self.withheld(rt, version, uid),
+            Event::Stands {
+                version,
+                uid,
+                node,
+                request,
+            } => self.stands(rt, version, uid, node, request),
+            Event::Gone { uid } => self.goes(rt, uid),
+            Event::Read { uid, ticket, said } => self.read(rt, uid, ticket, said),
+            Event::ListBegins(kind) => Ok(self.alone(Event::ListBegins(kind))),
+            Event::Deaf(kind) => Ok(self.alone(Event::Deaf(kind))),
+            Event::Hears(kind) => Ok(self.alone(Event::Hears(kind))),
+            Event::Waits {
+                version,
+                uid,
+                request,
+            } => Ok(self.alone(Event::Waits {
+                version,
+                uid,
+                request,
+            })),
+            Event::Unread => Ok(self.alone(Event::Unread)),
+            Event::Rested => Ok(self.alone(Event::Rested)),
+            Event::Bind { uid, node } => self.bind(rt, uid, node),
+            Event::Answered {
+                uid,
+                ticket,
+                outcome,
+            } => Ok(self.alone(Event::Answered {
+                uid,
+                ticket,
+                outcome,
+            })),
+        }
+    }
+
+    // The ledger takes an event of which the desk is told nothing.
+    pub(crate) fn alone(&mut self, event: Event) -> Answer
+        ensures told { IsTold self.old.ledger event result self.new.ledger }
+        ensures desk { self.new ≡ with_ledger self.old self.new.ledger }
+    {
+        self.ledger.tell(event)
+    }
+
+    // A list ended: what it left out goes.
+    fn list_ends<R: Wait>(&mut self, rt: &R, alloc: Global, kind: Kind) -> Result<Answer, NoMemory>
+        ensures { IfOk result (λ answer. IsTaken self.old (events.ListEnds kind) answer self.new) }
+    {
+        let names = self.ledger.unnamed(alloc, kind)?;
+        self.end_list(rt, kind, &names)
+    }
+
+    // A list ended that left out these names.
+    fn end_list<R: Wait>(&mut self, rt: &R, kind: Kind, names: &[Name]) -> Result<Answer, NoMemory>
+        requires { names.now ≡ unnamed self.old.ledger kind }
+        ensures { IfOk result (λ answer. IsTaken self.old (events.ListEnds kind) answer self.new) }
+    {
+        let answer = self.alone(Event::ListEnds(kind));
+        if takes(answer) {
+            self.leave_out(rt, kind, names)?;
+        }
+        Ok(answer)
+    }
+
+    // The nodes or pods of these names go.
+    fn leave_out<R: Wait>(&mut self, rt: &R, kind: Kind, names: &[Name]) -> Result<(), NoMemory>
+        ensures { OnOk result (self.new ≡ left_out self.old kind names.now) }
+    {
+        match kind {
+            Kind::Nodes => self.drop_nodes(rt, names),
+            Kind::Pods => self.drop_pods(rt, names),
+        }
+    }
+
+    // The nodes of these names go.
+    fn drop_nodes<R: Wait>(&mut self, rt: &R, names: &[Name]) -> Result<(), NoMemory>
+        ensures { OnOk result (self.new ≡ all_gone self.old node_gone names.now) }
+    {
+        for name in names {
+            self.drop_node(rt, name.copied())?;
+        }
+        Ok(())
+    }
+
+    // The pods of these uids go.
+    fn drop_pods<R: Wait>(&mut self, rt: &R, uids: &[Name]) -> Result<(), NoMemory>
+        ensures { OnOk result (self.new ≡ all_gone self.old pod_gone uids.now) }
+    {
+        for uid in uids {
+            self.drop_pod(rt, uid.copied())?;
+        }
+        Ok(())
+    }
+
+    // A node is there.
+    fn node<R: Wait>(
+        &mut self,
+        rt: &R,
+        version: Version,
+        node: SharedNode,
+    ) -> Result<Answer, NoMemory>
+        ensures { IfOk result (λ answer. IsTaken self.old (events.Node version node) answer self.new) }
+    {
+        let row = node.share()?;
+        let answer = self.alone(Event::Node { version, node });
+        if takes(answer) {
+            self.set_node(rt, row)?;
+        }
+        Ok(answer)
+    }
+
+    // A node is gone.
+    fn node_goes<R: Wait>(&mut self, rt: &R, name: Name) -> Result<Answer, NoMemory>
+        ensures { IfOk result (λ answer. IsTaken self.old (events.NodeGone name) answer self.new) }
+    {
+        let gone = name.copied();
+        let answer = self.alone(Event::NodeGone { name });
+        if takes(answer) {
+            self.drop_node(rt, gone)?;
+        }
+        Ok(answer)
+    }
+
+    // A pod has no node, and isn't to be bound.
+    fn withheld<R: Wait>(&mut self, rt: &R, version: Version, uid: Name) -> Result<Answer, NoMemory>
+        ensures { IfOk result (λ answer. IsTaken self.old (events.Withheld version uid) answer self.new) }
+    {
+        let pod = uid.copied();
+        let answer = self.alone(Event::Withheld { version, uid });
+        if takes(answer) && self.ledger.known(&pod).is_none() {
+            self.drop_pod(rt, pod)?;
+        }
+        Ok(answer)
+    }
+
+    // A pod has a node.
+    fn stands<R: Wait>(
+        &mut self,
+        rt: &R,
+        version: Version,
+        uid: Name,
+        node: Name,
+        request: Request,
+    ) -> Result<Answer, NoMemory>
+        ensures { IfOk result (λ answer. IsTaken self.old (events.Stands version uid node request) answer self.new) }
+    {
+        let (pod, there) = (uid.copied(), node.copied());
+        let answer = self.alone(Event::Stands {
+            version,
+            uid,
+            node,
+            request,
+        });
+        if takes(answer) {
+            self.bind_pod(rt, pod, there, request)?;
+        }
+        Ok(answer)
+    }
+
+    // A pod is gone, or takes nothing any more.
+    fn goes<R: Wait>(&mut self, rt: &R, uid: Name) -> Result<Answer, NoMemory>
+        ensures { IfOk result (λ answer. IsTaken self.old (events.Gone uid) answer self.new) }
+    {
+        let pod = uid.copied();
+        let answer = self.alone(Event::Gone { uid });
+        if takes(answer) {
+            self.drop_pod(rt, pod)?;
+        }
+        Ok(answer)
+    }
+
+    // May this pod be bound to this node, which another than the desk chose?
+    fn bind<R: Wait>(&mut self, rt: &R, uid: Name, node: Name) -> Result<Answer, NoMemory>
+        ensures { IfOk result (λ answer. IsTaken self.old (events.Bind uid node) answer self.new) }
+    {
+        let (pod, there) = (uid.copied(), node.copied());
+        let answer = self.alone(Event::Bind { uid, node });
+        if takes(answer) {
+            self.count_bound(rt, pod, there)?;
+        }
+        Ok(answer)
+    }
+
+    // A bind may be asked for that the desk didn't choose: its pod counts where it may come to
+    // stand.
+    fn count_bound<R: Wait>(&mut self, rt: &R, uid: Name, node: Name) -> Result<(), NoMemory>
+        ensures { OnOk result (self.new ≡ bound_of self.old uid node (fin.get self.old.ledger.pods uid)) }
+    {
+        match self.ledger.known(&uid) {
+            Some(
+                Known {
+                    stage: Stage::Asked { request, .. },
+                    ..
+                },
+            ) => self.bind_pod(rt, uid, node, request),
+            _ => Ok(()),
+        }
+    }
+
+    // What a read said of a pod whose bind is in doubt.
+    fn read<R: Wait>(
+        &mut self,
+        rt: &R,
+        uid: Name,
+        ticket: Ticket,
+        said: Said,
+    ) -> Result<Answer, NoMemory>
+        ensures { IfOk result (λ answer. IsTaken self.old (events.Read uid ticket said) answer self.new) }
+    {
+        let pod = uid.copied();
+        let place = place_in(&said);
+        let answer = self.alone(Event::Read { uid, ticket, said });
+        if takes(answer) {
+            self.settle(rt, pod, place)?;
+        }
+        Ok(answer)
+    }
+
+    // A read settled a pod's bind: where it was read to stand, if it stands, it does so at this
+    // place.
+    fn settle<R: Wait>(
+        &mut self,
+        rt: &R,
+        uid: Name,
+        place: Option<(Name, Request)>,
+    ) -> Result<(), NoMemory>
+        ensures { OnOk result (self.new ≡ settled self.old uid place (fin.get self.old.ledger.pods uid)) }
+    {
+        let Some(known) = self.ledger.known(&uid) else {
+            return self.drop_pod(rt, uid);
+        };
+        match (known.stage, place) {
+            (Stage::Waits(_), _) => self.give_back(rt, uid),
+            (Stage::Stands, Some((node, request))) => self.bind_pod(rt, uid, node, request),
+            (Stage::Stands, None) | (Stage::Asked { .. }, _) => Ok(()),
+        }
+    }
+
+    /// A pod waits, with this row: the ledger is told, and where nothing newer was told of it and no
+    /// bind of it is open, the desk has it to place.
+    ///
+    /// Errors: `NoMemory`.
+    pub fn pending<R: Wait>(
+        &mut self,
+        rt: &R,
+        version: Version,
+        pod: SharedPod,
+    ) -> Result<Taken, NoMemory>
+        ensures { IfOk result (λ taken. IsPending self.old version pod taken self.new) }
+    {
+        let answer = self.alone(Event::Waits {
+            version,
+            uid: pod.uid.copied(),
+            request: pod.request,
+        });
+        if !self.is_newest(version, &pod.uid) {
+            return Ok(Taken::Answers(answer));
+        }
+        let is_there = self.offer(rt, pod)?;
+        Ok(taken_by(answer, is_there))
+    }
+
+    // Whether this is the newest that was told of a pod, and it waits.
+    fn is_newest(&self, version: Version, uid: &Name) -> bool
+        ensures { result ≡ is_newest version (fin.get self.now.ledger.pods uid.now) }
+    {
+        match self.ledger.known(uid) {
+            Some(known) => matches!(known.stage, Stage::Waits(_)) && known.version == version,
+            None => false,
+        }
+    }
+
+    /// A pod that waits is put aside: the desk doesn't place it until it is told again. Whether it
+    /// had it to place.
+    ///
+    /// Errors: `NoMemory`.
+    pub fn put_aside<R: Wait>(&mut self, rt: &R, uid: Name) -> Result<bool, NoMemory>
+        ensures { IfOk result (λ was_there. record { was_there = was_there; state = self.new } ≡ put_aside self.old uid) }
+    {
+        let is_to_place = match self.offered.get(&uid) {
+            Some(it) => it.ticket.is_none(),
+            None => false,
+        };
+        if is_to_place {
+            self.drop_pod(rt, uid)?;
+        }
+        Ok(is_to_place)
+    }
+
+    /// Time goes on to this moment, at most `LATEST_MOMENT`.
+    ///
+    /// Errors: `NoMemory`.
+    pub fn tick<R: Wait>(&mut self, rt: &R, now: Moment) -> Result<Reply, NoMemory>
+        requires { now.0 ≤ LATEST_MOMENT }
+        ensures reply { IfOk result (λ reply. reply ≡ machine.reply self.old.desk 0 (Tick now)) }
+        ensures after { OnOk result (self.new ≡ steps self.old (Tick now)) }
+    {
+        self.step(rt, Step::Tick(now))
+    }
+}
+
+// A ledger to which nothing was told, and room for the pods to place.
+fn tables(
+    alloc: Global,
+    keys: RandomState,
+    limits: Limits,
+    known: usize,
+) -> Result<(Ledger, NameTable<Offered>), NoMemory>
+    requires { known ≤ 1000000 }
+    ensures ledger { IfOk result (λ made. made.0 ≡ ledger_opening limits known) }
+    ensures offered { IfOk result (λ made. made.1 ≡ replicate limits.queued None) }
+{
+    let ledger = Ledger::new(alloc, keys, limits, known)?;
+    let offered = NameTable::new(alloc, keys, limits.queued)?;
+    Ok((ledger, offered))
+}
+
+// What is answered of a pod that the desk has to place, or hasn't.
+fn taken_by(answer: Answer, is_there: bool) -> Taken
+    ensures { result ≡ (if is_there then Answers answer else LeftOut) }
+{
+    if is_there {
+        Taken::Answers(answer)
+    } else {
+        Taken::LeftOut
+    }
+}
+
+// Whether what was told was taken, or a bind may be asked for.
+fn takes(answer: Answer) -> bool
+    ensures { result ≡ takes answer }
+{
+    matches!(answer, Answer::Told | Answer::Granted(_))
+}
+
+// Where a pod was read to stand.
+fn place_in(said: &Said) -> Option<(Name, Request)>
+    ensures { result ≡ place_of said.now }
+{
+    match said {
+        Said::Stands { node, request, .. } => Some((node.copied(), *request)),
+        Said::Waits | Said::Gone => None,
+    }
+}

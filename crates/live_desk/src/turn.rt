@@ -1,0 +1,124 @@
+//! A cycle, and what is asked of the ledger then.
+ghost use Rattle.std.specs.Prelude.{◌≡◌, IfOk, IfErr, OnOk};
+ghost use Rattle.desk.specs.Machine.{State};
+ghost use Rattle.choose.specs.Kits.{rules_of};
+ghost use Rattle.cycle.specs.CycleAlone.{IsCycleAlone};
+ghost use Rattle.live_desk.specs.Turns.{IsAsked, IsTurn, Leads, with_desk};
+
+use crate::live_desk::LiveDesk;
+use choose::Decider;
+use cycle::{CutShort, Cycled};
+use desk::{Naming, NoMemory, Step};
+use ledger::{Answer, Event};
+use quant::{Name, Ticket};
+use std::sync::Wait;
+use std::thread::Threads;
+use streams::RunFault;
+
+/// What a cycle came to.
+#[derive(Drop)]
+pub enum Turn {
+    /// No bind may be asked for now, of whichever pod, so that none was decided of.
+    Shut,
+    /// The pod may be bound to the node, which was chosen with this total. The ledger's ticket names
+    /// the bind.
+    Granted {
+        uid: Name,
+        node: Name,
+        total: u32,
+        ticket: Ticket,
+    },
+    /// The node was chosen, and the ledger doesn't allow the bind. The pod is tried again.
+    Denied {
+        uid: Name,
+        node: Name,
+        answer: Answer,
+    },
+    /// No node was chosen, or no pod waits.
+    Without(Cycled),
+}
+
+impl<J: Naming> LiveDesk<J> {
+    /// One cycle: where a bind may be asked for now, the desk decides of the pod that goes first, by
+    /// all that the ledger took so far, and the ledger is asked whether the bind may be asked for.
+    ///
+    /// Errors: `NoMemory`.
+    pub fn cycle<R: Wait + Threads + Sync, D: Decider>(
+        &mut self,
+        rt: &R,
+        decider: &mut D,
+    ) -> Result<Turn, RunFault>
+        ensures turn { IfOk result (λ turn. IsTurn (rules_of D.Kit.answers (D.kits decider.old)) self.old turn self.new) }
+        ensures kits { D.kits decider.new ≡ D.kits decider.old }
+        ensures faults { IfErr result (λ e. e ≡ RunFault.NoMemory) }
+    {
+        if !self.ledger.is_open() {
+            return Ok(Turn::Shut);
+        }
+        let came = self.cycle_alone(rt, decider)?;
+        Ok(self.lead(rt, came)?)
+    }
+
+    // What a cycle of the desk leads to.
+    fn lead<R: Wait>(&mut self, rt: &R, came: Cycled) -> Result<Turn, NoMemory>
+        ensures { IfOk result (λ turn. Leads self.old came turn self.new) }
+    {
+        match came {
+            Cycled::Assumed {
+                uid,
+                node,
+                total,
+                ticket,
+            } => self.ask(rt, uid, node, total, ticket),
+            without => Ok(Turn::Without(without)),
+        }
+    }
+
+    // A cycle of the desk.
+    fn cycle_alone<R: Wait + Threads + Sync, D: Decider>(
+        &mut self,
+        rt: &R,
+        decider: &mut D,
+    ) -> Result<Cycled, RunFault>
+        ensures cycled { IfOk result (λ came. (desk : State)
+            × IsCycleAlone (rules_of D.Kit.answers (D.kits decider.old)) self.old.desk came desk
+            × (self.new ≡ with_desk self.old desk)) }
+        ensures kits { D.kits decider.new ≡ D.kits decider.old }
+        ensures faults { IfErr result (λ e. e ≡ RunFault.NoMemory) }
+    {
+        match self.desk.pop(rt)? {
+            Some(pod) => Ok(self.desk.place(rt, &pod, decider, false)?),
+            None => Ok(Cycled::Idle),
+        }
+    }
+
+    // The ledger is asked whether a pod may be bound where its place is assumed.
+    fn ask<R: Wait>(
+        &mut self,
+        rt: &R,
+        uid: Name,
+        node: Name,
+        total: u32,
+        ticket: Ticket,
+    ) -> Result<Turn, NoMemory>
+        ensures { IfOk result (λ turn. IsAsked self.old uid node total ticket turn self.new) }
+    {
+        let (pod, there) = (uid.copied(), node.copied());
+        let answer = self.alone(Event::Bind {
+            uid: pod,
+            node: there,
+        });
+        if let Answer::Granted(bind) = answer {
+            self.set_ticket(&uid, Some(ticket))?;
+            return Ok(Turn::Granted {
+                uid,
+                node,
+                total,
+                ticket: bind,
+            });
+        }
+        let pod = uid.copied();
+        self.step(rt, Step::Forget { uid: pod, ticket })?;
+        Ok(Turn::Denied { uid, node, answer })
+    }
+}
