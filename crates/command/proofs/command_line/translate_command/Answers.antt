@@ -9,3 +9,8 @@ returns-clause-shape c =
     let with_labels = with_one app_of _ _ _ _ _ c.with_argument-translate-2.ensures.shape with_scheduler c.option-2.ensures.rule in
     let with_by_uid = with_one app_of _ _ _ _ _ c.with_argument-translate-3.ensures.shape with_labels c.flag.ensures.rule in
     with_one app_of _ _ _ _ _ c.with_argument.ensures.shape with_by_uid c.flag-2.ensures.rule
+
+pub returns-clause-local : goal.returns-clause-local
+returns-clause-local c =
+    c.with_argument.ensures.local
+    (c.with_argument-translate-3.ensures.local (c.with_argument-translate-2.ensures.local (c.with_argument-translate.ensures.local c.bare_command.ensures.local)))
