@@ -74,13 +74,11 @@ impl Kind {
 }
 
 /// Why one instruction isn't read. No memory is taken, so none is wanting.
-#[derive(Clone, Copy, Debug, Error)]
+#[derive(Clone, Copy)]
 pub enum OpFault {
     /// What is wrong, and the offset in the bytes of what can't be read.
-    #[error("Malformed {} {} at {place}", kind.number(), kind.name())]
     Malformed { kind: Kind, place: usize },
     /// A float instruction or type, which isn't in the profile.
-    #[error("Float")]
     Float,
 }
 
