@@ -10,6 +10,7 @@ pub mod Steps
 pub mod Results
 pub mod Inside
 pub mod LevelLists
+pub mod KnownOps
 pub mod Whole
 pub mod NotedBodies
 pub mod NotedStanding

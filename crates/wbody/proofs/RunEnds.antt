@@ -1,5 +1,5 @@
 -- The run that has a local, by how many runs end before it.
-use Rattle.std.proofs.Common.{◌≡◌, ℕ, zero, suc, ◌+◌, ◌-◌, ◌^◌, ◌<◌, ◌≤◌, List, [], ◌∷◌, Bool, true, false, length, get_or, refl, inl, inr, ◌++◌, sym, ap, ◌∙◌, arith}
+use Rattle.std.proofs.Common.{◌≡◌, ℕ, zero, suc, ◌+◌, ◌-◌, ◌^◌, ◌<◌, ◌≤◌, List, [], ◌∷◌, Bool, true, false, length, get_or, drop, drop-cons, add-one, append_assoc, refl, inl, inr, ◌++◌, sym, ap, ◌∙◌, arith}
 use Rattle.std.specs.Prelude.{nat_le, slice_get, option_map}
 use Rattle.std.specs.List.{count_by}
 use Rattle.std.specs.List.Sorted.{IsNonDecreasingBy}
@@ -85,3 +85,12 @@ local_at parameters runs ends index past run ends_are behind short past_is withi
     ∙ ap (slice_get (locals_of runs)) (sym past_is ∙ none)
     ∙ located 0 past runs least high
     ∙ ap (λ n. option_map (λ (r : LocalRun). r.value) (slice_get runs n)) (sym (count ∙ ap (λ es. count_by (λ e. nat_le e past) es) ends_are))
+
+-- the end of the next run goes to those so far
+pub ends_more : (ends : List ℕ) (start : ℕ) (runs : List LocalRun) (i : ℕ) (d : LocalRun) → i < length runs
+    → (ends ++ end_of start (get_or runs i d) ∷ []) ++ ends_from (end_of start (get_or runs i d)) (drop (i + 1) runs) ≡ ends ++ ends_from start (drop i runs)
+ends_more ends start runs i d within =
+    let first : drop i runs ≡ get_or runs i d ∷ drop (suc i) runs = drop-cons runs i d within in
+    let same : drop i runs ≡ get_or runs i d ∷ drop (i + 1) runs = first ∙ ap (λ n. get_or runs i d ∷ drop n runs) (sym (add-one i)) in
+    append_assoc ends (end_of start (get_or runs i d) ∷ []) (ends_from (end_of start (get_or runs i d)) (drop (i + 1) runs))
+    ∙ ap (λ l. ends ++ ends_from start l) (sym same)

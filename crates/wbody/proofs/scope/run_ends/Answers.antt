@@ -1,0 +1,16 @@
+use Rattle.std.proofs.Common.{◌≡◌, ◌∙◌, ℕ, ◌+◌, List, [], ◌∷◌, ◌++◌, drop, get_or, ap, arith}
+use Rattle.wbin.specs.declared.module.LocalRun.{LocalRun}
+use Rattle.wbody.specs.inside.LocalEnds.{ends_from, end_of}
+use Rattle.wbody.proofs.RunEnds.{ends_more}
+use Rattle.wbody.proofs.scope.run_ends.Goals as goal
+
+pub loop-run-preserved : goal.loop-run-preserved
+loop-run-preserved c =
+    let i = c.loop-run.run-index in
+    let start = c.loop-run.end in
+    let rest = drop (i + 1) c.args.runs.now in (
+      omega (arith, c.min-end.ensures),
+      ap (λ (l : List ℕ). l ++ ends_from c.min-end.result rest) c.in_ok-push.ensures.items
+          ∙ ap (λ (n : ℕ). (c.loop-run.ends.items ++ n ∷ []) ++ ends_from n rest) c.min-end.ensures
+          ∙ ends_more c.loop-run.ends.items start c.args.runs.now i _ c.loop-run-test.true ∙ c.loop-run.invariant.1,
+    )
