@@ -123,3 +123,8 @@ no_custom_name bytes more above id contents inside after e h f z none s rest k m
       | inl c ↦ none c.1.0 c.1.1 (subst (λ b. SpellsName b c.1.0 c.1.1) (sym q.0 ∙ f) c.1.2)
       | inr r ↦ omega (arith, r.0, p.0, z)
     ]
+
+-- and where no contents stand behind its number there is none
+pub no_contents : (bytes more : List ℕ) (id : ℕ) → bytes ≡ id ∷ more → Nothing SpellsBytes more → (s : Section) (rest : List ℕ) → SpellsSection bytes s rest → ⊥
+no_contents bytes more id e none s rest k =
+    let p = byte_once s.id id bytes k.0 more k.1 e in none s.contents rest (subst (λ b. SpellsBytes b s.contents rest) p.1 k.2)

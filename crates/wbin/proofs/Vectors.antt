@@ -4,7 +4,7 @@ use Rattle.wcode.specs.declared.fault.BinFault.{BinFault}
 use Rattle.wcode.specs.Grammar.{SpellsIndex}
 use Rattle.wcode.proofs.Words.{index_once}
 use Rattle.wbin.specs.Grammar.{Spelling, SpellsEach, SpellsVector}
-use Rattle.wbin.specs.inside.Reading.{Nothing, Once, Reads, SpellsMany}
+use Rattle.wbin.specs.inside.Reading.{Nothing, Once, Reads, SpellsBoth, SpellsMany}
 
 -- one more behind
 pub each_push : {A : Type 0} (S : Spelling A) (bytes : List ℕ) (xs : List A) (more : List ℕ) (x : A) (rest : List ℕ) → SpellsEach S bytes xs more → S more x rest → SpellsEach S bytes (xs ++ x ∷ []) rest
@@ -65,3 +65,12 @@ vector_reads S f bytes at count first (Ok x) h k =
 vector_reads S f bytes at count first (Err e) h k = λ m ys rest v.
     (let p = index_once (drop at bytes) count (length ys) (drop first bytes) v.0 h v.1 in
     k m ys rest (sym p.0, subst (λ b. SpellsEach S b ys rest) (sym p.1) v.2))
+
+-- of two things, the first doesn't stand there, or the second doesn't behind it
+pub first_missing : {A B : Type 0} (S : Spelling A) (T : Spelling B) (bytes : List ℕ) → Nothing S bytes → Nothing (SpellsBoth S T) bytes
+first_missing S T bytes none both rest stand = none both.0 stand.0 stand.1
+
+pub second_missing : {A B : Type 0} (S : Spelling A) (T : Spelling B) → Once S → (bytes : List ℕ) (x : A) (more : List ℕ) → S bytes x more → Nothing T more
+    → Nothing (SpellsBoth S T) bytes
+second_missing S T once bytes x more first none both rest stand =
+    none both.1 rest (subst (λ l. T l both.1 rest) (once bytes both.0 x stand.0 more stand.1 first).1 stand.2)

@@ -4,7 +4,7 @@ use Rattle.leb.proofs.Digits.{at_place}
 use Rattle.wbin.specs.inside.Reading.{Reads}
 use Rattle.wbin.specs.inside.Outline.{ReadsStretch}
 use Rattle.wbin.proofs.Mapped.{mapped_err}
-use Rattle.wbin.proofs.Sections.{no_custom_name}
+use Rattle.wbin.proofs.Sections.{no_contents, no_custom_name}
 use Rattle.wbin.proofs.section.read_stretch.Goals as goal
 
 pub returns-in_err-map_err : goal.returns-in_err-map_err
@@ -21,3 +21,12 @@ returns-in_err-map_err c =
       no_custom_name (drop c.args.at b) (drop (c.args.at + 1) b) c.args.above (get_or b c.args.at 0) a.contents.now (drop (a.end - length a.contents.now) (take a.end b))
           (drop a.end b) (at_place b c.args.at c.requires) a.ensures.read.1 a.ensures.place.2 e.custom e.none,
     )
+
+pub returns-in_err-contents : goal.returns-in_err-contents
+unfolding Reads ReadsStretch
+returns-in_err-contents c =
+    let b = c.args.bytes.now in
+    let a = c.in_err-contents in
+    let p = err_from_is_err_and c.from_residual.result c.from_residual.ensures.1 in
+    rw (p.1, p.2)
+    (a.ensures.memory, λ s rest k may. no_contents (drop c.args.at b) (drop (c.args.at + 1) b) (get_or b c.args.at 0) (at_place b c.args.at c.requires) (a.ensures.read a.ensures.memory) s rest k)
