@@ -1,3 +1,4 @@
+pub mod Laws
 pub mod SamePod
 pub mod State
 pub mod Telling
