@@ -56,9 +56,13 @@ pub translate_is : (rows : List Row) (scheduler labels : List ℕ) (by_uid answe
     → translate scheduler labels by_uid answers ≡ translate_found rows
 translate_is rows scheduler labels by_uid answers first second third fourth = λ i. translate (first i) (second i) (third i) (fourth i)
 
--- the scheduler and the labels of a ledger
-pub live_is : (rows : List Row) (scheduler labels : List ℕ) → scheduler ≡ scheduler_found rows → labels ≡ labels_found rows → live scheduler labels ≡ live_found rows
-live_is rows scheduler labels first second = λ i. live (first i) (second i)
+-- the scheduler, the labels, the workers and the plugins of a cluster
+pub live_is : (rows : List Row) (scheduler labels : List ℕ) (plan : ℕ × List SpecSyntax) → scheduler ≡ scheduler_found rows → labels ≡ labels_found rows
+    → plan_found rows ≡ Some plan → live_found rows ≡ Some (live scheduler labels plan.0 plan.1)
+live_is rows scheduler labels plan first second third = rw third (λ i. Some (live (sym first i) (sym second i) plan.0 plan.1))
+
+pub no_live : (rows : List Row) → plan_found rows ≡ None → live_found rows ≡ None
+no_live rows none = rw none refl
 
 -- the texts that stand there, or none
 pub texts_or_none : (r : Option (Bor (List (Bor (List ℕ))))) (d : Bor (List (Bor (List ℕ)))) → d.now ≡ []

@@ -97,8 +97,9 @@ pub record WorkedExamples : Type 0 where
   pub a_plugin_of_a_translation : meaning (codes "translate" ∷ codes "a:1:1:f" ∷ []) ≡ None
   pub an_option_of_a_translation_behind_the_end : meaning (codes "translate" ∷ codes "--" ∷ codes "--by-uid" ∷ []) ≡ None
   pub help_on_a_translation : meaning (codes "translate" ∷ codes "--help" ∷ []) ≡ None
-  pub a_ledger : meaning (codes "live" ∷ []) ≡ Some (live (codes "default-scheduler") [])
-  pub all_of_a_ledger : meaning (codes "live" ∷ codes "--labels=zone" ∷ codes "--scheduler" ∷ codes "mine" ∷ []) ≡ Some (live (codes "mine") (codes "zone"))
+  pub a_ledger : meaning (codes "live" ∷ []) ≡ Some (live (codes "default-scheduler") [] 1 [])
+  pub all_of_a_ledger : meaning (codes "live" ∷ codes "--labels=zone" ∷ codes "--scheduler" ∷ codes "mine" ∷ codes "--workers=2" ∷ codes "a:1:5:f" ∷ [])
+      ≡ Some (live (codes "mine") (codes "zone") 2 (record { name = codes "a"; weight = 1; fuel = 5; file = codes "f" } ∷ []))
   pub a_flag_of_a_ledger : meaning (codes "live" ∷ codes "--by-uid" ∷ []) ≡ None
   pub answers_of_a_run : meaning (codes "run" ∷ codes "--answers" ∷ []) ≡ None
   -- which program this is
@@ -152,6 +153,6 @@ pub record WorkedExamples : Type 0 where
   pub of_a_scheduler_twice : misuse_of (codes "translate" ∷ codes "--scheduler=a" ∷ codes "--scheduler" ∷ codes "a" ∷ []) ≡ Together
   pub of_answers_with_a_value : misuse_of (codes "translate" ∷ codes "--scheduler" ∷ codes "-" ∷ codes "--answers=true" ∷ []) ≡ Unknown 4
   pub of_a_plugin_of_a_translation : misuse_of (codes "translate" ∷ codes "a:1:1:f" ∷ []) ≡ Unknown 2
-  pub of_a_flag_of_a_ledger : misuse_of (codes "live" ∷ codes "--labels" ∷ codes "a" ∷ codes "--by-uid" ∷ []) ≡ Unknown 4
+  pub of_a_flag_of_a_ledger : misuse_of (codes "live" ∷ codes "--labels" ∷ codes "a" ∷ codes "--by-uid" ∷ []) ≡ Plugin Spec 4
   pub of_a_scheduler_of_a_ledger : misuse_of (codes "live" ∷ codes "--scheduler" ∷ []) ≡ Scheduler 2
   pub of_an_option_of_a_translation_behind_the_end : misuse_of (codes "translate" ∷ codes "--" ∷ codes "--by-uid" ∷ []) ≡ Unknown 3

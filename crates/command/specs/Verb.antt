@@ -27,7 +27,10 @@ value_of Storm option =
     else if bytes_eq option (codes "--binders") then Some (Number Binders)
     else None
 value_of Translate option = if asks_name option then Some Name else None
-value_of Live option = if asks_name option then Some Name else None
+value_of Live option =
+    if bytes_eq option (codes "--workers") then Some (Number Workers)
+    else if asks_name option then Some Name
+    else None
 
 -- a word is a flag of a command, which has no value
 abbrev pub is_flag : Verb → (word : List ℕ) → Bool
@@ -41,4 +44,4 @@ abbrev pub takes_plugins : Verb → Bool
 takes_plugins Run = true
 takes_plugins Storm = true
 takes_plugins Translate = false
-takes_plugins Live = false
+takes_plugins Live = true

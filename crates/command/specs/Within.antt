@@ -48,5 +48,5 @@ IsWithin (Explain plan) = IsPlan plan
 IsWithin (Storm plan) = IsStormPlan plan
 IsWithin (Check file) = ⊤
 IsWithin (Translate plan) = ⊤
-IsWithin (Live plan) = ⊤
+IsWithin (Live plan) = IsPlan plan.plan
 IsWithin Version = ⊤

@@ -1,7 +1,8 @@
 -- What the program's words ask for: `run [--workers N] [SPEC]...`, `explain` with the same words
 -- behind it, `storm [--cycles C] [--binders B] [--flaky] [SPEC]...`, where a SPEC is
 -- `NAME:WEIGHT:FUEL:FILE`, `check MODULE`, `translate [--scheduler NAME] [--labels KEY,..]
--- [--by-uid] [--answers]`, `live [--scheduler NAME] [--labels KEY,..]`, or `version`.
+-- [--by-uid] [--answers]`, `live [--scheduler NAME] [--labels KEY,..] [--workers N] [SPEC]...`, or
+-- `version`.
 use Rattle.std.specs.Prelude.{ℕ, ◌+◌, ◌==◌, ◌&&◌, nat_le, not, Bool, true, false, List, [], ◌∷◌, take, drop, length, map, codes, bytes_eq, Option, Some, None, option_map, option_and_then, unwrap_or, Result, Ok, Err, if◌then◌else◌}
 use Rattle.std.specs.List.{list_any, position}
 use Rattle.clap.specs.declared.builder.action.ArgAction.TheVariants.{Set, SetTrue, Append}
@@ -31,15 +32,16 @@ pub record SpecSyntax : Type 0 where
 -- one, a storm of so many threads that run cycles and so many that bind pods, of which every third
 -- bind fails or not, to check the module in the file of this name, or to translate objects for this
 -- scheduler, with the labels of these keys first, with pods called by their uid or not, and with
--- answers that also say what is left out or not, or to keep a ledger of what is told of this
--- scheduler's pods, with the labels of these keys first, or which program this is
+-- answers that also say what is left out or not, or to decide of a cluster that is told, where this
+-- scheduler's pods wait, with the labels of these keys first, by so many workers with these plugins,
+-- or which program this is
 pub data Asked : Type 0 where
   run : (workers : ℕ) → (specs : List SpecSyntax) → Asked
   explain : (workers : ℕ) → (specs : List SpecSyntax) → Asked
   storm : (cycles binders : ℕ) → (is_flaky : Bool) → (specs : List SpecSyntax) → Asked
   check : (file : List ℕ) → Asked
   translate : (scheduler labels : List ℕ) → (by_uid answers : Bool) → Asked
-  live : (scheduler labels : List ℕ) → Asked
+  live : (scheduler labels : List ℕ) → (workers : ℕ) → (specs : List SpecSyntax) → Asked
   version : Asked
 
 -- the same, as the code has it
@@ -53,7 +55,7 @@ abbrev pub translate_planned : TranslatePlan → Asked
 translate_planned plan = translate plan.scheduler.now plan.labels.now plan.by_uid plan.answers
 
 abbrev pub live_planned : LivePlan → Asked
-live_planned plan = live plan.scheduler.now plan.labels.now
+live_planned plan = live plan.scheduler.now plan.labels.now plan.plan.workers (map syntax_of plan.plan.specs.items)
 
 abbrev pub asked_of : Words → Asked
 asked_of (Run plan) = run plan.workers (map syntax_of plan.specs.items)
@@ -142,9 +144,9 @@ abbrev pub translate_found : List Row → Asked
 translate_found rows =
     translate (scheduler_found rows) (labels_found rows) (is_told (first_of (codes "by-uid") rows)) (is_told (first_of (codes "answers") rows))
 
--- the ledger that is asked for
-abbrev pub live_found : List Row → Asked
-live_found rows = live (scheduler_found rows) (labels_found rows)
+-- the cluster of which is to be decided
+abbrev pub live_found : List Row → Option Asked
+live_found rows = option_map (λ plan. live (scheduler_found rows) (labels_found rows) plan.0 plan.1) (plan_found rows)
 
 -- what is asked for by the command that `clap` found, and what it found behind it
 abbrev pub found : Option (Text × List Row) → Option Asked
@@ -154,7 +156,7 @@ found (Some command) =
     else if bytes_eq command.0 (codes "explain") then option_map (λ plan. explain plan.0 plan.1) (plan_found command.1)
     else if bytes_eq command.0 (codes "storm") then storm_found command.1
     else if bytes_eq command.0 (codes "translate") then Some (translate_found command.1)
-    else if bytes_eq command.0 (codes "live") then Some (live_found command.1)
+    else if bytes_eq command.0 (codes "live") then live_found command.1
     else if bytes_eq command.0 (codes "version") then Some version
     else option_map check (first_of (codes "MODULE") command.1)
 
@@ -193,7 +195,9 @@ translate_command =
     (flag_rule (codes "by-uid"))) (flag_rule (codes "answers"))
 
 abbrev pub live_command : App
-live_command = with_rule (with_rule (new_app (codes "live")) (option_rule (codes "scheduler"))) (option_rule (codes "labels"))
+live_command =
+    with_rule (with_rule (with_rule (with_rule (new_app (codes "live")) (option_rule (codes "scheduler"))) (option_rule (codes "labels")))
+    (option_rule (codes "workers"))) specs_rule
 
 abbrev pub version_command : App
 version_command = new_app (codes "version")

@@ -51,7 +51,7 @@ pub struct TranslatePlan<'a> {
     pub answers: bool,
 }
 
-/// A ledger that is told what the API server tells, as the words ask for it.
+/// A cluster that is told as the API server tells it, and decided of, as the words ask for it.
 #[derive(Drop)]
 pub struct LivePlan<'a> {
     /// The name of the scheduler whose pods wait.
@@ -59,6 +59,8 @@ pub struct LivePlan<'a> {
     /// The keys of the labels that the site's rules read, with commas between them. It is empty
     /// where none are named.
     pub labels: &'a str,
+    /// By how many workers and which plugins is decided.
+    pub plan: Plan<'a>,
 }
 
 /// What the program is asked to do.
@@ -76,8 +78,9 @@ pub enum Words<'a> {
     /// To read objects of the Kubernetes API from standard input, and to write the lines of a
     /// script that they give.
     Translate(TranslatePlan<'a>),
-    /// To tell a ledger what is read from standard input, objects of the Kubernetes API and orders,
-    /// and to write its answers.
+    /// To tell what is read from standard input, objects of the Kubernetes API and orders, to a
+    /// ledger and a desk, and to write the answers: which pod goes where, and which binds may be
+    /// asked for.
     Live(LivePlan<'a>),
     /// To say which program this is, and its version.
     Version,

@@ -143,7 +143,9 @@ fn live_command<'a>(alloc: Global) -> Result<Command<'a>, AllocError>
 {
     let live = Ok(bare_command(alloc, "live"));
     let live = with_argument(live, option(alloc, "scheduler"));
-    with_argument(live, option(alloc, "labels"))
+    let live = with_argument(live, option(alloc, "labels"));
+    let live = with_argument(live, option(alloc, "workers"));
+    with_argument(live, plugins(alloc))
 }
 
 // The command `version`, behind which nothing stands.
@@ -273,14 +275,17 @@ fn translate_of<'a>(matches: &ArgMatches<'a>) -> TranslatePlan<'a>
     }
 }
 
-// The ledger that is asked for by what was found behind a command.
-fn live_of<'a>(matches: &ArgMatches<'a>) -> LivePlan<'a>
-    ensures { live_planned result ≡ live_found (rows_of (found_of matches.now)) }
+// The cluster of which is to be decided by what was found behind a command.
+fn live_of<'a>(alloc: Global, matches: &ArgMatches<'a>) -> Result<LivePlan<'a>, WordFault>
+    ensures ok { IfOk result (λ plan. live_found (rows_of (found_of matches.now)) ≡ Some (live_planned plan)) }
+    ensures refused { result ≡ Err WordFault.BadWords → live_found (rows_of (found_of matches.now)) ≡ None }
+    ensures within { IfOk result (λ plan. IsPlan plan.plan) }
 {
-    LivePlan {
+    Ok(LivePlan {
         scheduler: scheduler_behind(matches),
         labels: labels_behind(matches),
-    }
+        plan: plan_of(alloc, matches)?,
+    })
 }
 
 // A command, by its name.
@@ -324,7 +329,7 @@ fn words_behind<'a>(
         CommandName::Explain => Ok(Words::Explain(plan_of(alloc, behind)?)),
         CommandName::Storm => Ok(Words::Storm(storm_of(alloc, behind)?)),
         CommandName::Translate => Ok(Words::Translate(translate_of(behind))),
-        CommandName::Live => Ok(Words::Live(live_of(behind))),
+        CommandName::Live => Ok(Words::Live(live_of(alloc, behind)?)),
         CommandName::Version => Ok(Words::Version),
         CommandName::Check => check_of(behind),
     }
@@ -374,7 +379,7 @@ fn found_in<'a, S: AsStr>(alloc: Global, args: &'a [S]) -> Result<ArgMatches<'a>
 /// Reads the words that follow the program's name: `run [--workers N] [SPEC]...`, `explain` with
 /// the same words behind it, `storm [--cycles C] [--binders B] [--flaky] [SPEC]...`, `check
 /// MODULE`, `translate [--scheduler NAME] [--labels KEY,..] [--by-uid] [--answers]`, `live
-/// [--scheduler NAME] [--labels KEY,..]` or `version`.
+/// [--scheduler NAME] [--labels KEY,..] [--workers N] [SPEC]...` or `version`.
 ///
 /// N is a whole number from 1 to 64, and 1 where it isn't told; C and B are from 1 to 8, and 2
 /// where they aren't. A SPEC is `NAME:WEIGHT:FUEL:FILE`, cut at its first three colons: a name of

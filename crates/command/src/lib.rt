@@ -5,7 +5,7 @@
 //! `run [--workers N] [SPEC]...`, `explain` with the same words behind it, or `storm [--cycles C]
 //! [--binders B] [--flaky] [SPEC]...`, where a SPEC is `NAME:WEIGHT:FUEL:FILE`, or `check MODULE`,
 //! or `translate [--scheduler NAME] [--labels KEY,..] [--by-uid] [--answers]`, or `live
-//! [--scheduler NAME] [--labels KEY,..]`, or `version`. The words are read as `clap` reads them;
+//! [--scheduler NAME] [--labels KEY,..] [--workers N] [SPEC]...`, or `version`. The words are read as `clap` reads them;
 //! `count` and `plugin_words` read what `clap` leaves as text. `verb` has which options each command
 //! takes, by which `misuse` says what is wrong with words that ask for nothing.
 #![tactic(auto)]

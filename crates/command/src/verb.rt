@@ -55,6 +55,7 @@ impl Verb {
             Verb::Run => (option == "--workers").then_some(Wanted::Number(Count::Workers)),
             Verb::Storm if option == "--cycles" => Some(Wanted::Number(Count::Cycles)),
             Verb::Storm => (option == "--binders").then_some(Wanted::Number(Count::Binders)),
+            Verb::Live if option == "--workers" => Some(Wanted::Number(Count::Workers)),
             Verb::Translate | Verb::Live => asks_name(option).then_some(Wanted::Name),
         }
     }
@@ -75,8 +76,8 @@ impl Verb {
         ensures { result ≡ takes_plugins self }
     {
         match self {
-            Verb::Run | Verb::Storm => true,
-            Verb::Translate | Verb::Live => false,
+            Verb::Run | Verb::Storm | Verb::Live => true,
+            Verb::Translate => false,
         }
     }
 }

@@ -64,7 +64,7 @@ misuse_text misuse.Together = []
 
 -- what the words may be, a command a line
 abbrev pub usage : List ℕ
-usage = codes "\nusage: wsched run [--workers N] [SPEC]...\n       wsched explain [--workers N] [SPEC]...\n       wsched storm [--cycles C] [--binders B] [--flaky] [SPEC]...\n       wsched check MODULE\n       wsched translate [--scheduler NAME] [--labels KEY,..] [--by-uid] [--answers]\n       wsched live [--scheduler NAME] [--labels KEY,..]\n       wsched version\na SPEC is NAME:WEIGHT:FUEL:FILE"
+usage = codes "\nusage: wsched run [--workers N] [SPEC]...\n       wsched explain [--workers N] [SPEC]...\n       wsched storm [--cycles C] [--binders B] [--flaky] [SPEC]...\n       wsched check MODULE\n       wsched translate [--scheduler NAME] [--labels KEY,..] [--by-uid] [--answers]\n       wsched live [--scheduler NAME] [--labels KEY,..] [--workers N] [SPEC]...\n       wsched version\na SPEC is NAME:WEIGHT:FUEL:FILE"
 
 -- what is to be done about a line that may be a pod on a node that can't be counted
 abbrev pub count_it : List ℕ

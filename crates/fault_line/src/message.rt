@@ -20,11 +20,11 @@ use streams::{RunFault, Sink, write_all};
 // Room for the longest line: a number has up to 20 digits, a fault's name up to 20 bytes, a field's
 // key up to 13, and a plugin's name up to 63. Each `push_..` says how much of the room it wants at
 // most.
-const MAX_MESSAGE: usize = 460;
+const MAX_MESSAGE: usize = 500;
 
 // What the program's words may be, a command a line.
 const USAGE: &[u8] =
-    b"\nusage: wsched run [--workers N] [SPEC]...\n       wsched explain [--workers N] [SPEC]...\n       wsched storm [--cycles C] [--binders B] [--flaky] [SPEC]...\n       wsched check MODULE\n       wsched translate [--scheduler NAME] [--labels KEY,..] [--by-uid] [--answers]\n       wsched live [--scheduler NAME] [--labels KEY,..]\n       wsched version\na SPEC is NAME:WEIGHT:FUEL:FILE";
+    b"\nusage: wsched run [--workers N] [SPEC]...\n       wsched explain [--workers N] [SPEC]...\n       wsched storm [--cycles C] [--binders B] [--flaky] [SPEC]...\n       wsched check MODULE\n       wsched translate [--scheduler NAME] [--labels KEY,..] [--by-uid] [--answers]\n       wsched live [--scheduler NAME] [--labels KEY,..] [--workers N] [SPEC]...\n       wsched version\na SPEC is NAME:WEIGHT:FUEL:FILE";
 
 // What is to be done about a line that may be a pod on a node that can't be counted.
 const COUNT_IT: &[u8] =
@@ -35,7 +35,7 @@ pub type Message = ArrayVec<u8, MAX_MESSAGE>;
 
 /// Adds a piece to a message.
 pub fn push(message: &mut Message, piece: &[u8])
-    requires { length message.old.items + length piece.now ≤ 460 }
+    requires { length message.old.items + length piece.now ≤ 500 }
     ensures text { message.new.items ≡ message.old.items ++ piece.now }
     ensures len { length message.new.items ≡ length message.old.items + length piece.now }
 {
@@ -44,7 +44,7 @@ pub fn push(message: &mut Message, piece: &[u8])
 
 /// Adds a number in decimal.
 pub(crate) fn push_number(message: &mut Message, n: u64)
-    requires { length message.old.items + 20 ≤ 460 }
+    requires { length message.old.items + 20 ≤ 500 }
     ensures text { message.new.items ≡ message.old.items ++ decimal n }
     ensures len { length message.new.items ≤ length message.old.items + 20 }
 {
@@ -54,7 +54,7 @@ pub(crate) fn push_number(message: &mut Message, n: u64)
 
 /// Adds a fault's number and its name.
 pub(crate) fn push_fault(message: &mut Message, number: u8, name: &str)
-    requires { length message.old.items + (length name.now + 21) ≤ 460 }
+    requires { length message.old.items + (length name.now + 21) ≤ 500 }
     ensures text { message.new.items ≡ message.old.items ++ fault_text number name.now }
     ensures len { length message.new.items ≤ length message.old.items + (length name.now + 21) }
 {
@@ -66,7 +66,7 @@ pub(crate) fn push_fault(message: &mut Message, number: u8, name: &str)
 // Adds a line's fault, with the field in which it stands.
 #[tactic(auto, using(crate::proofs::Lengths::line_name_short, crate::proofs::Lengths::key_short), unfolding(crate::specs::Message::line_fault_text))]
 fn push_line_fault(message: &mut Message, fault: LineFault)
-    requires { length message.old.items + 45 ≤ 460 }
+    requires { length message.old.items + 45 ≤ 500 }
     ensures text { message.new.items ≡ message.old.items ++ line_fault_text fault }
     ensures len { length message.new.items ≤ length message.old.items + 45 }
 {
@@ -80,7 +80,7 @@ fn push_line_fault(message: &mut Message, fault: LineFault)
 // Adds why a run ended early.
 #[tactic(auto, using(crate::proofs::Lengths::run_name_short), unfolding(crate::specs::Message::run_text))]
 fn push_run_fault(message: &mut Message, fault: RunFault)
-    requires { length message.old.items + 80 ≤ 460 }
+    requires { length message.old.items + 80 ≤ 500 }
     ensures text { message.new.items ≡ message.old.items ++ run_text fault }
     ensures len { length message.new.items ≤ length message.old.items + 80 }
 {
@@ -122,7 +122,7 @@ fn count_letter(count: Count) -> &'static str
 // Adds what is wrong in the word of this number.
 fn push_place(message: &mut Message, what: &str, number: usize)
     requires what { length what.now ≤ 6 }
-    requires room { length message.old.items + 40 ≤ 460 }
+    requires room { length message.old.items + 40 ≤ 500 }
     ensures text { message.new.items ≡ message.old.items ++
         (codes " " ++ what.now ++ codes " of word " ++ decimal number) }
     ensures len { length message.new.items ≤ length message.old.items + 40 }
@@ -136,7 +136,7 @@ fn push_place(message: &mut Message, what: &str, number: usize)
 // Adds what is wrong with words.
 #[tactic(auto, unfolding(crate::specs::Message::misuse_text))]
 fn push_misuse(message: &mut Message, misuse: Misuse)
-    requires { length message.old.items + 40 ≤ 460 }
+    requires { length message.old.items + 40 ≤ 500 }
     ensures text { message.new.items ≡ message.old.items ++ misuse_text misuse }
     ensures len { length message.new.items ≤ length message.old.items + 40 }
 {
@@ -152,9 +152,9 @@ fn push_misuse(message: &mut Message, misuse: Misuse)
 
 // Adds that words ask for nothing, what is wrong with them, and what they may be.
 fn push_words_fault(message: &mut Message, misuse: Misuse)
-    requires { length message.old.items + 445 ≤ 460 }
+    requires { length message.old.items + 471 ≤ 500 }
     ensures text { message.new.items ≡ message.old.items ++ text_of (Misused misuse) }
-    ensures len { length message.new.items ≤ length message.old.items + 445 }
+    ensures len { length message.new.items ≤ length message.old.items + 471 }
 {
     let fault = WordFault::BadWords;
     push_fault(message, fault.number(), fault.name());
@@ -164,7 +164,7 @@ fn push_words_fault(message: &mut Message, misuse: Misuse)
 
 // Adds which plugin is refused, and why.
 fn push_plugin_fault(message: &mut Message, name: &Name, refusal: Refusal)
-    requires { length message.old.items + 200 ≤ 460 }
+    requires { length message.old.items + 200 ≤ 500 }
     ensures text { message.new.items ≡ message.old.items ++
         (codes "plugin " ++ name.now ++ codes ": " ++ refusal_text refusal) }
     ensures len { length message.new.items ≤ length message.old.items + 200 }
@@ -178,7 +178,7 @@ fn push_plugin_fault(message: &mut Message, name: &Name, refusal: Refusal)
 // Adds that a read failed.
 #[tactic(auto, using(crate::proofs::Lengths::run_name_short))]
 fn push_read(message: &mut Message)
-    requires { length message.old.items + 31 ≤ 460 }
+    requires { length message.old.items + 31 ≤ 500 }
     ensures text { message.new.items ≡ message.old.items ++ fault_text 3 (codes "Read") }
     ensures len { length message.new.items ≤ length message.old.items + 31 }
 {
@@ -189,7 +189,7 @@ fn push_read(message: &mut Message)
 // Adds which file couldn't be read, and why.
 #[tactic(auto, unfolding(crate::specs::Unread::file_text))]
 fn push_file(message: &mut Message, fault: &FileFault)
-    requires { length message.old.items + 214 ≤ 460 }
+    requires { length message.old.items + 214 ≤ 500 }
     ensures text { message.new.items ≡ message.old.items ++ file_text fault.now }
     ensures len { length message.new.items ≤ length message.old.items + 214 }
 {
@@ -201,7 +201,7 @@ fn push_file(message: &mut Message, fault: &FileFault)
 
 // Adds which module's file couldn't be read, and why.
 fn push_unread_module(message: &mut Message, fault: &FileFault)
-    requires { length message.old.items + 245 ≤ 460 }
+    requires { length message.old.items + 245 ≤ 500 }
     ensures text { message.new.items ≡ message.old.items ++ text_of (UnreadModule fault.now) }
     ensures len { length message.new.items ≤ length message.old.items + 245 }
 {
@@ -211,7 +211,7 @@ fn push_unread_module(message: &mut Message, fault: &FileFault)
 
 // Adds which plugin's file couldn't be read, and why.
 fn push_unread(message: &mut Message, unread: &PluginUnread)
-    requires { length message.old.items + 317 ≤ 460 }
+    requires { length message.old.items + 317 ≤ 500 }
     ensures text { message.new.items ≡ message.old.items ++ text_of (Unread unread.now) }
     ensures len { length message.new.items ≤ length message.old.items + 317 }
 {
@@ -233,7 +233,7 @@ fn object_or_it(object: &[u8]) -> &[u8]
 
 // Adds which line can't be counted, and what is to be done.
 fn push_uncounted(message: &mut Message, line: &LineUncounted)
-    requires { length message.old.items + 390 ≤ 460 }
+    requires { length message.old.items + 390 ≤ 500 }
     ensures text { message.new.items ≡ message.old.items ++ text_of (Uncounted line.now) }
     ensures len { length message.new.items ≤ length message.old.items + 390 }
 {

@@ -25,7 +25,7 @@ pub enum Refusal {
 // Adds why bytes spell no module.
 #[tactic(auto, using(crate::proofs::Lengths::bin_name_short, crate::proofs::Lengths::kind_name_short), unfolding(crate::specs::Refusal::bin_text))]
 fn push_bin_fault(message: &mut Message, fault: BinFault)
-    requires { length message.old.items + 100 ≤ 460 }
+    requires { length message.old.items + 100 ≤ 500 }
     ensures text { message.new.items ≡ message.old.items ++ bin_text fault }
     ensures len { length message.new.items ≤ length message.old.items + 100 }
 {
@@ -40,7 +40,7 @@ fn push_bin_fault(message: &mut Message, fault: BinFault)
 
 // Adds where typing fails.
 fn push_where(message: &mut Message, function: Option<usize>, place: usize)
-    requires { length message.old.items + 54 ≤ 460 }
+    requires { length message.old.items + 54 ≤ 500 }
     ensures text { message.new.items ≡ message.old.items ++ where_text function place }
     ensures len { length message.new.items ≤ length message.old.items + 54 }
 {
@@ -57,7 +57,7 @@ fn push_where(message: &mut Message, function: Option<usize>, place: usize)
 // Adds why a module isn't accepted.
 #[tactic(auto, using(crate::proofs::Lengths::type_name_short), unfolding(crate::specs::Refusal::type_text))]
 fn push_type_fault(message: &mut Message, fault: TypeFault)
-    requires { length message.old.items + 90 ≤ 460 }
+    requires { length message.old.items + 90 ≤ 500 }
     ensures text { message.new.items ≡ message.old.items ++ type_text fault }
     ensures len { length message.new.items ≤ length message.old.items + 90 }
 {
@@ -70,7 +70,7 @@ fn push_type_fault(message: &mut Message, fault: TypeFault)
 // Adds why no instance of a module can be made: of a start function that is cut off, by which trap.
 #[tactic(auto, using(crate::proofs::Lengths::instance_name_short, crate::proofs::Lengths::trap_name_short), unfolding(crate::specs::Refusal::instance_text))]
 fn push_instance_fault(message: &mut Message, fault: InstanceFault)
-    requires { length message.old.items + 90 ≤ 460 }
+    requires { length message.old.items + 90 ≤ 500 }
     ensures text { message.new.items ≡ message.old.items ++ instance_text fault }
     ensures len { length message.new.items ≤ length message.old.items + 90 }
 {
@@ -84,7 +84,7 @@ fn push_instance_fault(message: &mut Message, fault: InstanceFault)
 /// Adds why a module is refused.
 #[tactic(auto, unfolding(crate::specs::Refusal::refusal_text))]
 pub fn push_refusal(message: &mut Message, refusal: Refusal)
-    requires { length message.old.items + 120 ≤ 460 }
+    requires { length message.old.items + 120 ≤ 500 }
     ensures text { message.new.items ≡ message.old.items ++ refusal_text refusal }
     ensures len { length message.new.items ≤ length message.old.items + 120 }
 {

@@ -1,34 +1,47 @@
 -- All lines that were answered are one history.
-use Rattle.std.proofs.Common.{ℕ, List, [], ◌∷◌, subst}
-use Rattle.objects.specs.Site.{Site}
+use Rattle.std.proofs.Common.{◌≡◌, ℕ, List, [], ◌∷◌, ◌++◌, sym, subst, refl}
+use Rattle.rules.specs.RuleSet.{RuleSet}
+use Rattle.desk.specs.declared.step.Step.TheVariants.{Tick}
 use Rattle.ledger.specs.Laws.{Follows, Line}
 use Rattle.ledger.specs.State.{State}
 use Rattle.ledger.proofs.Counting.{always_once}
-use Rattle.live.specs.Laws.{IsKept}
-use Rattle.live.specs.Live.{AreAnswered, IsAnswered, first_state}
+use Rattle.live_desk.specs.State.{Live}
+use Rattle.live_desk.proofs.History.{Goes, only_desk, pending_goes, taken_goes, the_same, turn_goes}
+use Rattle.live_desk.proofs.OnlyDesk.{OnlyDesk, a_step, an_aside}
+use Rattle.live.specs.Laws.{LinesAreKept}
+use Rattle.live.specs.Live.{AreAnswered, IsAnswered, Manner, first_state, manner}
 use Rattle.live.specs.Meaning.{meaning}
 use Rattle.live.specs.declared.meaning.Meaning.{Meaning}
 use Rattle.live.specs.declared.meaning.Meaning.TheVariants as means
 
--- a history that begins with what one line told
-one_then : (m : Meaning) (s next state : State) (text : List ℕ) → IsAnswered m s text next
-    → (told : List Line) × Follows next told state → (told : List Line) × Follows s told state
-one_then (means.Tells event) s next state text answered later =
-    (record { event = event; answer = answered.0 } ∷ later.0, (next, answered.1, later.1))
-one_then means.Nothing s next state text answered later = (later.0, subst (λ s. Follows s later.0 state) answered.1 later.1)
-one_then (means.Faulty field) s next state text answered later = (later.0, subst (λ s. Follows s later.0 state) answered.1 later.1)
+-- what one line tells the ledger, and that each node of the desk keeps its name
+pub answered_goes : (m : Manner) (what : Meaning) (s next : Live) (text : List ℕ) → IsAnswered m what s text next → Goes s next
+answered_goes m (means.Tells event) s next text (answer, taken, spelled) = taken_goes s next event answer taken
+answered_goes m (means.Pending version pod) s next text (taken, is, spelled) = pending_goes s next version pod taken is
+answered_goes m (means.Aside uid) s next text (spelled, is) = only_desk s next (subst (λ x. OnlyDesk s x) (sym is) (an_aside s uid))
+answered_goes m (means.Tick now) s next text (spelled, is) = only_desk s next (subst (λ x. OnlyDesk s x) (sym is) (a_step s (Tick now)))
+answered_goes m means.Cycle s next text (turn, is, spelled) = turn_goes m.rules s next turn is
+answered_goes m means.Nothing s next text (spelled, is) = the_same s next is
+answered_goes m (means.Faulty field) s next text (spelled, is) = the_same s next is
 
-told_in : (site : Site) (s : State) (lines texts : List (List ℕ)) (state : State) → AreAnswered site s lines texts state
-    → (told : List Line) × Follows s told state
-told_in site s [] [] state are = ([], are)
-told_in site s [] (text ∷ texts) state are = absurd are
-told_in site s (line ∷ lines) [] state are = absurd are
-told_in site s (line ∷ lines) (text ∷ texts) state (next, answered, later) =
-    one_then (meaning site line) s next state text answered (told_in site next lines texts state later)
+-- one history behind another
+both : (a b c : State) (first second : List Line) → Follows a first b → Follows b second c → Follows a (first ++ second) c
+both a b c [] second one two = subst (λ s. Follows s second c) (sym one) two
+both a b c (line ∷ first) second (next, told, one) two = (next, told, both next b c first second one two)
 
-pub lines_are_kept : (site : Site) (lines texts : List (List ℕ)) (state : State) → AreAnswered site first_state lines texts state → IsKept state
-lines_are_kept site lines texts state are =
-    let told = told_in site first_state lines texts state are in record {
+told_in : (m : Manner) (s : Live) (lines texts : List (List ℕ)) (state : Live) → AreAnswered m s lines texts state
+    → (told : List Line) × Follows s.ledger told state.ledger
+told_in m s [] [] state are = ([], subst (λ x. s.ledger ≡ x.ledger) are refl)
+told_in m s [] (text ∷ texts) state are = absurd are
+told_in m s (line ∷ lines) [] state are = absurd are
+told_in m s (line ∷ lines) (text ∷ texts) state (next, answered, later) =
+    let here = answered_goes m (meaning m.site line) s next text answered in
+    let behind = told_in m next lines texts state later in
+    (here.lines ++ behind.0, both s.ledger next.ledger state.ledger here.lines behind.0 here.follows behind.1)
+
+pub lines_are_kept : (rules : RuleSet) → LinesAreKept rules
+lines_are_kept rules site named lines texts state are =
+    let told = told_in (manner site rules named) first_state lines texts state are in record {
       history = record { told = told.0; follows = told.1 };
-      once = always_once _ _ told.0 state told.1;
+      once = always_once _ _ told.0 state.ledger told.1;
     }

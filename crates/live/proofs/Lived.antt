@@ -10,9 +10,8 @@ use Rattle.streams.specs.declared.fault.RunFault.TheVariants as run_fault
 use Rattle.fault_line.specs.declared.fault.Fault.TheVariants.{Run}
 use Rattle.fault_line.specs.Fault.{status_of}
 use Rattle.fault_line.specs.Message.{Tells, message_of}
-use Rattle.objects.specs.Site.{Site}
-use Rattle.ledger.specs.State.{State}
-use Rattle.live.specs.Live.{IsBegun, IsLive, IsWhole, first_state}
+use Rattle.live_desk.specs.State.{Live}
+use Rattle.live.specs.Live.{IsBegun, IsLive, IsWhole, Manner, first_state}
 use Rattle.live.specs.inside.Live.{FailedAt, IsStopped}
 use Rattle.live.proofs.Going.{IsGoing, known_front, known_whole}
 
@@ -24,20 +23,20 @@ on_ok_both (Err e) f a b = tt
 -- ---- what is written at an end
 
 -- a beginning of the answers is written
-pub record Front (site : Site) (input out_old out_new : Option (List ℕ)) : Type 0 where
+pub record Front (m : Manner) (input out_old out_new : Option (List ℕ)) : Type 0 where
   pub answers : List ℕ
   pub writes : Appends out_old out_new answers
-  pub front : IfSome input (λ text. IsBegun site text answers)
+  pub front : IfSome input (λ text. IsBegun m text answers)
 
 -- all of them are, and everything is read
-pub record Whole (site : Site) (input out_old out_new left : Option (List ℕ)) : Type 0 where
+pub record Whole (m : Manner) (input out_old out_new left : Option (List ℕ)) : Type 0 where
   pub answers : List ℕ
   pub writes : Appends out_old out_new answers
-  pub whole : IfSome input (λ text. IsWhole site text answers × (left ≡ Some []))
+  pub whole : IfSome input (λ text. IsWhole m text answers × (left ≡ Some []))
 
-module _ (site : Site) where
+module _ (m : Manner) where
   -- before anything is read, nothing is
-  pub front_of_nothing : (input out : Option (List ℕ)) → Front site input out out
+  pub front_of_nothing : (input out : Option (List ℕ)) → Front m input out out
   front_of_nothing None out = record { answers = []; writes = Appends-nil out; front = tt }
   front_of_nothing (Some text) out = record {
     answers = [];
@@ -56,30 +55,30 @@ module _ (site : Site) where
 
   module _ (input rest out_old out_was out_now : Option (List ℕ)) where
     -- a beginning of what waited is written
-    pub front_flushed : (waits : List ℕ) (state : State) → AppendsFront out_was out_now waits
-        → IsGoing site input rest out_old out_was waits state → Front site input out_old out_now
+    pub front_flushed : (waits : List ℕ) (state : Live) → AppendsFront out_was out_now waits
+        → IsGoing m input rest out_old out_was waits state → Front m input out_old out_now
     front_flushed waits state wrote so_far = record {
       answers = so_far.written ++ wrote.0;
       writes = Appends-trans out_old out_was out_now _ _ so_far.out wrote.3;
-      front = known_front site input rest _ _ _ so_far.at wrote.0 wrote.1 wrote.2;
+      front = known_front m input rest _ _ _ so_far.at wrote.0 wrote.1 wrote.2;
     }
 
   module _ (input rest out_old out_now : Option (List ℕ)) where
     -- at any time a beginning is
-    pub front_now : (waits : List ℕ) (state : State) → IsGoing site input rest out_old out_now waits state → Front site input out_old out_now
+    pub front_now : (waits : List ℕ) (state : Live) → IsGoing m input rest out_old out_now waits state → Front m input out_old out_now
     front_now waits state so_far = front_flushed input rest out_old out_now out_now waits state ([], waits, refl, Appends-nil out_now) so_far
 
     -- the input is at its end, and nothing waits
-    pub whole_now : (left : Option (List ℕ)) (reader waits : List ℕ) (state : State) → (reader ≡ []) × IsAtEnd left × Consumes rest (prepend_known reader left) []
-        → waits ≡ [] → IsGoing site input rest out_old out_now waits state → Whole site input out_old out_now left
+    pub whole_now : (left : Option (List ℕ)) (reader waits : List ℕ) (state : Live) → (reader ≡ []) × IsAtEnd left × Consumes rest (prepend_known reader left) []
+        → waits ≡ [] → IsGoing m input rest out_old out_now waits state → Whole m input out_old out_now left
     whole_now left reader waits state ended all_written so_far = record {
       answers = so_far.written;
       writes = so_far.out;
-      whole = known_whole site input rest left reader _ waits state ended all_written so_far.at;
+      whole = known_whole m input rest left reader _ waits state ended all_written so_far.at;
     }
 
   -- the whole begins it too
-  whole_begins : (input answers : List ℕ) → IsWhole site input answers → IsBegun site input answers
+  whole_begins : (input answers : List ℕ) → IsWhole m input answers → IsBegun m input answers
   whole_begins input answers whole = record {
     lines = lines_of input;
     later = [];
@@ -91,8 +90,8 @@ module _ (site : Site) where
     begin = sym whole.answers_are ∙ sym (append-nil answers);
   }
 
-  wholly_begins : (input left : Option (List ℕ)) (answers : List ℕ) → IfSome input (λ text. IsWhole site text answers × (left ≡ Some []))
-      → IfSome input (λ text. IsBegun site text answers)
+  wholly_begins : (input left : Option (List ℕ)) (answers : List ℕ) → IfSome input (λ text. IsWhole m text answers × (left ≡ Some []))
+      → IfSome input (λ text. IsBegun m text answers)
   wholly_begins None left answers whole = tt
   wholly_begins (Some text) left answers whole = whole_begins text answers whole.0
 
@@ -100,11 +99,11 @@ module _ (site : Site) where
 
   -- a beginning of the output is written
   abbrev pub Begun : (source out : DeviceUse) → Type 0
-  Begun source out = Front site source.old out.old out.new
+  Begun source out = Front m source.old out.old out.new
 
   module _ {T : Type 0} (source out : DeviceUse) where
     -- it is stopped by this
-    stopped_by : (fault : RunFault) → FailedAt source out fault → Begun source out → IsStopped {T = T} site source out (Err fault)
+    stopped_by : (fault : RunFault) → FailedAt source out fault → Begun source out → IsStopped {T = T} m source out (Err fault)
     stopped_by fault failed begun = record {
       answers = begun.answers;
       writes = begun.writes;
@@ -115,29 +114,36 @@ module _ (site : Site) where
 
     -- memory was wanting
     pub wanting_room : (result : Result T RunFault) (fault : RunFault) → result ≡ Err fault → fault ≡ run_fault.NoMemory → source.failures_new ≡ source.failures_old
-        → out.failures_new ≡ out.failures_old → Begun source out → IsStopped site source out result
+        → out.failures_new ≡ out.failures_old → Begun source out → IsStopped m source out result
     wanting_room result fault is what reads writes begun =
-        subst (IsStopped site source out) (sym (is ∙ ap Err what)) (stopped_by run_fault.NoMemory (reads, writes) begun)
+        subst (IsStopped m source out) (sym (is ∙ ap Err what)) (stopped_by run_fault.NoMemory (reads, writes) begun)
+
+    -- nothing was begun, for want of memory or of a place
+    pub not_begun : (result : Result T RunFault) (fault : RunFault) → result ≡ Err fault → (fault ≡ run_fault.NoMemory) ⊎ (fault ≡ run_fault.NoPlace)
+        → source.failures_new ≡ source.failures_old → out.failures_new ≡ out.failures_old → Begun source out → IsStopped m source out result
+    not_begun result fault is (inl memory) reads writes begun = wanting_room result fault is memory reads writes begun
+    not_begun result fault is (inr place) reads writes begun =
+        subst (IsStopped m source out) (sym (is ∙ ap Err place)) (stopped_by run_fault.NoPlace (reads, writes) begun)
 
     -- no line could be read
     pub unread : (result : Result T RunFault) (fault e : RunFault) → result ≡ Err fault → fault ≡ e → (e ≡ run_fault.Read) ⊎ (e ≡ run_fault.NoMemory)
         → (e ≡ run_fault.Read → source.failures_old < source.failures_new) → (e ≡ run_fault.NoMemory → source.failures_new ≡ source.failures_old)
-        → out.failures_new ≡ out.failures_old → Begun source out → IsStopped site source out result
+        → out.failures_new ≡ out.failures_old → Begun source out → IsStopped m source out result
     unread result fault e is what (inl read) reads others writes begun =
-        subst (IsStopped site source out) (sym (is ∙ ap Err (what ∙ read))) (stopped_by run_fault.Read (reads read, writes) begun)
+        subst (IsStopped m source out) (sym (is ∙ ap Err (what ∙ read))) (stopped_by run_fault.Read (reads read, writes) begun)
     unread result fault e is what (inr memory) reads others writes begun =
         wanting_room result fault is (what ∙ memory) (others memory) writes begun
 
     -- what waited couldn't be written
     pub unwritten : (result : Result T RunFault) (fault : RunFault) → result ≡ Err fault → fault ≡ run_fault.Write → source.failures_new ≡ source.failures_old
-        → out.failures_old < out.failures_new → Begun source out → IsStopped site source out result
+        → out.failures_old < out.failures_new → Begun source out → IsStopped m source out result
     unwritten result fault is what reads writes begun =
-        subst (IsStopped site source out) (sym (is ∙ ap Err what)) (stopped_by run_fault.Write (reads, writes) begun)
+        subst (IsStopped m source out) (sym (is ∙ ap Err what)) (stopped_by run_fault.Write (reads, writes) begun)
 
     -- all was read, and what waited is written, or not
-    pub at_end : (result : Result T RunFault) (out_was : ℕ) → OnOk result (Whole site source.old out.old out.new source.new) → OnErr result (Begun source out)
+    pub at_end : (result : Result T RunFault) (out_was : ℕ) → OnOk result (Whole m source.old out.old out.new source.new) → OnErr result (Begun source out)
         → OnOk result (out.failures_new ≡ out_was) → IfErr result (λ fault. (fault ≡ run_fault.Write) × (out_was < out.failures_new))
-        → out_was ≡ out.failures_old → source.failures_new ≡ source.failures_old → IsStopped site source out result
+        → out_was ≡ out.failures_old → source.failures_new ≡ source.failures_old → IsStopped m source out result
     at_end (Ok x) out_was whole begun count failed same reads = record {
       answers = whole.answers;
       writes = whole.writes;
@@ -155,16 +161,26 @@ abbrev pub told_up_to : (old new : Option (List ℕ)) → (failures_old failures
 told_up_to old new failures_old failures_new Untouched =
     record { old = old; new = new; failures_old = failures_old; failures_new = failures_new; IsUntouched = Untouched }
 
-module _ {T : Type 0} (site : Site) (source out err : DeviceUse) (ended : ℕ) where
+module _ {T : Type 0} (m : Manner) (source out err : DeviceUse) (ended : ℕ) where
   -- a fault is told
-  pub told_at_end : (fault : RunFault) → IsStopped {T = T} site source out (Err fault) → ended ≡ status_of (Run fault)
-      → Tells err.old err.new err.failures_old err.failures_new (message_of (Run fault)) → IsLive site source out err ended
+  pub told_at_end : (fault : RunFault) → IsStopped {T = T} m source out (Err fault) → ended ≡ status_of (Run fault)
+      → Tells err.old err.new err.failures_old err.failures_new (message_of (Run fault)) → IsLive m source out err ended
   told_at_end run_fault.NoMemory stopped is tells = record {
     status = inr (inl is);
     answers = stopped.answers;
     writes = stopped.writes;
     done = λ e. absurd (omega (arith, is, e));
-    room = λ _. tells;
+    room = λ _. inl tells;
+    failed = λ e. absurd (omega (arith, is, e));
+    front = stopped.front;
+    failures_told = λ _. (stopped.failed.0, stopped.failed.1);
+  }
+  told_at_end run_fault.NoPlace stopped is tells = record {
+    status = inr (inl is);
+    answers = stopped.answers;
+    writes = stopped.writes;
+    done = λ e. absurd (omega (arith, is, e));
+    room = λ _. inr tells;
     failed = λ e. absurd (omega (arith, is, e));
     front = stopped.front;
     failures_told = λ _. (stopped.failed.0, stopped.failed.1);
@@ -192,7 +208,7 @@ module _ {T : Type 0} (site : Site) (source out err : DeviceUse) (ended : ℕ) w
   told_at_end _ stopped is tells = absurd stopped.failed
 
   -- all is done
-  pub done_at_end : (x : T) → IsStopped site source out (Ok x) → err.IsUntouched → ended ≡ 0 → IsLive site source out err ended
+  pub done_at_end : (x : T) → IsStopped m source out (Ok x) → err.IsUntouched → ended ≡ 0 → IsLive m source out err ended
   done_at_end x stopped silent is = record {
     status = inl is;
     answers = stopped.answers;
@@ -204,17 +220,17 @@ module _ {T : Type 0} (site : Site) (source out err : DeviceUse) (ended : ℕ) w
     failures_told = λ _. (stopped.done.0, stopped.done.1);
   }
 
-module _ (site : Site) (source out err : DeviceUse) (ended : ℕ) where
+module _ (m : Manner) (source out err : DeviceUse) (ended : ℕ) where
   -- memory was wanting before anything was begun
   pub nothing_lived : ended ≡ 3 → Tells err.old err.new err.failures_old err.failures_new (message_of (Run run_fault.NoMemory)) → out.new ≡ out.old
-      → source.failures_new ≡ source.failures_old → out.failures_new ≡ out.failures_old → IsLive site source out err ended
+      → source.failures_new ≡ source.failures_old → out.failures_new ≡ out.failures_old → IsLive m source out err ended
   nothing_lived is tells same reads writes =
-      let nothing = front_of_nothing site source.old out.old in record {
+      let nothing = front_of_nothing m source.old out.old in record {
         status = inr (inl is);
         answers = nothing.answers;
         writes = subst (λ new. Appends out.old new nothing.answers) (sym same) nothing.writes;
         done = λ e. absurd (omega (arith, is, e));
-        room = λ _. tells;
+        room = λ _. inl tells;
         failed = λ e. absurd (omega (arith, is, e));
         front = nothing.front;
         failures_told = λ _. (reads, writes);

@@ -1,7 +1,7 @@
 -- How an order spells the names of its fields.
 use Rattle.std.specs.Prelude.{ℕ, List, codes}
 use Rattle.live.specs.declared.field.Field.{Field}
-use Rattle.live.specs.declared.field.Field.TheVariants.{Op, Of, Uid, Node, Ticket, Is, Gave}
+use Rattle.live.specs.declared.field.Field.TheVariants.{Op, Of, Uid, Node, Ticket, Is, Gave, At}
 
 -- the name of a field
 abbrev pub key : Field → List ℕ
@@ -12,3 +12,4 @@ key Node = codes "node"
 key Ticket = codes "ticket"
 key Is = codes "is"
 key Gave = codes "gave"
+key At = codes "at"

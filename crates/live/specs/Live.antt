@@ -1,4 +1,4 @@
--- What is answered to the lines that a ledger is told, one answer a line.
+-- What is answered to the lines that tell of a cluster, one answer a line.
 use Rattle.std.specs.Prelude.{◌≡◌, ◌≢◌, ◌⊎◌, ◌<◌, ℕ, List, [], ◌∷◌, ◌++◌, Some, IfSome}
 use Rattle.std.specs.Io.KnownBytes.{Appends}
 use Rattle.streams.specs.Greatest.{limits}
@@ -9,29 +9,49 @@ use Rattle.fault_line.specs.declared.fault.Fault.{Fault}
 use Rattle.fault_line.specs.declared.fault.Fault.TheVariants.{Run}
 use Rattle.fault_line.specs.Message.{Tells, message_of}
 use Rattle.objects.specs.Site.{Site}
+use Rattle.rules.specs.RuleSet.{RuleSet}
+use Rattle.desk.specs.Machine as machine
+use Rattle.desk.specs.declared.step.Step.TheVariants as steps_of
+use Rattle.output_lines.specs.declared.named_rule.NamedRule.{NamedRule}
 use Rattle.ledger.specs.declared.event.Answer.{Answer}
-use Rattle.ledger.specs.State.{State, opening}
-use Rattle.ledger.specs.Told.{IsTold}
+use Rattle.live_desk.specs.State.{Live, opening, steps}
+use Rattle.live_desk.specs.Telling.{IsPending, IsTaken, put_aside}
+use Rattle.live_desk.specs.Turns.{IsTurn}
+use Rattle.live_desk.specs.declared.live_desk.Taken.{Taken}
+use Rattle.live_desk.specs.declared.turn.Turn.{Turn}
 use Rattle.live.specs.declared.live_run.TheConstants.{MAX_KNOWN}
 use Rattle.live.specs.declared.meaning.Meaning.{Meaning}
 use Rattle.live.specs.declared.meaning.Meaning.TheVariants as means
-use Rattle.live.specs.Answer.{answer_text, faulty_text, nothing_text}
+use Rattle.live.specs.Answer.{answer_text, aside_text, faulty_text, nothing_text, taken_text, tick_text, turn_text}
 use Rattle.live.specs.Meaning.{meaning}
+
+-- what answers go by: what of an object is read, and the rules, with their names as they are told
+pub record Manner : Type 1 where
+  pub site : Site
+  pub rules : RuleSet
+  pub named : List NamedRule
+
+abbrev pub manner : Site → RuleSet → List NamedRule → Manner
+manner site rules named = record { site = site; rules = rules; named = named }
 
 -- ---- answers
 
 -- what is answered to a line of this meaning, and what is known behind it
-abbrev pub IsAnswered : Meaning → State → (text : List ℕ) → State → Type 0
-IsAnswered (means.Tells event) s text after = (answer : Answer) × IsTold s event answer after × (text ≡ answer_text answer)
-IsAnswered means.Nothing s text after = (text ≡ nothing_text) × (after ≡ s)
-IsAnswered (means.Faulty field) s text after = (text ≡ faulty_text field) × (after ≡ s)
+abbrev pub IsAnswered : Manner → Meaning → Live → (text : List ℕ) → Live → Type 0
+IsAnswered m (means.Tells event) s text after = (answer : Answer) × IsTaken s event answer after × (text ≡ answer_text answer)
+IsAnswered m (means.Pending version pod) s text after = (taken : Taken) × IsPending s version pod taken after × (text ≡ taken_text taken)
+IsAnswered m (means.Aside uid) s text after = (text ≡ aside_text (put_aside s uid).was_there) × (after ≡ (put_aside s uid).state)
+IsAnswered m (means.Tick now) s text after = (text ≡ tick_text (machine.reply s.desk 0 (steps_of.Tick now))) × (after ≡ steps s (steps_of.Tick now))
+IsAnswered m means.Cycle s text after = (turn : Turn) × IsTurn m.rules s turn after × (text ≡ turn_text m.named turn)
+IsAnswered m means.Nothing s text after = (text ≡ nothing_text) × (after ≡ s)
+IsAnswered m (means.Faulty field) s text after = (text ≡ faulty_text field) × (after ≡ s)
 
 -- each line has its answer, and that is known behind them
-abbrev pub AreAnswered : Site → State → (lines texts : List (List ℕ)) → State → Type 0
-AreAnswered site s [] [] after = s ≡ after
-AreAnswered site s (line ∷ lines) (text ∷ texts) after =
-    (next : State) × IsAnswered (meaning site line) s text next × AreAnswered site next lines texts after
-AreAnswered site s _ _ after = ⊥
+abbrev pub AreAnswered : Manner → Live → (lines texts : List (List ℕ)) → Live → Type 0
+AreAnswered m s [] [] after = s ≡ after
+AreAnswered m s (line ∷ lines) (text ∷ texts) after =
+    (next : Live) × IsAnswered m (meaning m.site line) s text next × AreAnswered m next lines texts after
+AreAnswered m s _ _ after = ⊥
 
 -- texts, one behind the other
 abbrev pub together : List (List ℕ) → List ℕ
@@ -40,25 +60,25 @@ together (text ∷ texts) = text ++ together texts
 
 -- ---- what is written of them
 
--- the ledger to which nothing was told, with room for the greatest cluster
-abbrev pub first_state : State
+-- a desk and a ledger to which nothing was told, with room for the greatest cluster
+abbrev pub first_state : Live
 first_state = opening limits MAX_KNOWN
 
 -- these are the answers to all lines of the input
-pub record IsWhole (site : Site) (input answers : List ℕ) : Type 0 where
+pub record IsWhole (m : Manner) (input answers : List ℕ) : Type 0 where
   pub texts : List (List ℕ)
-  pub state : State
-  pub are : AreAnswered site first_state (lines_of input) texts state
+  pub state : Live
+  pub are : AreAnswered m first_state (lines_of input) texts state
   pub answers_are : answers ≡ together texts
 
 -- this is a beginning of the answers to the first lines, which may be all
-pub record IsBegun (site : Site) (input answers : List ℕ) : Type 0 where
+pub record IsBegun (m : Manner) (input answers : List ℕ) : Type 0 where
   pub lines : List (List ℕ)
   pub later : List (List ℕ)
   pub cut : lines_of input ≡ lines ++ later
   pub texts : List (List ℕ)
-  pub state : State
-  pub are : AreAnswered site first_state lines texts state
+  pub state : Live
+  pub are : AreAnswered m first_state lines texts state
   pub rest : List ℕ
   pub begin : together texts ≡ answers ++ rest
 
@@ -67,19 +87,19 @@ abbrev pub TellsFault : DeviceUse → Fault → Type 0
 TellsFault err fault = Tells err.old err.new err.failures_old err.failures_new (message_of fault)
 
 -- the lines of a source were answered, with this status
-pub record IsLive (site : Site) (source out err : DeviceUse) (ended : ℕ) : Type 0 where
+pub record IsLive (m : Manner) (source out err : DeviceUse) (ended : ℕ) : Type 0 where
   pub status : (ended ≡ 0) ⊎ ((ended ≡ 3) ⊎ (ended ≡ 4))
   -- these are the bytes that are written
   pub answers : List ℕ
   pub writes : Appends out.old out.new answers
   -- each line is answered, no fault is told, and everything is read
-  pub done : ended ≡ 0 → err.IsUntouched × IfSome source.old (λ input. IsWhole site input answers × (source.new ≡ Some []))
-  -- memory was wanting, and that is told
-  pub room : ended ≡ 3 → TellsFault err (Run run_fault.NoMemory)
+  pub done : ended ≡ 0 → err.IsUntouched × IfSome source.old (λ input. IsWhole m input answers × (source.new ≡ Some []))
+  -- memory was wanting, or the desk's place, and that is told
+  pub room : ended ≡ 3 → TellsFault err (Run run_fault.NoMemory) ⊎ TellsFault err (Run run_fault.NoPlace)
   -- a read or a write failed, and that is told
   pub failed : ended ≡ 4 → TellsFault err (Run run_fault.Read) × (source.failures_old < source.failures_new)
       ⊎ (TellsFault err (Run run_fault.Write) × (out.failures_old < out.failures_new))
   -- whatever it ends with, no line is answered otherwise, or before one in front of it
-  pub front : IfSome source.old (λ input. IsBegun site input answers)
+  pub front : IfSome source.old (λ input. IsBegun m input answers)
   -- and each failure is told: at any other status no read and no write has failed
   pub failures_told : ended ≢ 4 → (source.failures_new ≡ source.failures_old) × (out.failures_new ≡ out.failures_old)

@@ -1,8 +1,10 @@
--- What a line tells a ledger or asks of it.
-use Rattle.std.specs.Prelude.{ℕ, Bool, List, length, nat_le, Option, Some, None, Result, Ok, Err, is_some, if◌then◌else◌}
+-- What a line tells of a cluster, or asks.
+use Rattle.std.specs.Prelude.{ℕ, Bool, List, codes, bytes_eq, length, nat_le, Option, Some, None, Result, Ok, Err, is_some, if◌then◌else◌}
 use Rattle.serde_json.specs.Data.{Data}
 use Rattle.serde_json.specs.Find.{get}
+use Rattle.quant.specs.declared.amount.Moment.{Moment as At}
 use Rattle.quant.specs.declared.event.Event.TheVariants.{NodeSet, NodeGone as RowGone, PodPending, PodBound, PodGone}
+use Rattle.quant.specs.declared.name.Name.{Name}
 use Rattle.objects.specs.declared.heard.Heard.{Heard}
 use Rattle.objects.specs.declared.heard.Heard.TheVariants as heard_as
 use Rattle.objects.specs.declared.translation.TheConstants.{MAX_OBJECT}
@@ -10,24 +12,41 @@ use Rattle.objects.specs.Heard.{heard}
 use Rattle.objects.specs.Site.{Site}
 use Rattle.objects.specs.Told.{is_blank, parsed}
 use Rattle.ledger.specs.declared.event.Event.{Event}
-use Rattle.ledger.specs.declared.event.Event.TheVariants.{Node, NodeGone, Waits, Withheld, Stands, Unread, Gone}
+use Rattle.ledger.specs.declared.event.Event.TheVariants.{Node, NodeGone, Withheld, Stands, Unread, Gone}
 use Rattle.live.specs.declared.field.Field.{Field}
 use Rattle.live.specs.declared.field.Field.TheVariants as fields
 use Rattle.live.specs.declared.meaning.Meaning.{Meaning}
-use Rattle.live.specs.declared.meaning.Meaning.TheVariants.{Tells, Nothing, Faulty}
+use Rattle.live.specs.declared.meaning.Meaning.TheVariants.{Tells, Pending, Aside, Tick, Cycle, Nothing, Faulty}
 use Rattle.live.specs.Field.{key}
-use Rattle.live.specs.Order.{order}
+use Rattle.live.specs.Order.{moment_at, order, text_at, uid_at}
 
--- an order, or its first fault
+-- what a line orders, or its first fault
 abbrev pub of_order : Result Event Field → Meaning
 of_order (Ok event) = Tells event
 of_order (Err field) = Faulty field
+
+abbrev pub of_moment : Result At Field → Meaning
+of_moment (Ok now) = Tick now
+of_moment (Err field) = Faulty field
+
+abbrev pub of_aside : Result Name Field → Meaning
+of_aside (Ok uid) = Aside uid
+of_aside (Err field) = Faulty field
+
+-- by its word
+abbrev pub of_op : Site → Data → Result (List ℕ) Field → Meaning
+of_op site json (Ok op) =
+    if bytes_eq op (codes "cycle") then Cycle
+    else if bytes_eq op (codes "tick") then of_moment (moment_at json)
+    else if bytes_eq op (codes "aside") then of_aside (uid_at json)
+    else of_order (order site json op)
+of_op site json (Err field) = Faulty field
 
 -- an object of the API
 abbrev pub of_object : Heard → Meaning
 of_object (heard_as.Event (NodeSet version node)) = Tells (Node version node)
 of_object (heard_as.Event (RowGone version name)) = Tells (NodeGone name)
-of_object (heard_as.Event (PodPending version pod)) = Tells (Waits version pod.uid pod.request)
+of_object (heard_as.Event (PodPending version pod)) = Pending version pod
 of_object (heard_as.Event (PodBound version uid node request)) = Tells (Stands version uid node request)
 of_object (heard_as.Event (PodGone version uid)) = Tells (Gone uid)
 of_object (heard_as.Withheld version uid) = Tells (Withheld version uid)
@@ -40,7 +59,7 @@ is_order json = is_some (get (key fields.Op) json)
 
 abbrev pub of_value : Site → Option Data → Meaning
 of_value site None = Tells Unread
-of_value site (Some json) = if is_order json then of_order (order site json) else of_object (heard site json)
+of_value site (Some json) = if is_order json then of_op site json (text_at fields.Op json) else of_object (heard site json)
 
 -- what is no JSON, or too long, may be a pod on a node
 abbrev pub of_text : Site → (line : List ℕ) → Meaning

@@ -6,7 +6,8 @@ use Rattle.serde_json.specs.Data as values
 use Rattle.serde_json.specs.Find.{get, as_str, as_number, as_u64}
 use Rattle.quant.specs.Name.{is_name}
 use Rattle.quant.specs.declared.event.Event.TheVariants.{NodeSet, NodeGone, PodPending, PodBound, PodGone}
-use Rattle.quant.specs.declared.limits.TheConstants.{MAX_TICKET}
+use Rattle.quant.specs.declared.amount.Moment.{Moment}
+use Rattle.quant.specs.declared.limits.TheConstants.{LATEST_MOMENT, MAX_TICKET}
 use Rattle.quant.specs.declared.name.Name.{Name}
 use Rattle.quant.specs.declared.version.Ticket.{Ticket}
 use Rattle.objects.specs.declared.heard.Heard.{Heard}
@@ -156,8 +157,20 @@ plain_order json op =
     else if bytes_eq op (codes "answer") then answer_in json
     else Err fields.Op
 
-abbrev pub order_named : Site → Data → (op : List ℕ) → Result Event Field
-order_named site json op = if bytes_eq op (codes "read") then read_in site json else plain_order json op
+-- what a line orders by this word: of the ledger alone
+unfoldable pub order : Site → Data → (op : List ℕ) → Result Event Field
+order site json op = if bytes_eq op (codes "read") then read_in site json else plain_order json op
 
-unfoldable pub order : Site → Data → Result Event Field
-order site json = text_at fields.Op json >>= order_named site json
+-- ---- of the desk
+
+-- the moment that it is
+abbrev pub a_moment : Option ℕ → Result Moment Field
+a_moment None = Err fields.At
+a_moment (Some n) = if nat_le n LATEST_MOMENT then Ok (record { 0 = n }) else Err fields.At
+
+unfoldable pub moment_at : Data → Result Moment Field
+moment_at json = a_moment (option_and_then a_natural (get (key fields.At) json))
+
+-- which pod is put aside
+unfoldable pub uid_at : Data → Result Name Field
+uid_at json = name_at fields.Uid json

@@ -19,6 +19,8 @@ pub enum Field {
     Is,
     /// What a read gave.
     Gave,
+    /// The moment.
+    At,
 }
 
 impl Field {
@@ -34,6 +36,7 @@ impl Field {
             Field::Ticket => "ticket",
             Field::Is => "is",
             Field::Gave => "gave",
+            Field::At => "at",
         }
     }
 }

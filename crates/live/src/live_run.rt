@@ -1,22 +1,31 @@
-//! A ledger that is told line by line, and whose answers are written.
-ghost use Rattle.std.specs.Prelude.{◌≡◌, ◌^◌, ◌<◌, ◌++◌, [], vec_len, None, IsTrue, IfOk, IfErr, OnOk, OnErr};
+//! A cluster that is told line by line, and decided of, with the answers written.
+ghost use Rattle.std.specs.Prelude.{◌≡◌, ◌⊎◌, ◌^◌, ◌<◌, ◌++◌, [], vec_len, None, IsTrue, IfOk, IfErr, OnOk, OnErr};
 ghost use Rattle.std.specs.Io.KnownBytes.{Appends};
 ghost use Rattle.streams.specs.Device.{AppendsFront, use_of};
+ghost use Rattle.streams.specs.Greatest.{limits};
 ghost use Rattle.streams.specs.inside.Device.{WritesSome};
 ghost use Rattle.streams.specs.declared.fault.RunFault.TheVariants as run_fault;
+ghost use Rattle.choose.specs.Kits.{rules_of};
 ghost use Rattle.objects.specs.Site.{site_of};
-ghost use Rattle.live.specs.Live.{IsAnswered, IsLive, first_state};
+ghost use Rattle.live.specs.Live.{IsAnswered, IsLive, first_state, manner};
 ghost use Rattle.live.specs.Meaning.{meaning};
 ghost use Rattle.live.specs.inside.Live.{IsLineAnswered, IsStopped};
 
-use crate::answer_text::{answer_text, faulty_text};
+use crate::answer_text::{
+    answer_text, aside_text, faulty_text, nothing_text, taken_text, tick_text, turn_text,
+};
 use crate::meaning::{Meaning, meaning_of};
-use book::Limits;
+use choose::Decider;
+use desk::{Blank, Limits, Naming};
 use fault_line::{Fault, report};
-use ledger::Ledger;
+use live_desk::LiveDesk;
 use objects::{MAX_OBJECT, Site};
-use std::alloc::{AllocError, Global};
+use output_lines::NamedRule;
+use std::alloc::Global;
 use std::hash::RandomState;
+use std::marker::Brand;
+use std::sync::Wait;
+use std::thread::Threads;
 use streams::{LineReader, RunFault, Sink, Source, write_all};
 
 /// How many pods may be known at a time: those on nodes, and as many that wait as there is room
@@ -30,15 +39,19 @@ const MAX_KEPT: usize = MAX_OBJECT + 1;
 // So much may wait before it is written, while whole lines are there to be answered.
 const MAX_WAITING: usize = 65_536;
 
-/// Tells a ledger the lines of `source`, writes its answers to `out`, one a line, and gives the
-/// exit status. A fault goes to `err`, as one line, and a failed write of that line changes
-/// nothing. Of pods without a node those of the site's scheduler wait; the others are withheld.
+/// Tells a ledger and a desk the lines of `source`, decides where a line asks for it, writes the
+/// answers to `out`, one a line, and gives the exit status. A fault goes to `err`, as one line, and
+/// a failed write of that line changes nothing. Of pods without a node those of the site's scheduler
+/// wait; the others are withheld. Names are looked up under the keys.
 ///
 /// Answers are written before more input is read.
-pub fn serve_live<R: Source, W: Sink, E: Sink>(
+pub fn serve_live<T: Wait + Threads + Sync, D: Decider, R: Source, W: Sink, E: Sink>(
+    rt: &T,
     alloc: Global,
-    keys: Option<RandomState>,
+    keys: RandomState,
     site: &Site<'_>,
+    named: &[NamedRule],
+    decider: &mut D,
     source: &mut R,
     out: &mut W,
     err: &mut E,
@@ -46,35 +59,83 @@ pub fn serve_live<R: Source, W: Sink, E: Sink>(
     requires reads { R.failure_count source.old < 10 ^ 18 }
     requires writes { W.failure_count out.old < 10 ^ 18 }
     requires tells { E.failure_count err.old < 10 ^ 18 }
-    ensures { IsLive (site_of site.now) (use_of R.remaining R.failure_count source.old source.new)
+    ensures { IsLive (manner (site_of site.now) (rules_of D.Kit.answers (D.kits decider.old)) named.now)
+        (use_of R.remaining R.failure_count source.old source.new)
         (use_of W.written W.failure_count out.old out.new) (use_of E.written E.failure_count err.old err.new) result }
 {
-    match live_lines(alloc, keys, site, source, out) {
+    match live_lines::<Brand, T, D, R, W>(
+        rt,
+        Blank::new(),
+        alloc,
+        keys,
+        Limits::greatest(),
+        site,
+        named,
+        decider,
+        source,
+        out,
+    ) {
         Ok(()) => 0,
         Err(fault) => report(Fault::Run(fault), err),
     }
 }
 
-// Answers the lines of a source by a ledger of its own.
-fn live_lines<R: Source, W: Sink>(
+// Answers the lines of a source by a desk and a ledger of its own.
+fn live_lines<J: Naming, T: Wait + Threads + Sync, D: Decider, R: Source, W: Sink>(
+    rt: &T,
+    blank: Blank,
     alloc: Global,
-    keys: Option<RandomState>,
+    keys: RandomState,
+    greatest: Limits,
     site: &Site<'_>,
+    named: &[NamedRule],
+    decider: &mut D,
     source: &mut R,
     out: &mut W,
 ) -> Result<(), RunFault>
+    requires named { blank.seen.book ≡ J.book }
+    requires limits { greatest ≡ J.limits }
+    requires greatest { greatest ≡ limits }
     requires reads { R.failure_count source.old < 10 ^ 18 }
     requires writes { W.failure_count out.old < 10 ^ 18 }
-    ensures { IsStopped (site_of site.now) (use_of R.remaining R.failure_count source.old source.new)
+    ensures { IsStopped (manner (site_of site.now) (rules_of D.Kit.answers (D.kits decider.old)) named.now)
+        (use_of R.remaining R.failure_count source.old source.new)
+        (use_of W.written W.failure_count out.old out.new) result }
+{
+    let mut live = LiveDesk::<J>::new(rt, blank, alloc, keys, greatest, MAX_KNOWN)?;
+    let done = lines_with_room(rt, alloc, site, named, decider, &mut live, source, out);
+    live.end(rt);
+    done
+}
+
+// Answers the lines of a source by a desk and a ledger to which nothing was told.
+fn lines_with_room<J: Naming, T: Wait + Threads + Sync, D: Decider, R: Source, W: Sink>(
+    rt: &T,
+    alloc: Global,
+    site: &Site<'_>,
+    named: &[NamedRule],
+    decider: &mut D,
+    live: &mut LiveDesk<J>,
+    source: &mut R,
+    out: &mut W,
+) -> Result<(), RunFault>
+    requires first { live.old ≡ first_state }
+    requires reads { R.failure_count source.old < 10 ^ 18 }
+    requires writes { W.failure_count out.old < 10 ^ 18 }
+    ensures { IsStopped (manner (site_of site.now) (rules_of D.Kit.answers (D.kits decider.old)) named.now)
+        (use_of R.remaining R.failure_count source.old source.new)
         (use_of W.written W.failure_count out.old out.new) result }
 {
     let mut waits = Vec::new(alloc);
     let mut line = Vec::with_capacity(alloc, MAX_KEPT)?;
     let mut reader = LineReader::new(alloc)?;
-    lines_by_a_ledger(
+    answer_lines(
+        rt,
         alloc,
-        keys,
         site,
+        named,
+        decider,
+        live,
         &mut reader,
         &mut line,
         &mut waits,
@@ -83,47 +144,28 @@ fn live_lines<R: Source, W: Sink>(
     )
 }
 
-// Answers the lines of a source by a ledger of its own, with a reader of which nothing was read and
-// room for a line and for what waits.
-fn lines_by_a_ledger<R: Source, W: Sink>(
+// Answers the lines of a source by a desk and a ledger to which nothing was told, with a reader of
+// which nothing was read and room for a line and for what waits.
+fn answer_lines<J: Naming, T: Wait + Threads + Sync, D: Decider, R: Source, W: Sink>(
+    rt: &T,
     alloc: Global,
-    keys: Option<RandomState>,
     site: &Site<'_>,
+    named: &[NamedRule],
+    decider: &mut D,
+    live: &mut LiveDesk<J>,
     reader: &mut LineReader,
     line: &mut Vec<u8>,
     waits: &mut Vec<u8>,
     source: &mut R,
     out: &mut W,
 ) -> Result<(), RunFault>
-    requires reads { R.failure_count source.old < 10 ^ 18 }
-    requires writes { W.failure_count out.old < 10 ^ 18 }
+    requires first { live.old ≡ first_state }
     requires none { reader.old ≡ [] }
     requires nothing { waits.old.items ≡ [] }
-    ensures { IsStopped (site_of site.now) (use_of R.remaining R.failure_count source.old source.new)
-        (use_of W.written W.failure_count out.old out.new) result }
-{
-    let mut ledger = first_ledger(alloc, keys)?;
-    answer_lines(alloc, site, &mut ledger, reader, line, waits, source, out)
-}
-
-// Answers the lines of a source by a ledger to which nothing was told, with a reader of which
-// nothing was read and room for a line and for what waits.
-fn answer_lines<R: Source, W: Sink>(
-    alloc: Global,
-    site: &Site<'_>,
-    ledger: &mut Ledger,
-    reader: &mut LineReader,
-    line: &mut Vec<u8>,
-    waits: &mut Vec<u8>,
-    source: &mut R,
-    out: &mut W,
-) -> Result<(), RunFault>
     requires reads { R.failure_count source.old < 10 ^ 18 }
     requires writes { W.failure_count out.old < 10 ^ 18 }
-    requires first { ledger.old ≡ first_state }
-    requires none { reader.old ≡ [] }
-    requires nothing { waits.old.items ≡ [] }
-    ensures { IsStopped (site_of site.now) (use_of R.remaining R.failure_count source.old source.new)
+    ensures { IsStopped (manner (site_of site.now) (rules_of D.Kit.answers (D.kits decider.old)) named.now)
+        (use_of R.remaining R.failure_count source.old source.new)
         (use_of W.written W.failure_count out.old out.new) result }
 {
     'lines: loop {
@@ -132,21 +174,7 @@ fn answer_lines<R: Source, W: Sink>(
         if !reader.next_front(MAX_KEPT, source, line, waits)? {
             return flush_if(true, waits, out);
         }
-        answer_line(alloc, site, ledger, line, waits)?;
-    }
-}
-
-// A ledger to which nothing was told, with room for the greatest cluster.
-fn first_ledger(alloc: Global, keys: Option<RandomState>) -> Result<Ledger, RunFault>
-    ensures made { IfOk result (λ ledger. ledger ≡ first_state) }
-    ensures refused { IfErr result (λ fault. fault ≡ run_fault.NoMemory) }
-{
-    let Some(keys) = keys else {
-        return Err(RunFault::NoMemory);
-    };
-    match Ledger::new(alloc, keys, Limits::greatest(), MAX_KNOWN) {
-        Ok(ledger) => Ok(ledger),
-        Err(_) => Err(RunFault::NoMemory),
+        answer_line(rt, alloc, site, named, decider, live, line, waits)?;
     }
 }
 
@@ -169,44 +197,65 @@ fn flush_if<W: Sink>(due: bool, waits: &mut Vec<u8>, out: &mut W) -> Result<(), 
 }
 
 // Answers a line: its answer waits then, behind what waited.
-fn answer_line(
+fn answer_line<J: Naming, T: Wait + Threads + Sync, D: Decider>(
+    rt: &T,
     alloc: Global,
     site: &Site<'_>,
-    ledger: &mut Ledger,
+    named: &[NamedRule],
+    decider: &mut D,
+    live: &mut LiveDesk<J>,
     line: &[u8],
     waits: &mut Vec<u8>,
 ) -> Result<(), RunFault>
-    ensures answered { OnOk result (IsLineAnswered (site_of site.now) ledger.old line.now ledger.new waits.old.items
-        waits.new.items) }
+    ensures answered { OnOk result (IsLineAnswered
+        (manner (site_of site.now) (rules_of D.Kit.answers (D.kits decider.old)) named.now)
+        live.old line.now live.new waits.old.items waits.new.items) }
+    ensures kits { D.kits decider.new ≡ D.kits decider.old }
     ensures refused { IfErr result (λ fault. fault ≡ run_fault.NoMemory) }
 {
-    match answer_to(alloc, site, ledger, line) {
-        Ok(text) => waits
-            .extend_from_slice(&text)
-            .map_err(|_| RunFault::NoMemory),
-        Err(_) => Err(RunFault::NoMemory),
-    }
+    let text = answer_to(rt, alloc, site, named, decider, live, line)?;
+    waits.extend_from_slice(&text)?;
+    Ok(())
 }
 
-// The answer to a line, behind which the ledger knows what it tells.
-fn answer_to(
+// The answer to a line, behind which what it tells is known.
+fn answer_to<J: Naming, T: Wait + Threads + Sync, D: Decider>(
+    rt: &T,
     alloc: Global,
     site: &Site<'_>,
-    ledger: &mut Ledger,
+    named: &[NamedRule],
+    decider: &mut D,
+    live: &mut LiveDesk<J>,
     line: &[u8],
-) -> Result<Vec<u8>, AllocError>
-    ensures { IfOk result (λ text. IsAnswered (meaning (site_of site.now) line.now) ledger.old text.items ledger.new) }
+) -> Result<Vec<u8>, RunFault>
+    ensures answered { IfOk result (λ text. IsAnswered
+        (manner (site_of site.now) (rules_of D.Kit.answers (D.kits decider.old)) named.now)
+        (meaning (site_of site.now) line.now) live.old text.items live.new) }
+    ensures kits { D.kits decider.new ≡ D.kits decider.old }
+    ensures refused { IfErr result (λ fault. fault ≡ run_fault.NoMemory) }
 {
     match meaning_of(alloc, line, site)? {
         Meaning::Tells(event) => {
-            let answer = ledger.tell(event);
-            answer_text(alloc, answer)
+            let answer = live.tell(rt, alloc, event)?;
+            Ok(answer_text(alloc, answer)?)
         }
-        Meaning::Faulty(field) => faulty_text(alloc, field),
-        Meaning::Nothing => {
-            let mut text = Vec::new(alloc);
-            text.extend_from_slice(b"nothing\n")?;
-            Ok(text)
+        Meaning::Pending(version, pod) => {
+            let taken = live.pending(rt, version, pod)?;
+            Ok(taken_text(alloc, taken)?)
         }
+        Meaning::Aside(uid) => {
+            let was_there = live.put_aside(rt, uid)?;
+            Ok(aside_text(alloc, was_there)?)
+        }
+        Meaning::Tick(now) => {
+            let reply = live.tick(rt, now)?;
+            Ok(tick_text(alloc, reply)?)
+        }
+        Meaning::Cycle => {
+            let turn = live.cycle(rt, decider)?;
+            Ok(turn_text(alloc, named, turn)?)
+        }
+        Meaning::Nothing => Ok(nothing_text(alloc)?),
+        Meaning::Faulty(field) => Ok(faulty_text(alloc, field)?),
     }
 }

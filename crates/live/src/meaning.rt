@@ -1,40 +1,47 @@
-//! What a line tells a ledger, or asks of it.
+//! What a line tells of a cluster, or asks.
 ghost use Rattle.std.specs.Prelude.{◌≡◌, IfOk};
 ghost use Rattle.serde_json.specs.View.{view};
 ghost use Rattle.objects.specs.Site.{site_of};
-ghost use Rattle.live.specs.Meaning.{is_order, of_object, of_order, of_value, meaning};
+ghost use Rattle.quant.specs.declared.limits.TheConstants.{LATEST_MOMENT};
+ghost use Rattle.live.specs.Meaning.{is_order, of_aside, of_moment, of_object, of_op, of_order, of_value, meaning};
+ghost use Rattle.live.specs.Order.{moment_at, text_at, uid_at};
+ghost use Rattle.live.specs.declared.field.Field.TheVariants as fields;
 
 use crate::field::Field;
-use crate::order::order;
+use crate::order::{moment_at, op_of, order, uid_at};
 use ledger::Event;
 use objects::{Heard, MAX_OBJECT, Site, hear, is_blank, parse};
-use quant::Event as Told;
+use quant::{Event as Told, Moment, Name, SharedPod, Version};
 use serde_json::Value;
 use std::alloc::{AllocError, Global};
 
-/// What a line tells a ledger, or asks of it.
+/// What a line tells of a cluster, or asks.
 #[derive(Drop)]
 pub(crate) enum Meaning {
-    /// This.
+    /// It tells a ledger this, or asks it.
     Tells(Event),
+    /// A pod waits, as of this version, with this row.
+    Pending(Version, SharedPod),
+    /// A pod that waits is put aside.
+    Aside(Name),
+    /// It is this moment.
+    Tick(Moment),
+    /// Where does the pod go that goes first?
+    Cycle,
     /// Nothing.
     Nothing,
     /// It is an order, whose first fault stands in this field.
     Faulty(Field),
 }
 
-// What an object of the API tells a ledger.
+// What an object of the API tells.
 fn of_object(heard: Heard) -> Meaning
     ensures { result ≡ of_object heard }
 {
     let event = match heard {
         Heard::Event(Told::NodeSet { version, node }) => Event::Node { version, node },
         Heard::Event(Told::NodeGone { name, .. }) => Event::NodeGone { name },
-        Heard::Event(Told::PodPending { version, pod }) => Event::Waits {
-            version,
-            uid: pod.uid.copied(),
-            request: pod.request,
-        },
+        Heard::Event(Told::PodPending { version, pod }) => return Meaning::Pending(version, pod),
         Heard::Event(
             Told::PodBound {
                 version,
@@ -68,13 +75,54 @@ fn is_order(json: &Value) -> bool
 fn of_value(alloc: Global, json: &Value, site: &Site<'_>) -> Result<Meaning, AllocError>
     ensures { IfOk result (λ meaning. meaning ≡ of_value (site_of site.now) (Some (view json.now))) }
 {
-    if !is_order(json) {
-        return Ok(of_object(hear(alloc, json, site)?));
+    if is_order(json) {
+        return of_op(alloc, json, site);
     }
-    Ok(match order(alloc, json, site)? {
+    Ok(of_object(hear(alloc, json, site)?))
+}
+
+// What an order tells or asks.
+fn of_op(alloc: Global, json: &Value, site: &Site<'_>) -> Result<Meaning, AllocError>
+    ensures { IfOk result (λ meaning. meaning ≡ of_op (site_of site.now) (view json.now)
+        (text_at fields.Op (view json.now))) }
+{
+    match op_of(json) {
+        Ok("cycle") => Ok(Meaning::Cycle),
+        Ok("tick") => Ok(of_moment(json)),
+        Ok("aside") => Ok(of_aside(json)),
+        Ok(op) => Ok(of_order(order(alloc, json, op, site)?)),
+        Err(field) => Ok(Meaning::Faulty(field)),
+    }
+}
+
+// What a ledger is told or asked by an order, or its first fault.
+fn of_order(order: Result<Event, Field>) -> Meaning
+    ensures { result ≡ of_order order }
+{
+    match order {
         Ok(event) => Meaning::Tells(event),
         Err(field) => Meaning::Faulty(field),
-    })
+    }
+}
+
+// That it is a moment.
+fn of_moment(json: &Value) -> Meaning
+    ensures { result ≡ of_moment (moment_at (view json.now)) }
+{
+    match moment_at(json) {
+        Ok(now) => Meaning::Tick(now),
+        Err(field) => Meaning::Faulty(field),
+    }
+}
+
+// That a pod is put aside.
+fn of_aside(json: &Value) -> Meaning
+    ensures { result ≡ of_aside (uid_at (view json.now)) }
+{
+    match uid_at(json) {
+        Ok(uid) => Meaning::Aside(uid),
+        Err(field) => Meaning::Faulty(field),
+    }
 }
 
 /// What a line tells a ledger, or asks of it. What may be a pod on a node, and can't be read, is

@@ -1,14 +1,16 @@
 //! The orders of whoever hands a ledger what the API server tells.
-ghost use Rattle.std.specs.Prelude.{◌≡◌, IfOk};
+ghost use Rattle.std.specs.Prelude.{◌≡◌, ◌≤◌, IfOk};
+ghost use Rattle.quant.specs.declared.limits.TheConstants.{LATEST_MOMENT};
+ghost use Rattle.live.specs.declared.field.Field.TheVariants as fields;
 ghost use Rattle.serde_json.specs.View.{view};
 ghost use Rattle.objects.specs.Site.{site_of};
-ghost use Rattle.live.specs.Order.{text_at, name_at, ticket_at, kind_at, outcome_at, said_by, said_of, list_in, listed_in, deaf_in, hears_in, bind_in, answer_in, if_it, bind_read, read_in, plain_order, order};
+ghost use Rattle.live.specs.Order.{text_at, name_at, ticket_at, kind_at, outcome_at, said_by, said_of, list_in, listed_in, deaf_in, hears_in, bind_in, answer_in, if_it, bind_read, read_in, plain_order, order, moment_at, uid_at};
 ghost use Rattle.live.specs.inside.Reading.{Tells};
 
 use crate::field::Field;
 use ledger::{Event, Kind, Outcome, Said};
 use objects::{Heard, Site, hear};
-use quant::{Event as Told, MAX_TICKET, Name, Ticket};
+use quant::{Event as Told, LATEST_MOMENT, MAX_TICKET, Moment, Name, Ticket};
 use serde_json::Value;
 use std::alloc::{AllocError, Global};
 
@@ -224,20 +226,49 @@ fn plain_order(object: &Value, op: &str) -> Result<Event, Field>
     }
 }
 
-/// What an order tells a ledger or asks of it, or the field in which its first fault stands.
+/// What a line tells a ledger by this order, or asks of it, or the field in which its first fault
+/// stands.
 ///
 /// Errors: `AllocError`, which may come in place of any answer.
 #[tactic(auto, unfolding(crate::specs::Order::order))]
 pub(crate) fn order(
     alloc: Global,
     object: &Value,
+    op: &str,
     site: &Site<'_>,
 ) -> Result<Result<Event, Field>, AllocError>
-    ensures { IfOk result (λ event. event ≡ order (site_of site.now) (view object.now)) }
+    ensures { IfOk result (λ event. event ≡ order (site_of site.now) (view object.now) op.now) }
 {
-    match text_at(object, Field::Op) {
-        Ok("read") => read_of(alloc, object, site),
-        Ok(op) => Ok(plain_order(object, op)),
-        Err(field) => Ok(Err(field)),
+    if op == "read" {
+        return read_of(alloc, object, site);
     }
+    Ok(plain_order(object, op))
+}
+
+/// The word of an order.
+pub(crate) fn op_of(object: &Value) -> Result<&str, Field>
+    ensures { Tells (λ text. text.now) result (text_at fields.Op (view object.now)) }
+{
+    text_at(object, Field::Op)
+}
+
+/// The moment that it is.
+#[tactic(auto, unfolding(crate::specs::Order::moment_at))]
+pub(crate) fn moment_at(object: &Value) -> Result<Moment, Field>
+    ensures moment { result ≡ moment_at (view object.now) }
+    ensures latest { IfOk result (λ now. now.0 ≤ LATEST_MOMENT) }
+{
+    let value = object.get(Field::At.key()).ok_or(Field::At)?;
+    match value.as_u64() {
+        Some(number) if number <= LATEST_MOMENT => Ok(Moment(number)),
+        _ => Err(Field::At),
+    }
+}
+
+/// Which pod is put aside.
+#[tactic(auto, unfolding(crate::specs::Order::uid_at))]
+pub(crate) fn uid_at(object: &Value) -> Result<Name, Field>
+    ensures { result ≡ uid_at (view object.now) }
+{
+    name_at(object, Field::Uid)
 }

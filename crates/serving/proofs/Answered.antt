@@ -7,7 +7,8 @@ use Rattle.command.specs.Words.{Asked, asked_by, meaning, run, explain, check, s
 use Rattle.command.specs.declared.fault.WordFault.{WordFault}
 use Rattle.command.specs.declared.fault.WordFault.TheVariants as word_fault
 use Rattle.fault_line.specs.declared.fault.Fault.{Fault}
-use Rattle.fault_line.specs.declared.fault.Fault.TheVariants.{Words, Misused}
+use Rattle.fault_line.specs.declared.fault.Fault.TheVariants.{Run, Words, Misused}
+use Rattle.streams.specs.declared.fault.RunFault.TheVariants as run_fault
 use Rattle.fault_line.specs.Fault.{status_of}
 use Rattle.site.specs.Planned.{FilesUse}
 use Rattle.serving.specs.Answer.{IsAnswer, IsDone}
@@ -16,7 +17,6 @@ use Rattle.site.proofs.Ends.{not_begun, told}
 use Rattle.site.proofs.Quiet.{no_memory_told}
 use Rattle.serving.proofs.StormEnds.{storm_not_begun}
 use Rattle.translator.proofs.Translated.{nothing_translated}
-use Rattle.live.proofs.Lived.{nothing_lived}
 
 module _ (Unkeyed : Type 0) (files : FilesUse) (source out err : DeviceUse) (ended : ℕ) where
   -- nothing was touched
@@ -71,9 +71,9 @@ module _ (Unkeyed : Type 0) (files : FilesUse) (source out err : DeviceUse) (end
     translated = nothing_translated _ source out err ended three (rw no_memory_told at tells) h.same h.reads h.writes;
     unopened = h.unopened;
   }
-  wanting (Some (live scheduler labels)) fault three tells h = record {
-    answered = nothing_lived _ source out err ended three (rw no_memory_told at tells) h.same h.reads h.writes;
-    unopened = h.unopened;
+  wanting (Some (live scheduler labels workers specs)) fault three tells h = record {
+    came = inr (Run run_fault.NoMemory, inr h.opens, record { status = three; tells = rw no_memory_told at tells; unread = h.unread; unwritten = h.unwritten });
+    files_told = λ _. h.opens;
   }
   wanting (Some version) fault three tells h = record {
     tells = record {

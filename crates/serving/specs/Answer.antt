@@ -1,5 +1,5 @@
 -- What the program's words get done, and by which exit status that is told.
-use Rattle.std.specs.Prelude.{◌≡◌, ◌≢◌, ◌⊎◌, ⊤, ℕ, Bool, true, false, List, Option, Some, None, Result, IfErr}
+use Rattle.std.specs.Prelude.{◌≡◌, ◌≢◌, ◌⊎◌, ⊤, ℕ, true, false, List, Option, Some, None, Result, IfErr}
 use Rattle.streams.specs.Device.{DeviceUse}
 use Rattle.streams.specs.declared.fault.RunFault.TheVariants as run_fault
 use Rattle.command.specs.Words.{Asked, SpecSyntax, asked_by, run, explain, check, storm, translate, live, version}
@@ -7,13 +7,12 @@ use Rattle.command.specs.declared.fault.WordFault.{WordFault}
 use Rattle.fault_line.specs.declared.fault.Fault.{Fault}
 use Rattle.fault_line.specs.declared.fault.Fault.TheVariants.{Run, Words}
 use Rattle.fault_line.specs.Fault.{status_of}
-use Rattle.live.specs.Live.{IsLive}
-use Rattle.objects.specs.Site.{Site}
 use Rattle.translator.specs.Translate.{Manner, IsTranslated}
 use Rattle.site.specs.Check.{CannotRead, IsCheck}
 use Rattle.site.specs.Planned.{FilesUse, IsPlannedRun}
 use Rattle.site.specs.Run.{TellsFailures, TellsFault, told_of}
 use Rattle.site.specs.Site.{AreFromFiles, UnreadPlugin}
+use Rattle.serving.specs.Live.{IsPlannedLive, read_for}
 use Rattle.serving.specs.Storm.{IsSiteStorm}
 use Rattle.site.specs.Version.{TellsVersion}
 
@@ -33,12 +32,6 @@ pub record IsFileCheck (file : List ℕ) (files : FilesUse) (source out err : De
 -- a translation of the source's lines ended with this status, and the files are as they were
 pub record IsTranslation (manner : Manner) (files : FilesUse) (source out err : DeviceUse) (ended : ℕ) : Type 0 where
   pub translated : IsTranslated manner source out err ended
-  pub unopened : files.IsUntouched
-
--- the lines of the source were answered by a ledger, with this status, and the files are as they
--- were
-pub record IsLedger (site : Site) (files : FilesUse) (source out err : DeviceUse) (ended : ℕ) : Type 0 where
-  pub answered : IsLive site source out err ended
   pub unopened : files.IsUntouched
 
 -- which program this is was told, or not, with this status, and the files and the source are as
@@ -67,8 +60,8 @@ IsDone (Some (check file)) fault Unkeyed files source out err ended = IsFileChec
 IsDone (Some (storm cycles binders flaky specs)) fault Unkeyed files source out err ended = IsPlannedStorm cycles binders specs Unkeyed files source out err ended
 IsDone (Some (translate scheduler labels by_uid answers)) fault Unkeyed files source out err ended =
     IsTranslation (record { site = record { scheduler = scheduler; labels = labels }; by_uid = by_uid; answers = answers }) files source out err ended
-IsDone (Some (live scheduler labels)) fault Unkeyed files source out err ended =
-    IsLedger (record { scheduler = scheduler; labels = labels }) files source out err ended
+IsDone (Some (live scheduler labels workers specs)) fault Unkeyed files source out err ended =
+    IsPlannedLive (read_for scheduler labels) specs Unkeyed files source out err ended
 IsDone (Some version) fault Unkeyed files source out err ended = IsVersionTold files source out err ended
 
 -- The program's words, which could perhaps not be read, were answered with this status.

@@ -2,10 +2,12 @@
 //! are handed in.
 //!
 //! - `program`: what is done from the words to the status: a run and a check by `site`, a storm by
-//!   `storm_run`, a translation by `translator`, and what `live` answers.
+//!   `storm_run`, a translation by `translator`, and what `live` answers by `live_site`.
 //! - `storm_run`: a storm by a site's plugins; `stand_in`: binders that stand in for a cluster.
+//! - `live_site`: a cluster that is decided of by a site's plugins.
 #![tactic(auto)]
 
+mod live_site;
 mod program;
 mod stand_in;
 mod storm_run;

@@ -4,11 +4,10 @@ ghost use Rattle.streams.specs.Device.{use_of};
 ghost use Rattle.site.specs.Planned.{files_of};
 ghost use Rattle.serving.specs.Answer.{IsAnswer};
 
+use crate::live_site::live_plan;
 use crate::storm_run::storm_plan;
 use command::{WordFault, Words, misuse_of, words};
 use fault_line::{Fault, report};
-use live::serve_live;
-use objects::Site;
 use site::{Files, check_file, serve_plan, tell_version};
 use std::alloc::Global;
 use std::convert::AsStr;
@@ -22,7 +21,7 @@ use translator::serve_translation;
 /// that could not be read, or that ask for nothing, are told on `err`, and nothing is read or
 /// written. For `run` and `explain` it is what `serve_plan` does under the keys, for `storm` what
 /// `storm_plan` does, for `check` what `check_file` does, for `translate` what `serve_translation`
-/// does, for `live` what `serve_live` does, and for `version` what `tell_version` does.
+/// does, for `live` what `live_plan` does, and for `version` what `tell_version` does.
 pub fn answer<
     T: Wait + Threads + Copy + Send + Sync + 'static,
     S: AsStr + Drop,
@@ -94,13 +93,7 @@ fn answer_words<
         Ok(Words::Storm(plan)) => storm_plan(rt, alloc, keys, &plan, files, source, out, err),
         Ok(Words::Check(file)) => check_file(alloc, file, files, out, err),
         Ok(Words::Translate(plan)) => serve_translation(alloc, &plan, source, out, err),
-        Ok(Words::Live(plan)) => {
-            let site = Site {
-                scheduler: plan.scheduler,
-                labels: plan.labels,
-            };
-            serve_live(alloc, keys, &site, source, out, err)
-        }
+        Ok(Words::Live(plan)) => live_plan(rt, alloc, keys, &plan, files, source, out, err),
         Ok(Words::Version) => tell_version(out, err),
         Err(WordFault::BadWords) => report(Fault::Misused(misuse_of(args)), err),
         Err(WordFault::NoMemory) => report(Fault::Words(WordFault::NoMemory), err),

@@ -70,7 +70,7 @@ specs_in (Some (explain workers specs)) = specs
 specs_in (Some (storm cycles binders is_flaky specs)) = specs
 specs_in (Some (check file)) = []
 specs_in (Some (translate scheduler labels by_uid answers)) = []
-specs_in (Some (live scheduler labels)) = []
+specs_in (Some (live scheduler labels workers specs)) = specs
 specs_in (Some version) = []
 
 -- the plugins of a run that words ask for are those of the run that they were read as
@@ -85,7 +85,7 @@ threads_in (Some (explain workers specs)) = (0, 0)
 threads_in (Some (storm cycles binders is_flaky specs)) = (cycles, binders)
 threads_in (Some (check file)) = (0, 0)
 threads_in (Some (translate scheduler labels by_uid answers)) = (0, 0)
-threads_in (Some (live scheduler labels)) = (0, 0)
+threads_in (Some (live scheduler labels workers specs)) = (0, 0)
 threads_in (Some version) = (0, 0)
 
 -- a storm that words ask for is the one that they were read as

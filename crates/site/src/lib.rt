@@ -25,7 +25,7 @@ pub use device::{Input, Output};
 pub use folder::{Files, Folder};
 pub use laws::{decided_by_calls, one_site_output};
 pub use site::{modules_in, site_kits};
-pub use site_run::{serve, serve_plan};
+pub use site_run::{named_in, serve, serve_plan};
 pub use verdict::{Unaccepted, Verdict, accepted_in, verdict_on};
 pub use version::tell_version;
 pub use with_kits::run_with_kits;

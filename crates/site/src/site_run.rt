@@ -70,8 +70,10 @@ pub fn serve<T: Wait + Threads + Copy + Send + Sync + 'static, R: Source, W: Sin
     }
 }
 
-// The plugins' names and weights, in order.
-fn named_in(alloc: Global, specs: &[Spec<'_>]) -> Result<Vec<NamedRule>, AllocError>
+/// The plugins' names and weights, in order.
+///
+/// Errors: `AllocError`, where no memory is left.
+pub fn named_in(alloc: Global, specs: &[Spec<'_>]) -> Result<Vec<NamedRule>, AllocError>
     ensures { IfOk result (λ named. named.items ≡ named_of (map syntax_of specs.now)) }
 {
     let mut named = Vec::new(alloc);

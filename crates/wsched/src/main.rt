@@ -6,12 +6,13 @@
 //! writes what they come to and an audit of it; `wsched check MODULE` says on standard output
 //! whether the module in that file is accepted; `wsched translate [--scheduler NAME] [--labels
 //! KEY,..] [--by-uid] [--answers]` reads objects of the Kubernetes API from standard input and
-//! writes the lines of a script that they give; `wsched live [--scheduler NAME] [--labels KEY,..]`
-//! tells a ledger such objects, and what becomes of binds, and writes which binds may be asked for;
-//! `wsched version` says which program this is. A fault goes to standard error as one line. It ends
-//! with status 0 when all was done or the module is accepted, 1 at a faulty line, a refused module,
-//! a failed audit or an object that can't be counted, 2 at bad words, 3 for want of memory or of a
-//! place at the desk, and 4 when a file, a read or a write failed.
+//! writes the lines of a script that they give; `wsched live [--scheduler NAME] [--labels KEY,..]
+//! [--workers N] [NAME:WEIGHT:FUEL:FILE]...` reads such objects, and what becomes of binds, and
+//! writes where pods go and which binds may be asked for; `wsched version` says which program this
+//! is. A fault goes to standard error as one line. It ends with status 0 when all was done or the
+//! module is accepted, 1 at a faulty line, a refused module, a failed audit or an object that can't
+//! be counted, 2 at bad words, 3 for want of memory or of a place at the desk, and 4 when a file, a
+//! read or a write failed.
 //!
 //! What it does is `serving::answer`; here are the process's words, streams and files.
 #![tactic(auto)]

@@ -37,7 +37,7 @@ found_behind Run rows = option_map (λ plan. run plan.0 plan.1) (plan_found rows
 found_behind Explain rows = option_map (λ plan. explain plan.0 plan.1) (plan_found rows)
 found_behind Storm rows = storm_found rows
 found_behind Translate rows = Some (translate_found rows)
-found_behind Live rows = Some (live_found rows)
+found_behind Live rows = live_found rows
 found_behind Version rows = Some version
 found_behind Check rows = option_map check (first_of (codes "MODULE") rows)
 

@@ -7,6 +7,7 @@ use Rattle.live.proofs.live_run.answer_lines.Goals as goal
 pub lines-init : goal.lines-init
 lines-init g c = record {
   going = going_start _ _ _ _ _ _ c.requires.none c.requires.nothing c.requires.first;
+  kits = refl;
   reads = refl;
   writes = refl;
 }
@@ -67,8 +68,10 @@ lines-preserved g c =
     let so_far = going_partly _ _ _ _ _ _ _ _ _ c.in_ok-flush_if.ensures.written at.going in
     let yes : c.in_ok-next_front.field-0 ≡ true = search rules in
     let took = c.in_ok-next_front.ensures.found (ap Ok yes) in
-    let answered = rw c.deref-in-lines.ensures.value at c.in_ok-answer_line.ensures.answered in record {
+    let told = rw at.kits at c.in_ok-answer_line.ensures.answered in
+    let answered = rw c.deref-in-lines.ensures.value at told in record {
       going = going_answered _ _ _ _ _ _ _ _ _ _ _ took answered so_far;
+      kits = c.in_ok-answer_line.ensures.kits ∙ at.kits;
       reads = c.in_ok-next_front.ensures.kept (λ eq. cc) ∙ at.reads;
       writes = c.in_ok-flush_if.ensures.count ∙ at.writes;
     }

@@ -39,10 +39,7 @@ returns-in-Ok-Translate g c =
 pub returns-in-Ok-Live : goal.returns-in-Ok-Live
 returns-in-Ok-Live g c =
     let read = rw c.in-Ok-Live.field-0-is at c.in-Ok-Live.ensures.ok in
-    done _ _ _ _ _ _ (λ given. given) _ _ _ refl read (record {
-      answered = c.serve_live.ensures;
-      unopened = refl;
-    })
+    done _ _ _ _ _ _ (λ given. given) _ _ _ refl read c.live_plan.ensures
 
 pub returns-in-Ok-Version : goal.returns-in-Ok-Version
 returns-in-Ok-Version g c =
