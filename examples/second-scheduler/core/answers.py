@@ -246,6 +246,8 @@ class Taken(enum.Enum):
     NOTHING = "nothing"
     FULL = "full"
     READ = "read"
+    # (it was taken, and the ledger's own desk has no room to place it, which is asked to place none)
+    LEFT_OUT = "left-out"
 
 
 @dataclasses.dataclass(frozen=True)
