@@ -79,7 +79,7 @@ turn_by rules s mid after desk came turn may cycle mid_is leads =
 module _ (s mid after : Live) (version : Version) (pod : Pod) (answer : Answer) where
   -- the desk was asked to place it
   pub was_offered : (there : Bool) → IsTold s.ledger (Waits version pod.uid pod.request) answer mid.ledger → mid ≡ with_ledger s mid.ledger
-      → is_newest version (get mid.ledger.pods pod.uid) ≡ true → record { is_there = there; state = after } ≡ offer mid pod
+      → is_newest version pod.request (get mid.ledger.pods pod.uid) ≡ true → record { is_there = there; state = after } ≡ offer mid pod
       → IsPending s version pod (if there then Answers answer else LeftOut) after
   was_offered there told mid_is newest is = record {
     answer = answer;
@@ -90,7 +90,7 @@ module _ (s mid after : Live) (version : Version) (pod : Pod) (answer : Answer) 
 
   -- it wasn't
   pub was_not : IsTold s.ledger (Waits version pod.uid pod.request) answer mid.ledger → mid ≡ with_ledger s mid.ledger
-      → is_newest version (get mid.ledger.pods pod.uid) ≡ false → after ≡ mid → IsPending s version pod (Answers answer) after
+      → is_newest version pod.request (get mid.ledger.pods pod.uid) ≡ false → after ≡ mid → IsPending s version pod (Answers answer) after
   was_not told mid_is older is = record {
     answer = answer;
     known = mid.ledger;

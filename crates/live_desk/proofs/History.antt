@@ -62,7 +62,7 @@ pub pending_goes : (s s' : Live) (version : Version) (pod : Pod) (taken : Taken)
 pending_goes s s' version pod taken is =
     one_line s s' (Waits version pod.uid pod.request) is.answer is.known is.tells
     (subst (λ x. OnlyDesk (with_ledger s is.known) x) (sym (ap (λ p. p.state) is.is))
-    (offered_only (is_newest version (get is.known.pods pod.uid)) is.answer (with_ledger s is.known) pod))
+    (offered_only (is_newest version pod.request (get is.known.pods pod.uid)) is.answer (with_ledger s is.known) pod))
 
 -- ---- a cycle
 

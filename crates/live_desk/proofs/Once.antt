@@ -28,7 +28,7 @@ one_taken s one other event answer also a b =
 pub one_pending : (s one other : Live) (version : Version) (pod : Pod) (taken also : Taken) → IsPending s version pod taken one → IsPending s version pod also other → (taken ≡ also) × (one ≡ other)
 one_pending s one other version pod taken also a b =
     let both = one_answer s.ledger a.known b.known (Waits version pod.uid pod.request) a.answer b.answer a.tells b.tells in
-    let same = a.is ∙ ((λ i. offered_if (is_newest version (get (both.1 i).pods pod.uid)) (both.0 i) (with_ledger s (both.1 i)) pod) ∙ sym b.is) in
+    let same = a.is ∙ ((λ i. offered_if (is_newest version pod.request (get (both.1 i).pods pod.uid)) (both.0 i) (with_ledger s (both.1 i)) pod) ∙ sym b.is) in
     (ap (λ p. p.taken) same, ap (λ p. p.state) same)
 
 one_asked : (s one other : Live) (uid node : Name) (total : ℕ) (ticket : Ticket) (turn also : Turn) → IsAsked s uid node total ticket turn one → IsAsked s uid node total ticket also other → (turn ≡ also) × (one ≡ other)

@@ -250,7 +250,7 @@ offered_queued false answer s pod queued = queued
 
 pub pending_queued : (s s' : Live) (version : Version) (pod : Pod) (taken : Taken) → AreQueued s → IsPending s version pod taken s' → AreQueued s'
 pending_queued s s' version pod taken queued is =
-    subst AreQueued (sym (ap (λ p. p.state) is.is)) (offered_queued (is_newest version (get is.known.pods pod.uid)) is.answer (with_ledger s is.known) pod queued)
+    subst AreQueued (sym (ap (λ p. p.state) is.is)) (offered_queued (is_newest version pod.request (get is.known.pods pod.uid)) is.answer (with_ledger s is.known) pod queued)
 
 pub aside_queued : (s : Live) (uid : Name) → AreQueued s → AreQueued (put_aside s uid).state
 aside_queued s uid queued = kept.an_aside KeepsQueued keeps s uid queued
@@ -274,11 +274,11 @@ there_if true a answer s s' pod so is =
     answered true e = refl
     answered false e = cc
 
-pub offered_there : (s s' : Live) (version : Version) (pod : Pod) (answer : Answer) → IsPending s version pod (Answers answer) s' → is_newest version (get s'.ledger.pods pod.uid) ≡ true → IsThere s' pod
+pub offered_there : (s s' : Live) (version : Version) (pod : Pod) (answer : Answer) → IsPending s version pod (Answers answer) s' → is_newest version pod.request (get s'.ledger.pods pod.uid) ≡ true → IsThere s' pod
 offered_there s s' version pod answer is newest =
-    let kept_ledger : s'.ledger ≡ is.known = ap (λ p. p.state.ledger) is.is ∙ same (is_newest version (get is.known.pods pod.uid)) in
-    there_if (is_newest version (get is.known.pods pod.uid)) is.answer answer (with_ledger s is.known) s' pod
-    (ap (λ (l : State). is_newest version (get l.pods pod.uid)) (sym kept_ledger) ∙ newest) is.is
+    let kept_ledger : s'.ledger ≡ is.known = ap (λ p. p.state.ledger) is.is ∙ same (is_newest version pod.request (get is.known.pods pod.uid)) in
+    there_if (is_newest version pod.request (get is.known.pods pod.uid)) is.answer answer (with_ledger s is.known) s' pod
+    (ap (λ (l : State). is_newest version pod.request (get l.pods pod.uid)) (sym kept_ledger) ∙ newest) is.is
   where
     same : (b : Bool) → (offered_if b is.answer (with_ledger s is.known) pod).state.ledger ≡ is.known
     same true = (an_offer (with_ledger s is.known) pod).ledger

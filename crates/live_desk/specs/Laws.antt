@@ -36,5 +36,5 @@ pub record NoneIsLost (rules : RuleSet) : Type 0 where
   pub turned : (s s' : Live) (turn : Turn) → AreQueued s → IsTurn rules s turn s' → AreQueued s'
   -- And a pod that was told to wait, as the newest of it, is among them by a row that tells the same,
   -- unless it is answered that it is left out.
-  pub offered : (s s' : Live) (version : Version) (pod : Pod) (answer : Answer) → IsPending s version pod (Answers answer) s' → is_newest version (get s'.ledger.pods pod.uid) ≡ true
+  pub offered : (s s' : Live) (version : Version) (pod : Pod) (answer : Answer) → IsPending s version pod (Answers answer) s' → is_newest version pod.request (get s'.ledger.pods pod.uid) ≡ true
       → (it : Offered) × (get s'.offered pod.uid ≡ Some it) × (is_same_pod it.pod pod ≡ true)

@@ -1,5 +1,5 @@
 -- What the desk is told of what the ledger takes.
-use Rattle.std.specs.Prelude.{◌≡◌, Bool, true, false, ◌==◌, List, [], ◌∷◌, Option, None, Some, if◌then◌else◌}
+use Rattle.std.specs.Prelude.{◌≡◌, Bool, true, false, ◌&&◌, ◌==◌, List, [], ◌∷◌, Option, None, Some, if◌then◌else◌}
 use Rattle.std.specs.FinMap.{get}
 use Rattle.quant.specs.declared.amount.Request.{Request}
 use Rattle.quant.specs.declared.name.Name.{Name}
@@ -23,6 +23,7 @@ use Rattle.ledger.specs.Hearing.{unnamed}
 use Rattle.live_desk.specs.declared.live_desk.Taken.{Taken}
 use Rattle.live_desk.specs.declared.live_desk.Taken.TheVariants.{Answers, LeftOut}
 use Rattle.live_desk.specs.declared.offered.Offered.{Offered}
+use Rattle.live_desk.specs.SamePod.{is_same_request}
 use Rattle.live_desk.specs.State.{Live, Offer, node_set, node_gone, pod_gone, pod_bound, offer, given_back}
 
 -- the ledger knows this behind what it was told
@@ -126,15 +127,15 @@ pending taken state = record { taken = taken; state = state }
 abbrev pub taken_by : Answer → Offer → Pending
 taken_by answer o = pending (if o.is_there then Answers answer else LeftOut) o.state
 
--- what is told is the newest of a pod that waits
-abbrev pub is_newest_at : (told known : Version) → Stage → Bool
-is_newest_at told known (IsWaiting request) = told.0 == known.0
-is_newest_at told known (Asked request ticket asking) = false
-is_newest_at told known IsStanding = false
+-- what is told, and asked for by it, is the newest that is known of a pod that waits
+abbrev pub is_newest_at : (told known : Version) → (asked : Request) → Stage → Bool
+is_newest_at told known asked (IsWaiting request) = (told.0 == known.0) && is_same_request request asked
+is_newest_at told known asked (Asked request ticket asking) = false
+is_newest_at told known asked IsStanding = false
 
-abbrev pub is_newest : Version → Option Known → Bool
-is_newest version None = false
-is_newest version (Some known) = is_newest_at version known.version known.stage
+abbrev pub is_newest : Version → (asked : Request) → Option Known → Bool
+is_newest version asked None = false
+is_newest version asked (Some known) = is_newest_at version known.version asked known.stage
 
 -- it is to be placed where that is so
 abbrev pub offered_if : Bool → Answer → Live → Pod → Pending
@@ -146,7 +147,7 @@ pub record IsPending (s : Live) (version : Version) (pod : Pod) (taken : Taken) 
   pub answer : Answer
   pub known : ledger.State
   pub tells : IsTold s.ledger (Waits version pod.uid pod.request) answer known
-  pub is : pending taken after ≡ offered_if (is_newest version (get known.pods pod.uid)) answer (with_ledger s known) pod
+  pub is : pending taken after ≡ offered_if (is_newest version pod.request (get known.pods pod.uid)) answer (with_ledger s known) pod
 
 -- ---- a pod that is put aside
 

@@ -14,12 +14,12 @@ ghost use Rattle.live_desk.specs.State.{given_back, node_gone, node_set, numbere
 ghost use Rattle.live_desk.specs.Telling.{IsPending, IsTaken, all_gone, bound_of, is_newest, left_out, place_of, put_aside, settled, takes, with_ledger};
 
 use crate::offered::Offered;
-use crate::same_pod::is_same_pod;
+use crate::same_pod::{is_same_pod, is_same_request};
 use cycle::LoneDesk;
 use desk::{Blank, Limits, Naming, NoMemory, Reply, Step};
 use ledger::{Answer, Event, Kind, Known, Ledger, Said, Stage};
 use name_table::NameTable;
-use quant::{Event as Watched, Moment, Name, Request, SharedNode, SharedPod, Ticket, Version};
+use quant::{Event as Watched, Moment, Name, Pod, Request, SharedNode, SharedPod, Ticket, Version};
 use std::alloc::{AllocError, Global};
 use std::hash::RandomState;
 use std::marker::Model;
@@ -528,20 +528,26 @@ impl<J: Naming> LiveDesk<J> {
             uid: pod.uid.copied(),
             request: pod.request,
         });
-        if !self.is_newest(version, &pod.uid) {
+        if !self.is_newest(version, &pod) {
             return Ok(Taken::Answers(answer));
         }
         let is_there = self.offer(rt, pod)?;
         Ok(taken_by(answer, is_there))
     }
 
-    // Whether this is the newest that was told of a pod, and it waits.
-    fn is_newest(&self, version: Version, uid: &Name) -> bool
-        ensures { result ≡ is_newest version (fin.get self.now.ledger.pods uid.now) }
+    // Whether this is the newest that was told of a pod that waits, and asks for what it was told to
+    // ask for: one version has one row, whoever tells it.
+    fn is_newest(&self, version: Version, pod: &Pod) -> bool
+        ensures { result ≡ is_newest version pod.now.request (fin.get self.now.ledger.pods pod.now.uid) }
     {
-        match self.ledger.known(uid) {
-            Some(known) => matches!(known.stage, Stage::Waits(_)) && known.version == version,
-            None => false,
+        let Some(known) = self.ledger.known(&pod.uid) else {
+            return false;
+        };
+        match known.stage {
+            Stage::Waits(request) => {
+                known.version == version && is_same_request(request, pod.request)
+            }
+            Stage::Asked { .. } | Stage::Stands => false,
         }
     }
 

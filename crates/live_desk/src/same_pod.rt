@@ -77,8 +77,8 @@ fn are_same_tolerations(one: &[Toleration], other: &[Toleration]) -> bool
     true
 }
 
-// Whether two pods ask for the same.
-fn is_same_request(one: Request, other: Request) -> bool
+/// Whether two pods ask for the same.
+pub(crate) fn is_same_request(one: Request, other: Request) -> bool
     ensures { result ≡ is_same_request one other }
 {
     one.cpu.0 == other.cpu.0 && one.mem.0 == other.mem.0
