@@ -11,8 +11,8 @@ import itertools
 from typing import Iterable, Mapping, NamedTuple, Sequence
 
 from core.answers import Failed, OfNode, Passes, Rejected, of_node
-from core.translating import Json, spell
 from core.verdicts import Reasons, rejected_by
+from tools.translating import Json, spell
 
 from cores import NODES, Said
 

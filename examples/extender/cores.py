@@ -17,9 +17,9 @@ import threading
 import time
 from typing import Any, Callable, Iterable, Iterator
 
-from core.answers import LAST_OF_JUDGED, Refused
-from core.run import BYTES, Core, CoreFault, Told, command, quoted
-from core.translating import Size, spelled
+from core.answers import LAST_OF_JUDGED, Refused, refusal_of
+from core.live import Core, CoreFault, Told, quoted, reading
+from tools.translating import Size, spelled
 from tools.wasm_sections import module_of
 
 from questions import Row
@@ -27,6 +27,8 @@ from questions import Row
 LOG = logging.getLogger("second-scheduler")
 # How many nodes one has room for, and how many pods on them.
 NODES, PLACES = 1000, 150_000
+# Few enough bytes that a pipe takes them all.
+BYTES = 32768
 # So many bytes are told at once; fewer are, before the next question or within a second, by one
 # write, since each wakes a child, which takes this process's core where all are busy.
 MUCH = 4096
@@ -70,6 +72,15 @@ def nothing() -> None:
     """(whoever asks waits for the answer)"""
 
 
+def passed_over(_: object) -> None:
+    """For an answer that says nothing new."""
+
+
+def command(program: str, workers: int, specs: list[str]) -> list[str]:
+    """By which a child is started."""
+    return [program, "run", "--workers", str(workers), *specs]
+
+
 class Piped(Core):
     """A child that is told without a wait for its answers, as long as few bytes have none: those
     that a pipe takes though nobody reads it, so that no write ever waits."""
@@ -79,9 +90,12 @@ class Piped(Core):
         self.unheard: collections.deque[Told] = collections.deque()
         self.unheard_bytes = self.unsent_bytes = 0
 
-    def tell(self, line: str, then: Callable[[str], None], last: str = "") -> None:
-        super().tell(line, then, last)
+    def ask(self, line: str, then: Callable[[str], None], last: str = "") -> None:
+        self.tell(line.encode() + b"\n", then, last)
         self.unsent_bytes += len(self.waiting[-1].line)
+
+    def step(self, line: str, then: Callable[[Refused | None], None]) -> None:
+        self.ask(line, reading(refusal_of, then))
 
     def send(self) -> None:
         """Writes what is to be told. Raises CoreFault where answers are due and don't come."""
@@ -96,7 +110,8 @@ class Piped(Core):
                 self.unheard.append(it := self.waiting.popleft())
                 self.unheard_bytes += len(it.line)
                 some.append(it.line)
-            self.write(b"".join(some))
+            self.unwritten = memoryview(b"".join([self.unwritten, *some]))
+            self.write()
 
     def hear(self) -> None:
         """Waits for the answers that there are none of yet."""
@@ -121,7 +136,7 @@ class Asking:
     def put(self, share: Share) -> None:
         """Has a child asked at its next `send`."""
         if share.core:
-            share.core.tell(
+            share.core.ask(
                 self.line, functools.partial(self.answers.__setitem__, share), LAST_OF_JUDGED
             )
 
@@ -376,10 +391,10 @@ class Cores:
             except CoreFault as why:
                 self.begin_anew(it, why)
 
-    def tick(self, core: Core) -> None:
+    def tick(self, core: Piped) -> None:
         """(what has an answer, and changes nothing)"""
         now = int(1000 * (time.monotonic() - self.began))
-        core.step(f'{{"op":"tick","at":{now}}}')
+        core.step(f'{{"op":"tick","at":{now}}}', passed_over)
 
     def why_not(self) -> str:
         """Why not all can be asked; empty where they can."""

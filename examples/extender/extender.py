@@ -29,14 +29,14 @@ sys.path += [str(HERE.parent / "second-scheduler"), str(HERE.parent)]
 # pylint: disable=wrong-import-position
 from kubernetes import client
 from tools import rules
+from tools.translating import words_of
 from tools.wasm_sections import has_filter, has_score, is_steady, module_of, reasons_by_name
 
 import signals
 import site_settings
 from api.official import NoAccount, calls_by
 from api.watch import AWAY, message
-from core.run import CoreFault, command, try_on_nothing
-from core.translating import words_of
+from core.live import CoreFault, try_on_nothing
 from reporting import serving
 from second_scheduler import log_to_standard_error
 from state import rule_labels
@@ -44,7 +44,7 @@ from state.affinity import NodeLabels
 
 from answers import Maps, Words, maps_beside
 from asked import Asked
-from cores import Cores, digests
+from cores import Cores, command, digests
 from counting import Counting
 from knowing import Knowing
 from questions import WHO, Row, Rows

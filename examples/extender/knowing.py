@@ -7,10 +7,11 @@ import logging
 import time
 from typing import Any, Sequence
 
-from api.watch import PHASES, Watched
-from core.translating import Json
+from api.watch import PHASES, Things, Watched
 from state.affinity import NodeLabels
-from state.seen import ENDED, Reader, SeenNode, row_of
+from state.heard import ENDED
+from tools.seeing import Reader, SeenNode, row_of
+from tools.translating import Json
 
 from cores import Cores
 from counting import Counting
@@ -21,7 +22,7 @@ LOG = logging.getLogger("second-scheduler")
 ON_NODES = f"spec.nodeName!=,{PHASES}"
 
 
-class NodeEars:
+class NodeEars(Things):
     """Nodes, by their names. `unsaid` are those that no row says as they are, and why."""
 
     kind = "node"
@@ -29,6 +30,7 @@ class NodeEars:
     def __init__(
         self, cores: Cores, reader: Reader, labels: NodeLabels, counting: Counting
     ) -> None:
+        super().__init__()
         self.cores, self.reader, self.labels, self.counting = cores, reader, labels, counting
         self.unsaid: dict[str, str] = {}
         self.is_listed = False
@@ -79,12 +81,13 @@ def is_on_a_node(pod: Json) -> bool:
     return bool(pod["spec"].get("nodeName")) and phase not in ENDED
 
 
-class PodEars:
+class PodEars(Things):
     """Pods that have a node, by their uids."""
 
     kind = "pod"
 
     def __init__(self, cores: Cores, rows: Rows, counting: Counting) -> None:
+        super().__init__()
         self.cores, self.rows, self.counting, self.is_listed = cores, rows, counting, False
 
     def key(self, thing: Json) -> str:

@@ -12,10 +12,11 @@ import json
 import re
 from typing import Any, Iterator, Mapping, NamedTuple, Sequence
 
-from core.translating import EVERYTHING, Answer, Json, Size, Translator, as_json, fields_of, size_of
 from state.affinity import Asked
 from state.rule_labels import KEY, Named
-from state.seen import held_by, with_labels
+from state.heard import with_labels
+from tools.seeing import held_by
+from tools.translating import EVERYTHING, Answer, Json, Size, Translator, as_json, fields_of, size_of
 
 # The scheduler's name in what `translate` is asked, and what a script can say as a uid.
 WHO, UID = "extender", re.compile(r"[A-Za-z0-9._/-]{1,63}")

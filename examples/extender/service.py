@@ -11,7 +11,7 @@ import time
 from typing import Callable, NamedTuple
 
 from api.watch import DEAF
-from core.run import CoreFault
+from core.live import CoreFault
 
 from answers import LARGE, Counts, Filtered, Maps, Scored, Words, fault, faulty, filtered
 from cores import Asking, Cores, Said, nothing

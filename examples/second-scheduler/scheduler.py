@@ -1,5 +1,5 @@
 # SPDX-License-Identifier: Apache-2.0
-"""The loop: what the cluster says is told to wsched, cycles are asked for while pods wait, and each place is bound."""
+"""The loop: what the cluster says is told to wsched, cycles are asked for while pods wait, and each bind that it grants is sent."""
 from __future__ import annotations
 
 import argparse
@@ -12,25 +12,23 @@ import threading
 import time
 from typing import Any, Callable
 
-from api.binding import UNDER_WAY, Bind, Binders
-from api.listed import Listing
+from api.binding import Bind, Binders
 from api.listening import Listening
 from api.watch import QUIET
 from api.way import Way
-from core.answers import Decision, Erred, Nowhere, Placed
+from core.answers import Decision, Denied, Dump, Erred, Nowhere, Placed, Shut
 from core.explaining import Explaining
-from core.ledger import Ledger
-from core.run import MEANWHILE, PATIENCE, Core, command
+from core.live import MEANWHILE, PATIENCE, Core, command, order
 from core.verdicts import is_of_rules, said_of_no_node
 from reporting.health import Health
 from reporting.itself import Itself
 from reporting.metrics import Metrics
 from reporting.telling import Telling
 from state.affinity import NodeLabels
-from state.audit import Audit
+from state.binds import UNDER_WAY, Binds
 from state.desk import Desk
 from state.newest import Inbox, Meant, Newest
-from state.pods import Pod, Told
+from state.pods import Pod
 
 LOG = logging.getLogger("second-scheduler")
 # How many cycles are asked for at once at most, and for how long they are, in seconds, before the
@@ -40,8 +38,9 @@ CYCLES, SLICE = 64, 0.1
 UNIT = 5e-9
 # By kube-scheduler's names what a decision came to; any other is an error.
 RESULTS = {Placed.word: "scheduled", Nowhere.word: "unschedulable"}
-# How often the desk is audited, in seconds, and nodes without room are tried again.
-AUDIT = 30.0
+# How often it is asked how many places there are, and how often all is listed anew, in seconds: at a list's
+# end it is known whether an event was lost.
+COUNT, LIST = 30.0, 3600.0
 
 
 class Scheduler:
@@ -50,57 +49,55 @@ class Scheduler:
 
     def __init__(self, given: argparse.Namespace, api: Any, way: Way, metrics: Metrics, health: Health, may_write: Callable[[], bool]) -> None:
         self.given, self.metrics, self.health = given, metrics, health
-        self.inbox: Inbox = queue.SimpleQueue()
+        self.inbox = Inbox()
         self.stopping, self.is_audit_asked = threading.Event(), False
         self.counts: collections.Counter[str] = collections.Counter()
         # how many are asked for at once now, how long the dearest took of late, and the fuel that a
         # node may take
         self.cycles, self.dearest = 1, 0.0
         self.fuel = sum(2 * int(it.split(":")[2]) for it in given.spec)
-        self.under_way, self.began, self.last = 0, time.monotonic(), 0.0
+        self.began, self.last = time.monotonic(), 0.0
         self.itself = Itself(given)
-        self.core = Core(command(given.wsched, given.workers, given.spec), health.beat)
+        self.core = Core(words_of(given), health.beat)
         self.share = given.share
-        self.whose = f" of share {self.share}" if self.share.count > 1 else ""
+        whose = f" of share {self.share}" if self.share.count > 1 else ""
+        self.whose = whose
         # up to which change of a node the main loop has heard
         self.heard = 0
         pods: dict[str, Pod] = {}
         self.newest = Newest(self.inbox, pods, lambda: self.listening.is_deaf() or not may_write())
         self.telling = Telling(way, given.scheduler, given.dry_run, metrics, self.newest.waits)
-        ledger = Ledger(given.wsched, given.scheduler, metrics, given.share, bool(given.node_affinity))
-        self.binders = Binders(api, way, given.binders, self.newest, ledger, self.stopping)
-        labels = NodeLabels(given.settings, given.read_labels)
+        self.binds = Binds(self.core, Binders(api, way, given.binders, self.newest), metrics, self.was_bound)
+        labels = NodeLabels(given.settings, given.read_labels, bool(given.node_affinity))
         self.desk = Desk(self.core, self.telling, metrics, labels, pods, self.share)
-        self.audit = Audit(self.desk, self.telling, metrics, Listing(api, self.newest, self.desk, self.telling, metrics))
-        explain = [given.wsched, "explain", "--", *given.spec]
-        self.explaining = Explaining(explain, self.desk, self.telling, self.inbox, self.whose, given.reasons)
-        self.listening = Listening(given, api, metrics, self.newest, labels, ledger)
+        self.explaining = Explaining(self.core, self.telling, whose, given.reasons)
+        self.listening = Listening(given, api, metrics, self.newest, labels)
 
     def start(self) -> None:
-        """Starts the children and the threads: those last that list and watch."""
+        """Starts the child and the threads: those last that list and watch."""
         self.core.start(self.itself.record())
+        # (whoever had the Lease before has nothing under way any more: `second_scheduler` has waited
+        # for that)
+        self.core.say(order("rested"), lambda said: None)
         self.health.watch_over(self.kill)
-        self.binders.ledger.start()
         self.telling.start()
-        self.binders.start()
-        self.audit.listing.start()
+        self.binds.binders.start()
         self.listening.start()
         self.health.unheard = self.listening.unheard
 
     def kill(self) -> None:
-        """Ends what it has started. (Each ends with its input too, but one that hangs.)"""
+        """Ends what it has started. (It ends with its input too, but one that hangs.)"""
         self.core.kill()
-        self.binders.ledger.kill()
 
     def may_be_followed(self) -> bool:
         """Whether nothing is under way at its end, and nothing was given up that may still be done: so the next need wait for nothing."""
-        return not self.under_way and not self.binders.doubts.is_cut_short
+        return not self.binds.there and not self.binds.is_cut_short
 
     # Decisions.
 
     def can_decide(self) -> bool:
         is_deaf = self.listening.look()
-        return self.desk.has_work and not is_deaf and self.under_way < UNDER_WAY and not self.stopping.is_set()
+        return self.desk.has_work and not is_deaf and self.binds.under_way() < UNDER_WAY and not self.stopping.is_set()
 
     def ask_for_cycles(self) -> None:
         """Asks for cycles for a tenth of a second: no more at once than take about that long, be the rules quick or slow."""
@@ -108,7 +105,7 @@ class Scheduler:
         while self.can_decide() and last - began < SLICE:
             before = self.counts["decided"]
             self.desk.changed.clear()
-            for _ in range(min(self.cycles, UNDER_WAY - self.under_way)):
+            for _ in range(min(self.cycles, UNDER_WAY - self.binds.under_way())):
                 # (what moves behind this line isn't known to this decision)
                 self.core.cycle(functools.partial(self.decided, self.desk.waiting.moves, self.heard))
             self.core.flush(functools.partial(self.hear_some, 0.0, MEANWHILE))
@@ -126,21 +123,26 @@ class Scheduler:
         longest = self.fuel * len(self.desk.nodes) * UNIT
         return min(CYCLES, max(1, int(PATIENCE / 3 / longest))) if longest else CYCLES
 
-    def decided(self, moved: int, known: int, decision: Decision | None) -> None:
-        if decision is None:
+    def decided(self, moved: int, known: int, decision: Decision | Denied | Shut | None) -> None:
+        if decision is None or isinstance(decision, Shut):
             # (what was heard meanwhile is told next)
-            self.desk.has_work = bool(self.core.waiting)
+            self.desk.has_work = bool(self.core.waiting) and decision is None
+            if decision and not self.desk.full.isdisjoint({"pod"}):
+                self.metrics.trouble.not_granted.labels(decision.value).inc()
             return
         turn, self.last = self.last, time.monotonic()
         self.counts["decided"] += 1
         self.counts[decision.word] += 1
-        self.metrics.attempts.labels(self.given.scheduler, RESULTS.get(decision.word, "error")).inc()
         pod = self.desk.pods.get(decision.uid)
-        # (one that has changed or went while this was decided is told anew, or no longer)
-        if pod is None or pod.wait is None or pod.told is not Told.WAITING:
+        if isinstance(decision, Denied):
+            self.denied(pod, decision)
             return
+        self.metrics.attempts.labels(self.given.scheduler, RESULTS.get(decision.word, "error")).inc()
         if isinstance(decision, Placed):
             self.placed(pod, decision, known, turn)
+        elif pod is None or pod.wait is None or not pod.is_told:
+            # (one that has changed or went while this was decided is told anew, or no longer)
+            pass
         elif isinstance(decision, Nowhere):
             is_all = self.share.has_gone_round(time.time() - pod.wait.created)
             self.desk.failed(pod, moved)
@@ -154,54 +156,61 @@ class Scheduler:
             self.metrics.refused.labels("place").inc()
             self.telling.failed(pod, f"its place was refused: {decision.number} {decision.name}", "SchedulerError")
 
-    def placed(self, pod: Pod, it: Placed, known: int, turn: float) -> None:
+    def denied(self, pod: Pod | None, it: Denied) -> None:
+        LOG.warning("pod %s isn't bound to %s: the ledger says: %s", pod or it.uid, it.node, it.why)
+        self.metrics.trouble.not_granted.labels(it.reason).inc()
+        if pod and pod.wait and pod.is_told:
+            self.desk.failed(pod, -1)
+
+    def placed(self, pod: Pod | None, it: Placed, known: int, turn: float) -> None:
+        if pod is None or pod.wait is None:
+            # (it went, or has a node: that is told next, and ends the bind)
+            return
+        is_wanted = pod.is_told and it.node not in self.desk.changed
         self.desk.placed(pod, it.node, it.ticket)
         if self.given.dry_run:
             print(f"would bind {pod} to {it.node}", flush=True)
             return
-        self.under_way += 1
-        there = self.desk.nodes.get(it.node)
-        bind = Bind(Meant(pod, self.newest.version(pod), it.node, there.uid if there else "", known), it.ticket, turn)
-        if it.node in self.desk.changed:
-            # (it was decided by what the node was before)
-            self.was_bound(bind._replace(is_posted=False))
+        bind = Bind(Meant(pod, self.newest.version(pod), it.node, self.newest.uid_of(it.node), known), it.ticket, turn)
+        if is_wanted:
+            self.binds.begin(bind)
         else:
-            self.binders.bind(bind)
+            # (it was decided by what the pod or the node was before)
+            self.binds.dont_send(bind)
 
-    def was_bound(self, bind: Bind) -> None:
-        self.under_way -= 1
-        self.counts["bound" if bind.is_bound else "not bound"] += 1
-        if not bind.is_posted:
+    def was_bound(self, bind: Bind, is_bound: bool, is_sent: bool) -> None:
+        self.counts["bound" if is_bound else "not bound"] += 1
+        if not is_sent:
             self.metrics.not_posted.inc()
         else:
             self.metrics.binding.observe(bind.seconds)
-        if bind.is_bound:
+        if is_bound:
             self.metrics.e2e.labels(self.given.scheduler, "scheduled").observe(time.monotonic() - bind.turn)
             self.telling.scheduled(bind.pod, bind.node)
+            self.desk.bound(bind.pod)
         else:
             self.metrics.not_bound.inc()
-        self.desk.bound(bind.pod, bind.node, bind.ticket, bind.is_bound)
+            self.desk.not_bound(bind.pod)
+        self.desk.has_work = True
 
     # On and on.
 
-    def hear(self, kind: str, event: str, what: Any) -> None:
-        if kind == "bind":
-            self.was_bound(what)
-        elif kind == "explained":
-            self.explaining.answered(what)
-        elif kind == "heard":
+    def hear(self, kind: str, word: str, what: Any) -> None:
+        if kind == "heard":
             self.heard = what
-        elif kind == "listed":
-            self.audit.listing.hear(event, what)
-        elif event == "LISTED":
-            self.desk.hear_list(kind, what)
-        elif event == "DELETED":
-            gone: Callable[[Any], None] = self.desk.lose_node if kind == "node" else self.desk.lose_pod
-            gone(what)
-        elif kind == "node":
-            self.desk.hear_node(what)
+        elif kind == "bind":
+            self.binds.answered(what)
+        elif kind == "found":
+            self.binds.found(what)
+        elif word in ("list", "listed", "hears", "deaf"):
+            self.desk.hear_word(kind, word, what)
         else:
-            self.desk.hear_pod(what)
+            self.inbox.taken(what)
+            if kind == "node":
+                self.desk.hear_node(what)
+            else:
+                self.binds.heard(what)
+                self.desk.hear_pod(what)
 
     def hear_some(self, until: float, most: float) -> None:
         """Takes what is in the inbox, for no longer than `most` seconds, and waits for something until then."""
@@ -215,22 +224,22 @@ class Scheduler:
             pass
 
     def take(self, until: float) -> None:
-        self.hear_some(until, 2 * SLICE)
+        self.hear_some(until, SLICE)
         self.core.flush()
         self.health.beat()
 
     def tick(self) -> None:
-        self.core.step(f'{{"op":"tick","at":{int(1000 * (time.monotonic() - self.began))}}}')
+        now = time.monotonic()
+        self.core.tell(order("tick", at=str(int(1000 * (now - self.began)))), lambda answer: None)
         self.core.flush()
-        self.binders.ledger.tick()
         self.desk.has_work = True
         self.desk.try_short()
         self.itself.tell(self.desk, self.telling, self.metrics)
-        it, now = self.metrics, time.monotonic()
+        it = self.metrics
         for turn, count in self.desk.waiting.pending(now).items():
             it.pending.labels(turn).set(count)
         it.nodes.set(len(self.desk.nodes))
-        it.under_way.set(self.under_way)
+        it.under_way.set(self.binds.under_way())
         it.left_out.labels("node").set(len(self.desk.unsaid))
         it.left_out.labels("pod").set(len(self.desk.alone))
         it.unread.set(len(self.desk.unread))
@@ -238,42 +247,63 @@ class Scheduler:
         for watch in self.listening.watches:
             it.trouble.shut.labels(watch.ears.kind).set(watch.shut_for(now))
 
+    def count_places(self, dump: Dump) -> None:
+        self.metrics.places.labels("bound").set(dump.bound)
+        self.metrics.places.labels("assumed").set(dump.assumed)
+
+    def look_at_lists(self, now: float) -> None:
+        """Has a kind listed anew where something had no room and may have some now, and all every hour, or as asked for by a signal."""
+        is_asked, self.is_audit_asked = self.is_audit_asked, False
+        for it in self.listening.told:
+            began = self.desk.began.get(it.kind, now)
+            if is_asked or now >= began + LIST or self.desk.wants_list(it.kind, now):
+                it.again.set()
+
     def run(self) -> int:
         self.start()
         while self.desk.listed != {"node", "pod"} and not self.stopping.is_set():
             self.take(time.monotonic() + 0.2)
         self.health.is_listed = True
-        LOG.info("%d nodes, %d pods", len(self.desk.nodes), len(self.desk.pods))
-        ticks = audits = time.monotonic()
+        LOG.info("%d nodes, %d pods that wait", len(self.desk.nodes), len(self.desk.pods))
+        ticks = counts = time.monotonic()
         while not self.stopping.is_set():
             now = time.monotonic()
+            if now >= counts or self.is_audit_asked:
+                counts = now + COUNT
+                self.core.dump(self.count_places)
             if now >= ticks:
                 ticks = now + 1
+                self.look_at_lists(now)
                 self.tick()
-            if now >= audits or self.is_audit_asked:
-                self.is_audit_asked, audits = False, now + AUDIT
-                self.desk.use_again()
-                self.audit.run()
+            self.binds.tick(now)
+            self.explaining.tick(len(self.desk.nodes), self.desk.waiting.cost)
             self.desk.feed(now)
+            self.core.flush()
             self.ask_for_cycles()
             self.telling.tick()
-            self.explaining.tick()
             # (with more to decide, only what is there already is taken)
-            self.take(0.0 if self.can_decide() else min(ticks, now + QUIET) if self.listening.is_behind else min(ticks, self.desk.waiting.next_wake(now)))
+            until = min(ticks, self.binds.next(), now + QUIET if self.listening.is_behind else self.desk.waiting.next_wake(now))
+            self.take(0.0 if self.can_decide() else until)
         return self.end()
 
     def end(self) -> int:
         # binds under way are waited for, so that their events and answers are told, and then the
         # events
         end = time.monotonic() + 10
-        while self.under_way and time.monotonic() < end:
+        self.binds.cut_short()
+        while self.binds.under_way() and time.monotonic() < end:
             self.take(time.monotonic() + 0.1)
         self.telling.end(max(0.5, end - time.monotonic()))
         self.health.beat()
-        self.binders.ledger.kill()
         status = self.core.end()
         LOG.info("ended: %s; wsched's status %s", dict(self.counts), status)
         return status
+
+
+def words_of(given: argparse.Namespace) -> list[str]:
+    """By which wsched is started. Where a rule doesn't say which labels it reads, none may give way."""
+    labels = None if given.read_labels.silent else sorted(given.read_labels.keys)
+    return command(given.wsched, given.scheduler, given.workers, labels, given.spec)
 
 
 def end_process(status: int) -> None:

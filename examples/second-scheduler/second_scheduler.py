@@ -1,9 +1,9 @@
 #!/usr/bin/python3
 # SPDX-License-Identifier: Apache-2.0
-"""A second scheduler for a cluster: what stands beside `wsched run` so that it schedules pods of a real API server.
+"""A second scheduler for a cluster: what stands beside `wsched live` so that it schedules pods of a real API server.
 
-It lists and watches nodes and pods, writes them as lines to wsched, asks for a cycle while pods wait, binds each pod that has got
-its place, and tells wsched what became of it. It takes the pods whose `spec.schedulerName` is its own. Credentials come as
+It lists and watches nodes and pods, hands on to wsched what it is told, asks for a cycle while pods wait, sends each bind that wsched
+grants, and tells it what became of it. It takes the pods whose `spec.schedulerName` is its own. Credentials come as
 everywhere: a kubeconfig, or the account of the pod that it runs in. docs/OPERATING.md says how to use it.
 """
 from __future__ import annotations
@@ -33,12 +33,11 @@ from api import lease
 from api.binding import LANDS
 from api.official import NoAccount, calls_by
 from api.way import NoWay, Way
-from core import ledger, translating
-from core.run import CoreFault, command, try_on_nothing
+from core.live import CoreFault, try_on_nothing
 from reporting import serving
 from reporting.health import Health
 from reporting.metrics import Metrics
-from scheduler import Scheduler, end_process
+from scheduler import Scheduler, end_process, words_of
 from state import rule_labels, share
 
 LOG = logging.getLogger("second-scheduler")
@@ -246,10 +245,8 @@ def main() -> None:
     sys.setswitchinterval(0.001)
     log_to_standard_error(given.verbose)
     # (before anything depends on it: a replica that follows would find it out only once it leads)
-    words_of = (translating.words_of(given.wsched, given.scheduler), ledger.words_of(given.wsched, given.scheduler))
-    for it in (command(given.wsched, given.workers, given.spec), *words_of):
-        if wrong := try_on_nothing(it):
-            sys.exit(f"second_scheduler.py: wsched {it[1]}: {wrong}")
+    if wrong := try_on_nothing(words_of(given)):
+        sys.exit(f"second_scheduler.py: wsched live: {wrong}")
     if given.record and not os.access(os.path.dirname(given.record) or ".", os.W_OK | os.X_OK):
         sys.exit(f"second_scheduler.py: --record: nothing can be written beside {given.record}")
     replica = Replica(given)

@@ -8,13 +8,12 @@ import time
 from typing import Any
 
 from api.watch import PHASES, Watched
-from core.ledger import Ledger
 from reporting.metrics import Metrics
 from state.affinity import NodeLabels
 from state.claims import ClaimHearing, Claims, VolumeHearing, listed_after
+from state.heard import Reader
 from state.hearing import NodeHearing, PodHearing
 from state.newest import Newest
-from state.seen import Reader
 
 LOG = logging.getLogger("second-scheduler")
 
@@ -22,17 +21,19 @@ LOG = logging.getLogger("second-scheduler")
 class Listening:
     """`is_behind` is the main loop's: whether something that happened hasn't got there, as far as it can know."""
 
-    def __init__(self, given: argparse.Namespace, api: Any, metrics: Metrics, newest: Newest, labels: NodeLabels, ledger: Ledger) -> None:
+    def __init__(self, given: argparse.Namespace, api: Any, metrics: Metrics, newest: Newest, labels: NodeLabels) -> None:
         self.inbox, self.watches, self.is_behind = newest.inbox, list[Watched](), True
         only = {"label_selector": given.nodes} if given.nodes else {}
-        reader, claims = Reader(given.wsched, given.scheduler, given.read_labels), Claims(is_told=bool(given.node_affinity))
-        nodes = NodeHearing(metrics, reader, newest, given.share, labels)
-        pods = PodHearing(metrics, reader, newest, given.share, claims)
+        claims = Claims(is_told=bool(given.node_affinity))
+        reader = Reader(given.scheduler, given.share, given.read_labels, claims.there)
+        nodes, pods = NodeHearing(metrics, newest, given.share, labels), PodHearing(metrics, newest, reader, claims)
+        # those of which wsched is told
+        self.told = (nodes, pods)
         if given.node_affinity:
             self.watches.append(Watched(api.list_persistent_volume, VolumeHearing(claims, metrics)))
             self.watches.append(Watched(api.list_persistent_volume_claim_for_all_namespaces, ClaimHearing(claims, metrics)))
-        self.watches.append(Watched(api.list_node, nodes, ledger.nodes, **only))
-        self.watches.append(Watched(listed_after(claims, api.list_pod_for_all_namespaces), pods, ledger.pods, field_selector=PHASES))
+        self.watches.append(Watched(api.list_node, nodes, **only))
+        self.watches.append(Watched(listed_after(claims, api.list_pod_for_all_namespaces), pods, field_selector=PHASES))
 
     def start(self) -> None:
         for it in self.watches:

@@ -12,13 +12,13 @@ import os
 import random
 import threading
 import time
-from typing import Any, Callable, Iterator, Protocol, Sequence
+from typing import Any, Callable, Iterator, Sequence
 
 import urllib3
 from kubernetes.client.rest import ApiException
 from kubernetes.config import ConfigException
 
-from core.run import CoreFault
+from api.pages import Item, Json, page_of
 
 LOG = logging.getLogger("second-scheduler")
 # What a call to the API server may end with when it is away, or has another opinion, or when nobody
@@ -61,35 +61,25 @@ class Expired(Exception):
     """The API server no longer has what came after the version."""
 
 
-class Ears(Protocol):
-    """What hears of objects, in the thread of its watch, of a page of a list at once; `listed` is told after each list the keys of all
-    that there are."""
+class Ears:
+    """What hears of a kind of object, in the thread of its watch: each list and each event as it stands there, in the API server's order."""
 
-    kind: str
-
-    def key(self, thing: dict[str, Any]) -> str: ...
-
-    def hear(self, event: str, things: Sequence[dict[str, Any]]) -> None: ...
-
-    def listed(self, keys: set[str]) -> None: ...
-
-    def failed(self) -> None: ...
-
-
-class First:
-    """Who is told what the API server tells before `Ears` hear of it, as it came, and when a watch is opened and shut. This one takes no notice."""
+    kind = ""
 
     def begins(self) -> None:
         """A list is asked for next."""
 
-    def items(self, things: Sequence[dict[str, Any]]) -> None:
+    def items(self, items: Sequence[Item]) -> None:
         """A page of it."""
 
     def ends(self) -> None:
         """It was whole."""
 
-    def event(self, line: bytes, event: dict[str, Any]) -> None:
-        """An event that is of an object."""
+    def event(self, event: str, thing: Json, line: bytes) -> None:
+        """An event that is of an object: its type, the object, and the line that has both."""
+
+    def came_to(self, version: str) -> None:
+        """All is told up to this version, by a list or by a watch."""
 
     def opened(self) -> None:
         """A watch goes on from where the last one or the list ended."""
@@ -97,19 +87,50 @@ class First:
     def shut(self) -> None:
         """It goes on no longer."""
 
+    def failed(self) -> None:
+        """A list or a watch was refused, or broke."""
+
     def wants_list(self) -> bool:
         """Whether all is to be listed anew."""
         return False
 
 
-NOBODY = First()
+class Things(Ears):
+    """What hears of objects, of a page of a list at once, and after each list of the keys of all that there are."""
+
+    def __init__(self) -> None:
+        self.keys = set[str]()
+
+    def key(self, thing: Json) -> str:
+        raise NotImplementedError
+
+    def hear(self, event: str, things: Sequence[Json]) -> None:
+        raise NotImplementedError
+
+    def listed(self, keys: set[str]) -> None:
+        raise NotImplementedError
+
+    def begins(self) -> None:
+        self.keys = set()
+
+    def items(self, items: Sequence[Item]) -> None:
+        things = [it.thing for it in items]
+        self.keys |= set(map(self.key, things))
+        self.hear("MODIFIED", things)
+
+    def ends(self) -> None:
+        keys, self.keys = self.keys, set()
+        self.listed(keys)
+
+    def event(self, event: str, thing: Json, line: bytes) -> None:
+        self.hear(event, [thing])
 
 
 class Watched:
     """One kind of object, in a thread of its own once it is started."""
 
-    def __init__(self, call: Callable[..., Any], ears: Ears, first: First = NOBODY, **only: str) -> None:
-        self.call, self.ears, self.first, self.only = call, ears, first, only
+    def __init__(self, call: Callable[..., Any], ears: Ears, **only: str) -> None:
+        self.call, self.ears, self.only = call, ears, only
         self.version: str | None = None
         self.pause = self.opened = 0.0
         # since when it is shut, None while it is open; whether it may not have told yet what
@@ -126,8 +147,6 @@ class Watched:
             while True:
                 self.once()
         # without this thread nothing more would be heard, and nobody would know
-        except CoreFault as why:
-            LOG.error("%s: nothing more can be heard: %s", self.ears.kind, why)
         except Exception:  # pylint: disable=broad-except
             LOG.exception("%s: nothing more can be heard", self.ears.kind)
         os._exit(1)
@@ -160,20 +179,16 @@ class Watched:
         self.pause = min(max(FIRST_PAUSE, 2 * self.pause), LONGEST_PAUSE)
 
     def list(self) -> None:
-        keys: set[str] = set()
         more = None
-        self.first.begins()
+        self.ears.begins()
         while True:
             answer = self.call(limit=PAGE, _continue=more, _preload_content=False, _request_timeout=(5, 60), **self.only)
-            page = json.loads(answer.data)
-            self.first.items(page["items"])
-            keys |= {self.ears.key(it) for it in page["items"]}
-            self.ears.hear("MODIFIED", page["items"])
-            more = page["metadata"].get("continue")
+            page = page_of(answer.data)
+            self.ears.items(page.items)
+            more = page.meta.get("continue")
             if not more:
-                self.first.ends()
-                self.ears.listed(keys)
-                self.version = page["metadata"]["resourceVersion"]
+                self.ears.ends()
+                self.come_to(page.meta["resourceVersion"])
                 return
 
     def watch(self) -> None:
@@ -195,28 +210,31 @@ class Watched:
             answer.release_conn()
         finally:
             self.shut, self.is_hearing = time.monotonic(), False
-            self.first.shut()
+            self.ears.shut()
             # (a connection that has been given back is none of this answer's any more)
             answer.close()
 
-    def take(self, line: bytes, event: dict[str, Any]) -> None:
+    def take(self, line: bytes, event: Json) -> None:
         thing = event["object"]
         if event["type"] == "ERROR":
             if thing.get("code") == GONE:
                 raise Expired(thing.get("message"))
             raise ValueError(f"the watch ended: {thing.get('message')}")
         if event["type"] != "BOOKMARK":
-            self.first.event(line, event)
-            self.ears.hear(event["type"], [thing])
-        self.version = thing["metadata"]["resourceVersion"]
-        if self.first.wants_list():
-            raise Expired("there may be room for more")
+            self.ears.event(event["type"], thing, line)
+        self.come_to(thing["metadata"]["resourceVersion"])
+        if self.ears.wants_list():
+            raise Expired("all is to be listed anew")
+
+    def come_to(self, version: str) -> None:
+        self.version = version
+        self.ears.came_to(version)
 
     # For whoever decides.
 
     def is_open(self) -> None:
         """What happened while it was shut comes now."""
-        self.first.opened()
+        self.ears.opened()
         now = time.monotonic()
         with self.lock:
             self.is_behind = self.is_behind or self.shut_for(now) > DEAF

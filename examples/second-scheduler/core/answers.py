@@ -8,6 +8,7 @@ from __future__ import annotations
 import dataclasses
 import enum
 import functools
+import json
 import re
 from typing import ClassVar, Iterator, Mapping, Union
 
@@ -15,7 +16,6 @@ from typing import ClassVar, Iterator, Mapping, Union
 LAST_OF_DUMP, LAST_OF_JUDGED = "clock ", "judged "
 NODE = re.compile(r"^node (\S+) cpu (\d+)/(\d+) mem (\d+)/(\d+) pods (\d+)/(\d+)$", re.M)
 PLACES = re.compile(r"^places bound (\d+) assumed (\d+)$", re.M)
-GRANTED, FAULTY = "granted ", "faulty "
 
 
 # `run`: steps.
@@ -238,47 +238,60 @@ def explained(output: str) -> Iterator[tuple[Decision, dict[str, OfNode]]]:
 # `live`.
 
 
-class Taken(enum.Enum):
-    """How what isn't a bind was taken."""
+class Word(enum.Enum):
+    """How what isn't a cycle was taken."""
 
     TOLD = "told"
     OLD = "old"
     NOTHING = "nothing"
     FULL = "full"
-    READ = "read"
-    # (it was taken, and the ledger's own desk has no room to place it, which is asked to place none)
+    # (a pod without a node that is none to place)
+    WITHHELD = "withheld"
+    # (one to place that there is no room for)
     LEFT_OUT = "left-out"
+    READ = "read"
+    NOT_WAITING = "not-waiting"
+
+
+WORDS = {it.value: it for it in Word}
 
 
 @dataclasses.dataclass(frozen=True)
-class Faulty:
-    """An order that has changed nothing, and its first field with a fault."""
+class Said:
+    """Such an answer: its word, and what was left out of the object or, where none of it is told, why."""
 
-    field: str
+    word: Word
+    left_out: tuple[str, ...] = ()
+
+    def __str__(self) -> str:
+        return f"{self.word.value} {', '.join(self.left_out)}".rstrip()
 
 
-TAKEN = {it.value: it for it in Taken}
+PLAIN = {it.value: Said(it) for it in Word}
 
 
-def taken(line: str) -> Taken | Faulty:
-    if found := TAKEN.get(line):
+def said_of(line: str) -> Said:
+    if found := PLAIN.get(line):
         return found
-    if not line.startswith(FAULTY):
+    word, _, reasons = line.partition(" ")
+    if word not in WORDS or not reasons.startswith("["):
         raise ValueError(line)
-    return Faulty(line.removeprefix(FAULTY))
+    return Said(WORDS[word], tuple(dict.fromkeys(json.loads(reasons))))
 
 
-@dataclasses.dataclass(frozen=True)
-class Granted:
-    """A bind that may be asked for, once, and its ticket."""
+class Shut(enum.Enum):
+    """No bind may be asked for now, of whichever pod."""
 
-    ticket: int
+    SHUT = "shut"
 
 
 @dataclasses.dataclass(frozen=True)
 class Denied:
-    """A bind that mayn't be asked for, and why."""
+    """A pod whose place was chosen, and whose bind mayn't be asked for, and why."""
 
+    word: ClassVar[str] = "denied"
+    uid: str
+    node: str
     why: str
 
     @property
@@ -287,5 +300,27 @@ class Denied:
         return self.why.rpartition(" ")[2]
 
 
-def grant_of(line: str) -> Granted | Denied:
-    return Granted(int(line.removeprefix(GRANTED))) if line.startswith(GRANTED) else Denied(line)
+def turn_of(line: str) -> Decision | Denied | Shut | None:
+    """What a cycle of `live` came to."""
+    if line == Shut.SHUT.value:
+        return Shut.SHUT
+    if line.startswith(f"{Denied.word} "):
+        _, uid, _, node, why = line.split(" ", 4)
+        return Denied(uid, node, why)
+    return decision_of(line)
+
+
+@dataclasses.dataclass(frozen=True)
+class Judged:
+    """What is said of each node for a pod; None of one that isn't there to place."""
+
+    nodes: Mapping[str, OfNode] | None
+
+
+def judged_of(lines: str) -> Judged:
+    *nodes, last = lines.split("\n")
+    if last == Word.NOT_WAITING.value:
+        return Judged(None)
+    if not last.startswith(LAST_OF_JUDGED):
+        raise ValueError(lines[-200:])
+    return Judged(dict(map(node_and_said, nodes)))

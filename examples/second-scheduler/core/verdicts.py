@@ -1,13 +1,11 @@
 # SPDX-License-Identifier: Apache-2.0
-"""What `wsched explain` says of pods and nodes: the script by which it is asked, and the message of an event."""
+"""What an event says of a pod that finds no node."""
 from __future__ import annotations
 
 import collections
-from typing import Iterable, Mapping
+from typing import Mapping
 
 from core.answers import OfNode, Rejected
-from core.run import quoted
-from core.translating import Size, spelled
 
 WHY = {
     "marked": "node(s) were unschedulable",
@@ -24,25 +22,6 @@ RULES = ("plugin", "final")
 LONGEST = 1024
 # Of each rule, by its name, what it says of its codes.
 Reasons = Mapping[str, Mapping[int, str]]
-
-
-def script(nodes: Iterable[str], bound: Iterable[tuple[str, str, Size]], pods: Iterable[tuple[str, str]]) -> str:
-    """The nodes' rows, the pods that have a place (uid, node and size), and of each pod that is asked about (uid and row) a cycle, behind
-    which it is gone again."""
-    lines: list[str] = []
-
-    def tell(op: str, fields: str) -> None:
-        lines.append(f'{{"op":"{op}","v":{len(lines) + 1},{fields}}}')
-
-    for row in nodes:
-        tell("node", row)
-    for uid, node, size in bound:
-        tell("bound", f'"uid":{quoted(uid)},"node":{quoted(node)},{spelled(size)}')
-    for uid, row in pods:
-        tell("pod", f'"uid":{quoted(uid)},{row}')
-        lines.append('{"op":"cycle"}')
-        tell("deleted", f'"uid":{quoted(uid)}')
-    return "\n".join(lines) + "\n"
 
 
 def is_of_rules(counts: Mapping[str, int]) -> bool:

@@ -247,8 +247,13 @@ class NodeLabels:
     room for beside the site's settings, which are labels of each node too, and beside those that the site's rules read. `changes` counts
     how often others were asked for."""
 
-    def __init__(self, settings: Sequence[tuple[str, str]] = (), named: Named = Named()):
-        self.settings, self.named, self.asking, self.changes = [*settings], named, dict[str, set[str]](), 0
+    def __init__(self, settings: Sequence[tuple[str, str]] = (), named: Named = Named(), is_asked: bool = False):
+        """`is_asked`: pods may ask for some."""
+        self.settings, self.named, self.is_asked, self.asking, self.changes = [*settings], named, is_asked, dict[str, set[str]](), 0
+
+    def are_chosen(self, has: Mapping[str, str]) -> bool:
+        """Whether it is said here which of a node's labels are told. (Of the others the program tells as many as there is room for.)"""
+        return bool(self.settings) or (self.is_asked and len(has) > LABELS)
 
     def take(self, uid: str, keys: frozenset[str]) -> str | None:
         """Keeps these labels for a pod, or says why there is no room for them. A label that nobody asks for any more stays until

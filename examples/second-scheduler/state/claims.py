@@ -5,7 +5,8 @@ from __future__ import annotations
 import threading
 from typing import Any, Callable, Sequence
 
-from core.translating import Json
+from api.pages import Json
+from api.watch import Things
 from reporting.metrics import Metrics
 from state.affinity import PLACES, Volumes, claim_of
 
@@ -28,7 +29,7 @@ class Claims:
         self.there = Volumes(self.claims, self.volumes) if is_told else None
         self.pods: dict[str, tuple[Json, set[Claim]]] = {}
         self.lock = threading.RLock()
-        self.again: Callable[[str, Sequence[Json]], None] = lambda event, pods: None
+        self.again: Callable[[Sequence[Json]], None] = lambda pods: None
         self.unlisted = {"claim": threading.Event(), "volume": threading.Event()}
 
     def wait(self) -> None:
@@ -49,15 +50,16 @@ class Claims:
 
     def changed(self, claims: set[Claim]) -> None:
         if pods := [pod for pod, own in self.pods.values() if own & claims]:
-            self.again("MODIFIED", pods)
+            self.again(pods)
 
 
-class ClaimHearing:
+class ClaimHearing(Things):
     """Claims, by their namespaces and names."""
 
     kind = "claim"
 
     def __init__(self, claims: Claims, metrics: Metrics) -> None:
+        super().__init__()
         self.all, self.metrics = claims, metrics
 
     def key(self, thing: Json) -> str:
@@ -97,12 +99,13 @@ class ClaimHearing:
         self.metrics.breaks.labels(self.kind).inc()
 
 
-class VolumeHearing:
+class VolumeHearing(Things):
     """Volumes, by their names."""
 
     kind = "volume"
 
     def __init__(self, claims: Claims, metrics: Metrics) -> None:
+        super().__init__()
         self.all, self.metrics = claims, metrics
 
     def key(self, thing: Json) -> str:

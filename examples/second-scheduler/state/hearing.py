@@ -1,32 +1,58 @@
 # SPDX-License-Identifier: Apache-2.0
-"""What is heard of nodes and pods, in the threads of their watches: read there, and handed on as little as is needed."""
+"""What is heard of nodes and pods, in the threads of their watches: handed on in its order, with the line that `wsched live` is told of it."""
 from __future__ import annotations
 
+import threading
 from typing import Sequence
 
-from core.translating import Json
+from api.pages import Item, Json
+from api.watch import Ears
 from reporting.metrics import Metrics
 from state.affinity import NodeLabels
 from state.claims import Claims
+from state.heard import PodHeard, Reader, item_line, node_heard
 from state.newest import Newest
-from state.seen import ENDED, Reader, SeenPod
 from state.share import Share
 
 
-class Hearing:
-    """What both kinds have in common: each list and each break is counted."""
+class Hearing(Ears):
+    """What both kinds have in common: the words of a list and of a watch, each list and each break, and up to which version a watch has told of all."""
 
-    kind = ""
+    def __init__(self, metrics: Metrics, newest: Newest) -> None:
+        self.metrics, self.newest, self.inbox = metrics, newest, newest.inbox
+        self.came = 0
+        # set by the main loop, where all is to be listed anew
+        self.again = threading.Event()
+        # those that this list has named so far
+        self.named = set[str]()
 
-    def __init__(self, metrics: Metrics, reader: Reader, newest: Newest, share: Share) -> None:
-        self.metrics, self.reader, self.newest, self.share, self.inbox = metrics, reader, newest, share, newest.inbox
+    def say(self, word: str, what: object = None) -> None:
+        self.inbox.put((self.kind, word, what))
+
+    def begins(self) -> None:
+        self.again.clear()
+        self.named = set()
+        self.say("list")
+
+    def ends(self) -> None:
+        self.metrics.lists.labels(self.kind).inc()
+        named, self.named = self.named, set()
+        self.say("listed", named)
+
+    def came_to(self, version: str) -> None:
+        self.came = int(version) if version.isdecimal() else 0
+
+    def opened(self) -> None:
+        self.say("hears")
+
+    def shut(self) -> None:
+        self.say("deaf")
 
     def failed(self) -> None:
         self.metrics.breaks.labels(self.kind).inc()
 
-    def listed(self, keys: set[str]) -> None:
-        self.metrics.lists.labels(self.kind).inc()
-        self.inbox.put((self.kind, "LISTED", keys))
+    def wants_list(self) -> bool:
+        return self.again.is_set()
 
 
 class NodeHearing(Hearing):
@@ -34,65 +60,60 @@ class NodeHearing(Hearing):
 
     kind = "node"
 
-    def __init__(self, metrics: Metrics, reader: Reader, newest: Newest, share: Share, labels: NodeLabels) -> None:
-        super().__init__(metrics, reader, newest, share)
-        self.labels = labels
+    def __init__(self, metrics: Metrics, newest: Newest, share: Share, labels: NodeLabels) -> None:
+        super().__init__(metrics, newest)
+        self.share, self.labels = share, labels
 
-    def key(self, thing: Json) -> str:
-        return str(thing["metadata"]["name"])
+    def items(self, items: Sequence[Item]) -> None:
+        for it in items:
+            self.named.add(it.thing["metadata"]["name"])
+            self.hear("ADDED", it.thing, item_line("ADDED", "Node", it), self.came)
 
-    def hear(self, event: str, things: Sequence[Json]) -> None:
-        own = [it for it in things if self.share.has_node(self.key(it))]
-        if event == "DELETED":
-            for name in map(self.key, own):
-                self.newest.hand_on_node((self.kind, event, name), name, None)
-            return
-        for seen in self.reader.nodes(own, self.labels):
-            self.newest.hand_on_node((self.kind, event, seen), seen.name, seen)
+    def ends(self) -> None:
+        self.newest.listed_nodes(self.named)
+        super().ends()
 
-    def listed(self, keys: set[str]) -> None:
-        self.newest.listed_nodes(keys)
-        super().listed(keys)
+    def event(self, event: str, thing: Json, line: bytes) -> None:
+        self.hear(event, thing, line + b"\n", 0)
+
+    def hear(self, event: str, node: Json, line: bytes, came: int) -> None:
+        if self.share.has_node(node["metadata"]["name"]):
+            self.newest.hear_node(node_heard(event, node, line, self.labels, came))
 
 
 class PodHearing(Hearing):
-    """Pods, by their uids. One whose claims or volumes change is heard anew. One on another instance's node is gone, as far as this one
-    is concerned."""
+    """Pods, by their uids. One whose claims or volumes change is heard anew."""
 
     kind = "pod"
 
-    def __init__(self, metrics: Metrics, reader: Reader, newest: Newest, share: Share, claims: Claims) -> None:
-        super().__init__(metrics, reader, newest, share)
-        self.claims = claims
-        claims.again = self.hear
+    def __init__(self, metrics: Metrics, newest: Newest, reader: Reader, claims: Claims) -> None:
+        super().__init__(metrics, newest)
+        self.reader, self.claims = reader, claims
+        claims.again = self.hear_again
 
-    def key(self, thing: Json) -> str:
-        return str(thing["metadata"]["uid"])
-
-    def hear(self, event: str, things: Sequence[Json]) -> None:
+    def items(self, items: Sequence[Item]) -> None:
         with self.claims.lock:
-            here = [] if event == "DELETED" else [it for it in things if self.is_here(it)]
-            seen = self.reader.pods(here, self.claims.there)
-            gone = {self.key(it) for it in things} - {self.key(it) for it in here}
-            for it in things:
-                self.hear_one(it, seen.get(self.key(it)), self.key(it) in gone)
+            for it in items:
+                heard = self.hear("ADDED", it.thing, item_line("ADDED", "Pod", it), self.came)
+                if heard.waits:
+                    self.named.add(heard.uid)
 
-    def is_here(self, pod: Json) -> bool:
-        node = pod["spec"].get("nodeName")
-        return (pod.get("status") or {}).get("phase") not in ENDED and (not node or self.share.has_node(node))
-
-    def hear_one(self, pod: Json, seen: SeenPod | None, is_gone: bool) -> None:
-        """(one that isn't seen, and isn't gone, is another scheduler's to place)"""
-        meta = pod["metadata"]
-        self.claims.keep(pod, seen is not None and not seen.node)
-        self.newest.hear_pod(f"{meta['namespace']}/{meta['name']}", meta["uid"], meta.get("resourceVersion") or "", seen)
-        if seen:
-            self.newest.hand_on_pod((self.kind, "MODIFIED", seen), seen)
-        elif is_gone:
-            self.inbox.put((self.kind, "DELETED", meta["uid"]))
-
-    def listed(self, keys: set[str]) -> None:
-        self.newest.listed_pods(keys)
+    def ends(self) -> None:
+        self.newest.listed_pods(self.named)
         with self.claims.lock:
-            self.claims.listed(keys)
-        super().listed(keys)
+            self.claims.listed(self.named)
+        super().ends()
+
+    def event(self, event: str, thing: Json, line: bytes) -> None:
+        with self.claims.lock:
+            self.hear(event, thing, line + b"\n", 0)
+
+    def hear_again(self, pods: Sequence[Json]) -> None:
+        for it in pods:
+            self.hear("MODIFIED", it, item_line("MODIFIED", "Pod", Item(it, "")), 0)
+
+    def hear(self, event: str, pod: Json, line: bytes, came: int) -> PodHeard:
+        heard = self.reader.pod(event, pod, line, came)
+        self.claims.keep(pod, heard.waits is not None)
+        self.newest.hear_pod(heard)
+        return heard

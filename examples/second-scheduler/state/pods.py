@@ -1,19 +1,11 @@
 # SPDX-License-Identifier: Apache-2.0
-"""What is kept of a pod while it is there."""
+"""What is kept of a pod of one's own until it has a node."""
 from __future__ import annotations
 
 import enum
+import zlib
 
-from core.translating import Size
-from state.seen import SeenPod
-
-
-class Told(enum.Enum):
-    """What wsched knows of a pod."""
-
-    NOTHING = "nothing"
-    WAITING = "waiting"
-    PLACED = "placed"
+from state.heard import Waits
 
 
 class Turn(enum.Enum):
@@ -30,35 +22,42 @@ class Turn(enum.Enum):
 
 
 class Wait:
-    """Of a pod without a node: its line's fields, and whose turn it is. `told` is the row that the desk was told."""
+    """Of a pod without a node: its line, and whose turn it is."""
 
-    __slots__ = ("row", "priority", "arrival", "created", "is_ours", "attempts", "tried", "until", "moved", "turn", "stamp", "newest")
+    __slots__ = ("packed", "heard", "priority", "arrival", "created", "is_ours", "attempts", "tried", "until", "moved", "turn", "stamp")
 
-    def __init__(self, row: str, priority: int, arrival: int, created: float) -> None:
-        self.row, self.priority, self.arrival = row, priority, arrival
+    def __init__(self, line: bytes, heard: Waits, arrival: int) -> None:
+        # (thousands may wait, of some kilobytes each)
+        self.packed, self.heard = zlib.compress(line, 1), heard
+        self.priority, self.arrival = heard.priority, arrival
         # when the pod was made, by the API server's clock, and whether it is this instance's to
         # place
-        self.created, self.is_ours = created, True
+        self.created, self.is_ours = heard.created, True
         # how often it was tried and when last; until when it rests, and what had moved before it
         # was tried
         self.attempts = self.tried = self.moved = self.stamp = 0
         self.until = 0.0
         self.turn: Turn | None = None
-        # what was heard of it while it was under bind
-        self.newest: SeenPod | None = None
+
+    @property
+    def line(self) -> bytes:
+        """As it was heard last."""
+        return zlib.decompress(self.packed)
+
+    @line.setter
+    def line(self, line: bytes) -> None:
+        self.packed = zlib.compress(line, 1)
 
 
 class Pod:
-    """A pod. `node` is where the API server says that it is. `place` is where the desk has it: told as bound, or with a ticket while its
-    bind is under way."""
+    """A pod of one's own that has no node, as far as is known. `is_told`: the desk has it to place, or has placed it on `place`, where there is a
+    bind of it by this ticket."""
 
-    __slots__ = ("namespace", "name", "uid", "node", "size", "told", "place", "ticket", "wait")
+    __slots__ = ("namespace", "name", "uid", "is_known", "is_told", "place", "ticket", "wait")
 
-    def __init__(self, seen: SeenPod) -> None:
-        self.namespace, self.name, self.uid = seen.namespace, seen.name, seen.uid
-        self.node: str | None = None
-        self.size: Size = seen.size
-        self.told = Told.NOTHING
+    def __init__(self, namespace: str, name: str, uid: str) -> None:
+        self.namespace, self.name, self.uid = namespace, name, uid
+        self.is_known = self.is_told = False
         self.place: str | None = None
         self.ticket: int | None = None
         self.wait: Wait | None = None

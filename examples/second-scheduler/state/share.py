@@ -9,16 +9,9 @@ from __future__ import annotations
 import argparse
 import dataclasses
 import hashlib
-import heapq
-import itertools
-import time
-
-from state.pods import Pod, Turn, Wait
 
 # For how long one instance has a pod to itself before the next has it, in seconds.
 PERIOD = 30.0
-# How long a bind that is under way when its pod's turn ends is waited for at a time.
-AGAIN = 1.0
 
 
 def number_of(text: str) -> int:
@@ -69,42 +62,3 @@ def words(text: str) -> Share:
     if not slash or not index.isdecimal() or not count.isdecimal() or not 1 <= int(index) <= int(count) <= 1000:
         raise argparse.ArgumentTypeError(f"{text!r} is no I/N with I from 1 to N, and N up to 1000")
     return Share(int(index), int(count))
-
-
-class Turns:
-    """When the turn of each pod that waits begins or ends here."""
-
-    def __init__(self, share: Share) -> None:
-        self.share = share
-        self.heap: list[tuple[float, int, Pod, Wait]] = []
-        self.count = itertools.count()
-
-    def begin(self, pod: Pod, wait: Wait, now: float) -> None:
-        """From now on it is known whose turn it is."""
-        if self.share.count == 1:
-            return
-        wait.is_ours, left = self.share.turn(pod.uid, time.time() - wait.created)
-        self.note(pod, wait, now + left)
-
-    def note(self, pod: Pod, wait: Wait, when: float) -> None:
-        heapq.heappush(self.heap, (when, next(self.count), pod, wait))
-
-    def changed(self, now: float) -> list[Pod]:
-        """The pods whose turn has begun or ended."""
-        found: list[Pod] = []
-        while self.heap and self.heap[0][0] <= now:
-            _, _, pod, wait = heapq.heappop(self.heap)
-            if pod.wait is not wait:
-                continue
-            if wait.turn is Turn.BINDING:
-                # (what is decided stays so)
-                self.note(pod, wait, now + AGAIN)
-                continue
-            was_ours = wait.is_ours
-            self.begin(pod, wait, now)
-            if wait.is_ours != was_ours:
-                found.append(pod)
-        return found
-
-    def next(self) -> float:
-        return self.heap[0][0] if self.heap else float("inf")

@@ -11,8 +11,10 @@ import heapq
 import itertools
 from typing import Any
 
+from state.heard import Waits
 from state.pods import Pod, Turn, Wait
-from state.share import ALONE, Share, Turns
+from state.share import ALONE, Share
+from state.turns import Turns
 
 # How many that have failed stay in the desk at most, how many it is told at once to be tried, and
 # how many of higher priority besides.
@@ -85,8 +87,8 @@ class Waiting:
 
     # What becomes of a pod.
 
-    def add(self, pod: Pod, row: str, priority: int, created: float, now: float) -> None:
-        pod.wait = Wait(row, priority, next(self.count), created)
+    def add(self, pod: Pod, line: bytes, heard: Waits, now: float) -> None:
+        pod.wait = Wait(line, heard, next(self.count))
         self.turns.begin(pod, pod.wait, now)
         if pod.wait.is_ours:
             self.make_new(pod)

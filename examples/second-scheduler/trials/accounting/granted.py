@@ -1,26 +1,41 @@
 # SPDX-License-Identifier: Apache-2.0
-"""The ledger's module alone, and `wsched live` behind it: what it is told of objects, and how a bind ends."""
+"""What `wsched live` is told of objects, by the client's own reading of them, and how a bind ends."""
 import itertools
 import json
-from typing import Any
 
 from trials.fixtures.site import Site
 from trials.fixtures.store import Thing
 
 
 class Told:
-    """A ledger that is told by a trial what a watch tells, of a node `a` of a core."""
+    """A `wsched live` that is told by a trial what a watch tells, of a node `a` of a core."""
 
     def __init__(self, site: Site, share: str = "1/1", has_affinity: bool = True) -> None:
-        from core import ledger  # pylint: disable=import-outside-toplevel
-        from reporting import metrics  # pylint: disable=import-outside-toplevel
-        from state.share import words  # pylint: disable=import-outside-toplevel
+        # pylint: disable=import-outside-toplevel
+        from core import live
+        from state import affinity, heard, rule_labels
+        from state.share import words
 
-        self.ledger = ledger.Ledger(site.programs.wsched, "wsched", metrics.Metrics("wsched"), words(share), has_affinity)
-        self.ledger.start()
+        self.live, self.heard = live, heard
+        self.core = live.Core(live.command(site.programs.wsched, "wsched", 1, [], []), lambda: None)
+        self.core.start()
+        self.share, self.labels = words(share), affinity.NodeLabels()
+        self.reader = heard.Reader("wsched", self.share, rule_labels.Named(), affinity.Volumes({}, {}) if has_affinity else None)
         self.versions = itertools.count(1)
-        self.lists(self.ledger.nodes, [self.node("a")])
-        self.lists(self.ledger.pods, [])
+        self.said("rested")
+        self.lists("nodes", [self.node("a")])
+        self.lists("pods", [])
+
+    def answer(self, line: bytes) -> str:
+        """What a line is answered."""
+        said = list[str]()
+        self.core.tell(line, said.append)
+        self.core.flush()
+        return said[0]
+
+    def said(self, op: str, **fields: object) -> str:
+        """What an order is answered."""
+        return self.answer(self.live.order(op, **{key: json.dumps(value) for key, value in fields.items()}))
 
     def meta(self, name: str, **more: object) -> Thing:
         """What an object says of itself."""
@@ -38,30 +53,40 @@ class Told:
         whole: Thing = {"schedulerName": "wsched", "containers": [container], **place, **spec}
         return {"kind": "Pod", "metadata": meta, "spec": whole, "status": {"phase": "Pending"}}
 
-    def lists(self, side: Any, things: "list[Thing]") -> None:
-        """A list, and a watch that is open behind it."""
-        side.begins()
-        side.items(things)
-        side.ends()
-        side.opened()
+    def lists(self, of: str, nodes: "list[Thing]") -> None:
+        """A list of nodes, or of no pods, and a watch that is open behind it."""
+        self.said("list", of=of)
+        for it in filter(lambda it: self.share.has_node(it["metadata"]["name"]), nodes):
+            line = self.heard.item_line("ADDED", "Node", self.heard.Item(it, json.dumps(it)))
+            self.answer(self.heard.node_heard("ADDED", it, line, self.labels).line)
+        self.said("listed", of=of)
+        self.said("hears", of=of)
 
-    def hears(self, kind: str, thing: Thing) -> None:
+    def hears(self, kind: str, thing: Thing) -> str:
         """An event of the watch of pods."""
-        event = {"type": kind, "object": thing}
-        self.ledger.pods.event(json.dumps(event).encode(), event)
+        line = json.dumps({"type": kind, "object": thing}).encode() + b"\n"
+        return self.answer(self.reader.pod(kind, thing, line).line)
 
     def asks(self, uid: str, node: str = "a") -> str:
-        """A bind is asked for: the answer."""
-        return getattr(self.ledger.grant([(uid, node)])[0], "why", "granted")
+        """A bind is asked for: the answer, in a word where it is granted."""
+        said = self.said("bind", uid=uid, node=node)
+        return "granted" if said.startswith("granted ") else said
 
     def ticket(self, uid: str) -> int:
-        """A bind is asked for: its ticket, 0 where it isn't granted."""
-        return getattr(self.ledger.grant([(uid, "a")])[0], "ticket", 0)
+        """A bind is asked for: its ticket."""
+        return int(self.said("bind", uid=uid, node="a").removeprefix("granted "))
+
+    def ends(self, uid: str, ticket: int, outcome: str) -> bool:
+        """A bind is answered so: whether its pod is to be read."""
+        return self.answer(self.live.order("answer", uid=json.dumps(uid), ticket=str(ticket), **{"is": json.dumps(outcome)})) == "read"
+
+    def was_read(self, uid: str, ticket: int, pod: "Thing | None") -> None:
+        """What a read gave."""
+        self.said("read", uid=uid, ticket=ticket, gave=pod and {"type": "MODIFIED", "object": pod})
 
     def end(self) -> None:
-        """There was no fault."""
-        self.ledger.tick()
-        self.ledger.kill()
+        """It has gone on until now."""
+        assert self.core.end() == 0
 
 
 def ledger_told(site: Site) -> str:
@@ -96,7 +121,7 @@ def ledger_told(site: Site) -> str:
     it.end()
     # (of two instances the first has the node `a`, and the second `d`)
     it = Told(site, "2/2")
-    it.lists(it.ledger.nodes, [it.node("a"), it.node("d")])
+    it.lists("nodes", [it.node("a"), it.node("d")])
     for name in ("first", "second"):
         it.hears("ADDED", it.pod(name, "900m"))
     assert it.asks("first", "a") == "refused 5 NoNode"
@@ -114,27 +139,26 @@ def ledger_answers(site: Site) -> str:
     for pod in pods:
         it.hears("ADDED", pod)
     ticket = it.ticket("first")
-    it.ledger.was_read("first", ticket, pods[0])
+    it.was_read("first", ticket, pods[0])
     assert (it.asks("first"), it.asks("second")) == ("not-waiting", "refused 6 NoRoom")
-    assert it.ledger.is_to_read("first", ticket, "over") and it.asks("second") == "refused 6 NoRoom"
-    it.ledger.was_read("first", ticket, pods[0])
+    assert it.ends("first", ticket, "over") and it.asks("second") == "refused 6 NoRoom"
+    it.was_read("first", ticket, pods[0])
     assert it.asks("second") == "granted" and it.asks("first") == "refused 6 NoRoom"
     # of another pod by that name, and of none, the one is gone
     for gave in (it.pod("anew", "600m"), None):
         it.hears("ADDED", it.pod("third", "100m"))
         ticket = it.ticket("third")
-        assert ticket and it.ledger.is_to_read("third", ticket, "refused")
-        it.ledger.was_read("third", ticket, gave)
+        assert ticket and it.ends("third", ticket, "refused")
+        it.was_read("third", ticket, gave)
         assert it.asks("third") == "not-waiting"
     it.hears("ADDED", it.pod("fourth", "300m"))
     ticket = it.ticket("fourth")
-    it.ledger.created("fourth", ticket)
-    assert ticket and not it.ledger.is_to_read("fourth", ticket, "over")
+    assert ticket and not it.ends("fourth", ticket, "created") and not it.ends("fourth", ticket, "over")
     it.hears("MODIFIED", it.pod("fourth", "300m", on="a"))
     it.hears("DELETED", it.pod("fourth", "300m", on="a"))
     it.hears("ADDED", it.pod("fifth", "400m"))
     assert it.asks("fifth") == "granted"
-    it.ledger.pods.shut()
+    it.said("deaf", of="pods")
     it.hears("ADDED", it.pod("sixth", "0"))
     assert it.asks("sixth") == "shut"
     it.end()

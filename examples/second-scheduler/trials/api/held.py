@@ -147,8 +147,8 @@ def hidden(site: Site) -> str:
 
 
 def hidden_whole(site: Site) -> str:
-    """Pods may neither be read nor listed by their names: the place of a bind that was refused with 503 is given back after the 3 s in which it may be
-    done, and the log says so; but the ledger doesn't grant another bind of it, since nobody knows how the first ended. Others are bound."""
+    """Pods may neither be read nor listed by their names: a pod whose bind was refused with 503 isn't tried again, since nobody knows how that ended, and the
+    log says so. Others are bound."""
     site.node("a", cpu="64")
     it = site.start(*site.listening(), words=[sys.executable, "-c", HURRIED.format(folder=str(site.programs.client)), "second_scheduler.py"])
     site.pod("before", cpu="10m")
@@ -165,10 +165,12 @@ def hidden_whole(site: Site) -> str:
 
     site.server.refuse = refuse
     site.pod("of-503")
-    site.wait(lambda: value(scraped(site), "wsched_binds_not_granted_total", answer="not-waiting"), 30, "it is tried again, and not granted")
+    site.wait(lambda: "of-503: what became of its bind" in it.log(), 30, "the log says that nobody knows how it ended")
+    assert value(scraped(site), "wsched_binds_under_way") == 0
     site.pod("other")
     site.wait(lambda: site.place("other"), 20, "another pod is bound")
-    assert "of-503: what became of its bind" in it.log() and len(seen) == 1, it.log()[-300:]
+    time.sleep(3)
+    assert len(seen) == 1, it.log()[-300:]
     return f"{len(seen)} bind of it was asked for; {site.check()}"
 
 

@@ -8,7 +8,6 @@ import threading
 import time
 from typing import Callable, Optional
 
-from trials.accounting.guarded import ledger_of
 from trials.chaos.judging import SETTLED, Clock, cpu_of
 from trials.chaos.sides import PRIORITIES, Side
 from trials.fixtures.between import GONE, Between, Fate
@@ -123,7 +122,7 @@ class Mess:
             (10, self.anew), (3, self.keep_back), (1, self.shut_some), (20, self.change_standing),
         ]
         self.heavy: list[Callable[[], None]] = [
-            self.kill, self.kill_held, self.kill_held, self.kill_ledger, self.kill_core, self.end_well, self.calm_down, self.list_anew,
+            self.kill, self.kill_held, self.kill_held, self.kill_core, self.end_well, self.calm_down, self.list_anew,
             *([self.kill_server] * 2 if side.has_server else []),
         ]
         self.between.fate = self.fate
@@ -327,13 +326,9 @@ class Mess:
             self.kill()
         self.hold_next = 0.0
 
-    def kill_ledger(self) -> None:
-        """`wsched live` is killed."""
-        self.kill_child(ledger_of(self.program.it), "kills of wsched live")
-
     def kill_core(self) -> None:
-        """`wsched run` is killed."""
-        self.kill_child(self.program.it.wsched(), "kills of wsched run")
+        """`wsched live` is killed."""
+        self.kill_child(self.program.it.wsched(), "kills of wsched")
 
     def kill_child(self, pid: int, what: str) -> None:
         """A child of the client is killed: it ends, and a new one is started at once."""

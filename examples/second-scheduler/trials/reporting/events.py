@@ -234,18 +234,6 @@ def reasons(site: Site) -> str:
     return f"{len(REASONS)} rules named, {told} with their reasons, in {len(message.encode())} bytes"
 
 
-def unexplained(site: Site) -> str:
-    """Where wsched doesn't explain, events tell how many nodes the rules rejected, and name none."""
-    make_rejected(site)
-    wrapped = site.folder / "wsched"
-    wrapped.write_text(f'#!/bin/sh\n[ "$1" = explain ] && exit 1\nexec {site.programs.wsched} "$@"\n', encoding="utf-8")
-    wrapped.chmod(0o755)
-    site.start("--node-affinity", "2", "--plugins", str(TOP / "examples/plugins"), rule=RULE, wsched=str(wrapped))
-    site.wait(lambda: all(said_of(site, it) for it in REJECTED), 30, "an event of each pod")
-    assert said_of(site, "selects") == ["0/9 nodes are available: 9 node(s) were rejected by a plugin for good."], said_of(site, "selects")
-    return said_of(site, "both")[0]
-
-
 def many_rejected(site: Site) -> str:
     """400 pods that a rule rejects on each of 300 nodes: each has an event that names it within 90 s, and new pods that fit are bound
     meanwhile."""
@@ -264,4 +252,4 @@ def many_rejected(site: Site) -> str:
     return f"400 events after {time.monotonic() - began:.0f} s; {len(waited)} new pods meanwhile waited {max(waited):.1f} s at most"
 
 
-TRIALS = [left_alone, conditions, conditions_late, measure, counted_up, few_events, by_rules, reasons, unexplained, many_rejected]
+TRIALS = [left_alone, conditions, conditions_late, measure, counted_up, few_events, by_rules, reasons, many_rejected]

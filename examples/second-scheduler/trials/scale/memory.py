@@ -3,10 +3,8 @@
 import json
 import os
 
-from trials.accounting.guarded import ledger_of
 from trials.fixtures.site import Scheduler, Site, peak_of, seconds_of_line, wait_for
 from trials.fixtures.store import Bulk, Thing
-from trials.running.translating import translator
 
 NODES = 100
 
@@ -76,20 +74,20 @@ def measured(site: Site, count: int, most: int) -> str:
     site.pod("waits")
     took = wait_for(lambda: not it.runs() or site.place("waits"), patience, "a pod that waits is bound")
     assert it.runs(), f"it ended with status {it.wait(0)}: {it.log()[-300:]}"
-    peak = {"client": peak_of(it.pid), "wsched": peak_of(it.wsched()), "translate": peak_of(translator(it)), "live": peak_of(ledger_of(it))}
+    peak = it.peak()
     all_ = sum(peak.values())
     assert all_ <= most, f"{count} placed pods of {size} bytes take {all_} MiB ({peak}), and not {most} at most"
     return f"{count} placed pods of {size} bytes: {all_} MiB at most ({peak}); the pod was bound {took:.1f} s later; load {os.getloadavg()[0]:.0f}"
 
 
 def memory(site: Site) -> str:
-    """15,000 placed pods of 4 kB: the client and its three wsched together never had more than 250 MiB."""
-    return measured(site, 15_000, 250)
+    """15,000 placed pods of 4 kB: the client and its wsched together never had more than 80 MiB."""
+    return measured(site, 15_000, 80)
 
 
 def memory_whole(site: Site) -> str:
-    """149,990 placed pods of 4 kB, ten less than there is room for: the client and its three wsched together never had more than 600 MiB."""
-    return measured(site, 149_990, 600)
+    """149,990 placed pods of 4 kB, ten less than there is room for: the client and its wsched together never had more than 150 MiB."""
+    return measured(site, 149_990, 150)
 
 
 TRIALS = [memory, memory_whole]

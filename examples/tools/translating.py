@@ -9,17 +9,17 @@ import os
 import select
 import subprocess
 import threading
-from typing import Any, Iterable, Iterator, NamedTuple, Sequence
+from typing import Iterable, Iterator, NamedTuple, Sequence
 
-from core.run import CoreFault
+from api.pages import Json
+from core.live import CoreFault
+from state.heard import EVERYTHING, line_of, spell
+
+__all__ = ["EVERYTHING", "Answer", "Json", "Size", "Translator", "as_json", "fields_of", "line_of", "size_of", "spell", "spelled", "words_of"]
 
 LOG = logging.getLogger("second-scheduler")
-Json = dict[str, Any]
 # Thousandths of a core, and bytes.
 Size = tuple[int, int]
-# The most that a line can say, which is more than any node has: as that counts what can't be known
-# to be less.
-EVERYTHING: Size = (2**30, 2**44)
 # How many objects are told at once, of how many bytes unless it is one; how much is written or read
 # at once, and for how long an answer may be waited for, in seconds.
 AT_ONCE, BYTES_AT_ONCE, PIECE, PATIENCE = 500, 2**22, 65536, 15.0
@@ -28,8 +28,6 @@ AT_ONCE, BYTES_AT_ONCE, PIECE, PATIENCE = 500, 2**22, 65536, 15.0
 KEPT, KEPT_BYTES, KEPT_EACH = 4096, 2**24, 2**16
 # How many reasons are kept of one object.
 REASONS = 50
-spell = json.JSONEncoder(separators=(",", ":"), check_circular=False, ensure_ascii=False).encode
-spell_in_ascii = json.JSONEncoder(separators=(",", ":"), check_circular=False).encode
 
 
 class Answer(NamedTuple):
@@ -48,14 +46,6 @@ class Ended(Exception):
 def words_of(program: str, scheduler: str) -> list[str]:
     """By which it is started. Its own versions and the pods' uids are of no account here."""
     return [program, "translate", "--answers", "--by-uid", f"--scheduler={scheduler}"]
-
-
-def line_of(thing: Json) -> bytes:
-    """An object as a line. (A text that is half of a character, which no API server tells, has no bytes of its own.)"""
-    try:
-        return spell(thing).encode() + b"\n"
-    except UnicodeEncodeError:
-        return spell_in_ascii(thing).encode() + b"\n"
 
 
 def batches(lines: Iterable[bytes]) -> Iterator[list[bytes]]:

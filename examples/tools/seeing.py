@@ -6,24 +6,21 @@ that pods ask for. A pod that has a node is always counted, and one that waits a
 """
 from __future__ import annotations
 
-import datetime
 import functools
 import itertools
 import json
 import sys
 from typing import Any, NamedTuple, Sequence
 
-from core.translating import EVERYTHING, Answer, Json, Size, Translator, as_json, fields_of, size_of
 from state import affinity
 from state.affinity import LABELS, NAME, Asked, NodeLabels, Volumes
-from state.rule_labels import KEY, Named
+from state.heard import CONTAINERS, ENDED, OF_CONTAINERS, Own, created_at, unscheduled, with_labels, without
+from state.rule_labels import Named
 
-ENDED = ("Succeeded", "Failed")
-# All of a pod's own data that matters to its line, but for its name; and what is long in a
-# container, and doesn't matter.
+from tools.translating import EVERYTHING, Answer, Json, Size, Translator, as_json, fields_of, size_of
+
+# All of a pod's own data that matters to its line, but for its name.
 OF_PODS = ("deletionTimestamp",)
-OF_CONTAINERS = frozenset(["env", "envFrom", "command", "args", "volumeMounts", "livenessProbe", "readinessProbe", "startupProbe", "lifecycle"])
-CONTAINERS = ("containers", "initContainers", "ephemeralContainers")
 # What the status of a pod on a node says of what it holds there, which may be more than it asks for
 # by now; of its containers, and in all.
 STATUSES, HELD = ("containerStatuses", "initContainerStatuses", "ephemeralContainerStatuses"), ("allocatedResources", "resources")
@@ -65,14 +62,6 @@ class SeenPod(NamedTuple):
     @property
     def key(self) -> str:
         return f"{self.namespace}/{self.name}"
-
-
-class Own(NamedTuple):
-    """What a pod asks of nodes' labels, those of its own that are told of it, and those that gave way."""
-
-    asks: Asked = Asked()
-    labels: Json = {}
-    gone: tuple[str, ...] = ()
 
 
 class Reader:
@@ -135,21 +124,6 @@ def row_of(seen: SeenNode, labels: NodeLabels) -> str | None:
 # Pods.
 
 
-def with_labels(pod: Json, asks: Asked, named: Named) -> Own:
-    """Which of its labels are told of a pod that waits. Those that no row can say at all no rule can read."""
-    labels = {} if pod["spec"].get("nodeName") else pod["metadata"].get("labels") or {}
-    room = LABELS - len(asks.entries)
-    if len(labels) <= room:
-        return Own(asks, labels)
-    can = sorted(it for it in labels if KEY.fullmatch(it))
-    chosen = named.chosen(can, room)
-    if not chosen:
-        return Own(asks._replace(why=(*asks.why, named.why(len(can), room, can[room:]))))
-    told, gone = chosen
-    gone = sorted([*gone, *(labels.keys() - set(can))])
-    return Own(asks, {it: labels[it] for it in told}, tuple(f"label {it}" for it in gone))
-
-
 def short(pod: Json, labels: Json) -> Json:
     """A pod that hasn't ended, with these labels, without what no line tells of: so most pods are equal to what they were before, and to their
     like."""
@@ -164,11 +138,6 @@ def short(pod: Json, labels: Json) -> Json:
     said = {"kind": "Pod", "metadata": {"uid": "a-pod", **meta}, "spec": spec}
     held = held_by(pod) if spec.get("nodeName") else {}
     return {**said, "status": held} if held else said
-
-
-def without(thing: Any, keys: frozenset[str]) -> Any:
-    """(whatever else stands there than an object is for `translate` to judge)"""
-    return {key: value for key, value in thing.items() if key not in keys} if isinstance(thing, dict) else thing
 
 
 def held_by(pod: Json) -> Json:
@@ -207,16 +176,3 @@ def on_node(seen: SeenPod, answer: Answer) -> SeenPod:
 def one_size(cpu: int, memory: int) -> Size:
     """(of thousands of pods of one size, one pair is kept)"""
     return cpu, memory
-
-
-def unscheduled(pod: Json) -> tuple[str, str] | None:
-    for it in (pod.get("status") or {}).get("conditions") or []:
-        if it.get("type") == "PodScheduled" and it.get("status") == "False":
-            return it.get("reason") or "", it.get("message") or ""
-    return None
-
-
-def created_at(meta: Json) -> float:
-    """(an API server always says it)"""
-    text = meta.get("creationTimestamp")
-    return datetime.datetime.fromisoformat(text.replace("Z", "+00:00")).timestamp() if text else 0.0
