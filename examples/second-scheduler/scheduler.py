@@ -34,6 +34,8 @@ LOG = logging.getLogger("second-scheduler")
 # How many cycles are asked for at once at most, and for how long they are, in seconds, before the
 # cluster is heard again.
 CYCLES, SLICE = 64, 0.1
+# How many bytes are heard at most before they are told.
+MUCH = 2**20
 # What a unit of fuel takes on a slow machine, in seconds.
 UNIT = 5e-9
 # By kube-scheduler's names what a decision came to; any other is an error.
@@ -70,7 +72,7 @@ class Scheduler:
         self.binds = Binds(self.core, Binders(api, way, given.binders, self.newest), metrics, self.was_bound)
         labels = NodeLabels(given.settings, given.read_labels, bool(given.node_affinity))
         self.desk = Desk(self.core, self.telling, metrics, labels, pods, self.share)
-        self.explaining = Explaining(self.core, self.telling, whose, given.reasons)
+        self.explaining = Explaining(self.desk.explain, self.telling, whose, given.reasons)
         self.listening = Listening(given, api, metrics, self.newest, labels)
 
     def start(self) -> None:
@@ -216,7 +218,7 @@ class Scheduler:
         """Takes what is in the inbox, for no longer than `most` seconds, and waits for something until then."""
         end = None
         try:
-            while end is None or time.monotonic() < end:
+            while self.core.unsent < MUCH and (end is None or time.monotonic() < end):
                 self.hear(*self.inbox.get(timeout=max(0.0, until - time.monotonic())))
                 until = 0.0
                 end = end or time.monotonic() + most

@@ -12,7 +12,7 @@ from typing import Any, NamedTuple, Sequence
 
 from kubernetes.client.rest import ApiException
 
-from api.pages import Item, Json, page_of
+from api.pages import Item, Json, Page
 from api.posting import JSON, UNWANTED, Answer, Posts, Request
 from api.watch import AWAY, message
 from api.way import Way
@@ -160,8 +160,8 @@ class Binders:
             if other.status != 403:
                 raise
             self.warn(other)
-        pods = page_of(self.api.list_namespaced_pod(namespace, field_selector=f"metadata.name={name}", **words).data).items
-        return pods[0] if pods else None
+        page = Page(self.api.list_namespaced_pod(namespace, field_selector=f"metadata.name={name}", **words).data)
+        return next(page.items(), None)
 
     def fence(self, bind: Bind, pod: Json) -> bool:
         """Moves the version of a pod that has no node, so that a bind that comes late is refused where that is tested. False where the pod has

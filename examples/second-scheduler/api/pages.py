@@ -4,7 +4,7 @@ from __future__ import annotations
 
 import json
 import re
-from typing import Any, NamedTuple
+from typing import Any, Iterator, NamedTuple
 
 Json = dict[str, Any]
 # Blanks between the parts of a JSON text (RFC 8259, section 2).
@@ -17,13 +17,6 @@ class Item(NamedTuple):
 
     thing: Json
     text: str
-
-
-class Page(NamedTuple):
-    """The items, and the list's metadata."""
-
-    items: list[Item]
-    meta: Json
 
 
 class Text:
@@ -53,32 +46,37 @@ class Text:
         value, self.at = VALUE.raw_decode(self.text, self.at)
         return value
 
-    def items(self) -> list[Item]:
-        """Those of an array."""
-        found = list[Item]()
+    def items(self) -> Iterator[Item]:
+        """Those of an array, each read when it is asked for."""
         self.take("[")
         if self.takes("]"):
-            return found
+            return
         while True:
             self.next()
             start = self.at
             thing = self.value()
-            found.append(Item(thing, self.text[start : self.at]))
+            yield Item(thing, self.text[start : self.at])
             if not self.takes(","):
                 self.take("]")
-                return found
+                return
 
 
-def page_of(data: bytes) -> Page:
-    text, items, others = Text(data.decode()), list[Item](), Json()
-    text.take("{")
-    while True:
-        key = text.value()
-        text.take(":")
-        if key == "items" and text.next() == "[":
-            items += text.items()
-        else:
-            others[key] = text.value()
-        if not text.takes(","):
-            text.take("}")
-            return Page(items, others["metadata"])
+class Page:
+    """A page of a list: its items, and the list's metadata, which is there once they were read."""
+
+    def __init__(self, data: bytes) -> None:
+        self.text = Text(data.decode())
+        self.meta: Json = {}
+
+    def items(self) -> Iterator[Item]:
+        self.text.take("{")
+        while True:
+            key = self.text.value()
+            self.text.take(":")
+            if key == "items" and self.text.next() == "[":
+                yield from self.text.items()
+            else:
+                value = self.text.value()
+                self.meta = value if key == "metadata" else self.meta
+            if not self.text.takes(","):
+                return self.text.take("}")

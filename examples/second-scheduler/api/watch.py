@@ -12,13 +12,13 @@ import os
 import random
 import threading
 import time
-from typing import Any, Callable, Iterator, Sequence
+from typing import Any, Callable, Iterable, Iterator, Sequence
 
 import urllib3
 from kubernetes.client.rest import ApiException
 from kubernetes.config import ConfigException
 
-from api.pages import Item, Json, page_of
+from api.pages import Item, Json, Page
 
 LOG = logging.getLogger("second-scheduler")
 # What a call to the API server may end with when it is away, or has another opinion, or when nobody
@@ -69,8 +69,8 @@ class Ears:
     def begins(self) -> None:
         """A list is asked for next."""
 
-    def items(self, items: Sequence[Item]) -> None:
-        """A page of it."""
+    def items(self, items: Iterable[Item]) -> None:
+        """A page of it, each of which is taken."""
 
     def ends(self) -> None:
         """It was whole."""
@@ -113,7 +113,7 @@ class Things(Ears):
     def begins(self) -> None:
         self.keys = set()
 
-    def items(self, items: Sequence[Item]) -> None:
+    def items(self, items: Iterable[Item]) -> None:
         things = [it.thing for it in items]
         self.keys |= set(map(self.key, things))
         self.hear("MODIFIED", things)
@@ -183,8 +183,8 @@ class Watched:
         self.ears.begins()
         while True:
             answer = self.call(limit=PAGE, _continue=more, _preload_content=False, _request_timeout=(5, 60), **self.only)
-            page = page_of(answer.data)
-            self.ears.items(page.items)
+            page = Page(answer.data)
+            self.ears.items(page.items())
             more = page.meta.get("continue")
             if not more:
                 self.ears.ends()

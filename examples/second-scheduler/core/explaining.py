@@ -9,9 +9,9 @@ from __future__ import annotations
 import collections
 import functools
 import time
+from typing import Callable
 
 from core.answers import Filtered, Judged, Passes
-from core.live import Core
 from core.verdicts import Reasons, said_of_no_node
 from reporting.telling import Telling
 
@@ -23,10 +23,10 @@ SHARE = 0.1
 
 
 class Explaining:
-    """`reasons` is what the rules say of themselves, and `whose` says which nodes were looked at, where these aren't all."""
+    """`explain` asks about a pod; `reasons` is what the rules say of themselves, and `whose` says which nodes were looked at, where these aren't all."""
 
-    def __init__(self, core: Core, telling: Telling, whose: str, reasons: Reasons) -> None:
-        self.core, self.telling, self.whose, self.reasons = core, telling, whose, reasons
+    def __init__(self, explain: Callable[[str, Callable[[Judged], None]], None], telling: Telling, whose: str, reasons: Reasons) -> None:
+        self.explain, self.telling, self.whose, self.reasons = explain, telling, whose, reasons
         self.asked, self.began, self.next = 0, 0.0, 0.0
 
     def tick(self, nodes: int, cost: float) -> None:
@@ -36,7 +36,7 @@ class Explaining:
             return
         for uid in self.telling.unexplained(max(1, min(LINES // max(1, nodes), int(MEANT / max(cost, 1e-6))))):
             self.asked += 1
-            self.core.explain(uid, functools.partial(self.explained, uid))
+            self.explain(uid, functools.partial(self.explained, uid))
 
     def explained(self, uid: str, said: Judged) -> None:
         self.asked -= 1

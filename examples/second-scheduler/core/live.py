@@ -70,6 +70,8 @@ class Core:
         self.input = self.output = -1
         self.meanwhile: Callable[[], None] | None = None
         self.waiting: collections.deque[Told] = collections.deque()
+        # how many bytes of them have been told since the last flush
+        self.unsent = 0
         self.reads, self.both = select.poll(), select.poll()
         # what of the lines under way isn't written yet; the lines that were read and are no answer yet, and
         # what was read behind them
@@ -89,6 +91,7 @@ class Core:
     def tell(self, line: bytes, then: Callable[[str], None], last: str = "") -> None:
         """Has a line, which ends with its newline, written at the next flush, and its answer handed on as it is."""
         self.waiting.append(Told(line, then, last))
+        self.unsent += len(line)
 
     def say(self, line: bytes, then: Callable[[Said], None]) -> None:
         """The same of a line that tells something."""
@@ -106,7 +109,7 @@ class Core:
     def flush(self, meanwhile: Callable[[], None] | None = None) -> None:
         """Writes what is to be told. `meanwhile` is called again and again while an answer is waited for: what it tells is written behind
         what was told before."""
-        self.meanwhile = meanwhile
+        self.meanwhile, self.unsent = meanwhile, 0
         while self.waiting:
             some, size = [self.waiting.popleft()], 0
             while self.waiting and len(some) < LINES and size + len(self.waiting[0].line) < BYTES:

@@ -9,9 +9,9 @@ import functools
 import logging
 import sys
 import time
-from typing import NamedTuple
+from typing import Callable, NamedTuple
 
-from core.answers import Said, Word
+from core.answers import Judged, Said, Word
 from core.live import Core, order, quoted
 from reporting.metrics import Metrics
 from reporting.telling import Telling, about_node, about_pod
@@ -273,10 +273,22 @@ class Desk(Nodes):
         """Has the desk put the pod aside."""
         if pod.is_told:
             pod.is_told = False
-            self.core.say(order("aside", uid=quoted(pod.uid)), self.was_put_aside)
+            self.core.say(order("aside", uid=quoted(pod.uid)), self.was_told)
 
-    def was_put_aside(self, _: Said) -> None:
+    def was_told(self, _: Said) -> None:
         self.has_work = True
+
+    def explain(self, uid: str, then: Callable[[Judged], None]) -> None:
+        """What is said of each node for a pod that waits. One that waits outside is told for as long as that takes."""
+        pod = self.pods.get(uid)
+        if pod is None or pod.wait is None or pod.ticket is not None:
+            then(Judged(None))
+            return
+        if not pod.is_told:
+            self.core.say(pod.wait.line, self.was_told)
+        self.core.explain(uid, then)
+        if not pod.is_told:
+            self.core.say(order("aside", uid=quoted(uid)), self.was_told)
 
     # Their places.
 

@@ -3,7 +3,7 @@
 from __future__ import annotations
 
 import threading
-from typing import Sequence
+from typing import Iterable, Sequence
 
 from api.pages import Item, Json
 from api.watch import Ears
@@ -64,7 +64,7 @@ class NodeHearing(Hearing):
         super().__init__(metrics, newest)
         self.share, self.labels = share, labels
 
-    def items(self, items: Sequence[Item]) -> None:
+    def items(self, items: Iterable[Item]) -> None:
         for it in items:
             self.named.add(it.thing["metadata"]["name"])
             self.hear("ADDED", it.thing, item_line("ADDED", "Node", it), self.came)
@@ -91,7 +91,7 @@ class PodHearing(Hearing):
         self.reader, self.claims = reader, claims
         claims.again = self.hear_again
 
-    def items(self, items: Sequence[Item]) -> None:
+    def items(self, items: Iterable[Item]) -> None:
         with self.claims.lock:
             for it in items:
                 heard = self.hear("ADDED", it.thing, item_line("ADDED", "Pod", it), self.came)

@@ -16,7 +16,7 @@ from state.pods import Pod
 # A kind, an event, and what it is of.
 Item = tuple[str, str, Any]
 # How many bytes of objects may be heard that the main loop hasn't got to: who lists faster waits.
-ROOM = 2**23
+ROOM = 2**21
 
 
 class Inbox:

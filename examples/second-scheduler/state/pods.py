@@ -24,11 +24,10 @@ class Turn(enum.Enum):
 class Wait:
     """Of a pod without a node: its line, and whose turn it is."""
 
-    __slots__ = ("packed", "heard", "priority", "arrival", "created", "is_ours", "attempts", "tried", "until", "moved", "turn", "stamp")
+    __slots__ = ("text", "is_packed", "heard", "priority", "arrival", "created", "is_ours", "attempts", "tried", "until", "moved", "turn", "stamp")
 
     def __init__(self, line: bytes, heard: Waits, arrival: int) -> None:
-        # (thousands may wait, of some kilobytes each)
-        self.packed, self.heard = zlib.compress(line, 1), heard
+        self.text, self.is_packed, self.heard = line, False, heard
         self.priority, self.arrival = heard.priority, arrival
         # when the pod was made, by the API server's clock, and whether it is this instance's to
         # place
@@ -42,11 +41,16 @@ class Wait:
     @property
     def line(self) -> bytes:
         """As it was heard last."""
-        return zlib.decompress(self.packed)
+        return zlib.decompress(self.text) if self.is_packed else self.text
 
     @line.setter
     def line(self, line: bytes) -> None:
-        self.packed = zlib.compress(line, 1)
+        self.text = zlib.compress(line, 1) if self.is_packed else line
+
+    def pack(self) -> None:
+        """It may wait for long. (Thousands may, of some kilobytes each.)"""
+        if not self.is_packed:
+            self.text, self.is_packed = zlib.compress(self.text, 1), True
 
 
 class Pod:

@@ -89,6 +89,8 @@ class Waiting:
 
     def add(self, pod: Pod, line: bytes, heard: Waits, now: float) -> None:
         pod.wait = Wait(line, heard, next(self.count))
+        if len(self.of[Turn.NEW]) >= AT_ONCE:
+            pod.wait.pack()
         self.turns.begin(pod, pod.wait, now)
         if pod.wait.is_ours:
             self.make_new(pod)
@@ -135,6 +137,7 @@ class Waiting:
         """It was tried, after so many moves, and is in the desk."""
         self.leave(pod, now)
         wait = wait_of(pod)
+        wait.pack()
         wait.attempts, wait.moved, wait.tried = wait.attempts + 1, moved, next(self.count)
         # the part of the time that those outside take is bounded, however many and dear they are
         rest = max(min(FIRST_REST * 2 ** min(wait.attempts - 1, 10), LONGEST_REST), 2 * self.cost * self.outside())

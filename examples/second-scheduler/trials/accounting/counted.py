@@ -1,6 +1,5 @@
 # SPDX-License-Identifier: Apache-2.0
 """Pods on nodes that are hard to count: long ones, and those of which no line can say what they ask for. None counts as less than it is."""
-import signal
 import time
 
 from trials.fixtures.site import Scheduler, Site, peak_of, whom
@@ -43,16 +42,15 @@ def counted_long(site: Site) -> str:
     before = peak_of(it.pid)
     for i in range(1, LONG):
         site.pod(f"long-{i}", on="one", scheduler="default-scheduler", spec=with_init("c", "1Mi", f"{i}" + LETTERS * "é"))
-    site.wait(lambda: places(site, it) == LONG + 2, 60, "all are heard of")
+    site.wait(lambda: places(site) == LONG + 2, 60, "all are heard of")
     more = peak_of(it.pid) - before
     assert value(scraped(site), "wsched_pods_not_read") == 0
     assert more <= MOST, f"the client had {before} MiB, and {more} more with {LONG} such pods"
     return f"the client had {before} MiB with one, and {more} more with {LONG}; {site.check()}"
 
 
-def places(site: Site, it: Scheduler) -> float:
-    """How many pods have a place, as an audit says it."""
-    it.child.send_signal(signal.SIGUSR1)
+def places(site: Site) -> float:
+    """How many pods have a place, as wsched is asked each 30 s."""
     time.sleep(1)
     return value(scraped(site), "wsched_places", state="bound")
 

@@ -15,7 +15,7 @@ from trials.fixtures.cluster import Cluster
 from trials.fixtures.fleet import Trial, some_nodes, some_pods, wrong
 from trials.fixtures.site import GIB, RULE
 from trials.fixtures.store import Thing
-from trials.reporting.record import places_in
+from trials.reporting.record import places_in, replayed
 
 
 def plain(site: Cluster) -> str:
@@ -62,9 +62,7 @@ def recorded(trial: Trial, *names: str) -> str:
     decided: set[tuple[str, str]] = set()
     for name in names:
         file = trial.site.folder / f"{name}.jsonl.gz"
-        subprocess.run(["gzip", "-t", str(file)], check=True)
-        ran = subprocess.run([trial.site.programs.wsched, "run", RULE], input=gzip.decompress(file.read_bytes()), stdout=subprocess.PIPE, check=True)
-        decided |= set(places_in(ran.stdout.decode()))
+        decided |= set(places_in(replayed(trial.site.programs.wsched, file, RULE)))
     binds = trial.ears.watcher().binds
     missing = [it for it in binds if it not in decided]
     assert not missing, f"{len(missing)} of {len(binds)} binds are in no record: {missing[:2]}"

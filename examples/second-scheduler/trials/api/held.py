@@ -166,7 +166,7 @@ def hidden_whole(site: Site) -> str:
     site.server.refuse = refuse
     site.pod("of-503")
     site.wait(lambda: "of-503: what became of its bind" in it.log(), 30, "the log says that nobody knows how it ended")
-    assert value(scraped(site), "wsched_binds_under_way") == 0
+    site.wait(lambda: value(scraped(site), "wsched_binds_under_way") == 0, 10, "nobody waits for it")
     site.pod("other")
     site.wait(lambda: site.place("other"), 20, "another pod is bound")
     time.sleep(3)

@@ -1,5 +1,5 @@
 # SPDX-License-Identifier: Apache-2.0
-"""The record: what wsched was told, from which `wsched run` gives every decision that was made, however the process ended."""
+"""The record: what wsched was told, from which `wsched live` gives every answer that it gave, however the process ended."""
 import gzip
 import json
 import pathlib
@@ -44,12 +44,21 @@ def churn(site: Site, turns: int) -> None:
         time.sleep(0.5)
 
 
-def replayed(site: Site, file: pathlib.Path, rule: str) -> str:
+def words_by(program: str, *specs: str) -> "list[str]":
+    """By which the client starts wsched with these rules."""
+    # pylint: disable=import-outside-toplevel
+    from core import live
+    from state import rule_labels
+
+    return list(live.command(program, "wsched", 1, sorted(rule_labels.read_by(specs, [], "").keys), specs))
+
+
+def replayed(program: str, file: pathlib.Path, *specs: str) -> str:
     """What wsched answers to a record; the record is whole, as gzip tests it."""
     tested = subprocess.run(["gzip", "-t", str(file)], capture_output=True, text=True, check=False)
     assert tested.returncode == 0, f"{file.name} isn't whole: {tested.stderr.strip()}"
-    ran = subprocess.run([site.programs.wsched, "run", rule], input=gzip.decompress(file.read_bytes()), capture_output=True, check=False)
-    assert ran.returncode == 0, f"the record is no script: {ran.stderr.decode()[:200]}"
+    ran = subprocess.run(words_by(program, *specs), input=gzip.decompress(file.read_bytes()), capture_output=True, check=False)
+    assert ran.returncode == 0, f"the record can't be replayed: {ran.stderr.decode()[:200]}"
     return ran.stdout.decode()
 
 
@@ -78,7 +87,7 @@ def kept(site: Site, how: int, name: str) -> str:
     site.server.bind_takes = 0.0
     # (what was posted before it was killed may still be bound)
     time.sleep(1)
-    answers, heard = replayed(site, file, RULE), (site.folder / "answered").read_text(encoding="utf-8")
+    answers, heard = replayed(site.programs.wsched, file, RULE), (site.folder / "answered").read_text(encoding="utf-8")
     assert heard.startswith(answers), f"the replay's {len(answers)} bytes aren't the beginning of the {len(heard)} that wsched answered"
     lost = len(heard.splitlines()) - len(answers.splitlines())
     assert lost <= (200 if how == signal.SIGKILL else 0), f"{lost} answered lines aren't in the record"
@@ -124,8 +133,7 @@ def record_again(site: Site) -> str:
     uids = [site.store.get("pods", f"default/{name}")["metadata"]["uid"] for name in ("one", "two")]
     said = []
     for each in found:
-        ran = subprocess.run([site.programs.wsched, "run"], input=gzip.decompress(each.read_bytes()), stdout=subprocess.PIPE, check=True)
-        said.append(ran.stdout.decode())
+        said.append(replayed(site.programs.wsched, each))
     assert sorted(uid for it in said for uid, _ in places_in(it)) == uids, said
     return ", ".join(it.name for it in found)
 
@@ -197,9 +205,8 @@ def record_full(site: Site) -> str:
     placed("last", 10)
     assert it.end() == 0
     site.schedulers.remove(it)
-    ran = subprocess.run([site.programs.wsched, "run"], input=gzip.decompress(file.read_bytes()), stdout=subprocess.PIPE, check=True)
     bound = {uid for uid, _ in site.watcher().binds}
-    missing = bound - {uid for uid, _ in places_in(ran.stdout.decode())}
+    missing = bound - {uid for uid, _ in places_in(replayed(site.programs.wsched, file))}
     assert len(bound) == 260 and not missing, f"{len(missing)} of {len(bound)} binds aren't in the record"
     return f"{len(bound)} binds, each in it; {site.check()}"
 

@@ -32,9 +32,10 @@ def selectors(site: Site) -> str:
             site.pod(f"pod-{turn}-{i}", spec={"nodeSelector": {keys[i % 2]: "x"}} if keys else {})
         site.wait(lambda turn=turn: site.placed() == PODS * (turn + 1) + 3, 120, "all are bound")  # type: ignore[misc]
         took.append(1000 * (spent(it.pid) - before) / PODS)
-    told = (site.folder / "told").read_text(encoding="utf-8").count('"op":"node"')
+    lines = (site.folder / "told").read_text(encoding="utf-8").splitlines()
+    told = sum(1 for line in lines if '"kind":"Node"' in line.replace(": ", ":") and '"DELETED"' not in line)
     shown = f"{took[0]:.1f} ms of the client's processor time a pod without a selector, {took[1]:.1f} with one, {told} rows told"
-    assert took[1] <= 4 * took[0] and told <= NODES * 4, shown
+    assert took[1] <= 4 * took[0] and NODES <= told <= NODES * 4, shown
     return f"{shown}; {site.check()}"
 
 
