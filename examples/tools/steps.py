@@ -33,13 +33,13 @@ class Line(NamedTuple):
     @property
     def object(self) -> Json:
         """Of an event of a watch the object, of a read what it gave."""
-        inner = self.thing.get("object")
+        inner: Json | None = self.thing.get("object")
         return self.thing if inner is None else inner
 
     @property
     def op(self) -> str:
         """Of the script's line."""
-        return self.row["op"] if self.row else ""
+        return str(self.row["op"]) if self.row else ""
 
     @property
     def version(self) -> int:
