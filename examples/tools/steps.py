@@ -49,7 +49,7 @@ class Line(NamedTuple):
     def called(self) -> str:
         """By which people know a pod."""
         meta = self.object["metadata"]
-        return f"{meta.get('namespace') or 'default'}/{meta['name']}"
+        return f"{meta.get('namespace') or 'default'}/{meta.get('name') or meta['uid']}"
 
     @property
     def shows_waiting(self) -> bool:
@@ -108,7 +108,9 @@ class Steps:
     def of(self, line: Line) -> list[str]:
         """The script's lines of this one."""
         self.script = []
-        if line.word not in ("faulty", "full", "nothing"):
+        if line.thing.get("op") == "cycle":
+            self.cycle(line.answer)
+        elif line.word not in ("faulty", "full", "nothing"):
             if "op" in line.thing:
                 self.of_order(line)
             else:
@@ -230,8 +232,6 @@ class Steps:
         op, thing = line.thing["op"], line.thing
         if op == "tick":
             self.step("tick", at=thing["at"])
-        elif op == "cycle":
-            self.cycle(line.answer)
         elif op == "list":
             self.lists[thing["of"]] += 1
         elif op == "listed" and line.word == "told":
@@ -268,16 +268,15 @@ class Steps:
 
     def cycle(self, answer: str) -> None:
         """The desk gives each choice a ticket, also one whose bind the ledger denies, which is given back."""
-        words = answer.split(" ")
-        if words[0] == "shut":
+        if answer == "shut":
             return
         self.step("cycle")
-        if words[1:2] == ["on"]:
-            uid, _, node, *_, ticket = words
+        words = answer.split(" ")
+        if words[1::2] == ["on", "total", "ticket"]:
             self.tickets += 1
-            self.asked(uid, node, int(ticket))
-            self.offered[uid].ticket = self.tickets
-        elif words[0] == "denied":
+            self.asked(words[0], words[2], int(words[6]))
+            self.offered[words[0]].ticket = self.tickets
+        elif (words[0], *words[2:3]) == ("denied", "on"):
             self.tickets += 1
             self.step("forget", uid=words[1], ticket=self.tickets)
 
