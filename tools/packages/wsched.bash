@@ -69,9 +69,9 @@ _wsched_beside() {
             options="$options --tls-cert --tls-key --client-ca --token-file --verbose --help" ;;
         wsched-plan) options="--json --script --page --rules --settings --labels --scheduler --from --nodes --help" ;;
         wsched-why) options="--namespace --rules --settings --labels --from --nodes --help" ;;
-        wsched-what-if) options="--page --rules --" ;;
+        wsched-what-if) options="--page --scheduler --labels --rules --" ;;
         wsched-lint) options="--most --help" ;;
-        wsched-report) options="--rules -- --help" ;;
+        wsched-report) options="--scheduler --labels --rules -- --help" ;;
     esac
     case $name:$cur in
         *:-*) _wsched_options "$options" "$cur" ;;

@@ -29,7 +29,9 @@ _wsched() {
         'live:which binds may be asked for'
         'version:name, version and kit'
     )
-    local rules=('--rules[a file of rules and settings]:file:_files') cluster=(
+    local rules=('--rules[a file of rules and settings]:file:_files')
+    local told=('--scheduler[whose pods, of lines for wsched live]:name:' '--labels[the labels that rules read, of the same]:keys:')
+    local cluster=(
         '--settings[the settings of the site]:file:_files'
         '--from[what kubectl get -o json wrote]:file:_files'
         '--nodes[only these nodes]:selector:'
@@ -41,11 +43,11 @@ _wsched() {
         wsched-why)
             _arguments "$rules[@]" "$cluster[@]" '(-n --namespace)'{-n,--namespace}'[of the pod]:namespace:' '--help[the words]' '1:pod:' '*:plugin:_wsched_spec' ;;
         wsched-what-if)
-            _arguments '--page[write both runs to a page]:file:_files' "$rules[@]" '1:record:_files' '*:plugin:_wsched_spec' ;;
+            _arguments '--page[write both runs to a page]:file:_files' "$rules[@]" "$told[@]" '1:record:_files' '*:plugin:_wsched_spec' ;;
         wsched-lint)
             _arguments '--most[how many faults are told]:number:' '--help[the words]' '*:script:_files' ;;
         wsched-report)
-            _arguments "$rules[@]" '--help[the words]' '1:script:_files' '2:output:_files' '*:plugin:_wsched_spec' ;;
+            _arguments "$rules[@]" "$told[@]" '--help[the words]' '1:script:_files' '2:output:_files' '*:plugin:_wsched_spec' ;;
         wsched-scheduler)
             _arguments "$rules[@]" '--scheduler[whose pods]:name:' '--nodes[only these nodes]:selector:' '--share[instance I of N]:I/N:' \
                 '--settings[the settings of the site]:file:_files' '--labels[the labels that rules read]:keys:' \
