@@ -110,6 +110,8 @@ class Steps:
         self.script = []
         if line.thing.get("op") == "cycle":
             self.cycle(line.answer)
+        elif line.thing.get("op") == "dump" and line.word != "faulty":
+            self.step("dump")
         elif line.word not in ("faulty", "full", "nothing"):
             if "op" in line.thing:
                 self.of_order(line)

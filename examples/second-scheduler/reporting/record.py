@@ -1,8 +1,8 @@
 # SPDX-License-Identifier: Apache-2.0
 """A record of every line that wsched was told and has answered: gzip, written while it goes on, and whole after each write.
 
-`gzip -dc FILE | wsched live WORD..` gives the answers that were given, byte for byte, by the words by which it was started. Where there is no room for it, what is to be written
-is kept for a while, and the record goes on once there is room again, without a gap.
+`gzip -dc FILE | wsched live WORD..` gives the answers that were given, byte for byte, by the words by which it was started. Where there is no
+room for it, what is to be written is kept for a while, and the record goes on once there is room again, without a gap.
 """
 from __future__ import annotations
 

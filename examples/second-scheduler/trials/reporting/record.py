@@ -2,6 +2,7 @@
 """The record: what wsched was told, from which `wsched live` gives every answer that it gave, however the process ended."""
 import gzip
 import json
+import os
 import pathlib
 import re
 import resource
@@ -60,6 +61,15 @@ def replayed(program: str, file: pathlib.Path, *specs: str) -> str:
     ran = subprocess.run(words_by(program, *specs), input=gzip.decompress(file.read_bytes()), capture_output=True, check=False)
     assert ran.returncode == 0, f"the record can't be replayed: {ran.stderr.decode()[:200]}"
     return ran.stdout.decode()
+
+
+def script_of(site: Site, file: pathlib.Path, rule: str) -> str:
+    """What the desk was told of a record's lines, as a script."""
+    labels = next(it for it in words_by(site.programs.wsched, rule) if it.startswith("--labels="))
+    env = os.environ | {"WSCHED": site.programs.wsched}
+    made = subprocess.run([str(TOP / "examples/live/steps"), labels, str(file), rule], capture_output=True, text=True, env=env, check=False)
+    assert made.returncode == 0 and not made.stderr, f"status {made.returncode}: {made.stderr[-300:]}"
+    return made.stdout
 
 
 def places_in(answers: str) -> list[tuple[str, str]]:
@@ -153,7 +163,7 @@ def record_drawn(site: Site) -> str:
         for pod in site.store.all("pods"):
             site.delete_pod(pod["metadata"]["name"])
     it.end()
-    script = gzip.decompress(file.read_bytes()).decode()
+    script = script_of(site, file, RULE)
     output = subprocess.run([site.programs.wsched, "explain", RULE], input=script, capture_output=True, text=True, check=True).stdout
     return f"{len(places_in(output))} places, {drawn(site, script, output)}"
 

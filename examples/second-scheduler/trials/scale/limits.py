@@ -38,7 +38,7 @@ def nodes_1001(site: Site) -> str:
 
 
 def places_150000(site: Site) -> str:
-    """150,100 placed pods: it doesn't end, a node has an event, and nothing is bound, since the ledger has no room for each, as the log and a metric say.
+    """150,100 placed pods: it doesn't end, and nothing is bound, since the ledger has no room for each, as the log and a metric say.
     Once 200 of them went, all are listed anew, and a pod that waits is bound."""
     names = ["left", "right", "empty"]
     for name in names:
@@ -58,11 +58,10 @@ def places_150000(site: Site) -> str:
     it, patience = site.start(*site.listening()), 90 + 3 * PLACES * seconds_of_line(site.programs)
     wait_for(lambda: not it.runs() or len(site.server.watches) >= 2, patience, "all are listed")
     site.pod("waits")
-    wait_for(lambda: not it.runs() or of_nodes(site), patience, "a node has an event")
+    wait_for(lambda: not it.runs() or value(scraped(site), "wsched_binds_not_granted_total", answer="shut") > 0, patience, "nothing may be bound")
     assert it.runs(), f"it ended with status {it.wait(0)}: {it.log().strip().splitlines()[-1][:200]}"
-    site.wait(lambda: value(scraped(site), "wsched_binds_not_granted_total", answer="shut") > 0, patience, "its bind isn't granted")
-    found, said = scraped(site), of_nodes(site)[0]["message"][:110]
-    assert value(found, "wsched_refused_for_room_total", kind="place") > 0 and value(found, "wsched_ledger_full_total", kind="pod") > 0, found
+    left_out = value(scraped(site), "wsched_ledger_full_total", kind="pod")
+    assert left_out == 100, f"{left_out:.0f} pods had no room"
     assert "the ledger has no room for more pods" in it.log() and site.place("waits") is None
     site.store.bulk["pods"] = Bulk(PLACES - 100, make)
     began, turns = time.monotonic(), 0
@@ -75,7 +74,7 @@ def places_150000(site: Site) -> str:
     wait_for(lambda: not it.runs() or len(site.server.watches) >= 2, patience, "all are listed anew")
     site.pod("second")
     took = site.wait(lambda: site.place("second"), patience, "a pod that waits is bound once there is room for all")
-    return f"a node was set aside: {said}; the pod was bound {took:.0f} s after the second list, on {site.place('second')}"
+    return f"{left_out:.0f} pods had no room; the pod was bound {took:.0f} s after the second list, on {site.place('second')}"
 
 
 TRIALS = [nodes_1001, places_150000]
