@@ -685,7 +685,7 @@ def dumped(own: cores.Cores) -> Iterator[tuple[str, list[int]]]:
     for it in own.shares:
         told: list[str] = []
         assert it.core
-        it.core.tell('{"op":"dump"}', told.append, "clock ")
+        it.core.ask('{"op":"dump"}', told.append, "clock ")
         it.core.flush()
         for line in told[0].splitlines():
             first, *words = line.split()

@@ -264,7 +264,7 @@ class Desk(Nodes):
 
     def withheld(self, pod: Pod, wait: Wait, why: tuple[str, ...]) -> None:
         """It is none to place, as it was told."""
-        pod.is_told = False
+        pod.is_known = pod.is_told = False
         self.waiting.drop(pod, time.monotonic())
         self.labels.give_back(pod.uid)
         self.leave_alone(pod, wait.heard, why)
