@@ -4,22 +4,18 @@ ghost use Rattle.command.specs.Count.{most_of, name_of, number_for, unless_told}
 
 use crate::plugin_words::number_up_to;
 use quant::MAX_WORKERS;
-use thiserror::Error;
 
 /// The most threads that run cycles in a storm, and the most that bind. The least is 1.
 pub const MAX_STORM_THREADS: usize = 8;
 
 /// A number that an option asks for, with its letter in the usage.
-#[derive(Clone, Copy, Debug, Error)]
+#[derive(Clone, Copy)]
 pub enum Count {
     /// How many workers share each decision of a run.
-    #[error("N")]
     Workers,
     /// How many threads run cycles in a storm.
-    #[error("C")]
     Cycles,
     /// How many threads bind pods in a storm.
-    #[error("B")]
     Binders,
 }
 

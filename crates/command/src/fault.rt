@@ -2,16 +2,12 @@
 ghost use Rattle.std.specs.Prelude.{◌≡◌};
 ghost use Rattle.command.specs.Fault.{number_of, name_of};
 
-use thiserror::Error;
-
 /// Why the program's words were refused.
-#[derive(Clone, Copy, Debug, Error)]
+#[derive(Clone, Copy)]
 pub enum WordFault {
     /// The words ask for nothing that the program does.
-    #[error("{} {}", self.number(), self.name())]
     BadWords,
     /// No memory was left to read them.
-    #[error("{} {}", self.number(), self.name())]
     NoMemory,
 }
 

@@ -7,49 +7,38 @@ use crate::plugin_words::{cut, digits_up_to};
 use crate::verb::{Verb, Wanted};
 use quant::{MAX_FUEL, MAX_WEIGHT, Name};
 use std::convert::AsStr;
-use thiserror::Error;
 
 /// The parts of a plugin, as a word spells it: `NAME:WEIGHT:FUEL:FILE`.
-#[derive(Clone, Copy, Debug, Error)]
+#[derive(Clone, Copy)]
 pub enum Part {
     /// The word lacks one of its three colons.
-    #[error("SPEC")]
     Spec,
     /// The name is none.
-    #[error("NAME")]
     Name,
     /// The weight is no number from 1 to 10.
-    #[error("WEIGHT")]
     Weight,
     /// The fuel is no number from 1 to 10^9.
-    #[error("FUEL")]
     Fuel,
 }
 
 /// What is wrong with words that ask for nothing. Words are counted from 1, and the program's name
 /// isn't one.
-#[derive(Clone, Copy, Debug, Error)]
+#[derive(Clone, Copy)]
 pub enum Misuse {
     /// The first word is no command, or there is none.
-    #[error(" COMMAND")]
     Command,
     /// The word of this number is none for this option, or it is the option and the last word.
-    #[error(" {0} of word {1}")]
     Number(Count, usize),
     /// This part of the word of this number isn't that of a plugin.
-    #[error(" {0} of word {1}")]
     Plugin(Part, usize),
     /// The word of this number is no scheduler's name, where one belongs, or it is the option for
     /// one and the last word.
-    #[error(" NAME of word {0}")]
     Scheduler(usize),
     /// The word of this number is no option, and nothing else belongs there.
-    #[error(" OPTION of word {0}")]
     Unknown(usize),
     /// Each word may stand where it does, but not all: an option or a name comes twice, there are
     /// more than 16 plugins, or `check` has another number of words than one, or `version` one at
     /// all.
-    #[error("")]
     Together,
 }
 

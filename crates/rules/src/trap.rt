@@ -5,7 +5,7 @@ use thiserror::Error;
 
 /// Why a rule is cut off, where it is a module's function (WebAssembly Core 1.0, 4.4, where an
 /// instruction "traps").
-#[derive(Clone, Copy, PartialEq, Eq, Debug, Error)]
+#[derive(Clone, Copy, Debug, Error)]
 pub enum Trap {
     #[error("{}", self.name())]
     Unreachable = 1,

@@ -6,7 +6,7 @@ ghost use Rattle.wbody.specs.Fault.{number_of, name_of};
 use thiserror::Error;
 
 /// What is wrong with a module that the bytes spell.
-#[derive(Clone, Copy, PartialEq, Eq, Debug, Error)]
+#[derive(Clone, Copy, Debug, Error)]
 pub enum TypeFault {
     /// A body without a typing, with the index of its function, or else a rule of the module that
     /// is broken. An index counts the imported functions first; `type_body` tells that among the

@@ -6,7 +6,7 @@ use thiserror::Error;
 use wmach::Trap;
 
 /// What keeps an accepted module from being made an instance.
-#[derive(Clone, Copy, PartialEq, Eq, Debug, Error)]
+#[derive(Clone, Copy, Debug, Error)]
 pub enum InstanceFault {
     /// A data segment passes the end of the memory. All element segments are in bounds.
     #[error("{} {}", self.number(), self.name())]

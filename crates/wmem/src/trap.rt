@@ -1,18 +1,14 @@
 //! The traps of accesses to a memory.
 ghost use Rattle.std.specs.Prelude.{◌≡◌};
 
-use thiserror::Error;
-
 /// Why an access to a memory isn't made. Each trap keeps the number that it has in the list of all
 /// traps.
-#[derive(Clone, Copy, Debug, PartialEq, Eq, Error)]
+#[derive(Clone, Copy)]
 pub enum Trap {
     /// A load or a store that would pass the memory's end.
-    #[error("MemoryOutOfBounds")]
     MemoryOutOfBounds = 4,
 
     /// Bytes handed in by the host that would pass the memory's end.
-    #[error("HostOutOfBounds")]
     HostOutOfBounds = 9,
 }
 

@@ -1,18 +1,14 @@
 //! The traps of integer operations.
 ghost use Rattle.std.specs.Prelude.{◌≡◌};
 
-use thiserror::Error;
-
 /// Why an integer operation has no result. Each trap keeps the number that it has in the list of
 /// all traps.
-#[derive(Clone, Copy, Debug, PartialEq, Eq, Error)]
+#[derive(Clone, Copy)]
 pub enum Trap {
     /// A division or a remainder by zero.
-    #[error("{}", Trap::DivideByZero.name())]
     DivideByZero = 2,
 
     /// A signed quotient of 2^(N-1), the one quotient that N bits do not hold.
-    #[error("{}", Trap::IntegerOverflow.name())]
     IntegerOverflow = 3,
 }
 
