@@ -15,7 +15,7 @@ pub enum InstanceFault {
     #[error("{} {}", self.number(), self.name())]
     ElementOutOfBounds,
     /// The start function is cut off.
-    #[error("{} {} {}", self.number(), self.name(), .0)]
+    #[error("{} {} {}", self.number(), self.name(), .0.name())]
     StartTrap(Trap),
     /// The start function needs more fuel.
     #[error("{} {}", self.number(), self.name())]
