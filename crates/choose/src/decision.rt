@@ -22,7 +22,7 @@ pub enum Reason {
 }
 
 /// What is decided of a node.
-#[derive(Clone, Copy, PartialEq, Eq)]
+#[derive(Clone, Copy)]
 pub enum Verdict {
     /// A built-in filter rejects it.
     Rejected(Reason),
@@ -41,7 +41,7 @@ pub enum Verdict {
 pub const UNJUDGED: Verdict = Verdict::Rejected(Reason::Marked);
 
 /// How many nodes were rejected for each first reason.
-#[derive(Clone, Copy, PartialEq, Eq)]
+#[derive(Clone, Copy)]
 pub struct Counts {
     pub marked: usize,
     pub taint: usize,

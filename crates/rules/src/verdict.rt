@@ -2,7 +2,7 @@
 use crate::trap::Trap;
 
 /// Why a rule keeps a pod off a node (the names of the Kubernetes page "Scheduling Framework").
-#[derive(Clone, Copy, PartialEq, Eq)]
+#[derive(Clone, Copy)]
 pub enum Rejection {
     /// The pod may not stand here now.
     Unschedulable,
@@ -11,7 +11,7 @@ pub enum Rejection {
 }
 
 /// Why a rule says nothing of the node.
-#[derive(Clone, Copy, PartialEq, Eq, Debug)]
+#[derive(Clone, Copy)]
 pub enum Cause {
     /// Its filter answered this number, which is no code.
     Code(i32),

@@ -11,7 +11,7 @@ use quant::{Effect, Node, Operator, Pod, Taint, Toleration};
 pub const UNSCHEDULABLE: &str = "node.kubernetes.io/unschedulable";
 
 /// Why a node's marks keep off a pod.
-#[derive(Clone, Copy, PartialEq, Eq)]
+#[derive(Clone, Copy)]
 pub enum Rejection {
     /// The node is marked unschedulable, and the pod does not tolerate that.
     Marked,
