@@ -6,6 +6,7 @@ anew. Of each object only what is read of it is kept. While a kind isn't heard o
 """
 from __future__ import annotations
 
+import collections
 import json
 import logging
 import os
@@ -70,7 +71,7 @@ class Ears:
         """A list is asked for next."""
 
     def items(self, items: Iterable[Item]) -> None:
-        """A page of it, each of which is taken."""
+        """A page of it."""
 
     def ends(self) -> None:
         """It was whole."""
@@ -184,7 +185,10 @@ class Watched:
         while True:
             answer = self.call(limit=PAGE, _continue=more, _preload_content=False, _request_timeout=(5, 60), **self.only)
             page = Page(answer.data)
-            self.ears.items(page.items())
+            items = page.items()
+            self.ears.items(items)
+            # (what is left of it is read, and so what stands behind it)
+            collections.deque(items, maxlen=0)
             more = page.meta.get("continue")
             if not more:
                 self.ears.ends()
