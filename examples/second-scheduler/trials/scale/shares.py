@@ -17,12 +17,12 @@ import sys, time
 sys.path.insert(0, {folder!r})
 sys.argv = sys.argv[1:]
 import second_scheduler
-from state import share
+from state import turns
 class Shifted:
     @staticmethod
     def time():
         return time.time() + {seconds}
-share.time = Shifted
+turns.time = Shifted
 second_scheduler.main()
 """
 
@@ -128,7 +128,7 @@ def share_clocks(site: Site) -> str:
     for index in (1, 2):
         for name in names_of(index, 2, 4):
             site.node(name, cpu="4", pods=110)
-    site.server.bind_takes = 0.3
+    site.server.bind_takes = 0.02
     code = SHIFTED.format(folder=str(site.programs.client), seconds=PERIOD)
     site.start("--share", "1/2", *site.listening(), name="right")
     site.start("--share", "2/2", name="ahead", words=[sys.executable, "-c", code, "second_scheduler.py"])
