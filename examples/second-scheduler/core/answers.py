@@ -242,6 +242,8 @@ class Taken(enum.Enum):
     """How what isn't a bind was taken."""
 
     TOLD = "told"
+    # (a pod that isn't to be placed was taken)
+    WITHHELD = "withheld"
     OLD = "old"
     NOTHING = "nothing"
     FULL = "full"
@@ -261,7 +263,8 @@ TAKEN = {it.value: it for it in Taken}
 
 
 def taken(line: str) -> Taken | Faulty:
-    if found := TAKEN.get(line):
+    # (behind the word stands what of an object isn't told)
+    if found := TAKEN.get(line.partition(" [")[0]):
         return found
     if not line.startswith(FAULTY):
         raise ValueError(line)

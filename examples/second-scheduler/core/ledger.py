@@ -154,7 +154,7 @@ class Ledger:
         self.kill()
 
     def is_told(self, answer: Taken | Faulty) -> None:
-        if answer not in (Taken.TOLD, Taken.OLD, Taken.NOTHING, Taken.LEFT_OUT):
+        if answer not in (Taken.TOLD, Taken.WITHHELD, Taken.OLD, Taken.NOTHING, Taken.LEFT_OUT):
             LOG.error("the ledger answers an order by: %s", answer)
 
     # Binds.
