@@ -7,30 +7,41 @@ use Rattle.std.specs.Io.KnownBytes.{Appends, Consumes, IsAtEnd, prepend_known}
 use Rattle.streams.specs.inside.Device.{WritesSome}
 use Rattle.streams.specs.Lines.{lines_of, TakesFront}
 use Rattle.streams.proofs.Taking.{lines_of-nil}
+use Rattle.objects.specs.Heard.{value_in}
 use Rattle.objects.specs.Site.{Site}
 use Rattle.live_desk.specs.State.{Live}
 use Rattle.live.specs.Live.{AreAnswered, IsAnswered, IsBegun, IsWhole, Manner, first_state, together}
-use Rattle.live.specs.Meaning.{meaning}
+use Rattle.live.specs.Meaning.{meaning, of_value, reasons, reasons_of}
 use Rattle.live.specs.inside.Live.{IsLineAnswered}
 
--- what is kept of a line means what the line means
-pub meaning-kept : (site : Site) (text : List ℕ) → meaning site (take 2097153 text) ≡ meaning site text
-unfolding meaning
-meaning-kept site text = ⊎_elim
+-- what is kept of a line has the line's value
+value-kept : (text : List ℕ) → value_in (take 2097153 text) ≡ value_in text
+unfolding value_in
+value-kept text = ⊎_elim
     (λ long.
     let short_of : leb (length (take 2097153 text)) 2097152 ≡ false = lt-leb (length (take 2097153 text)) 2097152 (omega (arith, length-take 2097153 text)) in
     let too_long : leb (length text) 2097152 ≡ false = lt-leb (length text) 2097152 (omega arith) in
     rw (short_of, too_long) refl)
-    (λ short. ap (meaning site) (take_all 2097153 text short))
+    (λ short. ap value_in (take_all 2097153 text short))
     (cases_lt 2097153 (length text))
+
+-- and means what the line means
+pub meaning-kept : (site : Site) (text : List ℕ) → meaning site (take 2097153 text) ≡ meaning site text
+unfolding meaning
+meaning-kept site text = ap (of_value site) (value-kept text)
+
+-- and as much is left out of it
+pub reasons-kept : (site : Site) (text : List ℕ) → reasons site (take 2097153 text) ≡ reasons site text
+unfolding reasons
+reasons-kept site text = ap (reasons_of site) (value-kept text)
 
 -- ---- answers
 
 -- one line more has its answer
 one_more : (m : Manner) (s : Live) (lines : List (List ℕ)) (line : List ℕ) (texts : List (List ℕ)) (text : List ℕ) (state next : Live)
-    → AreAnswered m s lines texts state → IsAnswered m (meaning m.site line) state text next
+    → AreAnswered m s lines texts state → IsAnswered m (meaning m.site line) (reasons m.site line) state text next
     → AreAnswered m s (lines ++ line ∷ []) (texts ++ text ∷ []) next
-one_more m s [] line [] text state next are answered = (next, subst (λ s. IsAnswered m (meaning m.site line) s text next) (sym are) answered, refl)
+one_more m s [] line [] text state next are answered = (next, subst (λ s. IsAnswered m (meaning m.site line) (reasons m.site line) s text next) (sym are) answered, refl)
 one_more m s [] line (t ∷ ts) text state next are answered = absurd are
 one_more m s (l ∷ lines) line [] text state next are answered = absurd are
 one_more m s (l ∷ lines) line (t ∷ ts) text state next (behind, first, later) answered =
@@ -115,7 +126,10 @@ module _ (m : Manner) where
   known_answered (Some input) (Some rest) (Some later) written line waited waits old new took answered so_far =
       let text = took.0 in
       let means : meaning m.site line ≡ meaning m.site text = ap (meaning m.site) took.1 ∙ meaning-kept m.site text in
-      let said : IsAnswered m (meaning m.site text) old answered.text new = subst (λ what. IsAnswered m what old answered.text new) means answered.answered in
+      let why : reasons m.site line ≡ reasons m.site text = ap (reasons m.site) took.1 ∙ reasons-kept m.site text in
+      let said : IsAnswered m (meaning m.site text) (reasons m.site text) old answered.text new =
+      subst (λ x. IsAnswered m x (reasons m.site text) old answered.text new) means
+      (subst (λ x. IsAnswered m (meaning m.site line) x old answered.text new) why answered.answered) in
       record {
         lines = so_far.lines ++ text ∷ [];
         cut = so_far.cut ∙ (ap (λ l. so_far.lines ++ l) took.2 ∙ sym (append_assoc so_far.lines (text ∷ []) (lines_of later)));

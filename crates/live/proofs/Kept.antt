@@ -1,7 +1,7 @@
 -- All lines that were answered are one history.
 use Rattle.std.proofs.Common.{◌≡◌, ℕ, List, [], ◌∷◌, ◌++◌, sym, subst, refl}
 use Rattle.rules.specs.RuleSet.{RuleSet}
-use Rattle.desk.specs.declared.step.Step.TheVariants.{Tick}
+use Rattle.desk.specs.declared.step.Step.TheVariants.{Count, Tick}
 use Rattle.ledger.specs.Laws.{Follows, Line}
 use Rattle.ledger.specs.State.{State}
 use Rattle.ledger.proofs.Counting.{always_once}
@@ -10,19 +10,21 @@ use Rattle.live_desk.proofs.History.{Goes, only_desk, pending_goes, taken_goes, 
 use Rattle.live_desk.proofs.OnlyDesk.{OnlyDesk, a_step, an_aside}
 use Rattle.live.specs.Laws.{LinesAreKept}
 use Rattle.live.specs.Live.{AreAnswered, IsAnswered, Manner, first_state, manner}
-use Rattle.live.specs.Meaning.{meaning}
+use Rattle.live.specs.Meaning.{meaning, reasons}
 use Rattle.live.specs.declared.meaning.Meaning.{Meaning}
 use Rattle.live.specs.declared.meaning.Meaning.TheVariants as means
 
 -- what one line tells the ledger, and that each node of the desk keeps its name
-pub answered_goes : (m : Manner) (what : Meaning) (s next : Live) (text : List ℕ) → IsAnswered m what s text next → Goes s next
-answered_goes m (means.Tells event) s next text (answer, taken, spelled) = taken_goes s next event answer taken
-answered_goes m (means.Pending version pod) s next text (taken, is, spelled) = pending_goes s next version pod taken is
-answered_goes m (means.Aside uid) s next text (spelled, is) = only_desk s next (subst (λ x. OnlyDesk s x) (sym is) (an_aside s uid))
-answered_goes m (means.Tick now) s next text (spelled, is) = only_desk s next (subst (λ x. OnlyDesk s x) (sym is) (a_step s (Tick now)))
-answered_goes m means.Cycle s next text (turn, is, spelled) = turn_goes m.rules s next turn is
-answered_goes m means.Nothing s next text (spelled, is) = the_same s next is
-answered_goes m (means.Faulty field) s next text (spelled, is) = the_same s next is
+pub answered_goes : (m : Manner) (what : Meaning) (reasons : List ℕ) (s next : Live) (text : List ℕ) → IsAnswered m what reasons s text next → Goes s next
+answered_goes m (means.Tells event) reasons s next text (answer, taken, spelled) = taken_goes s next event answer taken
+answered_goes m (means.Pending version pod) reasons s next text (taken, is, spelled) = pending_goes s next version pod taken is
+answered_goes m (means.Aside uid) reasons s next text (spelled, is) = only_desk s next (subst (λ x. OnlyDesk s x) (sym is) (an_aside s uid))
+answered_goes m (means.Tick now) reasons s next text (spelled, is) = only_desk s next (subst (λ x. OnlyDesk s x) (sym is) (a_step s (Tick now)))
+answered_goes m means.Cycle reasons s next text (turn, is, spelled) = turn_goes m.rules s next turn is
+answered_goes m (means.Explain uid) reasons s next text (told, is) = the_same s next is
+answered_goes m means.Dump reasons s next text (spelled, is) = only_desk s next (subst (λ x. OnlyDesk s x) (sym is) (a_step s Count))
+answered_goes m means.Nothing reasons s next text (spelled, is) = the_same s next is
+answered_goes m (means.Faulty field) reasons s next text (spelled, is) = the_same s next is
 
 -- one history behind another
 both : (a b c : State) (first second : List Line) → Follows a first b → Follows b second c → Follows a (first ++ second) c
@@ -35,7 +37,7 @@ told_in m s [] [] state are = ([], subst (λ x. s.ledger ≡ x.ledger) are refl)
 told_in m s [] (text ∷ texts) state are = absurd are
 told_in m s (line ∷ lines) [] state are = absurd are
 told_in m s (line ∷ lines) (text ∷ texts) state (next, answered, later) =
-    let here = answered_goes m (meaning m.site line) s next text answered in
+    let here = answered_goes m (meaning m.site line) (reasons m.site line) s next text answered in
     let behind = told_in m next lines texts state later in
     (here.lines ++ behind.0, both s.ledger next.ledger state.ledger here.lines behind.0 here.follows behind.1)
 

@@ -1,7 +1,7 @@
 -- A moment that a line tells is one that clocks have.
-use Rattle.std.proofs.Common.{◌≡◌, ℕ, ◌≤◌, Bool, true, false, List, Option, Some, None, Result, Ok, Err, codes, cond, length, refl, sym, subst}
+use Rattle.std.proofs.Common.{◌≡◌, ℕ, Bool, true, false, List, Option, Some, None, Result, Ok, Err, codes, cond, refl}
 use Rattle.std.proofs.lemmas.Bool.{leb-true}
-use Rattle.std.specs.Prelude.{⊤, nat_le}
+use Rattle.std.specs.Prelude.{nat_le}
 use Rattle.std.specs.Str.{bytes_eq}
 use Rattle.std.specs.Prelude.{option_and_then}
 use Rattle.serde_json.specs.Data.{Data}
@@ -12,24 +12,19 @@ use Rattle.quant.specs.declared.limits.TheConstants.{LATEST_MOMENT}
 use Rattle.quant.specs.declared.name.Name.{Name}
 use Rattle.objects.specs.declared.heard.Heard.{Heard}
 use Rattle.objects.specs.declared.heard.Heard.TheVariants as heard_as
-use Rattle.objects.specs.declared.translation.TheConstants.{MAX_OBJECT}
-use Rattle.objects.specs.Heard.{heard}
+use Rattle.objects.specs.declared.heard.NoValue.{NoValue}
+use Rattle.objects.specs.declared.heard.NoValue.TheVariants as no_values
+use Rattle.objects.specs.Heard.{heard, value_in}
 use Rattle.objects.specs.Site.{Site}
-use Rattle.objects.specs.Told.{is_blank, parsed}
 use Rattle.ledger.specs.declared.event.Event.{Event}
-use Rattle.ledger.specs.declared.event.Event.TheVariants.{Unread}
 use Rattle.live.specs.declared.field.Field.{Field}
 use Rattle.live.specs.declared.field.Field.TheVariants as fields
 use Rattle.live.specs.declared.meaning.Meaning.{Meaning}
-use Rattle.live.specs.declared.meaning.Meaning.TheVariants.{Tells, Tick}
-use Rattle.live.specs.Meaning.{is_order, meaning, of_aside, of_moment, of_object, of_op, of_order, of_text, of_value}
+use Rattle.live.specs.declared.meaning.Meaning.TheVariants.{Tick}
+use Rattle.live.specs.Meaning.{is_order, meaning, of_aside, of_explain, of_moment, of_object, of_op, of_order, of_value}
 use Rattle.live.specs.Field.{key}
+use Rattle.live.specs.inside.Timely.{IsTimely}
 use Rattle.live.specs.Order.{a_moment, a_natural, moment_at, order, text_at, uid_at}
-
--- what a line means is timely
-abbrev pub IsTimely : Meaning → Type 0
-IsTimely (Tick now) = now.0 ≤ LATEST_MOMENT
-IsTimely _ = ⊤
 
 either : (b : Bool) (x y : Meaning) → IsTimely x → IsTimely y → IsTimely (cond b x y)
 either true x y a b = a
@@ -57,11 +52,17 @@ an_aside : (read : Result Name Field) → IsTimely (of_aside read)
 an_aside (Ok uid) = tt
 an_aside (Err field) = tt
 
+an_explain : (read : Result Name Field) → IsTimely (of_explain read)
+an_explain (Ok uid) = tt
+an_explain (Err field) = tt
+
 an_op : (site : Site) (json : Data) (op : Result (List ℕ) Field) → IsTimely (of_op site json op)
 an_op site json (Ok op) =
     either (bytes_eq op (codes "cycle")) _ _ tt
     (either (bytes_eq op (codes "tick")) _ _ (told_moment json)
-    (either (bytes_eq op (codes "aside")) _ _ (an_aside (uid_at json)) (an_order (order site json op))))
+    (either (bytes_eq op (codes "aside")) _ _ (an_aside (uid_at json))
+    (either (bytes_eq op (codes "explain")) _ _ (an_explain (uid_at json))
+    (either (bytes_eq op (codes "dump")) _ _ tt (an_order (order site json op))))))
 an_op site json (Err field) = tt
 
 -- ---- a line
@@ -76,17 +77,12 @@ an_object (heard_as.Withheld version uid) = tt
 an_object heard_as.Nothing = tt
 an_object heard_as.Unread = tt
 
-a_value : (site : Site) (json : Option Data) → IsTimely (of_value site json)
-a_value site None = tt
-a_value site (Some json) = either (is_order json) _ _ (an_op site json (text_at fields.Op json)) (an_object (heard site json))
-
-a_text : (site : Site) (line : List ℕ) → IsTimely (of_text site line)
-a_text site line = either (is_blank line) _ _ tt (a_value site (parsed line))
+a_value : (site : Site) (value : Result Data NoValue) → IsTimely (of_value site value)
+a_value site (Ok json) = either (is_order json) _ _ (an_op site json (text_at fields.Op json)) (an_object (heard site json))
+a_value site (Err no_values.LongLine) = tt
+a_value site (Err no_values.Blank) = tt
+a_value site (Err no_values.NotJson) = tt
 
 pub timely : (site : Site) (line : List ℕ) → IsTimely (meaning site line)
 unfolding meaning
-timely site line = either (nat_le (length line) MAX_OBJECT) (of_text site line) (Tells Unread) (a_text site line) tt
-
--- a tick among them
-pub a_tick : (site : Site) (line : List ℕ) (now : Moment) → Tick now ≡ meaning site line → now.0 ≤ LATEST_MOMENT
-a_tick site line now is = subst IsTimely (sym is) (timely site line)
+timely site line = a_value site (value_in line)

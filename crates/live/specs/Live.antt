@@ -1,5 +1,5 @@
--- What is answered to the lines that tell of a cluster, one answer a line.
-use Rattle.std.specs.Prelude.{◌≡◌, ◌≢◌, ◌⊎◌, ◌<◌, ℕ, List, [], ◌∷◌, ◌++◌, Some, IfSome}
+-- What is answered to the lines that tell of a cluster.
+use Rattle.std.specs.Prelude.{◌≡◌, ◌≢◌, ◌⊎◌, ◌<◌, ℕ, List, [], ◌∷◌, ◌++◌, Option, None, Some, IfSome}
 use Rattle.std.specs.Io.KnownBytes.{Appends}
 use Rattle.streams.specs.Greatest.{limits}
 use Rattle.streams.specs.Device.{DeviceUse}
@@ -9,12 +9,18 @@ use Rattle.fault_line.specs.declared.fault.Fault.{Fault}
 use Rattle.fault_line.specs.declared.fault.Fault.TheVariants.{Run}
 use Rattle.fault_line.specs.Message.{Tells, message_of}
 use Rattle.objects.specs.Site.{Site}
+use Rattle.quant.specs.declared.name.Name.{Name}
+use Rattle.quant.specs.declared.objects.Pod.{Pod}
 use Rattle.rules.specs.RuleSet.{RuleSet}
+use Rattle.choose.specs.Choice.{AreVerdicts}
+use Rattle.choose.specs.declared.decision.Verdict.{Verdict}
 use Rattle.desk.specs.Machine as machine
+use Rattle.desk.specs.Machine.{snapshot}
 use Rattle.desk.specs.declared.step.Step.TheVariants as steps_of
 use Rattle.output_lines.specs.declared.named_rule.NamedRule.{NamedRule}
 use Rattle.ledger.specs.declared.event.Answer.{Answer}
-use Rattle.live_desk.specs.State.{Live, opening, steps}
+use Rattle.ledger.specs.declared.event.Answer.TheVariants.{NotWaiting}
+use Rattle.live_desk.specs.State.{Live, opening, steps, to_place}
 use Rattle.live_desk.specs.Telling.{IsPending, IsTaken, put_aside}
 use Rattle.live_desk.specs.Turns.{IsTurn}
 use Rattle.live_desk.specs.declared.live_desk.Taken.{Taken}
@@ -22,8 +28,8 @@ use Rattle.live_desk.specs.declared.turn.Turn.{Turn}
 use Rattle.live.specs.declared.live_run.TheConstants.{MAX_KNOWN}
 use Rattle.live.specs.declared.meaning.Meaning.{Meaning}
 use Rattle.live.specs.declared.meaning.Meaning.TheVariants as means
-use Rattle.live.specs.Answer.{answer_text, aside_text, faulty_text, nothing_text, taken_text, tick_text, turn_text}
-use Rattle.live.specs.Meaning.{meaning}
+use Rattle.live.specs.Answer.{answer_text, aside_text, dump_text, explained_text, faulty_text, nothing_text, taken_text, told_text, tick_text, turn_text}
+use Rattle.live.specs.Meaning.{meaning, reasons}
 
 -- what answers go by: what of an object is read, and the rules, with their names as they are told
 pub record Manner : Type 1 where
@@ -36,21 +42,33 @@ manner site rules named = record { site = site; rules = rules; named = named }
 
 -- ---- answers
 
--- what is answered to a line of this meaning, and what is known behind it
-abbrev pub IsAnswered : Manner → Meaning → Live → (text : List ℕ) → Live → Type 0
-IsAnswered m (means.Tells event) s text after = (answer : Answer) × IsTaken s event answer after × (text ≡ answer_text answer)
-IsAnswered m (means.Pending version pod) s text after = (taken : Taken) × IsPending s version pod taken after × (text ≡ taken_text taken)
-IsAnswered m (means.Aside uid) s text after = (text ≡ aside_text (put_aside s uid).was_there) × (after ≡ (put_aside s uid).state)
-IsAnswered m (means.Tick now) s text after = (text ≡ tick_text (machine.reply s.desk 0 (steps_of.Tick now))) × (after ≡ steps s (steps_of.Tick now))
-IsAnswered m means.Cycle s text after = (turn : Turn) × IsTurn m.rules s turn after × (text ≡ turn_text m.named turn)
-IsAnswered m means.Nothing s text after = (text ≡ nothing_text) × (after ≡ s)
-IsAnswered m (means.Faulty field) s text after = (text ≡ faulty_text field) × (after ≡ s)
+-- what is answered of the nodes: of a pod to place the verdict on each, as the desk knows it now, by
+-- which it would be decided of the pod now; any other pod doesn't wait
+abbrev pub IsExplained : RuleSet → List NamedRule → Live → (uid : Name) → Option Pod → (text : List ℕ) → Type 0
+IsExplained rules named s uid None text = text ≡ answer_text NotWaiting
+IsExplained rules named s uid (Some pod) text =
+    (verdicts : List Verdict) × AreVerdicts rules pod (snapshot s.desk.cluster) verdicts
+    × (text ≡ explained_text named pod uid (snapshot s.desk.cluster) verdicts)
+
+-- what is answered to a line of this meaning, where this stands behind the word that answers an
+-- object, and what is known behind it
+abbrev pub IsAnswered : Manner → Meaning → (reasons : List ℕ) → Live → (text : List ℕ) → Live → Type 0
+IsAnswered m (means.Tells event) reasons s text after = (answer : Answer) × IsTaken s event answer after × (text ≡ told_text event answer reasons)
+IsAnswered m (means.Pending version pod) reasons s text after = (taken : Taken) × IsPending s version pod taken after × (text ≡ taken_text taken reasons)
+IsAnswered m (means.Aside uid) reasons s text after = (text ≡ aside_text (put_aside s uid).was_there) × (after ≡ (put_aside s uid).state)
+IsAnswered m (means.Tick now) reasons s text after = (text ≡ tick_text (machine.reply s.desk 0 (steps_of.Tick now))) × (after ≡ steps s (steps_of.Tick now))
+IsAnswered m means.Cycle reasons s text after = (turn : Turn) × IsTurn m.rules s turn after × (text ≡ turn_text m.named turn)
+IsAnswered m (means.Explain uid) reasons s text after = IsExplained m.rules m.named s uid (to_place s uid) text × (after ≡ s)
+IsAnswered m means.Dump reasons s text after =
+    (text ≡ dump_text (snapshot s.desk.cluster) (machine.reply s.desk 0 steps_of.Count)) × (after ≡ steps s steps_of.Count)
+IsAnswered m means.Nothing reasons s text after = (text ≡ nothing_text reasons) × (after ≡ s)
+IsAnswered m (means.Faulty field) reasons s text after = (text ≡ faulty_text field) × (after ≡ s)
 
 -- each line has its answer, and that is known behind them
 abbrev pub AreAnswered : Manner → Live → (lines texts : List (List ℕ)) → Live → Type 0
 AreAnswered m s [] [] after = s ≡ after
 AreAnswered m s (line ∷ lines) (text ∷ texts) after =
-    (next : Live) × IsAnswered m (meaning m.site line) s text next × AreAnswered m next lines texts after
+    (next : Live) × IsAnswered m (meaning m.site line) (reasons m.site line) s text next × AreAnswered m next lines texts after
 AreAnswered m s _ _ after = ⊥
 
 -- texts, one behind the other

@@ -1,5 +1,5 @@
 -- What a line tells of a cluster, or asks.
-use Rattle.std.specs.Prelude.{ℕ, Bool, List, codes, bytes_eq, length, nat_le, Option, Some, None, Result, Ok, Err, is_some, if◌then◌else◌}
+use Rattle.std.specs.Prelude.{ℕ, ◌==◌, Bool, List, [], ◌++◌, length, codes, bytes_eq, Result, Ok, Err, is_some, if◌then◌else◌}
 use Rattle.serde_json.specs.Data.{Data}
 use Rattle.serde_json.specs.Find.{get}
 use Rattle.quant.specs.declared.amount.Moment.{Moment as At}
@@ -7,16 +7,15 @@ use Rattle.quant.specs.declared.event.Event.TheVariants.{NodeSet, NodeGone as Ro
 use Rattle.quant.specs.declared.name.Name.{Name}
 use Rattle.objects.specs.declared.heard.Heard.{Heard}
 use Rattle.objects.specs.declared.heard.Heard.TheVariants as heard_as
-use Rattle.objects.specs.declared.translation.TheConstants.{MAX_OBJECT}
-use Rattle.objects.specs.Heard.{heard}
+use Rattle.objects.specs.declared.heard.NoValue.{NoValue}
+use Rattle.objects.specs.Heard.{heard, hearing, names_of, none_heard, value_in}
 use Rattle.objects.specs.Site.{Site}
-use Rattle.objects.specs.Told.{is_blank, parsed}
 use Rattle.ledger.specs.declared.event.Event.{Event}
 use Rattle.ledger.specs.declared.event.Event.TheVariants.{Node, NodeGone, Withheld, Stands, Unread, Gone}
 use Rattle.live.specs.declared.field.Field.{Field}
 use Rattle.live.specs.declared.field.Field.TheVariants as fields
 use Rattle.live.specs.declared.meaning.Meaning.{Meaning}
-use Rattle.live.specs.declared.meaning.Meaning.TheVariants.{Tells, Pending, Aside, Tick, Cycle, Nothing, Faulty}
+use Rattle.live.specs.declared.meaning.Meaning.TheVariants.{Tells, Pending, Aside, Tick, Cycle, Explain, Dump, Nothing, Faulty}
 use Rattle.live.specs.Field.{key}
 use Rattle.live.specs.Order.{moment_at, order, text_at, uid_at}
 
@@ -33,12 +32,18 @@ abbrev pub of_aside : Result Name Field → Meaning
 of_aside (Ok uid) = Aside uid
 of_aside (Err field) = Faulty field
 
+abbrev pub of_explain : Result Name Field → Meaning
+of_explain (Ok uid) = Explain uid
+of_explain (Err field) = Faulty field
+
 -- by its word
 abbrev pub of_op : Site → Data → Result (List ℕ) Field → Meaning
 of_op site json (Ok op) =
     if bytes_eq op (codes "cycle") then Cycle
     else if bytes_eq op (codes "tick") then of_moment (moment_at json)
     else if bytes_eq op (codes "aside") then of_aside (uid_at json)
+    else if bytes_eq op (codes "explain") then of_explain (uid_at json)
+    else if bytes_eq op (codes "dump") then Dump
     else of_order (order site json op)
 of_op site json (Err field) = Faulty field
 
@@ -57,13 +62,24 @@ of_object heard_as.Unread = Tells Unread
 unfoldable pub is_order : Data → Bool
 is_order json = is_some (get (key fields.Op) json)
 
-abbrev pub of_value : Site → Option Data → Meaning
-of_value site None = Tells Unread
-of_value site (Some json) = if is_order json then of_op site json (text_at fields.Op json) else of_object (heard site json)
-
--- what is no JSON, or too long, may be a pod on a node
-abbrev pub of_text : Site → (line : List ℕ) → Meaning
-of_text site line = if is_blank line then Nothing else of_value site (parsed line)
+-- (a line without a value is none, or may be a pod on a node)
+abbrev pub of_value : Site → Result Data NoValue → Meaning
+of_value site (Ok json) = if is_order json then of_op site json (text_at fields.Op json) else of_object (heard site json)
+of_value site (Err why) = of_object (none_heard why).heard
 
 unfoldable pub meaning : Site → (line : List ℕ) → Meaning
-meaning site line = if nat_le (length line) MAX_OBJECT then of_text site line else Tells Unread
+meaning site line = of_value site (value_in line)
+
+-- ---- what of an object isn't told
+
+-- what stands behind the word that answers it, where this is left out: items of an array of JSON
+abbrev pub behind : (names : List ℕ) → List ℕ
+behind names = if length names == 0 then [] else codes " [" ++ names ++ codes "]"
+
+-- of an order nothing
+abbrev pub reasons_of : Site → Result Data NoValue → List ℕ
+reasons_of site (Ok json) = if is_order json then [] else behind (names_of (hearing site json))
+reasons_of site (Err why) = behind (names_of (none_heard why))
+
+unfoldable pub reasons : Site → (line : List ℕ) → List ℕ
+reasons site line = reasons_of site (value_in line)

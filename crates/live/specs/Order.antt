@@ -171,6 +171,6 @@ a_moment (Some n) = if nat_le n LATEST_MOMENT then Ok (record { 0 = n }) else Er
 unfoldable pub moment_at : Data → Result Moment Field
 moment_at json = a_moment (option_and_then a_natural (get (key fields.At) json))
 
--- which pod is put aside
+-- which pod is put aside, or explained
 unfoldable pub uid_at : Data → Result Name Field
 uid_at json = name_at fields.Uid json

@@ -1,17 +1,19 @@
 //! The texts that answer lines.
-ghost use Rattle.std.specs.Prelude.{◌≡◌, ◌++◌, [], IfOk, OnOk, codes, decimal};
+ghost use Rattle.std.specs.Prelude.{◌≡◌, ◌++◌, [], IfOk, OnOk, codes, decimal, length, map};
+ghost use Rattle.desk.specs.Shown.{shown};
 ghost use Rattle.output_lines.specs.Text.{cycle_line};
 ghost use Rattle.live_desk.specs.declared.turn.Turn.TheVariants as turns;
-ghost use Rattle.live.specs.Answer.{answer_text, aside_text, faulty_text, nothing_text, taken_text, tick_text, turn_text};
+ghost use Rattle.live.specs.Answer.{answer_text, aside_text, dump_text, explained_text, faulty_text, is_told, is_withheld, nothing_text, taken_text, taken_word, tick_text, told_word, turn_text, word};
 
 use crate::field::Field;
+use choose::Verdict;
 use cycle::Cycled;
-use desk::Reply;
+use desk::{Reply, Row, Snapshot};
 use itoa::Buffer;
-use ledger::Answer;
+use ledger::{Answer, Event};
 use live_desk::{Taken, Turn};
-use output_lines::{NamedRule, push_cycled};
-use quant::Name;
+use output_lines::{NamedRule, push_cycled, push_judged, push_reply, push_snapshot, push_verdicts};
+use quant::{Name, Pod};
 use std::alloc::{AllocError, Global};
 
 // Adds a number in decimal behind a word.
@@ -23,6 +25,27 @@ fn push_number(text: &mut Vec<u8>, word: &[u8], number: u64) -> Result<(), Alloc
     text.extend_from_slice(digits.format(number).as_bytes())
 }
 
+// Adds the word by which the ledger answers.
+#[tactic(auto, unfolding(crate::specs::Answer::word))]
+fn push_word(text: &mut Vec<u8>, answer: Answer) -> Result<(), AllocError>
+    ensures { OnOk result (text.new.items ≡ text.old.items ++ word answer) }
+{
+    match answer {
+        Answer::Granted(ticket) => push_number(text, b"granted ", ticket.0),
+        Answer::Refused(why) => {
+            push_number(text, b"refused ", u64::from(why.number()))?;
+            text.extend_from_slice(b" ")?;
+            text.extend_from_slice(why.name().as_bytes())
+        }
+        Answer::Told => text.extend_from_slice(b"told"),
+        Answer::Old => text.extend_from_slice(b"old"),
+        Answer::Full => text.extend_from_slice(b"full"),
+        Answer::Shut => text.extend_from_slice(b"shut"),
+        Answer::NotWaiting => text.extend_from_slice(b"not-waiting"),
+        Answer::Read => text.extend_from_slice(b"read"),
+    }
+}
+
 /// How an answer of the ledger is spelled.
 ///
 /// Errors: `AllocError`, which may come in place of any answer.
@@ -31,21 +54,58 @@ pub(crate) fn answer_text(alloc: Global, answer: Answer) -> Result<Vec<u8>, Allo
     ensures { IfOk result (λ text. text.items ≡ answer_text answer) }
 {
     let mut text = Vec::new(alloc);
-    match answer {
-        Answer::Granted(ticket) => push_number(&mut text, b"granted ", ticket.0)?,
-        Answer::Refused(why) => {
-            push_number(&mut text, b"refused ", u64::from(why.number()))?;
-            text.extend_from_slice(b" ")?;
-            text.extend_from_slice(why.name().as_bytes())?;
-        }
-        Answer::Told => text.extend_from_slice(b"told")?,
-        Answer::Old => text.extend_from_slice(b"old")?,
-        Answer::Full => text.extend_from_slice(b"full")?,
-        Answer::Shut => text.extend_from_slice(b"shut")?,
-        Answer::NotWaiting => text.extend_from_slice(b"not-waiting")?,
-        Answer::Read => text.extend_from_slice(b"read")?,
-    }
+    push_word(&mut text, answer)?;
     text.extend_from_slice(b"\n")?;
+    Ok(text)
+}
+
+// Ends an answer: what of its object isn't told, and the newline.
+fn end(text: &mut Vec<u8>, reasons: &[u8]) -> Result<(), AllocError>
+    ensures { OnOk result (text.new.items ≡ text.old.items ++ reasons.now ++ codes "\n") }
+{
+    text.extend_from_slice(reasons)?;
+    text.extend_from_slice(b"\n")
+}
+
+/// Whether an event is that a pod isn't to be placed.
+pub(crate) fn is_withheld(event: &Event) -> bool
+    ensures { result ≡ is_withheld event.now }
+{
+    matches!(event, Event::Withheld { .. })
+}
+
+// Whether the ledger answers that it was told.
+fn is_told(answer: Answer) -> bool
+    ensures { result ≡ is_told answer }
+{
+    matches!(answer, Answer::Told)
+}
+
+// Adds the word that answers an event.
+fn push_told(text: &mut Vec<u8>, is_withheld: bool, answer: Answer) -> Result<(), AllocError>
+    ensures { OnOk result (text.new.items ≡ text.old.items ++ told_word is_withheld answer) }
+{
+    if is_withheld && is_told(answer) {
+        text.extend_from_slice(b"withheld")
+    } else {
+        push_word(text, answer)
+    }
+}
+
+/// What is answered to an event, of whose object this isn't told.
+///
+/// Errors: `AllocError`, which may come in place of any answer.
+pub(crate) fn told_text(
+    alloc: Global,
+    is_withheld: bool,
+    answer: Answer,
+    reasons: &[u8],
+) -> Result<Vec<u8>, AllocError>
+    ensures { IfOk result (λ text. text.items ≡ told_word is_withheld answer ++ reasons.now ++ codes "\n") }
+{
+    let mut text = Vec::new(alloc);
+    push_told(&mut text, is_withheld, answer)?;
+    end(&mut text, reasons)?;
     Ok(text)
 }
 
@@ -66,30 +126,35 @@ pub(crate) fn faulty_text(alloc: Global, field: Field) -> Result<Vec<u8>, AllocE
 /// What is answered to what tells nothing.
 ///
 /// Errors: `AllocError`, which may come in place of any answer.
-pub(crate) fn nothing_text(alloc: Global) -> Result<Vec<u8>, AllocError>
-    ensures { IfOk result (λ text. text.items ≡ nothing_text) }
+pub(crate) fn nothing_text(alloc: Global, reasons: &[u8]) -> Result<Vec<u8>, AllocError>
+    ensures { IfOk result (λ text. text.items ≡ nothing_text reasons.now) }
 {
     let mut text = Vec::new(alloc);
-    text.extend_from_slice(b"nothing\n")?;
+    text.extend_from_slice(b"nothing")?;
+    end(&mut text, reasons)?;
     Ok(text)
 }
 
-/// What is answered of a pod that waits.
-///
-/// Errors: `AllocError`, which may come in place of any answer.
-#[tactic(auto, unfolding(crate::specs::Answer::taken_text))]
-pub(crate) fn taken_text(alloc: Global, taken: Taken) -> Result<Vec<u8>, AllocError>
-    ensures { IfOk result (λ text. text.items ≡ taken_text taken) }
+// Adds the word that answers a pod that waits.
+fn push_taken(text: &mut Vec<u8>, taken: Taken) -> Result<(), AllocError>
+    ensures { OnOk result (text.new.items ≡ text.old.items ++ taken_word taken) }
 {
     match taken {
-        Taken::Answers(answer) => answer_text(alloc, answer),
-        Taken::LeftOut => {
-            let mut text = Vec::new(alloc);
-            text.extend_from_slice(b"left-out")?;
-            text.extend_from_slice(b"\n")?;
-            Ok(text)
-        }
+        Taken::Answers(answer) => push_word(text, answer),
+        Taken::LeftOut => text.extend_from_slice(b"left-out"),
     }
+}
+
+/// What is answered of a pod that waits, of whose object this isn't told.
+///
+/// Errors: `AllocError`, which may come in place of any answer.
+pub(crate) fn taken_text(alloc: Global, taken: Taken, reasons: &[u8]) -> Result<Vec<u8>, AllocError>
+    ensures { IfOk result (λ text. text.items ≡ taken_text taken reasons.now) }
+{
+    let mut text = Vec::new(alloc);
+    push_taken(&mut text, taken)?;
+    end(&mut text, reasons)?;
+    Ok(text)
 }
 
 /// What is answered of a pod that is put aside.
@@ -176,5 +241,42 @@ fn denied_text(
     text.extend_from_slice(node.as_bytes())?;
     text.extend_from_slice(b" ")?;
     text.extend_from_slice(&why)?;
+    Ok(text)
+}
+
+/// What is told of each node for a pod to place, with these verdicts on the nodes.
+///
+/// Errors: `AllocError`, which may come in place of any answer.
+pub(crate) fn explained_text(
+    alloc: Global,
+    named: &[NamedRule],
+    pod: &Pod,
+    uid: &Name,
+    rows: &[Row],
+    verdicts: &[Verdict],
+) -> Result<Vec<u8>, AllocError>
+    requires { length verdicts.now ≡ length rows.now }
+    ensures { IfOk result (λ text. text.items
+        ≡ explained_text named.now pod.now uid.now (map shown rows.now) verdicts.now) }
+{
+    let mut text = Vec::new(alloc);
+    push_verdicts(&mut text, named, pod, rows, verdicts)?;
+    push_judged(&mut text, uid, verdicts.len() as u64)?;
+    Ok(text)
+}
+
+/// The nodes that are shown, and the numbers of the desk.
+///
+/// Errors: `AllocError`, which may come in place of any answer.
+pub(crate) fn dump_text(
+    alloc: Global,
+    nodes: &Snapshot,
+    reply: Reply,
+) -> Result<Vec<u8>, AllocError>
+    ensures { IfOk result (λ text. text.items ≡ dump_text nodes.now reply) }
+{
+    let mut text = Vec::new(alloc);
+    push_snapshot(&mut text, nodes)?;
+    push_reply(&mut text, reply)?;
     Ok(text)
 }

@@ -1,5 +1,5 @@
 //! A cluster that is told line by line, and decided of, with the answers written.
-ghost use Rattle.std.specs.Prelude.{◌≡◌, ◌⊎◌, ◌^◌, ◌<◌, ◌++◌, [], vec_len, None, IsTrue, IfOk, IfErr, OnOk, OnErr};
+ghost use Rattle.std.specs.Prelude.{◌≡◌, ◌⊎◌, ◌^◌, ◌<◌, ◌++◌, [], vec_len, None, Some, IsTrue, IfOk, IfErr, OnOk, OnErr};
 ghost use Rattle.std.specs.Io.KnownBytes.{Appends};
 ghost use Rattle.streams.specs.Device.{AppendsFront, use_of};
 ghost use Rattle.streams.specs.Greatest.{limits};
@@ -7,20 +7,28 @@ ghost use Rattle.streams.specs.inside.Device.{WritesSome};
 ghost use Rattle.streams.specs.declared.fault.RunFault.TheVariants as run_fault;
 ghost use Rattle.choose.specs.Kits.{rules_of};
 ghost use Rattle.objects.specs.Site.{site_of};
-ghost use Rattle.live.specs.Live.{IsAnswered, IsLive, first_state, manner};
-ghost use Rattle.live.specs.Meaning.{meaning};
+ghost use Rattle.desk.specs.Machine.{reply, snapshot};
+ghost use Rattle.desk.specs.declared.step.Step.TheVariants.{Count};
+ghost use Rattle.live_desk.specs.State.{steps, to_place};
+ghost use Rattle.live.specs.Answer.{dump_text};
+ghost use Rattle.live.specs.Live.{IsAnswered, IsExplained, IsLive, first_state, manner};
+ghost use Rattle.live.specs.Meaning.{meaning, reasons};
 ghost use Rattle.live.specs.inside.Live.{IsLineAnswered, IsStopped};
+ghost use Rattle.live.specs.inside.Timely.{IsTimely};
 
 use crate::answer_text::{
-    answer_text, aside_text, faulty_text, nothing_text, taken_text, tick_text, turn_text,
+    answer_text, aside_text, dump_text, explained_text, faulty_text, is_withheld, nothing_text,
+    taken_text, tick_text, told_text, turn_text,
 };
-use crate::meaning::{Meaning, meaning_of};
+use crate::meaning::{Meaning, Meant, meaning_of};
 use choose::Decider;
 use desk::{Blank, Limits, Naming};
 use fault_line::{Fault, report};
+use ledger::Answer;
 use live_desk::LiveDesk;
 use objects::{MAX_OBJECT, Site};
 use output_lines::NamedRule;
+use quant::{Name, SharedPod};
 use std::alloc::Global;
 use std::hash::RandomState;
 use std::marker::Brand;
@@ -40,7 +48,7 @@ const MAX_KEPT: usize = MAX_OBJECT + 1;
 const MAX_WAITING: usize = 65_536;
 
 /// Tells a ledger and a desk the lines of `source`, decides where a line asks for it, writes the
-/// answers to `out`, one a line, and gives the exit status. A fault goes to `err`, as one line, and
+/// answers to `out`, and gives the exit status. A fault goes to `err`, as one line, and
 /// a failed write of that line changes nothing. Of pods without a node those of the site's scheduler
 /// wait; the others are withheld. Names are looked up under the keys.
 ///
@@ -230,18 +238,42 @@ fn answer_to<J: Naming, T: Wait + Threads + Sync, D: Decider>(
 ) -> Result<Vec<u8>, RunFault>
     ensures answered { IfOk result (λ text. IsAnswered
         (manner (site_of site.now) (rules_of D.Kit.answers (D.kits decider.old)) named.now)
-        (meaning (site_of site.now) line.now) live.old text.items live.new) }
+        (meaning (site_of site.now) line.now) (reasons (site_of site.now) line.now) live.old text.items live.new) }
     ensures kits { D.kits decider.new ≡ D.kits decider.old }
     ensures refused { IfErr result (λ fault. fault ≡ run_fault.NoMemory) }
 {
-    match meaning_of(alloc, line, site)? {
+    let Meant { meaning, reasons } = meaning_of(alloc, line, site)?;
+    answer_meant(rt, alloc, site, named, decider, live, meaning, &reasons)
+}
+
+// The answer to what is meant, of whose object this isn't told, and behind which what it tells is
+// known.
+fn answer_meant<J: Naming, T: Wait + Threads + Sync, D: Decider>(
+    rt: &T,
+    alloc: Global,
+    site: &Site<'_>,
+    named: &[NamedRule],
+    decider: &mut D,
+    live: &mut LiveDesk<J>,
+    meaning: Meaning,
+    reasons: &[u8],
+) -> Result<Vec<u8>, RunFault>
+    requires { IsTimely meaning }
+    ensures answered { IfOk result (λ text. IsAnswered
+        (manner (site_of site.now) (rules_of D.Kit.answers (D.kits decider.old)) named.now)
+        meaning reasons.now live.old text.items live.new) }
+    ensures kits { D.kits decider.new ≡ D.kits decider.old }
+    ensures refused { IfErr result (λ fault. fault ≡ run_fault.NoMemory) }
+{
+    match meaning {
         Meaning::Tells(event) => {
+            let is_withheld = is_withheld(&event);
             let answer = live.tell(rt, alloc, event)?;
-            Ok(answer_text(alloc, answer)?)
+            Ok(told_text(alloc, is_withheld, answer, reasons)?)
         }
         Meaning::Pending(version, pod) => {
             let taken = live.pending(rt, version, pod)?;
-            Ok(taken_text(alloc, taken)?)
+            Ok(taken_text(alloc, taken, reasons)?)
         }
         Meaning::Aside(uid) => {
             let was_there = live.put_aside(rt, uid)?;
@@ -255,7 +287,68 @@ fn answer_to<J: Naming, T: Wait + Threads + Sync, D: Decider>(
             let turn = live.cycle(rt, decider)?;
             Ok(turn_text(alloc, named, turn)?)
         }
-        Meaning::Nothing => Ok(nothing_text(alloc)?),
+        Meaning::Explain(uid) => explain(rt, alloc, named, decider, live, &uid),
+        Meaning::Dump => dump(rt, alloc, live),
+        Meaning::Nothing => Ok(nothing_text(alloc, reasons)?),
         Meaning::Faulty(field) => Ok(faulty_text(alloc, field)?),
     }
+}
+
+// What is said of each node for a pod, where it is to be placed. That changes nothing.
+fn explain<J: Naming, T: Wait + Threads + Sync, D: Decider>(
+    rt: &T,
+    alloc: Global,
+    named: &[NamedRule],
+    decider: &mut D,
+    live: &mut LiveDesk<J>,
+    uid: &Name,
+) -> Result<Vec<u8>, RunFault>
+    ensures explained { IfOk result (λ text. IsExplained
+        (rules_of D.Kit.answers (D.kits decider.old)) named.now live.old uid.now (to_place live.old uid.now) text.items) }
+    ensures same { live.new ≡ live.old }
+    ensures kits { D.kits decider.new ≡ D.kits decider.old }
+    ensures refused { IfErr result (λ fault. fault ≡ run_fault.NoMemory) }
+{
+    match live.to_place(uid)? {
+        Some(pod) => explain_pod(rt, alloc, named, decider, live, &pod, uid),
+        None => Ok(answer_text(alloc, Answer::NotWaiting)?),
+    }
+}
+
+// What is said of each node for a pod that is to be placed.
+fn explain_pod<J: Naming, T: Wait + Threads + Sync, D: Decider>(
+    rt: &T,
+    alloc: Global,
+    named: &[NamedRule],
+    decider: &mut D,
+    live: &mut LiveDesk<J>,
+    pod: &SharedPod,
+    uid: &Name,
+) -> Result<Vec<u8>, RunFault>
+    ensures explained { IfOk result (λ text. IsExplained
+        (rules_of D.Kit.answers (D.kits decider.old)) named.now live.old uid.now (Some pod.now) text.items) }
+    ensures same { live.new ≡ live.old }
+    ensures kits { D.kits decider.new ≡ D.kits decider.old }
+    ensures refused { IfErr result (λ fault. fault ≡ run_fault.NoMemory) }
+{
+    let nodes = live.look()?;
+    let seen = live.look()?;
+    decider.decide(rt, seen, pod, true)?;
+    Ok(explained_text(alloc, named, pod, uid, nodes.rows(), decider.verdicts())?)
+}
+
+// What the desk knows.
+fn dump<J: Naming, T: Wait>(
+    rt: &T,
+    alloc: Global,
+    live: &mut LiveDesk<J>,
+) -> Result<Vec<u8>, RunFault>
+    ensures text { IfOk result (λ text. text.items
+        ≡ dump_text (snapshot live.old.desk.cluster) (reply live.old.desk 0 Count)) }
+    ensures after { OnOk result (live.new ≡ steps live.old Count) }
+    ensures refused { IfErr result (λ fault. fault ≡ run_fault.NoMemory) }
+{
+    let nodes = live.look()?;
+    let reply = live.count(rt)?;
+    Ok(dump_text(alloc, &nodes, reply)?)
 }

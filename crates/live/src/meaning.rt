@@ -1,16 +1,16 @@
 //! What a line tells of a cluster, or asks.
-ghost use Rattle.std.specs.Prelude.{◌≡◌, IfOk};
+ghost use Rattle.std.specs.Prelude.{◌≡◌, IfOk, Ok};
 ghost use Rattle.serde_json.specs.View.{view};
 ghost use Rattle.objects.specs.Site.{site_of};
 ghost use Rattle.quant.specs.declared.limits.TheConstants.{LATEST_MOMENT};
-ghost use Rattle.live.specs.Meaning.{is_order, of_aside, of_moment, of_object, of_op, of_order, of_value, meaning};
+ghost use Rattle.live.specs.Meaning.{behind, is_order, of_aside, of_explain, of_moment, of_object, of_op, of_order, of_value, meaning, reasons, reasons_of};
 ghost use Rattle.live.specs.Order.{moment_at, text_at, uid_at};
 ghost use Rattle.live.specs.declared.field.Field.TheVariants as fields;
 
 use crate::field::Field;
 use crate::order::{moment_at, op_of, order, uid_at};
 use ledger::Event;
-use objects::{Heard, MAX_OBJECT, Site, hear, is_blank, parse};
+use objects::{Heard, Hearing, Site, hear, hear_none, value_in};
 use quant::{Event as Told, Moment, Name, SharedPod, Version};
 use serde_json::Value;
 use std::alloc::{AllocError, Global};
@@ -28,10 +28,23 @@ pub(crate) enum Meaning {
     Tick(Moment),
     /// Where does the pod go that goes first?
     Cycle,
+    /// What do the rules say of each node for this pod?
+    Explain(Name),
+    /// What does the desk know?
+    Dump,
     /// Nothing.
     Nothing,
     /// It is an order, whose first fault stands in this field.
     Faulty(Field),
+}
+
+/// What a line tells of a cluster, or asks, and what of its object isn't told.
+#[derive(Drop)]
+pub(crate) struct Meant {
+    /// What it tells or asks.
+    pub meaning: Meaning,
+    /// What is left out of an object, as it stands behind the word that answers it.
+    pub reasons: Vec<u8>,
 }
 
 // What an object of the API tells.
@@ -71,14 +84,46 @@ fn is_order(json: &Value) -> bool
     json.get(Field::Op.key()).is_some()
 }
 
+// What stands behind the word that answers an object of which this is left out.
+fn behind(alloc: Global, names: &[u8]) -> Result<Vec<u8>, AllocError>
+    ensures { IfOk result (λ text. text.items ≡ behind names.now) }
+{
+    let mut text = Vec::new(alloc);
+    if names.is_empty() {
+        return Ok(text);
+    }
+    text.extend_from_slice(b" [")?;
+    text.extend_from_slice(names)?;
+    text.extend_from_slice(b"]")?;
+    Ok(text)
+}
+
+// What is meant by what was heard of an object, or of a line without one.
+fn of_hearing(alloc: Global, hearing: Hearing) -> Result<Meant, AllocError>
+    ensures meaning { IfOk result (λ meant. meant.meaning ≡ of_object hearing.heard) }
+    ensures reasons { IfOk result (λ meant. meant.reasons.items ≡ behind hearing.left_out.items) }
+{
+    let Hearing { heard, left_out } = hearing;
+    let reasons = behind(alloc, &left_out)?;
+    Ok(Meant {
+        meaning: of_object(heard),
+        reasons,
+    })
+}
+
 // What a value tells or asks.
-fn of_value(alloc: Global, json: &Value, site: &Site<'_>) -> Result<Meaning, AllocError>
-    ensures { IfOk result (λ meaning. meaning ≡ of_value (site_of site.now) (Some (view json.now))) }
+fn of_value(alloc: Global, json: &Value, site: &Site<'_>) -> Result<Meant, AllocError>
+    ensures meaning { IfOk result (λ meant. meant.meaning ≡ of_value (site_of site.now) (Ok (view json.now))) }
+    ensures reasons { IfOk result (λ meant. meant.reasons.items ≡ reasons_of (site_of site.now) (Ok (view json.now))) }
 {
     if is_order(json) {
-        return of_op(alloc, json, site);
+        let meaning = of_op(alloc, json, site)?;
+        return Ok(Meant {
+            meaning,
+            reasons: Vec::new(alloc),
+        });
     }
-    Ok(of_object(hear(alloc, json, site)?))
+    of_hearing(alloc, hear(alloc, json, site)?)
 }
 
 // What an order tells or asks.
@@ -90,6 +135,8 @@ fn of_op(alloc: Global, json: &Value, site: &Site<'_>) -> Result<Meaning, AllocE
         Ok("cycle") => Ok(Meaning::Cycle),
         Ok("tick") => Ok(of_moment(json)),
         Ok("aside") => Ok(of_aside(json)),
+        Ok("explain") => Ok(of_explain(json)),
+        Ok("dump") => Ok(Meaning::Dump),
         Ok(op) => Ok(of_order(order(alloc, json, op, site)?)),
         Err(field) => Ok(Meaning::Faulty(field)),
     }
@@ -125,22 +172,27 @@ fn of_aside(json: &Value) -> Meaning
     }
 }
 
-/// What a line tells a ledger, or asks of it. What may be a pod on a node, and can't be read, is
-/// told as just that.
+// That a pod is explained.
+fn of_explain(json: &Value) -> Meaning
+    ensures { result ≡ of_explain (uid_at (view json.now)) }
+{
+    match uid_at(json) {
+        Ok(uid) => Meaning::Explain(uid),
+        Err(field) => Meaning::Faulty(field),
+    }
+}
+
+/// What a line tells of a cluster, or asks, and what of its object isn't told. What may be a pod on
+/// a node, and can't be read, is told as just that.
 ///
 /// Errors: `AllocError`, which may come in place of any answer.
-#[tactic(auto, unfolding(crate::specs::Meaning::meaning))]
-pub(crate) fn meaning_of(alloc: Global, line: &[u8], site: &Site<'_>) -> Result<Meaning, AllocError>
-    ensures { IfOk result (λ found. found ≡ meaning (site_of site.now) line.now) }
+#[tactic(auto, unfolding(crate::specs::Meaning::meaning, crate::specs::Meaning::reasons))]
+pub(crate) fn meaning_of(alloc: Global, line: &[u8], site: &Site<'_>) -> Result<Meant, AllocError>
+    ensures meaning { IfOk result (λ meant. meant.meaning ≡ meaning (site_of site.now) line.now) }
+    ensures reasons { IfOk result (λ meant. meant.reasons.items ≡ reasons (site_of site.now) line.now) }
 {
-    if line.len() > MAX_OBJECT {
-        return Ok(Meaning::Tells(Event::Unread));
-    }
-    if is_blank(line) {
-        return Ok(Meaning::Nothing);
-    }
-    match parse(alloc, line)? {
-        Some(json) => of_value(alloc, &json, site),
-        None => Ok(Meaning::Tells(Event::Unread)),
+    match value_in(alloc, line)? {
+        Ok(json) => of_value(alloc, &json, site),
+        Err(why) => of_hearing(alloc, hear_none(alloc, why)?),
     }
 }

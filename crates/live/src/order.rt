@@ -9,7 +9,7 @@ ghost use Rattle.live.specs.inside.Reading.{Tells};
 
 use crate::field::Field;
 use ledger::{Event, Kind, Outcome, Said};
-use objects::{Heard, Site, hear};
+use objects::{Heard, Hearing, Site, hear};
 use quant::{Event as Told, LATEST_MOMENT, MAX_TICKET, Moment, Name, Ticket};
 use serde_json::Value;
 use std::alloc::{AllocError, Global};
@@ -177,7 +177,7 @@ fn said_of(
     if gave.is_null() {
         return Ok(Ok(Said::Gone));
     }
-    let heard = hear(alloc, gave, site)?;
+    let Hearing { heard, left_out: _ } = hear(alloc, gave, site)?;
     Ok(said_by(uid, heard))
 }
 
@@ -265,7 +265,7 @@ pub(crate) fn moment_at(object: &Value) -> Result<Moment, Field>
     }
 }
 
-/// Which pod is put aside.
+/// Which pod is put aside, or explained.
 #[tactic(auto, unfolding(crate::specs::Order::uid_at))]
 pub(crate) fn uid_at(object: &Value) -> Result<Name, Field>
     ensures { result ≡ uid_at (view object.now) }

@@ -134,3 +134,17 @@ given_back_by s uid (Some ticket) = steps (with_ticket s uid None) (Forget uid t
 
 abbrev pub given_back : Live → Name → Live
 given_back s uid = given_back_by s uid (ticket_of (get s.offered uid))
+
+-- ---- a pod to place
+
+-- its row, where no bind of it is open
+abbrev pub row_by : Pod → Option Ticket → Option Pod
+row_by pod None = Some pod
+row_by pod (Some ticket) = None
+
+abbrev pub row_of : Option Offered → Option Pod
+row_of None = None
+row_of (Some it) = row_by it.pod it.ticket
+
+abbrev pub to_place : Live → Name → Option Pod
+to_place s uid = row_of (get s.offered uid)

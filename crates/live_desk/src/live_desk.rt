@@ -4,19 +4,19 @@ ghost use Rattle.std.specs.FinMap as fin;
 ghost use Rattle.quant.specs.declared.limits.TheConstants.{LATEST_MOMENT};
 ghost use Rattle.desk.specs.Caller as caller;
 ghost use Rattle.desk.specs.Machine as machine;
-ghost use Rattle.desk.specs.declared.step.Step.TheVariants.{Tick};
+ghost use Rattle.desk.specs.declared.step.Step.TheVariants.{Count, Tick};
 ghost use Rattle.ledger.specs.declared.event.Event.TheVariants as events;
 ghost use Rattle.ledger.specs.State.{opening as ledger_opening};
 ghost use Rattle.ledger.specs.Hearing.{unnamed};
 ghost use Rattle.ledger.specs.Told.{IsTold};
 ghost use Rattle.live_desk.specs.declared.live_desk.Taken.TheVariants.{Answers, LeftOut};
-ghost use Rattle.live_desk.specs.State.{given_back, node_gone, node_set, numbered, offer, offer_new, opening, pod_bound, pod_gone, steps, ticket_of, version_of, with_ticket, without};
+ghost use Rattle.live_desk.specs.State.{given_back, node_gone, node_set, numbered, offer, offer_new, opening, pod_bound, pod_gone, steps, ticket_of, to_place, version_of, with_ticket, without};
 ghost use Rattle.live_desk.specs.Telling.{IsPending, IsTaken, all_gone, bound_of, is_newest, left_out, place_of, put_aside, settled, takes, with_ledger};
 
 use crate::offered::Offered;
 use crate::same_pod::{is_same_pod, is_same_request};
 use cycle::LoneDesk;
-use desk::{Blank, Limits, Naming, NoMemory, Reply, Step};
+use desk::{Blank, Limits, Naming, NoMemory, Reply, Snapshot, Step};
 use ledger::{Answer, Event, Kind, Known, Ledger, Said, Stage};
 use name_table::NameTable;
 use quant::{Event as Watched, Moment, Name, Pod, Request, SharedNode, SharedPod, Ticket, Version};
@@ -577,6 +577,40 @@ impl<J: Naming> LiveDesk<J> {
         ensures after { OnOk result (self.new ≡ steps self.old (Tick now)) }
     {
         self.step(rt, Step::Tick(now))
+    }
+
+    // ---- what is asked of it
+
+    /// The row of a pod that is to be placed, where no bind of it is open.
+    ///
+    /// Errors: `AllocError`.
+    pub fn to_place(&self, uid: &Name) -> Result<Option<SharedPod>, AllocError>
+        ensures { IfOk result (λ pod. pod ≡ to_place self.now uid.now) }
+    {
+        match self.offered.get(uid) {
+            Some(Offered { pod, ticket: None }) => Ok(Some(pod.share()?)),
+            _ => Ok(None),
+        }
+    }
+
+    /// Shows the nodes and what is used of them, as the desk decides by them.
+    ///
+    /// Errors: `NoMemory`.
+    pub fn look(&mut self) -> Result<Snapshot, NoMemory>
+        ensures shown { IfOk result (λ shown. shown ≡ machine.snapshot self.old.desk.cluster) }
+        ensures same { self.new ≡ self.old }
+    {
+        self.desk.look()
+    }
+
+    /// Counts the desk's pods.
+    ///
+    /// Errors: `NoMemory`.
+    pub fn count<R: Wait>(&mut self, rt: &R) -> Result<Reply, NoMemory>
+        ensures reply { IfOk result (λ reply. reply ≡ machine.reply self.old.desk 0 Count) }
+        ensures after { OnOk result (self.new ≡ steps self.old Count) }
+    {
+        self.step(rt, Step::Count)
     }
 }
 

@@ -1,19 +1,24 @@
 //! What the API tells of nodes and pods, as of their own versions.
-ghost use Rattle.std.specs.Prelude.{◌≡◌, ◌<◌, ◌^◌, length, Ok, option_map, IfOk, IsTrue};
+ghost use Rattle.std.specs.Prelude.{◌≡◌, ◌<◌, ◌^◌, [], length, Ok, option_map, IfOk, IsTrue};
 ghost use Rattle.std.specs.List.{list_all};
 ghost use Rattle.quant.specs.Amount.{is_digit, number};
 ghost use Rattle.serde_json.specs.View.{view};
-ghost use Rattle.objects.specs.Heard.{a_version, version_in, is_none_type, shows_none, uid_in, has_no_node, is_waiting, is_row, heard_by, heard_of, heard};
+ghost use Rattle.objects.specs.Heard.{a_version, version_in, is_none_type, shows_none, uid_in, has_no_node, is_waiting, is_row, hears, heard_by, heard_of, hearing, heard, names_of, value_in, IsValue, none_heard};
+ghost use Rattle.objects.specs.LeftOut.{fault_text, refused};
+ghost use Rattle.objects.specs.declared.heard.Heard.TheVariants as heard_as;
+ghost use Rattle.objects.specs.declared.heard.NoValue.TheVariants as no_values;
 ghost use Rattle.objects.specs.Told.{object_in};
-ghost use Rattle.objects.specs.inside.Answers.{Answers};
+ghost use Rattle.objects.specs.inside.Answers.{Answers, Gives};
 ghost use Rattle.objects.specs.Sayable.{IsVersion};
 ghost use Rattle.objects.specs.Site.{site_of};
 
 use crate::change::Kind;
 use crate::fault::{ObjectFault, Why};
+use crate::left_out::{put_left_out, put_refused, told_names};
 use crate::reading::{field, name_at, part_of, spelled, text_at};
 use crate::site::Site;
-use crate::told::{has_ended, kind_of, node_name, object_in, value_told};
+use crate::told::{has_ended, is_blank, kind_of, node_name, object_in, parse, value_told};
+use crate::translation::MAX_OBJECT;
 use quant::{Event, Name, Version, are_digits};
 use serde_json::Value;
 use std::alloc::{AllocError, Global};
@@ -40,35 +45,128 @@ pub enum Heard {
     Unread,
 }
 
+/// What is heard of an object or a line, and what of it isn't told.
+#[derive(Drop)]
+pub struct Hearing {
+    /// What it tells.
+    pub heard: Heard,
+    /// What is left out: items of an array of JSON, as a translation's. Of what is `Unread` they say
+    /// why.
+    pub left_out: Vec<u8>,
+}
+
+/// Why a line has no value.
+#[derive(Clone, Copy)]
+pub enum NoValue {
+    /// It is longer than an object can be.
+    LongLine,
+    /// It has no byte but spaces.
+    Blank,
+    /// It is no JSON.
+    NotJson,
+}
+
 /// What an object of the API tells, or an event of its watch, as of the object's own version: the
 /// `resourceVersion` of its metadata, a number from 1 on of up to 18 digits. A pod is called by its
 /// uid.
 ///
 /// What `translate` tells of it is told here, too, and a pod without a node of which that tells
 /// nothing, or that it is gone, is `Withheld`. Where that says `uncounted`, or the version can't be
-/// read, the object is `Unread`.
+/// read, the object is `Unread`. What is left out is what `translate` leaves out, or the fault.
 ///
 /// Errors: `AllocError`, which may come in place of any answer.
-#[tactic(auto, unfolding(crate::specs::Heard::heard))]
-pub fn hear(alloc: Global, json: &Value, site: &Site<'_>) -> Result<Heard, AllocError>
-    ensures { IfOk result (λ found. found ≡ heard (site_of site.now) (view json.now)) }
+#[tactic(auto, unfolding(crate::specs::Heard::hearing))]
+pub fn hear(alloc: Global, json: &Value, site: &Site<'_>) -> Result<Hearing, AllocError>
+    ensures heard { IfOk result (λ found. found.heard ≡ heard (site_of site.now) (view json.now)) }
+    ensures left_out { IfOk result (λ found. found.left_out.items ≡ names_of (hearing (site_of site.now) (view json.now))) }
 {
-    match heard_of(alloc, json, site) {
-        Ok(found) => Ok(found),
+    let mut left_out = Vec::new(alloc);
+    match heard_of(alloc, &mut left_out, json, site) {
+        Ok(heard) => with_names(alloc, heard, &left_out),
         Err(ObjectFault::NoMemory) => Err(AllocError),
-        Err(ObjectFault::Refused(_, _)) => Ok(Heard::Unread),
+        Err(ObjectFault::Refused(why, field)) => unread(alloc, why, field),
     }
 }
 
-// What an object or an event tells, or its first fault.
+// What is heard, beside the names of what is left out.
+fn with_names(alloc: Global, heard: Heard, names: &[u8]) -> Result<Hearing, AllocError>
+    ensures heard { IfOk result (λ found. found.heard ≡ heard) }
+    ensures left_out { IfOk result (λ found. found.left_out.items ≡ names_of (hears heard names.now)) }
+{
+    let left_out = told_names(alloc, names)?;
+    Ok(Hearing { heard, left_out })
+}
+
+// What is heard of what has this fault.
+fn unread(alloc: Global, why: Why, field: &'static str) -> Result<Hearing, AllocError>
+    ensures heard { IfOk result (λ found. found.heard ≡ heard_as.Unread) }
+    ensures left_out { IfOk result (λ found. found.left_out.items
+        ≡ names_of (hears heard_as.Unread (fault_text (refused why field.now)))) }
+{
+    let mut names = Vec::new(alloc);
+    put_refused(&mut names, why, field)?;
+    with_names(alloc, Heard::Unread, &names)
+}
+
+/// What is heard of a line without a value: a blank one tells nothing, and another may be a pod on
+/// a node.
+///
+/// Errors: `AllocError`, which may come in place of any answer.
+pub fn hear_none(alloc: Global, why: NoValue) -> Result<Hearing, AllocError>
+    ensures heard { IfOk result (λ found. found.heard ≡ (none_heard why).heard) }
+    ensures left_out { IfOk result (λ found. found.left_out.items ≡ names_of (none_heard why)) }
+{
+    match why {
+        NoValue::LongLine => unread(alloc, Why::LongLine, ""),
+        NoValue::Blank => blank(alloc),
+        NoValue::NotJson => unread(alloc, Why::NotJson, ""),
+    }
+}
+
+// What is heard of a blank line.
+fn blank(alloc: Global) -> Result<Hearing, AllocError>
+    ensures heard { IfOk result (λ found. found.heard ≡ heard_as.Nothing) }
+    ensures left_out { IfOk result (λ found. found.left_out.items ≡ names_of (none_heard no_values.Blank)) }
+{
+    let mut names = Vec::new(alloc);
+    put_left_out(&mut names, "no JSON", b"")?;
+    with_names(alloc, Heard::Nothing, &names)
+}
+
+/// The JSON value of a line, or why it has none.
+///
+/// Errors: `AllocError`, which may come in place of any answer.
+#[tactic(auto, unfolding(crate::specs::Heard::value_in))]
+pub fn value_in(alloc: Global, line: &[u8]) -> Result<Result<Value, NoValue>, AllocError>
+    ensures { IfOk result (λ found. IsValue found (value_in line.now)) }
+{
+    if line.len() > MAX_OBJECT {
+        return Ok(Err(NoValue::LongLine));
+    }
+    if is_blank(line) {
+        return Ok(Err(NoValue::Blank));
+    }
+    match parse(alloc, line)? {
+        Some(json) => Ok(Ok(json)),
+        None => Ok(Err(NoValue::NotJson)),
+    }
+}
+
+// What an object or an event tells, or its first fault, with the names of what is left out.
 #[tactic(auto, unfolding(crate::specs::Heard::heard_of))]
-fn heard_of(alloc: Global, json: &Value, site: &Site<'_>) -> Result<Heard, ObjectFault>
-    ensures { Answers result (heard_of (site_of site.now) (view json.now)) }
+fn heard_of(
+    alloc: Global,
+    names: &mut Vec<u8>,
+    json: &Value,
+    site: &Site<'_>,
+) -> Result<Heard, ObjectFault>
+    requires { names.old.items ≡ [] }
+    ensures { Gives (λ heard. hears heard names.new.items) result (heard_of (site_of site.now) (view json.now)) }
 {
     let version = version_of(object_in(json))?;
-    let mut left_out = Vec::new(alloc);
-    let event = value_told(alloc, &mut left_out, json, site, true, version)?;
-    heard_by(version, json, event)
+    let event = value_told(alloc, names, json, site, true, version)?;
+    let heard = heard_by(version, json, event)?;
+    Ok(heard)
 }
 
 // What is heard of an object by the event that a script's line tells.

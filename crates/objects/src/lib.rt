@@ -49,12 +49,11 @@ mod told;
 mod tolerations;
 mod translation;
 
-pub use heard::{Heard, hear};
+pub use heard::{Heard, Hearing, NoValue, hear, hear_none, value_in};
 pub use laws::{
     left_out_is_named_in_texts, more_never_counts_less, what_stands_counts_enough,
     what_stands_counts_its_parts,
 };
 pub use naming::object_name;
 pub use site::Site;
-pub use told::{is_blank, parse};
 pub use translation::{MAX_OBJECT, Translation, translate};

@@ -609,8 +609,8 @@ pub(crate) fn line_told(
     }
 }
 
-/// Whether a line has no byte but spaces.
-pub fn is_blank(line: &[u8]) -> bool
+// Whether a line has no byte but spaces.
+pub(crate) fn is_blank(line: &[u8]) -> bool
     ensures { result ≡ is_blank line.now }
 {
     line.iter().all(|byte| is_space(*byte))
@@ -623,11 +623,9 @@ fn is_space(byte: u8) -> bool
     matches!(byte, b' ' | b'\t' | b'\n' | b'\r')
 }
 
-/// The JSON value that a line is, if it is one.
-///
-/// Errors: `AllocError`, which may come in place of any answer.
+// The JSON value that a line is, if it is one.
 #[tactic(auto, using(crate::proofs::Parsed::parsed_read, crate::proofs::Parsed::parsed_refused))]
-pub fn parse(alloc: Global, line: &[u8]) -> Result<Option<Value>, AllocError>
+pub(crate) fn parse(alloc: Global, line: &[u8]) -> Result<Option<Value>, AllocError>
     ensures { IfOk result (λ value. option_map view value ≡ parsed line.now) }
 {
     match Value::from_slice(alloc, line) {

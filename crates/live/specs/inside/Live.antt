@@ -5,13 +5,13 @@ use Rattle.streams.specs.Device.{DeviceUse}
 use Rattle.streams.specs.declared.fault.RunFault.{RunFault}
 use Rattle.streams.specs.declared.fault.RunFault.TheVariants as run_fault
 use Rattle.live_desk.specs.State.{Live}
-use Rattle.live.specs.Meaning.{meaning}
+use Rattle.live.specs.Meaning.{meaning, reasons}
 use Rattle.live.specs.Live.{IsAnswered, IsBegun, IsWhole, Manner}
 
 -- a line's answer waits behind what waited
 pub record IsLineAnswered (m : Manner) (old : Live) (line : List ℕ) (new : Live) (waited waits : List ℕ) : Type 0 where
   pub text : List ℕ
-  pub answered : IsAnswered m (meaning m.site line) old text new
+  pub answered : IsAnswered m (meaning m.site line) (reasons m.site line) old text new
   pub behind : waits ≡ waited ++ text
 
 -- which devices have failed where it is stopped by this

@@ -1,8 +1,8 @@
-use Rattle.live.proofs.Timely.{a_tick}
+use Rattle.std.proofs.Common.{sym, subst}
+use Rattle.live.specs.inside.Timely.{IsTimely}
+use Rattle.live.proofs.Timely.{timely}
 use Rattle.live.proofs.live_run.answer_to.Goals as goal
 
 -- a moment that a line tells is one that clocks have
-pub tick-requires : goal.tick-requires
-tick-requires g c =
-    let means = rw c.in-Tick.is at c.in_ok-event.ensures in
-    a_tick _ _ c.in-Tick.now means
+pub answer_meant-requires-after_bounds : goal.answer_meant-requires-after_bounds
+answer_meant-requires-after_bounds g c κs within = subst IsTimely (sym c.in_ok-meaning.ensures.meaning) (timely _ _)
