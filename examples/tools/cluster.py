@@ -9,11 +9,11 @@ from typing import Any, Iterable
 
 from tools.program import WSCHED, Script, Untold, quoted
 from tools.rules import Rules
-
+from tools.seeing import Reader, SeenNode, SeenPod
 from tools.translating import spelled
+
 from state.affinity import NodeLabels, Volumes
 from state.rule_labels import read_by
-from tools.seeing import Reader, SeenNode, SeenPod
 
 Json = dict[str, Any]
 Objects = dict[str, list[Json]]

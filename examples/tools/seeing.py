@@ -1,5 +1,5 @@
 # SPDX-License-Identifier: Apache-2.0
-"""What is kept of the nodes and pods that are heard of: what `wsched translate` says of each, and what this client tells by itself.
+"""What is kept of the nodes and pods that are heard of: what `wsched translate` says of each, and what whoever asks it tells besides.
 
 The latter are labels: of a pod the entries by which the rule node_affinity is told what it asks of a node, and of a node with many those
 that pods ask for. A pod that has a node is always counted, and one that waits and asks for what nobody knows is left alone.
@@ -10,14 +10,14 @@ import functools
 import itertools
 import json
 import sys
-from typing import Any, NamedTuple, Sequence
+from typing import NamedTuple, Sequence
+
+from tools.translating import EVERYTHING, Answer, Json, Size, Translator, as_json, fields_of, size_of
 
 from state import affinity
 from state.affinity import LABELS, NAME, Asked, NodeLabels, Volumes
 from state.heard import CONTAINERS, ENDED, OF_CONTAINERS, Own, created_at, unscheduled, with_labels, without
 from state.rule_labels import Named
-
-from tools.translating import EVERYTHING, Answer, Json, Size, Translator, as_json, fields_of, size_of
 
 # All of a pod's own data that matters to its line, but for its name.
 OF_PODS = ("deletionTimestamp",)

@@ -12,11 +12,12 @@ class Told:
 
     def __init__(self, site: Site, share: str = "1/1", has_affinity: bool = True) -> None:
         # pylint: disable=import-outside-toplevel
+        from api.pages import Item
         from core import live
         from state import affinity, heard, rule_labels
         from state.share import words
 
-        self.live, self.heard = live, heard
+        self.live, self.heard, self.item = live, heard, Item
         self.core = live.Core(live.command(site.programs.wsched, "wsched", 1, [], []), lambda: None)
         self.core.start()
         self.share, self.labels = words(share), affinity.NodeLabels()
@@ -57,7 +58,7 @@ class Told:
         """A list of nodes, or of no pods, and a watch that is open behind it."""
         self.said("list", of=of)
         for it in filter(lambda it: self.share.has_node(it["metadata"]["name"]), nodes):
-            line = self.heard.item_line("ADDED", "Node", self.heard.Item(it, json.dumps(it)))
+            line = self.heard.item_line("ADDED", "Node", self.item(it, json.dumps(it)))
             self.answer(self.heard.node_heard("ADDED", it, line, self.labels).line)
         self.said("listed", of=of)
         self.said("hears", of=of)

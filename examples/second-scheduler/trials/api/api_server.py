@@ -1,11 +1,9 @@
 # SPDX-License-Identifier: Apache-2.0
 """The trials beside a real API server (kube-apiserver 1.20.2 with etcd): nodes too few for the pods, until each that waits fits nowhere."""
-import gzip
 import json
 import random
 import re
 import signal
-import subprocess
 import threading
 import time
 from typing import Callable
