@@ -6,7 +6,6 @@ use Rattle.std.specs.Str.{bytes_eq}
 use Rattle.std.specs.Prelude.{option_and_then}
 use Rattle.serde_json.specs.Data.{Data}
 use Rattle.serde_json.specs.Find.{get}
-use Rattle.quant.specs.declared.amount.Moment.{Moment}
 use Rattle.quant.specs.declared.event.Event.TheVariants.{NodeSet, NodeGone, PodPending, PodBound, PodGone}
 use Rattle.quant.specs.declared.limits.TheConstants.{LATEST_MOMENT}
 use Rattle.quant.specs.declared.name.Name.{Name}
@@ -20,7 +19,6 @@ use Rattle.ledger.specs.declared.event.Event.{Event}
 use Rattle.live.specs.declared.field.Field.{Field}
 use Rattle.live.specs.declared.field.Field.TheVariants as fields
 use Rattle.live.specs.declared.meaning.Meaning.{Meaning}
-use Rattle.live.specs.declared.meaning.Meaning.TheVariants.{Tick}
 use Rattle.live.specs.Meaning.{is_order, meaning, of_aside, of_explain, of_moment, of_object, of_op, of_order, of_value}
 use Rattle.live.specs.Field.{key}
 use Rattle.live.specs.inside.Timely.{IsTimely}
