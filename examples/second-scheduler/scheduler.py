@@ -25,7 +25,7 @@ from reporting.itself import Itself
 from reporting.metrics import Metrics
 from reporting.telling import Telling
 from state.affinity import NodeLabels
-from state.binds import UNDER_WAY, Binds
+from state.binds import UNDER_WAY, Binds, End
 from state.desk import Desk
 from state.newest import Inbox, Meant, Newest
 from state.pods import Pod
@@ -180,19 +180,19 @@ class Scheduler:
             # (it was decided by what the pod or the node was before)
             self.binds.dont_send(bind)
 
-    def was_bound(self, bind: Bind, is_bound: bool, is_sent: bool) -> None:
-        self.counts["bound" if is_bound else "not bound"] += 1
+    def was_bound(self, bind: Bind, how: End, is_sent: bool) -> None:
+        self.counts["bound" if how is End.BOUND else "not bound"] += 1
         if not is_sent:
             self.metrics.not_posted.inc()
         else:
             self.metrics.binding.observe(bind.seconds)
-        if is_bound:
+        if how is End.BOUND:
             self.metrics.e2e.labels(self.given.scheduler, "scheduled").observe(time.monotonic() - bind.turn)
             self.telling.scheduled(bind.pod, bind.node)
             self.desk.bound(bind.pod)
         else:
             self.metrics.not_bound.inc()
-            self.desk.not_bound(bind.pod)
+            self.desk.not_bound(bind.pod, is_there=how is End.WAITS)
         self.desk.has_work = True
 
     # On and on.

@@ -6,6 +6,7 @@ was refused, and where nothing says that it isn't done, once the server's time f
 """
 from __future__ import annotations
 
+import enum
 import functools
 import heapq
 import itertools
@@ -27,6 +28,14 @@ UNDER_WAY = 512
 LONGEST_PAUSE = 10.0
 
 
+class End(enum.Enum):
+    """What a pod is whose bind has an end."""
+
+    BOUND = "on the node"
+    WAITS = "without a node"
+    ELSE = "gone, or on another node"
+
+
 class Doubt(NamedTuple):
     """A bind that had no good answer. `until` is up to when it may still be done, 0 where the API server said that it wasn't."""
 
@@ -36,9 +45,9 @@ class Doubt(NamedTuple):
 
 
 class Binds:
-    """`ended` is told of each that has an end: whether its pod was bound, and whether the bind was sent."""
+    """`ended` is told of each that has an end: how, and whether the bind was sent."""
 
-    def __init__(self, core: Core, binders: Binders, metrics: Metrics, ended: Callable[[Bind, bool, bool], None]) -> None:
+    def __init__(self, core: Core, binders: Binders, metrics: Metrics, ended: Callable[[Bind, End, bool], None]) -> None:
         self.core, self.binders, self.metrics, self.ended = core, binders, metrics, ended
         # those that have no end, by their pods' uids, with the outcome that is known; and the doubts of them
         self.there: dict[str, tuple[Bind, Outcome | None]] = {}
@@ -71,7 +80,7 @@ class Binds:
         self.there[bind.pod.uid] = bind, it.outcome
         if it.outcome is Outcome.CREATED:
             self.core.say(self.answer(bind, "created"), self.was_told)
-            self.end(bind, True)
+            self.end(bind, End.BOUND)
             return
         self.metrics.trouble.doubts.inc()
         doubt = Doubt(bind, it.until)
@@ -111,7 +120,7 @@ class Binds:
             self.binders.look_up(doubt.bind, is_fenced=bool(doubt.until))
         elif self.is_this(doubt.bind):
             # (its end was told meanwhile)
-            self.end(doubt.bind, False)
+            self.end(doubt.bind, End.ELSE)
 
     def found(self, it: Found) -> None:
         doubt = self.doubts.get(it.bind.pod.uid)
@@ -140,22 +149,24 @@ class Binds:
 
     def was_read(self, it: Found, _: Said) -> None:
         if self.is_this(it.bind):
-            self.end(it.bind, node_of(it.bind.pod, it.pod) == it.bind.node)
+            node = node_of(it.bind.pod, it.pod)
+            self.end(it.bind, End.WAITS if node == "" else End.BOUND if node == it.bind.node else End.ELSE)
 
     # Ends.
 
     def heard(self, it: PodHeard) -> None:
         """A pod stands on a node, or went: a bind of it that had no good answer is over by that."""
         if it.uid in self.doubts and (it.is_gone or it.node):
-            self.end(self.there[it.uid][0], it.node == self.there[it.uid][0].node and not it.is_gone)
+            bind, _ = self.there[it.uid]
+            self.end(bind, End.BOUND if it.node == bind.node and not it.is_gone else End.ELSE)
 
-    def end(self, bind: Bind, is_bound: bool) -> None:
+    def end(self, bind: Bind, how: End) -> None:
         _, outcome = self.there.pop(bind.pod.uid)
         is_known, is_given_up = self.doubts.pop(bind.pod.uid, None) is None, bind.pod.uid in self.given_up
         self.given_up.discard(bind.pod.uid)
         if not is_known and not is_given_up:
             self.metrics.trouble.doubts.dec()
-        self.ended(bind, is_bound, outcome is not Outcome.UNWANTED)
+        self.ended(bind, how, outcome is not Outcome.UNWANTED)
 
     def cut_short(self) -> None:
         """The process ends: what isn't known by now may still be done."""

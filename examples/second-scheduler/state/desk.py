@@ -9,7 +9,7 @@ import functools
 import logging
 import sys
 import time
-from typing import Callable, NamedTuple
+from typing import Callable
 
 from core.answers import Judged, Said, Word
 from core.live import Core, order, quoted
@@ -27,13 +27,6 @@ AGAIN = 30.0
 KINDS = {"node": "nodes", "pod": "pods"}
 
 
-class Unread(NamedTuple):
-    """A pod on a node of which not all that it asks for can be read."""
-
-    name: str
-    node: str
-
-
 class Desk(Nodes):
     """`pods` are those of one's own that wait, by their uids, also while a bind of them is under way, and after it until that is heard."""
 
@@ -47,15 +40,15 @@ class Desk(Nodes):
         # own pods that are left alone, by what matters of them, and those with a node that can't be read as
         # a whole
         self.alone: dict[Pod, int] = {}
-        self.unread: dict[str, Unread] = {}
+        self.unread = set[str]()
         # those of them that the list that goes on hasn't named yet
         self.unseen = set[str]()
         self.listed: set[str] = set()
         # the kinds of which something had no room, those of which something went since, and when each was
         # listed last
         self.full, self.has_gone, self.began = set[str](), set[str](), dict[str, float]()
-        # how often a list told what its watch should have told
-        self.missed: dict[str, str] = {}
+        # whom the list that goes on tells of as its watch should have
+        self.missed = set[str]()
 
     # Lists and watches.
 
@@ -65,7 +58,7 @@ class Desk(Nodes):
             self.full.discard(kind)
             self.has_gone.discard(kind)
             self.began[kind] = time.monotonic()
-            self.missed = {}
+            self.missed = set()
             self.unseen = set(self.unread) if kind == "pod" else self.unseen
         self.core.say(order(word, of=quoted(KINDS[kind])), functools.partial(self.word_answered, kind, word))
         if named is None:
@@ -73,7 +66,8 @@ class Desk(Nodes):
         if kind == "node":
             self.hear_nodes(named)
         else:
-            for uid in [uid for uid, pod in self.pods.items() if uid not in named and pod.ticket is None]:
+            # (those that it names on a node have been told)
+            for uid in [uid for uid in self.pods if uid not in named]:
                 self.lose_pod(uid)
             for uid in self.unseen:
                 self.read_all_of(uid)
@@ -101,7 +95,8 @@ class Desk(Nodes):
     def look_missed(self, who: str, about: dict[str, object], said: Said) -> None:
         """A list names what a watch that had come further hasn't told: an event was lost on the way."""
         if said.word is Word.TOLD and who not in self.missed:
-            self.missed[who] = why = f"audit: a list tells {who} as its watch, which had come further, never did"
+            self.missed.add(who)
+            why = f"audit: a list tells {who} as its watch, which had come further, never did"
             LOG.error("%s", why)
             self.telling.warn(about, "ListDifference", why)
 
@@ -154,13 +149,14 @@ class Desk(Nodes):
             self.read_all_of(it.uid)
             return
         if it.uid not in self.unread and said.word is not Word.NOTHING:
-            self.unread[it.uid] = Unread(it.key, it.node)
+            self.unread.add(it.uid)
             why = f"not all that the pod asks for can be read, and it counts on {it.node} as the most there can be: {', '.join(left_out)}"
             LOG.error("pod %s: %s", it.key, why)
             self.telling.warn(about_pod(Pod(it.namespace, it.name, it.uid)), "NotCounted", why)
 
     def read_all_of(self, uid: str) -> None:
-        if self.unread.pop(uid, None):
+        if uid in self.unread:
+            self.unread.discard(uid)
             self.telling.done(uid, "NotCounted")
 
     def lose_pod(self, uid: str) -> None:
@@ -306,9 +302,12 @@ class Desk(Nodes):
             self.labels.give_back(pod.uid)
             self.telling.done(pod.uid)
 
-    def not_bound(self, pod: Pod) -> None:
-        """A bind has come to nothing, as wsched knows: it has the pod to place again, by what it was told of it first."""
+    def not_bound(self, pod: Pod, is_there: bool) -> None:
+        """A bind has come to nothing, as wsched knows: it has the pod to place again, by what it was told of it first, unless that is gone."""
         if self.pods.get(pod.uid) is not pod:
+            return
+        if not is_there:
+            self.lose_pod(pod.uid)
             return
         pod.place = pod.ticket = None
         self.waiting.moves += 1
