@@ -178,8 +178,10 @@ class Desk(Nodes):
         if pod is None:
             pod = self.pods[it.uid] = Pod(it.namespace, it.name, it.uid)
         if pod.ticket is not None:
-            # what was said before its bind may come late, and what comes behind it counts once that has failed
+            # what was said before its bind may come late, and what comes behind it counts once that has failed.
+            # (It is told all the same: what a list doesn't name is gone, with its bind.)
             self.newest[it.uid] = it
+            self.core.say(it.line, self.was_told)
             return
         wait = pod.wait
         if (wait and wait.heard.mark == heard.mark) or self.alone.get(pod) == heard.mark:
