@@ -60,6 +60,26 @@ def held(site: Site) -> str:
     return f"done {33 + took:.0f} s after it was sent, and the second pod waits; {site.check()}"
 
 
+def held_listed(site: Site) -> str:
+    """The same for 12 s, in which all is listed anew, twice: the pod whose bind is held is told with the others of the list, so its place is kept."""
+    site.node("a", cpu="1")
+    settled(site)
+    site.server.refuse = Held(12, "first")
+    site.pod("first", cpu="600m")
+    site.wait(lambda: site.server.count("create", "pods/binding") == 2, 20, "the bind is under way")
+    for turn in range(2):
+        lists = site.server.count("list", "pods")
+        site.store.compact()
+        site.server.break_watches("gone")
+        site.wait(lambda lists=lists: site.server.count("list", "pods") > lists and len(site.server.watches) >= 2, 20, "all is listed anew")  # type: ignore[misc]
+        site.pod(f"second-{turn}", cpu="600m")
+        site.wait(lambda turn=turn: site.events(about=f"second-{turn}", reason="FailedScheduling"), 20, "a word about a second pod")  # type: ignore[misc]
+    took = site.wait(lambda: site.place("first"), 20, "the bind that was held is done")
+    time.sleep(3)
+    assert site.placed() == 2, f"another is on the node: {site.watcher().wrong}"
+    return f"done {took:.1f} s later, and the others wait; {site.check()}"
+
+
 def held_fenced(site: Site) -> str:
     """A bind is held back for 110 s: 90 s after it was sent the pod's version is moved, then its place is given back and the pod placed again; what
     comes late is refused."""
@@ -198,4 +218,4 @@ def hidden_briefly(site: Site) -> str:
     return f"both bound after {took:.1f} s; {site.check()}"
 
 
-TRIALS = [hidden, hidden_briefly, hidden_whole, held, held_fenced, refused_late]
+TRIALS = [hidden, hidden_briefly, hidden_whole, held, held_listed, held_fenced, refused_late]
