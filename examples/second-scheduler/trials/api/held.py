@@ -43,13 +43,18 @@ def settled(site: Site) -> None:
     site.server.tests_version = False
 
 
-def held(site: Site) -> str:
-    """A bind is held back for 36 s and then done: its place is kept meanwhile, so a second pod that has room only without it isn't bound."""
+def hold_first(site: Site, seconds: float) -> None:
+    """A node of a core, and the bind of a pod of 600m that is held back for so long."""
     site.node("a", cpu="1")
     settled(site)
-    site.server.refuse = Held(36, "first")
+    site.server.refuse = Held(seconds, "first")
     site.pod("first", cpu="600m")
     site.wait(lambda: site.server.count("create", "pods/binding") == 2, 20, "the bind is under way")
+
+
+def held(site: Site) -> str:
+    """A bind is held back for 36 s and then done: its place is kept meanwhile, so a second pod that has room only without it isn't bound."""
+    hold_first(site, 36)
     site.pod("second", cpu="600m")
     time.sleep(33)
     assert value(scraped(site), "wsched_binds_in_doubt") == 1
@@ -62,11 +67,7 @@ def held(site: Site) -> str:
 
 def held_listed(site: Site) -> str:
     """The same for 12 s, in which all is listed anew, twice: the pod whose bind is held is told with the others of the list, so its place is kept."""
-    site.node("a", cpu="1")
-    settled(site)
-    site.server.refuse = Held(12, "first")
-    site.pod("first", cpu="600m")
-    site.wait(lambda: site.server.count("create", "pods/binding") == 2, 20, "the bind is under way")
+    hold_first(site, 12)
     for turn in range(2):
         lists = site.server.count("list", "pods")
         site.store.compact()
