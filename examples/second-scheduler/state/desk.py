@@ -135,8 +135,12 @@ class Desk(Nodes):
         if it.is_due and "pod" not in self.full:
             self.look_missed(f"pod {it.key}", about_pod(Pod(it.namespace, it.name, it.uid)), said)
         if said.word is Word.FULL:
+            # (it isn't counted at all, and nothing is bound until it is)
             self.has_no_room("pod")
-        self.look_unread(it, said)
+            if said.left_out:
+                LOG.error("pod %s can't be read: %s", it.key, ", ".join(said.left_out))
+        else:
+            self.look_unread(it, said)
         self.lose_pod(it.uid)
         if it.node in self.nodes:
             self.has_work = True
@@ -146,6 +150,8 @@ class Desk(Nodes):
         self.unseen.discard(it.uid)
         left_out = ("an object of more than 2 MiB",) if it.is_stand_in else said.left_out
         if said.word in (Word.TOLD, Word.OLD) and all(why.startswith("required ") for why in left_out):
+            if it.uid in self.unread:
+                self.try_again()
             self.read_all_of(it.uid)
             return
         if it.uid not in self.unread and said.word is not Word.NOTHING:
@@ -153,6 +159,14 @@ class Desk(Nodes):
             why = f"not all that the pod asks for can be read, and it counts on {it.node} as the most there can be: {', '.join(left_out)}"
             LOG.error("pod %s: %s", it.key, why)
             self.telling.warn(about_pod(Pod(it.namespace, it.name, it.uid)), "NotCounted", why)
+
+    def try_again(self) -> None:
+        """There is room that wsched doesn't try again by itself: a pod on a node counts for less."""
+        self.waiting.moves += 1
+        for pod in [*self.waiting.of[Turn.KEPT]]:
+            if pod.wait and pod.is_told:
+                self.untell(pod)
+                self.tell_pod(pod, pod.wait, pod.wait.line)
 
     def read_all_of(self, uid: str) -> None:
         if uid in self.unread:
