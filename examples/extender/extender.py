@@ -27,15 +27,15 @@ HERE = pathlib.Path(__file__).resolve().parent
 sys.path += [str(HERE.parent / "second-scheduler"), str(HERE.parent)]
 
 # pylint: disable=wrong-import-position
-from kubernetes import client
 from tools import rules
 from tools.translating import words_of
 from tools.wasm_sections import has_filter, has_score, is_steady, module_of, reasons_by_name
 
 import signals
 import site_settings
-from api.official import NoAccount, calls_by
-from api.watch import AWAY, message
+from api.account import NoAccount, account_by
+from api.calls import AWAY, Calls, message
+from api.way import NoWay, way_by
 from core.live import CoreFault, try_on_nothing
 from reporting import serving
 from second_scheduler import log_to_standard_error
@@ -167,18 +167,17 @@ def words_for(specs: list[str]) -> Words:
     return Words(reasons_by_name(specs), weights)
 
 
-def maps_of(calls: Any) -> Maps:
+def maps_of(calls: Calls) -> Maps:
     """As the API server's version has it; both where it doesn't tell that."""
     try:
-        answer = client.VersionApi(calls).get_code(_preload_content=False, _request_timeout=5)
-        said = json.loads(answer.data)
+        said = json.loads(calls.get("/version", 5.0))
         return maps_beside(int("".join(itertools.takewhile(str.isdecimal, said["minor"]))))
     except (*AWAY, ValueError, LookupError, TypeError) as why:
         LOG.info("the API server's version isn't known: %s", message(why))
         return Maps()
 
 
-def begin(given: argparse.Namespace, calls: Any) -> tuple[Service, Any]:
+def begin(given: argparse.Namespace, calls: Calls) -> tuple[Service, Any]:
     """The cores, what is known, who answers, and who listens. Raises CoreFault."""
     counting = Counting()
     cores = Cores(given.wsched, given.workers, given.spec, lambda why: counting.begun.inc())
@@ -204,7 +203,7 @@ def begin(given: argparse.Namespace, calls: Any) -> tuple[Service, Any]:
         answer,
     )
     service.knowing = Knowing(
-        client.CoreV1Api(calls), cores, rows, NodeLabels(given.settings, given.named), counting
+        calls, cores, rows, NodeLabels(given.settings, given.named), counting
     )
     service.knowing.start()
     service.watch_over()
@@ -236,8 +235,10 @@ def main() -> None:
     stop = threading.Event()
     signals.hear({it: stop.set for it in (signal.SIGTERM, signal.SIGINT, signal.SIGHUP)})
     try:
-        service, server = begin(given, calls_by(given.kubeconfig, 4))
-    except (NoAccount, CoreFault) as why:
+        way = way_by(account_by(given.kubeconfig))
+        way.start()
+        service, server = begin(given, Calls(way))
+    except (NoAccount, NoWay, CoreFault) as why:
         sys.exit(f"extender.py: {why}")
     except OSError as why:
         sys.exit(f"extender.py: --listen: {why}")

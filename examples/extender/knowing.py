@@ -5,8 +5,9 @@ from __future__ import annotations
 
 import logging
 import time
-from typing import Any, Sequence
+from typing import Sequence
 
+from api.calls import Calls
 from api.watch import PHASES, Things, Watched
 from state.affinity import NodeLabels
 from state.heard import ENDED
@@ -123,14 +124,14 @@ class Knowing:
     """Both, once they are started."""
 
     def __init__(
-        self, api: Any, cores: Cores, rows: Rows, labels: NodeLabels, counting: Counting
+        self, calls: Calls, cores: Cores, rows: Rows, labels: NodeLabels, counting: Counting
     ) -> None:
         reader = Reader(rows.program, WHO, rows.named)
         self.nodes = NodeEars(cores, reader, labels, counting)
         self.pods = PodEars(cores, rows, counting)
         self.watches = [
-            Watched(api.list_node, self.nodes),
-            Watched(api.list_pod_for_all_namespaces, self.pods, field_selector=ON_NODES),
+            Watched(calls, "/api/v1/nodes", self.nodes),
+            Watched(calls, "/api/v1/pods", self.pods, fieldSelector=ON_NODES),
         ]
         counting.look = self.look
         self.cores, self.counting = cores, counting

@@ -13,9 +13,9 @@ import time
 from typing import Any, Callable
 
 from api.binding import Bind, Binders
+from api.calls import Calls
 from api.listening import Listening
 from api.watch import QUIET
-from api.way import Way
 from core.answers import Decision, Denied, Dump, Erred, Nowhere, Placed, Shut
 from core.explaining import Explaining
 from core.live import MEANWHILE, PATIENCE, Core, command, order
@@ -49,7 +49,7 @@ class Scheduler:
     """One that schedules: `run` begins to list and watch, and goes on until `stopping` is set. `may_write` says whether no other may schedule by
     now."""
 
-    def __init__(self, given: argparse.Namespace, api: Any, way: Way, metrics: Metrics, health: Health, may_write: Callable[[], bool]) -> None:
+    def __init__(self, given: argparse.Namespace, calls: Calls, metrics: Metrics, health: Health, may_write: Callable[[], bool]) -> None:
         self.given, self.metrics, self.health = given, metrics, health
         self.inbox = Inbox()
         self.stopping, self.is_audit_asked = threading.Event(), False
@@ -68,12 +68,12 @@ class Scheduler:
         self.heard = 0
         pods: dict[str, Pod] = {}
         self.newest = Newest(self.inbox, pods, lambda: self.listening.is_deaf() or not may_write())
-        self.telling = Telling(way, given.scheduler, given.dry_run, metrics, self.newest.waits)
-        self.binds = Binds(self.core, Binders(api, way, given.binders, self.newest), metrics, self.was_bound)
+        self.telling = Telling(calls.way, given.scheduler, given.dry_run, metrics, self.newest.waits)
+        self.binds = Binds(self.core, Binders(calls, given.binders, self.newest), metrics, self.was_bound)
         labels = NodeLabels(given.settings, given.read_labels, bool(given.node_affinity))
         self.desk = Desk(self.core, self.telling, metrics, labels, pods, self.share)
         self.explaining = Explaining(self.desk.explain, self.telling, whose, given.reasons)
-        self.listening = Listening(given, api, metrics, self.newest, labels)
+        self.listening = Listening(given, calls, metrics, self.newest, labels)
 
     def start(self) -> None:
         """Starts the child and the threads: those last that list and watch."""

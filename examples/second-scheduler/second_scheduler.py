@@ -16,10 +16,6 @@ import pathlib
 import signal
 import sys
 import threading
-from typing import Any
-
-import urllib3
-from kubernetes import client
 
 sys.path.append(str(pathlib.Path(__file__).resolve().parent.parent))
 
@@ -30,9 +26,10 @@ from tools.wasm_sections import reasons_by_name
 import signals
 import site_settings
 from api import lease
+from api.account import NoAccount, account_by
 from api.binding import LANDS
-from api.official import NoAccount, calls_by
-from api.way import NoWay, Way
+from api.calls import Calls
+from api.way import NoWay, way_by
 from core.live import CoreFault, try_on_nothing
 from reporting import serving
 from reporting.health import Health
@@ -122,22 +119,6 @@ def words() -> argparse.Namespace:
 
 def log_to_standard_error(is_verbose: bool) -> None:
     logging.basicConfig(level=logging.DEBUG if is_verbose else logging.INFO, format="%(asctime)s %(message)s", force=True)
-    for name in ("urllib3", "kubernetes"):
-        logging.getLogger(name).setLevel(logging.ERROR)
-    # (a kubeconfig that verifies nothing says so itself)
-    urllib3.disable_warnings(urllib3.exceptions.InsecureRequestWarning)
-
-
-def connect(given: argparse.Namespace) -> tuple[Any, Way]:
-    """The API server: the official client's calls, and the way for what is written as often as pods are bound."""
-    try:
-        calls = calls_by(given.kubeconfig, given.binders + 16)
-    except NoAccount as why:
-        sys.exit(f"second_scheduler.py: {why}")
-    try:
-        return client.CoreV1Api(calls), Way(calls.configuration)
-    except (NoWay, OSError, ValueError) as why:
-        sys.exit(f"second_scheduler.py: no way to the API server {calls.configuration.host}: {why}")
 
 
 class Replica:
@@ -145,7 +126,11 @@ class Replica:
 
     def __init__(self, given: argparse.Namespace) -> None:
         self.given = given
-        self.api, self.way = connect(given)
+        try:
+            self.way = way_by(account_by(given.kubeconfig))
+        except (NoAccount, NoWay) as why:
+            sys.exit(f"second_scheduler.py: {why}")
+        self.calls = Calls(self.way)
         self.health, self.metrics, self.stop = Health(), Metrics(given.scheduler), threading.Event()
         self.running: Scheduler | None = None
         self.lease: lease.Lease | None = None
@@ -154,6 +139,7 @@ class Replica:
         """From now on signals are heard, and probes and scrapes answered."""
         signals.hear({signal.SIGTERM: self.end, signal.SIGINT: self.end, signal.SIGHUP: self.end, signal.SIGUSR1: self.audit})
         given = self.given
+        self.way.start()
         if given.listen:
             try:
                 serving.serve(given.listen, self.health, self.metrics, serving.Files(given.tls_cert, given.tls_key, given.token_file))
@@ -175,7 +161,7 @@ class Replica:
         try:
             self.metrics.leader.set(1)
             self.health.lead()
-            self.running = Scheduler(self.given, self.api, self.way, self.metrics, self.health, self.may_write)
+            self.running = Scheduler(self.given, self.calls, self.metrics, self.health, self.may_write)
             if self.stop.is_set():
                 self.running.stopping.set()
             status = self.running.run()
@@ -214,7 +200,7 @@ class Replica:
 
     def follow(self) -> None:
         namespace, name = self.given.lease
-        self.lease = lease.Lease(namespace, name + self.given.share.suffix, self.api.api_client)
+        self.lease = lease.Lease(namespace, name + self.given.share.suffix, self.calls)
         # a follower ends at once
         threading.Thread(target=self.end_follower, daemon=True).start()
         self.lease.follow()

@@ -8,14 +8,12 @@ import functools
 import json
 import logging
 import time
-from typing import Any, NamedTuple, Sequence
+from typing import NamedTuple, Sequence
 
-from kubernetes.client.rest import ApiException
-
+from api.calls import AWAY, Calls, Refused, message
 from api.pages import Item, Json, Page
-from api.posting import JSON, UNWANTED, Answer, Posts, Request
-from api.watch import AWAY, message
-from api.way import Way
+from api.posting import UNWANTED, Answer, Posts, Request
+from api.way import JSON, PATCH
 from state.newest import Meant, Newest
 from state.pods import Pod
 
@@ -77,9 +75,9 @@ class Binders:
     """Those that bind, so many at once, and those that read what became of binds. Each answer goes into the inbox, as `("bind", .., Answered)` and
     `("found", .., Found)`."""
 
-    def __init__(self, api: Any, way: Way, count: int, newest: Newest) -> None:
-        self.api, self.newest, self.inbox = api, newest, newest.inbox
-        self.posts = Posts(way, count, "binds", self.may_send)
+    def __init__(self, calls: Calls, count: int, newest: Newest) -> None:
+        self.calls, self.newest, self.inbox = calls, newest, newest.inbox
+        self.posts = Posts(calls.way, count, "binds", self.may_send)
         self.lookers = concurrent.futures.ThreadPoolExecutor(count, "look-up")
         self.warned = False
 
@@ -92,8 +90,7 @@ class Binders:
             # (API servers from 1.21 on bind no pod that has changed, and so none that was fenced)
             meta["resourceVersion"] = bind.meant.version
         body = {"metadata": meta, "target": {"apiVersion": "v1", "kind": "Node", "name": bind.node}}
-        path = f"/api/v1/namespaces/{pod.namespace}/pods/{pod.name}/binding"
-        self.posts.send(Request("POST", path, json.dumps(body).encode(), JSON, PATIENCE, functools.partial(self.answered, bind), bind))
+        self.posts.send(Request("POST", f"{path_of(pod)}/binding", json.dumps(body).encode(), JSON, PATIENCE, functools.partial(self.answered, bind), bind))
 
     def may_send(self, requests: Sequence[Request]) -> Sequence[bool]:
         """(in the thread of the posts) Which are still wanted: these are sent at once, and once."""
@@ -134,33 +131,32 @@ class Binders:
     def found(self, bind: Bind, is_fenced: bool) -> Found:
         """(Each is read from the store: no version is asked for.)"""
         try:
-            pod = self.read(bind.pod.namespace, bind.pod.name)
+            pod = self.read(bind.pod)
             if is_fenced and waits(bind.pod, pod):
                 assert pod
                 if not self.fence(bind, pod.thing):
                     return Found(bind, False)
-                pod = self.read(bind.pod.namespace, bind.pod.name)
+                pod = self.read(bind.pod)
             return Found(bind, True, pod)
-        except ApiException as other:
+        except Refused as other:
             if other.status in (401, 403):
                 self.warn(other)
             return Found(bind, False, is_hidden=other.status == 403)
         except (*AWAY, ValueError, LookupError, TypeError):
             return Found(bind, False)
 
-    def read(self, namespace: str, name: str) -> Item | None:
-        """The pod of this name, None where there is none. Without the right to read it by its name it is listed by it."""
-        words = {"_preload_content": False, "_request_timeout": (5, 30)}
+    def read(self, pod: Pod) -> Item | None:
+        """What has the pod's name, None where nothing has. Without the right to read it by its name it is listed by it."""
         try:
-            text = self.api.read_namespaced_pod(name, namespace, **words).data.decode().rstrip("\n")
+            text = self.calls.get(path_of(pod)).decode().rstrip("\n")
             return Item(dict(json.loads(text)), text)
-        except ApiException as other:
+        except Refused as other:
             if other.status == 404:
                 return None
             if other.status != 403:
                 raise
             self.warn(other)
-        page = Page(self.api.list_namespaced_pod(namespace, field_selector=f"metadata.name={name}", **words).data)
+        page = Page(self.calls.get(f"/api/v1/namespaces/{pod.namespace}/pods", fieldSelector=f"metadata.name={pod.name}"))
         return next(page.items(), None)
 
     def fence(self, bind: Bind, pod: Json) -> bool:
@@ -172,9 +168,9 @@ class Binders:
         meta = {"uid": bind.pod.uid, "resourceVersion": pod["metadata"].get("resourceVersion")}
         body = {"metadata": meta, "status": {"conditions": [condition]}}
         try:
-            self.api.patch_namespaced_pod_status(bind.pod.name, bind.pod.namespace, body, _preload_content=False, _request_timeout=(5, 30))
+            self.calls.ask("PATCH", f"{path_of(bind.pod)}/status", json.dumps(body).encode(), PATCH)
             return True
-        except ApiException as other:
+        except Refused as other:
             if other.status in (401, 403):
                 self.warn(other)
             # (without the right to it the time that has passed has to do; one that went isn't bound
@@ -183,10 +179,14 @@ class Binders:
         except AWAY:
             return False
 
-    def warn(self, why: ApiException) -> None:
+    def warn(self, why: Refused) -> None:
         if not self.warned:
             self.warned = True
             LOG.error("what became of a bind without an answer can't be looked up: %s", message(why))
+
+
+def path_of(pod: Pod) -> str:
+    return f"/api/v1/namespaces/{pod.namespace}/pods/{pod.name}"
 
 
 def waits(pod: Pod, there: Item | None) -> bool:

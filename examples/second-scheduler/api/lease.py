@@ -8,23 +8,24 @@ from __future__ import annotations
 
 import argparse
 import datetime
+import json
 import logging
 import os
 import random
 import secrets
 import socket
 import time
-from typing import Any, Callable
+from typing import Callable
 
-from kubernetes import client
-from kubernetes.client.rest import ApiException
-
-from api.watch import AWAY, message
+from api.calls import AWAY, Calls, Refused, message
+from api.pages import Json
 
 LOG = logging.getLogger("second-scheduler")
 # For how long a replica has the Lease once it has renewed it, within which time it has to renew it,
-# and how often it tries.
-SECONDS, DEADLINE, RETRY = 15, 10, 2
+# how often it tries, and for how long the API server may say nothing, in seconds.
+SECONDS, DEADLINE, RETRY, PATIENCE = 15, 10, 2, 2
+# How a request of it may end, or an answer that is no Lease.
+FAULTS = (*AWAY, ValueError, LookupError, TypeError)
 
 
 def name_of(text: str) -> tuple[str, str]:
@@ -40,21 +41,25 @@ def clock() -> float:
     return time.clock_gettime(time.CLOCK_BOOTTIME)
 
 
-def stamp() -> datetime.datetime:
-    now = datetime.datetime.now(datetime.timezone.utc)
-    # (the API takes a time with its microseconds alone)
-    return now.replace(microsecond=max(1, now.microsecond))
+def stamp() -> str:
+    """(with its microseconds, as the API takes it)"""
+    return datetime.datetime.now(datetime.timezone.utc).strftime("%Y-%m-%dT%H:%M:%S.%fZ")
+
+
+def spec_of(lease: Json | None) -> Json:
+    return dict((lease or {}).get("spec") or {})
 
 
 class Lease:
     """No call of it raises."""
 
-    def __init__(self, namespace: str, name: str, api: Any) -> None:
-        self.namespace, self.name, self.leases = namespace, name, client.CoordinationV1Api(api)
+    def __init__(self, namespace: str, name: str, calls: Calls) -> None:
+        self.namespace, self.name, self.calls = namespace, name, calls
+        self.path = f"/apis/coordination.k8s.io/v1/namespaces/{namespace}/leases"
         # (processes of several machines or containers may have one number, and one name)
         self.identity = f"{socket.gethostname()}_{secrets.token_hex(8)}_{os.getpid()}"
         # what was read last, and since when it has been so; who has it by that
-        self.read: tuple[Any, ...] = ()
+        self.read: Json = {}
         self.since, self.holder = 0.0, ""
         # when it was renewed last, and what was said last of a failure
         self.renewed, self.fault = float("-inf"), ""
@@ -93,47 +98,54 @@ class Lease:
         """Takes or renews it, where no other has it."""
         began = clock()
         try:
-            try:
-                there = self.leases.read_namespaced_lease(self.name, self.namespace, _request_timeout=(2, 2))
-            except ApiException as why:
-                if why.status != 404:
-                    raise
-                there = None
-            if there and self.is_others(there.spec):
+            there = self.there()
+            if there and self.is_others(spec_of(there)):
                 return False
             self.write(there)
-        except AWAY as why:
+        except FAULTS as why:
             self.failed(message(why))
             return False
         self.renewed, self.fault, self.holder = began, "", self.identity
         return True
 
-    def is_others(self, spec: Any) -> bool:
-        record = (spec.holder_identity, spec.renew_time, spec.acquire_time, spec.lease_duration_seconds)
-        if record != self.read:
-            self.read, self.since = record, clock()
-        self.holder = spec.holder_identity or ""
-        return self.holder not in ("", self.identity) and clock() < self.since + (spec.lease_duration_seconds or SECONDS)
+    def there(self) -> Json | None:
+        """As it is, None where it isn't there."""
+        try:
+            return dict(json.loads(self.calls.get(f"{self.path}/{self.name}", PATIENCE)))
+        except Refused as why:
+            if why.status != 404:
+                raise
+            return None
 
-    def write(self, there: Any) -> None:
+    def is_others(self, spec: Json) -> bool:
+        if spec != self.read:
+            self.read, self.since = spec, clock()
+        self.holder = spec.get("holderIdentity") or ""
+        return self.holder not in ("", self.identity) and clock() < self.since + (spec.get("leaseDurationSeconds") or SECONDS)
+
+    def write(self, there: Json | None) -> None:
         """With the version that was read: of two that take it at once, one is refused."""
-        is_new = not there or there.spec.holder_identity != self.identity
-        had = there.spec if there else client.V1LeaseSpec()
+        had = spec_of(there)
+        before, now = had.get("holderIdentity") or "", stamp()
+        is_new = before != self.identity
         if is_new:
-            self.before = had.holder_identity or ""
-        spec = client.V1LeaseSpec(
-            holder_identity=self.identity,
-            lease_duration_seconds=SECONDS,
-            acquire_time=stamp() if is_new else had.acquire_time,
-            renew_time=stamp(),
-            lease_transitions=(had.lease_transitions or 0) + (1 if there and is_new else 0),
-        )
+            self.before = before
+        spec = {
+            "holderIdentity": self.identity,
+            "leaseDurationSeconds": SECONDS,
+            "acquireTime": now if is_new else had.get("acquireTime"),
+            "renewTime": now,
+            "leaseTransitions": (had.get("leaseTransitions") or 0) + (1 if there and is_new else 0),
+        }
         if there:
-            there.spec = spec
-            self.leases.replace_namespaced_lease(self.name, self.namespace, there, _request_timeout=(2, 2))
+            self.put({**there, "spec": spec})
         else:
-            lease = client.V1Lease(metadata=client.V1ObjectMeta(name=self.name, namespace=self.namespace), spec=spec)
-            self.leases.create_namespaced_lease(self.namespace, lease, _request_timeout=(2, 2))
+            meta = {"name": self.name, "namespace": self.namespace}
+            lease = {"apiVersion": "coordination.k8s.io/v1", "kind": "Lease", "metadata": meta, "spec": spec}
+            self.calls.ask("POST", self.path, json.dumps(lease).encode(), patience=PATIENCE)
+
+    def put(self, lease: Json) -> None:
+        self.calls.ask("PUT", f"{self.path}/{self.name}", json.dumps(lease).encode(), patience=PATIENCE)
 
     def failed(self, why: str) -> None:
         """(each once, and not each time that it is tried)"""
@@ -144,9 +156,8 @@ class Lease:
     def release(self) -> None:
         """Gives it back at a clean end: so another needn't wait until it has run out, and knows that no bind is under way."""
         try:
-            there = self.leases.read_namespaced_lease(self.name, self.namespace, _request_timeout=(2, 2))
-            if there.spec.holder_identity == self.identity:
-                there.spec.holder_identity = ""
-                self.leases.replace_namespaced_lease(self.name, self.namespace, there, _request_timeout=(2, 2))
-        except AWAY as why:
+            there = self.there()
+            if there and spec_of(there).get("holderIdentity") == self.identity:
+                self.put({**there, "spec": {**spec_of(there), "holderIdentity": ""}})
+        except FAULTS as why:
             self.failed(message(why))

@@ -5,12 +5,12 @@ from __future__ import annotations
 import argparse
 import logging
 import time
-from typing import Any
 
+from api.calls import Calls
 from api.watch import PHASES, Watched
 from reporting.metrics import Metrics
 from state.affinity import NodeLabels
-from state.claims import ClaimHearing, Claims, VolumeHearing, listed_after
+from state.claims import ClaimHearing, Claims, VolumeHearing
 from state.heard import Reader
 from state.hearing import NodeHearing, PodHearing
 from state.newest import Newest
@@ -21,19 +21,19 @@ LOG = logging.getLogger("second-scheduler")
 class Listening:
     """`is_behind` is the main loop's: whether something that happened hasn't got there, as far as it can know."""
 
-    def __init__(self, given: argparse.Namespace, api: Any, metrics: Metrics, newest: Newest, labels: NodeLabels) -> None:
+    def __init__(self, given: argparse.Namespace, calls: Calls, metrics: Metrics, newest: Newest, labels: NodeLabels) -> None:
         self.inbox, self.watches, self.is_behind = newest.inbox, list[Watched](), True
-        only = {"label_selector": given.nodes} if given.nodes else {}
+        only = {"labelSelector": given.nodes} if given.nodes else {}
         claims = Claims(is_told=bool(given.node_affinity))
         reader = Reader(given.scheduler, given.share, given.read_labels, claims.there)
         nodes, pods = NodeHearing(metrics, newest, given.share, labels), PodHearing(metrics, newest, reader, claims)
         # those of which wsched is told
         self.told = (nodes, pods)
         if given.node_affinity:
-            self.watches.append(Watched(api.list_persistent_volume, VolumeHearing(claims, metrics)))
-            self.watches.append(Watched(api.list_persistent_volume_claim_for_all_namespaces, ClaimHearing(claims, metrics)))
-        self.watches.append(Watched(api.list_node, nodes, **only))
-        self.watches.append(Watched(listed_after(claims, api.list_pod_for_all_namespaces), pods, field_selector=PHASES))
+            self.watches.append(Watched(calls, "/api/v1/persistentvolumes", VolumeHearing(claims, metrics)))
+            self.watches.append(Watched(calls, "/api/v1/persistentvolumeclaims", ClaimHearing(claims, metrics)))
+        self.watches.append(Watched(calls, "/api/v1/nodes", nodes, **only))
+        self.watches.append(Watched(calls, "/api/v1/pods", pods, fieldSelector=PHASES))
 
     def start(self) -> None:
         for it in self.watches:

@@ -19,12 +19,10 @@ import threading
 import time
 from typing import Any, Callable, NamedTuple, Sequence
 
-from kubernetes.client.rest import ApiException
-
-from api.way import Way, answer_in
+from api.calls import Refused
+from api.way import JSON, Way, answer_in
 
 LOG = logging.getLogger("second-scheduler")
-JSON, PATCH = "application/json", "application/strategic-merge-patch+json"
 # Between two tries to connect there is a pause, in seconds, each twice the one before. How many are
 # made at once.
 FIRST_PAUSE, LONGEST_PAUSE, OPENERS = 0.2, 5.0, 4
@@ -46,12 +44,10 @@ class Answer(NamedTuple):
 
     @property
     def fault(self) -> Exception:
-        """What the official client would raise."""
+        """What `Calls` would raise."""
         if self.status == NONE:
             return ConnectionError(self.data.decode(errors="replace"))
-        why: Exception = ApiException(status=self.status, reason=http.client.responses.get(self.status, ""))
-        vars(why)["body"] = self.data
-        return why
+        return Refused(self.status, http.client.responses.get(self.status, ""), self.data)
 
 
 class Request(NamedTuple):
@@ -87,6 +83,8 @@ class Posts:
         self.asked: queue.SimpleQueue[Request] = queue.SimpleQueue()
         self.opened: queue.SimpleQueue[socket.socket | Exception] = queue.SimpleQueue()
         self.waiting: collections.deque[Request] = collections.deque()
+        # by which TLS connections are made
+        self.tls = way.tls
         self.lines: set[Line] = set()
         self.idle: list[Line] = []
         self.opening, self.pause, self.may_open = 0, 0.0, 0.0
@@ -107,7 +105,7 @@ class Posts:
         self.ring()
 
     def ask(self, method: str, path: str, body: bytes, form: str = JSON, patience: float = 10.0) -> bytes:
-        """Waits for the answer, and raises what the official client would where it is no good one."""
+        """Waits for the answer, and raises what `Calls` would where it is no good one."""
         answers: queue.SimpleQueue[Answer] = queue.SimpleQueue()
         self.send(Request(method, path, body, form, patience, answers.put))
         answer = answers.get()
@@ -155,6 +153,10 @@ class Posts:
         self.begin_some(now)
 
     def begin_some(self, now: float) -> None:
+        if self.tls is not self.way.tls:
+            self.tls = self.way.tls
+            for line in [it for it in self.idle if not self.way.has(it.sock)]:
+                self.close(line)
         while self.waiting and self.idle:
             some = [self.waiting.popleft() for _ in range(min(len(self.waiting), len(self.idle)))]
             for request, is_wanted in zip(some, self.wanted(some)):
@@ -232,7 +234,10 @@ class Posts:
     def answered(self, line: Line, answer: tuple[int, bytes, bool]) -> None:
         status, data, stays = answer
         request, line.is_busy, line.read = line.request, False, b""
-        if stays and not line.unsent:
+        if status == 401:
+            # (a certificate is the connection's)
+            self.way.refused()
+        if stays and not line.unsent and status != 401:
             self.idle.append(line)
         else:
             self.close(line)

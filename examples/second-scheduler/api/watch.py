@@ -7,55 +7,35 @@ anew. Of each object only what is read of it is kept. While a kind isn't heard o
 from __future__ import annotations
 
 import collections
+import http.client
 import json
 import logging
 import os
 import random
 import threading
 import time
-from typing import Any, Callable, Iterable, Iterator, Sequence
+from typing import Iterable, Iterator, Sequence
 
-import urllib3
-from kubernetes.client.rest import ApiException
-from kubernetes.config import ConfigException
-
+from api.calls import AWAY, Calls, Refused, asked_pause, message
 from api.pages import Item, Json, Page
 
 LOG = logging.getLogger("second-scheduler")
-# What a call to the API server may end with when it is away, or has another opinion, or when nobody
-# says who this is.
-AWAY = (ApiException, urllib3.exceptions.HTTPError, OSError, ConfigException)
-# How many objects of a list are asked for at once. Pods that have ended take no room.
-PAGE, PHASES = 500, "status.phase!=Succeeded,status.phase!=Failed"
+# How many objects of a list are asked for at once, and for how long such a page may say nothing, in
+# seconds. Pods that have ended take no room.
+PAGE, PATIENCE, PHASES = 500, 60.0, "status.phase!=Succeeded,status.phase!=Failed"
 # For how long a watch is asked for, in seconds, at least and at most, so that those of several
 # clients don't end together; and how long one that says nothing is waited for: an API server has a
 # bookmark each minute. (A machine that is gone is seen sooner, by `way`.)
 SHORTEST_WATCH, LONGEST_WATCH, SILENT = 300, 600, 120
 # A watch that has held so long is a good one; after any other there is a pause, each twice the one
 # before, and each shortened at random by up to a half, so that several clients don't come back
-# together. The longest pause that an API server may ask for.
-HELD, FIRST_PAUSE, LONGEST_PAUSE, LONGEST_ASKED = 5.0, 0.5, 10.0, 60.0
+# together.
+HELD, FIRST_PAUSE, LONGEST_PAUSE = 5.0, 0.5, 10.0
 # For how long a kind may not be heard of, in seconds, before nothing more is decided. Once it is
 # heard again it has told what happened meanwhile when it has said nothing for so long, or has been
 # open for so long.
 DEAF, QUIET, CAUGHT_UP = 2.0, 0.5, 5.0
 GONE = 410
-
-
-def message(why: BaseException) -> str:
-    """What the API server says of a request that it refuses, which names a right that is missing; of another fault its first line."""
-    if isinstance(why, ApiException):
-        try:
-            return f"{why.status} {json.loads(why.body)['message']}"
-        except (TypeError, ValueError, KeyError):
-            return f"{why.status} {why.reason}"
-    return str(why).split("\n", maxsplit=1)[0]
-
-
-def asked_pause(why: BaseException) -> float:
-    """For how many seconds the API server asks to be left alone (RFC 9110, 10.2.3), where it does."""
-    text = str((getattr(why, "headers", None) or {}).get("Retry-After", ""))
-    return min(float(text), LONGEST_ASKED) if text.isdecimal() else 0.0
 
 
 class Expired(Exception):
@@ -128,10 +108,10 @@ class Things(Ears):
 
 
 class Watched:
-    """One kind of object, in a thread of its own once it is started."""
+    """One kind of object, in a thread of its own once it is started. `only` are the selectors, as a query has them."""
 
-    def __init__(self, call: Callable[..., Any], ears: Ears, **only: str) -> None:
-        self.call, self.ears, self.only = call, ears, only
+    def __init__(self, calls: Calls, path: str, ears: Ears, **only: str) -> None:
+        self.calls, self.path, self.ears, self.only = calls, path, ears, only
         self.version: str | None = None
         self.pause = self.opened = 0.0
         # since when it is shut, None while it is open; whether it may not have told yet what
@@ -163,7 +143,7 @@ class Watched:
             self.version, why = None, str(gone)
         # (ValueError: an answer that was cut off is no JSON)
         except (*AWAY, ValueError) as other:
-            if getattr(other, "status", None) == GONE:
+            if isinstance(other, Refused) and other.status == GONE:
                 self.version = None
             why, asked = message(other), asked_pause(other)
         if self.opened and time.monotonic() - self.opened >= HELD:
@@ -180,43 +160,35 @@ class Watched:
         self.pause = min(max(FIRST_PAUSE, 2 * self.pause), LONGEST_PAUSE)
 
     def list(self) -> None:
-        more = None
         self.ears.begins()
-        while True:
-            answer = self.call(limit=PAGE, _continue=more, _preload_content=False, _request_timeout=(5, 60), **self.only)
-            page = Page(answer.data)
-            items = page.items()
-            self.ears.items(items)
-            # (what is left of it is read, and so what stands behind it)
-            collections.deque(items, maxlen=0)
-            more = page.meta.get("continue")
-            if not more:
-                self.ears.ends()
-                self.come_to(page.meta["resourceVersion"])
-                return
+        meta: Json = {"continue": None}
+        while "continue" in meta:
+            meta = self.page(meta["continue"])
+        self.ears.ends()
+        self.come_to(meta["resourceVersion"])
+
+    def page(self, start: str | None) -> Json:
+        """Has a page heard, and gives the list's metadata: each page is free again before the next is asked for."""
+        page = Page(self.calls.get(self.path, PATIENCE, **self.only, limit=str(PAGE), **({"continue": start} if start else {})))
+        items = page.items()
+        self.ears.items(items)
+        # (what is left of it is read, and so what stands behind it)
+        collections.deque(items, maxlen=0)
+        return page.meta
 
     def watch(self) -> None:
-        answer = self.call(
-            watch=True,
-            resource_version=self.version,
-            allow_watch_bookmarks=True,
-            timeout_seconds=random.randint(SHORTEST_WATCH, LONGEST_WATCH),
-            _preload_content=False,
-            _request_timeout=(5, SILENT),
-            **self.only,
-        )
-        self.is_open()
-        try:
-            for line in lines_of(answer):
-                self.is_hearing = True
-                self.take(line, json.loads(line))
-                self.heard, self.is_hearing = time.monotonic(), False
-            answer.release_conn()
-        finally:
-            self.shut, self.is_hearing = time.monotonic(), False
-            self.ears.shut()
-            # (a connection that has been given back is none of this answer's any more)
-            answer.close()
+        asked = {"watch": "true", "resourceVersion": self.version or "", "allowWatchBookmarks": "true"}
+        asked |= {"timeoutSeconds": str(random.randint(SHORTEST_WATCH, LONGEST_WATCH))}
+        with self.calls.watch(self.path, self.only | asked, SILENT) as answer:
+            self.is_open()
+            try:
+                for line in lines_of(answer):
+                    self.is_hearing = True
+                    self.take(line, json.loads(line))
+                    self.heard, self.is_hearing = time.monotonic(), False
+            finally:
+                self.shut, self.is_hearing = time.monotonic(), False
+                self.ears.shut()
 
     def take(self, line: bytes, event: Json) -> None:
         thing = event["object"]
@@ -260,9 +232,9 @@ class Watched:
             return self.is_behind
 
 
-def lines_of(answer: Any) -> Iterator[bytes]:
+def lines_of(answer: http.client.HTTPResponse) -> Iterator[bytes]:
     rest: list[bytes] = []
-    for some in answer.stream(1 << 16, decode_content=False):
+    while some := answer.read1(1 << 16):
         rest.append(some)
         if b"\n" in some:
             *lines, last = b"".join(rest).split(b"\n")

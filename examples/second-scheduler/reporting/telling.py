@@ -17,11 +17,9 @@ import threading
 import time
 from typing import Any, Callable
 
-from kubernetes.client.rest import ApiException
-
-from api.posting import JSON, PATCH, Answer, Posts, Request
-from api.watch import AWAY, message as message_of
-from api.way import Way
+from api.calls import AWAY, Refused, message as message_of
+from api.posting import Answer, Posts, Request
+from api.way import JSON, PATCH, Way
 from reporting.metrics import Metrics
 from state.pods import Pod
 
@@ -304,7 +302,7 @@ class Telling:
         body = {"count": said.counted + times, "lastTimestamp": stamp()}
         try:
             self.patch(f"{said.about['namespace']}/events/{said.event}", body)
-        except ApiException as why:
+        except Refused as why:
             if why.status == 404:
                 return False
             raise
@@ -324,7 +322,7 @@ class Telling:
         body = {"metadata": {"uid": about["uid"], "resourceVersion": version}, "status": {"conditions": [condition]}}
         try:
             self.patch(f"{about['namespace']}/pods/{about['name']}/status", body)
-        except ApiException as why:
+        except Refused as why:
             if why.status == 409:
                 return False
             raise

@@ -3,7 +3,7 @@
 from __future__ import annotations
 
 import threading
-from typing import Any, Callable, Sequence
+from typing import Callable, Sequence
 
 from api.pages import Json
 from api.watch import Things
@@ -141,13 +141,3 @@ class VolumeHearing(Things):
 
     def failed(self) -> None:
         self.metrics.breaks.labels(self.kind).inc()
-
-
-def listed_after(claims: Claims, call: Callable[..., Any]) -> Callable[..., Any]:
-    """A call that waits until claims and volumes are there."""
-
-    def later(**words: Any) -> Any:
-        claims.wait()
-        return call(**words)
-
-    return later

@@ -91,6 +91,10 @@ class PodHearing(Hearing):
         self.reader, self.claims = reader, claims
         claims.again = self.hear_again
 
+    def begins(self) -> None:
+        super().begins()
+        self.claims.wait()
+
     def items(self, items: Iterable[Item]) -> None:
         with self.claims.lock:
             for it in items:

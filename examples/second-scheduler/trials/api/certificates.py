@@ -7,26 +7,20 @@ import pathlib
 import socket
 import ssl
 import subprocess
-import sys
 import threading
 import time
 from typing import Optional
 
 from trials.fixtures.site import Site
 
+# The official client that reads the kubeconfig, but with a proxy, as later ones than Debian's find it.
 PROXIED = """
-import sys
-sys.path.insert(0, {folder!r})
-sys.argv = sys.argv[1:]
 from kubernetes import client
-copy = client.Configuration.get_default_copy
-def with_proxy():
-    settings = copy()
-    settings.proxy = {proxy!r}
-    return settings
-client.Configuration.get_default_copy = with_proxy
-import second_scheduler
-second_scheduler.main()
+made = client.Configuration.__init__
+def with_proxy(self, *given, **named):
+    made(self, *given, **named)
+    self.proxy = {proxy!r}
+client.Configuration.__init__ = with_proxy
 """
 
 
@@ -68,13 +62,14 @@ def certificate(folder: pathlib.Path, name: str, whose: str = "IP:127.0.0.1") ->
     return files[0], files[1]
 
 
-def behind_tls(site: Site) -> "dict[str, tuple[str, str]]":
-    """Has the stub speak TLS, and ask for a certificate."""
-    both = {it: certificate(site.folder, it) for it in ("server", "client")}
+def behind_tls(site: Site, *clients: str) -> "dict[str, tuple[str, str]]":
+    """Has the stub speak TLS, and ask for a certificate of one of these, where there are any."""
+    both = {it: certificate(site.folder, it) for it in ("server", *clients)}
     tls = ssl.SSLContext(ssl.PROTOCOL_TLS_SERVER)
     tls.load_cert_chain(*both["server"])
-    tls.load_verify_locations(both["client"][0])
-    tls.verify_mode = ssl.CERT_REQUIRED
+    for it in clients:
+        tls.load_verify_locations(both[it][0])
+        tls.verify_mode = ssl.CERT_REQUIRED
     # (each connection's own thread shakes hands, so that none waits for another)
     site.server.listener.socket = tls.wrap_socket(site.server.listener.socket, server_side=True, do_handshake_on_connect=False)
     return both
@@ -92,7 +87,7 @@ def config(site: Site, name: str, authority: str, own: "Optional[tuple[str, str]
 
 def certificates(site: Site) -> str:
     """TLS with a certificate on both sides: pods are bound and told of. By another authority, or without a certificate, nothing is asked for."""
-    both = behind_tls(site)
+    both = behind_tls(site, "client")
     site.node("a", cpu="64")
     for i in range(30):
         site.pod(f"pod-{i}")
@@ -110,17 +105,17 @@ def certificates(site: Site) -> str:
 
 def proxied(site: Site) -> str:
     """A proxy of http:// to an API server behind TLS: binds and events go through its tunnels, as lists and watches do."""
-    both, proxy = behind_tls(site), http.server.ThreadingHTTPServer(("127.0.0.1", 0), Proxy)
+    both, proxy = behind_tls(site, "client"), http.server.ThreadingHTTPServer(("127.0.0.1", 0), Proxy)
     threading.Thread(target=proxy.serve_forever, daemon=True).start()
     site.node("a", cpu="64")
     for i in range(30):
         site.pod(f"pod-{i}")
-    code = PROXIED.format(folder=str(site.programs.client), proxy=f"http://127.0.0.1:{proxy.server_address[1]}")
+    (site.folder / "sitecustomize.py").write_text(PROXIED.format(proxy=f"http://127.0.0.1:{proxy.server_address[1]}"), encoding="utf-8")
     file = config(site, "proxied", both["server"][0], both["client"])
-    site.start(config=file, words=[sys.executable, "-c", code, "second_scheduler.py"])
+    site.start(config=file, words=["/usr/bin/env", f"PYTHONPATH={site.folder}", str(site.programs.client / "second_scheduler.py")])
     site.wait(lambda: site.placed() == 30 and len(site.events(reason="Scheduled")) == 30, 30, "all are bound, and told")
     proxy.shutdown()
-    assert len(site.server.connections) <= len(Proxy.tunnels), (len(site.server.connections), len(Proxy.tunnels))
+    assert site.server.taken == len(Proxy.tunnels), (site.server.taken, len(Proxy.tunnels))
     return f"{len(Proxy.tunnels)} tunnels, load {os.getloadavg()[0]:.0f}; {site.check()}"
 
 

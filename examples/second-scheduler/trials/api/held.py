@@ -72,7 +72,8 @@ def held_listed(site: Site) -> str:
         lists = site.server.count("list", "pods")
         site.store.compact()
         site.server.break_watches("gone")
-        site.wait(lambda lists=lists: site.server.count("list", "pods") > lists and len(site.server.watches) >= 2, 20, "all is listed anew")  # type: ignore[misc]
+        anew = "all is listed anew"
+        site.wait(lambda lists=lists: site.server.count("list", "pods") > lists and len(site.server.watches) >= 2, 20, anew)  # type: ignore[misc]
         site.pod(f"second-{turn}", cpu="600m")
         site.wait(lambda turn=turn: site.events(about=f"second-{turn}", reason="FailedScheduling"), 20, "a word about a second pod")  # type: ignore[misc]
     took = site.wait(lambda: site.place("first"), 20, "the bind that was held is done")

@@ -17,7 +17,7 @@ sys.argv = sys.argv[1:]
 import second_scheduler
 given = second_scheduler.words()
 replica = second_scheduler.Replica(given)
-made = second_scheduler.Scheduler(given, replica.api, replica.way, replica.metrics, replica.health, replica.may_write)
+made = second_scheduler.Scheduler(given, replica.calls, replica.metrics, replica.health, replica.may_write)
 with open(f"/proc/self/task/{{os.getpid()}}/children", encoding="ascii") as children:
     print(*[it.name for it in threading.enumerate()], *children)
 """
