@@ -81,13 +81,13 @@ def measured(site: Site, count: int, most: int) -> str:
 
 
 def memory(site: Site) -> str:
-    """15,000 placed pods of 4 kB: the client and its wsched together never had more than 120 MiB."""
-    return measured(site, 15_000, 120)
+    """15,000 placed pods of 4 kB: the client and its wsched together never had more than 80 MiB."""
+    return measured(site, 15_000, 80)
 
 
 def memory_whole(site: Site) -> str:
-    """149,990 placed pods of 4 kB, ten less than there is room for: the client and its wsched together never had more than 200 MiB."""
-    return measured(site, 149_990, 200)
+    """149,990 placed pods of 4 kB, ten less than there is room for: the client and its wsched together never had more than 150 MiB."""
+    return measured(site, 149_990, 150)
 
 
 TRIALS = [memory, memory_whole]
