@@ -136,13 +136,15 @@ class Way:
     def request(self, method: str, path: str, body: bytes, form: str) -> bytes:
         """A request as it is sent."""
         has = f"Content-Type: {form}\r\nContent-Length: {len(body)}\r\n" if body else ""
-        return f"{method} {self.path}{path} HTTP/1.1\r\n{self.fields}{has}\r\n".encode("latin-1") + body
+        return f"{method} {self.path}{path} HTTP/1.1\r\n{has}".encode("latin-1") + self.fields + body
 
-    def own_fields(self, settings: Settings) -> str:
-        """What each request says alike."""
+    def own_fields(self, settings: Settings) -> bytes:
+        """What each request says alike, with the end of its head. Raises ValueError for what no field can say."""
         host = f"[{self.host}]" if ":" in self.host else self.host
         fields = {"Host": f"{host}:{self.port}", "User-Agent": "second-scheduler", "Accept": JSON, **settings.headers}
-        return "".join(f"{key}: {value}\r\n" for key, value in fields.items())
+        if any(it in f"{key}{value}" for key, value in fields.items() for it in "\r\n\0"):
+            raise ValueError("a token of several lines")
+        return "".join(f"{key}: {value}\r\n" for key, value in fields.items()).encode("latin-1") + b"\r\n"
 
 
 def way_by(account: Account) -> Way:
