@@ -12,7 +12,7 @@ from typing import NamedTuple, Sequence
 
 from api.calls import AWAY, Calls, Refused, message
 from api.pages import Item, Json, Page
-from api.posting import UNWANTED, Answer, Posts, Request
+from api.posting import UNWANTED, Answer, Posts, Request, texts
 from api.way import JSON, PATCH
 from state.newest import Meant, Newest
 from state.pods import Pod
@@ -89,8 +89,9 @@ class Binders:
         if bind.meant.version:
             # (API servers from 1.21 on bind no pod that has changed, and so none that was fenced)
             meta["resourceVersion"] = bind.meant.version
-        body = {"metadata": meta, "target": {"apiVersion": "v1", "kind": "Node", "name": bind.node}}
-        self.posts.send(Request("POST", f"{path_of(pod)}/binding", json.dumps(body).encode(), JSON, PATIENCE, functools.partial(self.answered, bind), bind))
+        target = {"apiVersion": "v1", "kind": "Node", "name": bind.node}
+        body = f'{{"metadata":{texts(meta)},"target":{texts(target)}}}'.encode()
+        self.posts.send(Request("POST", f"{path_of(pod)}/binding", body, JSON, PATIENCE, functools.partial(self.answered, bind), bind))
 
     def may_send(self, requests: Sequence[Request]) -> Sequence[bool]:
         """(in the thread of the posts) Which are still wanted: these are sent at once, and once."""

@@ -17,10 +17,11 @@ import socket
 import ssl
 import threading
 import time
-from typing import Any, Callable, NamedTuple, Sequence
+from typing import Any, Callable, Mapping, NamedTuple, Sequence
 
 from api.calls import Refused
 from api.way import JSON, Way, answer_in
+from core.live import quoted
 
 LOG = logging.getLogger("second-scheduler")
 # Between two tries to connect there is a pause, in seconds, each twice the one before. How many are
@@ -68,6 +69,11 @@ class Line:
     def __init__(self, sock: socket.socket) -> None:
         self.sock, self.request = sock, Request("", "", b"", "", 0.0, lambda answer: None)
         self.is_busy, self.unsent, self.read, self.began = False, b"", b"", 0.0
+
+
+def texts(fields: Mapping[str, str]) -> str:
+    """An object of texts as JSON: what is written as often as pods are bound is spelled by it, in half of the time. (No key has a quote in it.)"""
+    return "{" + ",".join([f'"{key}":{quoted(value)}' for key, value in fields.items()]) + "}"
 
 
 def all_of_them(some: Sequence[Request]) -> Sequence[bool]:

@@ -204,18 +204,18 @@ def answer_in(read: bytes) -> tuple[int, bytes, bool] | None:
     head, end, rest = read.partition(b"\r\n\r\n")
     if not end:
         return None
-    first, *lines = head.split(b"\r\n")
+    first, *lines = head.lower().split(b"\r\n")
     version, _, status = first.partition(b" ")
-    if not version.startswith(b"HTTP/1."):
+    if not version.startswith(b"http/1."):
         raise ValueError(f"no answer of HTTP/1: {first[:40]!r}")
     number = int(status[:3])
     if number < 200:
         return answer_in(rest)
-    fields = {name.lower(): value.strip().lower() for name, _, value in (it.partition(b":") for it in lines)}
-    stays = fields.get(b"connection", b"keep-alive" if version == b"HTTP/1.1" else b"close") != b"close"
+    fields = {name: value for name, _, value in [it.partition(b":") for it in lines]}
+    stays = fields.get(b"connection", b"keep-alive" if version == b"http/1.1" else b"close").strip() != b"close"
     if number in (204, 304):
         return number, b"", stays
-    if fields.get(b"transfer-encoding") == b"chunked":
+    if fields.get(b"transfer-encoding", b"").strip() == b"chunked":
         body = chunks_in(rest)
         return None if body is None else (number, body, stays)
     size = int(fields[b"content-length"]) if b"content-length" in fields else None

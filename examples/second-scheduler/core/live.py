@@ -55,8 +55,8 @@ def order(op: str, **fields: str) -> bytes:
     return ("".join([f'{{"op":"{op}"', *(f',"{key}":{value}' for key, value in fields.items())]) + "}\n").encode()
 
 
-def quoted(text: str) -> str:
-    return json.dumps(text)
+# A text as JSON.
+quoted: Callable[[str], str] = json.JSONEncoder().encode
 
 
 class Core:

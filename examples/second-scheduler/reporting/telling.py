@@ -7,7 +7,7 @@ for as long as it lasts; and where there is more to tell than a hundred things a
 from __future__ import annotations
 
 import concurrent.futures
-import datetime
+import functools
 import heapq
 import itertools
 import json
@@ -18,7 +18,7 @@ import time
 from typing import Any, Callable
 
 from api.calls import AWAY, Refused, message as message_of
-from api.posting import Answer, Posts, Request
+from api.posting import Answer, Posts, Request, texts
 from api.way import JSON, PATCH, Way
 from reporting.metrics import Metrics
 from state.pods import Pod
@@ -85,8 +85,13 @@ def about_itself(lease: tuple[str, str] | None) -> Json:
     return {"apiVersion": "v1", "kind": "Namespace", "namespace": "default", "name": "default", "uid": ""}
 
 
+@functools.lru_cache(maxsize=1)
+def spelled(second: int) -> str:
+    return time.strftime("%Y-%m-%dT%H:%M:%SZ", time.gmtime(second))
+
+
 def stamp() -> str:
-    return datetime.datetime.now(datetime.timezone.utc).strftime("%Y-%m-%dT%H:%M:%SZ")
+    return spelled(int(time.time()))
 
 
 class Telling:
@@ -284,11 +289,10 @@ class Telling:
 
     def event(self, about: Json, kind: str, reason: str, message: str) -> tuple[str, bytes]:
         """Where it is created, and what."""
-        now = stamp()
-        body: Json = {"metadata": {"generateName": f"{about['name']}.", "namespace": about["namespace"]}, "involvedObject": about}
-        body |= {"type": kind, "reason": reason, "message": message[:1024], "source": {"component": self.scheduler}}
-        body |= {"firstTimestamp": now, "lastTimestamp": now, "count": 1}
-        return f"/api/v1/namespaces/{about['namespace']}/events", json.dumps(body).encode()
+        now, meta = stamp(), {"generateName": f"{about['name']}.", "namespace": about["namespace"]}
+        said = {"type": kind, "reason": reason, "message": message[:1024], "firstTimestamp": now, "lastTimestamp": now}
+        parts = f'"metadata":{texts(meta)},"involvedObject":{texts(about)},"source":{texts({"component": self.scheduler})}'
+        return f"/api/v1/namespaces/{about['namespace']}/events", f'{{{parts},"count":1,{texts(said)[1:]}'.encode()
 
     def create_event(self, about: Json, kind: str, reason: str, message: str) -> str:
         """Gives its name."""
