@@ -161,9 +161,9 @@ class Watched:
 
     def list(self) -> None:
         self.ears.begins()
-        meta: Json = {"continue": None}
-        while "continue" in meta:
-            meta = self.page(meta["continue"])
+        meta = self.page(None)
+        while more := meta.get("continue"):
+            meta = self.page(more)
         self.ears.ends()
         self.come_to(meta["resourceVersion"])
 
