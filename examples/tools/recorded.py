@@ -15,12 +15,13 @@ import sys
 import tempfile
 from typing import IO, Iterator, NamedTuple, Sequence
 
+from state import affinity
 from tools.program import WSCHED, Untold
 from tools.steps import Json, Line, Steps, spell
 
 ONLY_SCRIPT = frozenset(["node", "gone", "pod", "bound", "deleted", "done", "forget", "judge"])
 # (ticks, cycles and dumps are of both)
-ONLY_LIVE = frozenset(["list", "listed", "deaf", "hears", "rested", "aside", "bind", "answer", "read", "explain"])
+ONLY_LIVE = frozenset(["list", "listed", "deaf", "hears", "rested", "aside", "bind", "answer", "read", "explain", "told"])
 PIECE = 1 << 20
 
 
@@ -139,7 +140,39 @@ def answered(lines: IO[bytes], by: Words) -> Iterator[Line]:
             thing = parsed(line)
             answer = answer_to(thing, answers)
             row = json.loads(next_of(rows)).get("line") if object_in(line, thing) else None
+            if told := told_in(thing):
+                thing, row = told.event, told.in_row(row)
             yield Line(thing or {}, answer, row)
+
+
+class Told(NamedTuple):
+    """An object, or an event, that is told with labels beside its own."""
+
+    event: Json
+    labels: Json
+
+    @property
+    def bare(self) -> Json:
+        """What else it says: its pod asks nothing more of nodes' labels and of claims, and its own labels under these keys give way."""
+        inner: Json = self.event.get("object", self.event)
+        meta, spec = inner["metadata"], inner.get("spec") or {}
+        own = {key: value for key, value in (meta.get("labels") or {}).items() if key not in self.labels}
+        thing: Json = {**inner, "spec": spec, "metadata": {**meta, "labels": own}}
+        thing = thing if spec.get("nodeName") else affinity.without(thing)
+        return {**self.event, "object": thing} if "object" in self.event else thing
+
+    def in_row(self, row: Json | None) -> Json | None:
+        """Its row has them before all others."""
+        if row is None or "labels" not in row:
+            return row
+        return {**row, "labels": [*([key, value] for key, value in sorted(self.labels.items())), *row["labels"]][: affinity.LABELS]}
+
+
+def told_in(thing: Json | None) -> Told | None:
+    if thing is None or thing.get("op") != "told":
+        return None
+    event, labels = thing.get("event"), thing.get("labels")
+    return Told(event, labels) if isinstance(event, dict) and isinstance(labels, dict) else None
 
 
 def object_in(line: bytes, thing: Json | None) -> bytes:
@@ -148,6 +181,8 @@ def object_in(line: bytes, thing: Json | None) -> bytes:
         return b""
     if "op" not in thing:
         return line.rstrip(b"\n") + b"\n"
+    if told := told_in(thing):
+        return f"{spell(told.bare)}\n".encode()
     gave = thing.get("gave")
     return f"{spell(gave)}\n".encode() if thing["op"] == "read" and isinstance(gave, dict) else b""
 

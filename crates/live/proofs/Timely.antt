@@ -14,15 +14,15 @@ use Rattle.objects.specs.declared.heard.Heard.TheVariants as heard_as
 use Rattle.objects.specs.declared.heard.NoValue.{NoValue}
 use Rattle.objects.specs.declared.heard.NoValue.TheVariants as no_values
 use Rattle.objects.specs.Heard.{heard, value_in}
-use Rattle.objects.specs.Site.{Site}
+use Rattle.objects.specs.Site.{Site, with_labels}
 use Rattle.ledger.specs.declared.event.Event.{Event}
 use Rattle.live.specs.declared.field.Field.{Field}
 use Rattle.live.specs.declared.field.Field.TheVariants as fields
 use Rattle.live.specs.declared.meaning.Meaning.{Meaning}
-use Rattle.live.specs.Meaning.{is_order, meaning, of_aside, of_explain, of_moment, of_object, of_op, of_order, of_value}
+use Rattle.live.specs.Meaning.{is_order, meaning, of_aside, of_explain, of_moment, of_object, of_op, of_order, of_told, of_value}
 use Rattle.live.specs.Field.{key}
 use Rattle.live.specs.inside.Timely.{IsTimely}
-use Rattle.live.specs.Order.{a_moment, a_natural, moment_at, order, text_at, uid_at}
+use Rattle.live.specs.Order.{a_moment, a_natural, moment_at, order, text_at, told_in, uid_at}
 
 either : (b : Bool) (x y : Meaning) → IsTimely x → IsTimely y → IsTimely (cond b x y)
 either true x y a b = a
@@ -54,17 +54,6 @@ an_explain : (read : Result Name Field) → IsTimely (of_explain read)
 an_explain (Ok uid) = tt
 an_explain (Err field) = tt
 
-an_op : (site : Site) (json : Data) (op : Result (List ℕ) Field) → IsTimely (of_op site json op)
-an_op site json (Ok op) =
-    either (bytes_eq op (codes "cycle")) _ _ tt
-    (either (bytes_eq op (codes "tick")) _ _ (told_moment json)
-    (either (bytes_eq op (codes "aside")) _ _ (an_aside (uid_at json))
-    (either (bytes_eq op (codes "explain")) _ _ (an_explain (uid_at json))
-    (either (bytes_eq op (codes "dump")) _ _ tt (an_order (order site json op))))))
-an_op site json (Err field) = tt
-
--- ---- a line
-
 an_object : (h : Heard) → IsTimely (of_object h)
 an_object (heard_as.Event (NodeSet version node)) = tt
 an_object (heard_as.Event (NodeGone version name)) = tt
@@ -74,6 +63,22 @@ an_object (heard_as.Event (PodGone version uid)) = tt
 an_object (heard_as.Withheld version uid) = tt
 an_object heard_as.Nothing = tt
 an_object heard_as.Unread = tt
+
+a_told : (site : Site) (read : Result (Data × Data) Field) → IsTimely (of_told site read)
+a_told site (Ok (event, labels)) = an_object (heard (with_labels labels site) event)
+a_told site (Err field) = tt
+
+an_op : (site : Site) (json : Data) (op : Result (List ℕ) Field) → IsTimely (of_op site json op)
+an_op site json (Ok op) =
+    either (bytes_eq op (codes "told")) _ _ (a_told site (told_in json))
+    (either (bytes_eq op (codes "cycle")) _ _ tt
+    (either (bytes_eq op (codes "tick")) _ _ (told_moment json)
+    (either (bytes_eq op (codes "aside")) _ _ (an_aside (uid_at json))
+    (either (bytes_eq op (codes "explain")) _ _ (an_explain (uid_at json))
+    (either (bytes_eq op (codes "dump")) _ _ tt (an_order (order site json op)))))))
+an_op site json (Err field) = tt
+
+-- ---- a line
 
 a_value : (site : Site) (value : Result Data NoValue) → IsTimely (of_value site value)
 a_value site (Ok json) = either (is_order json) _ _ (an_op site json (text_at fields.Op json)) (an_object (heard site json))

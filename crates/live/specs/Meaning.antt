@@ -9,7 +9,7 @@ use Rattle.objects.specs.declared.heard.Heard.{Heard}
 use Rattle.objects.specs.declared.heard.Heard.TheVariants as heard_as
 use Rattle.objects.specs.declared.heard.NoValue.{NoValue}
 use Rattle.objects.specs.Heard.{heard, hearing, names_of, none_heard, value_in}
-use Rattle.objects.specs.Site.{Site}
+use Rattle.objects.specs.Site.{Site, with_labels}
 use Rattle.ledger.specs.declared.event.Event.{Event}
 use Rattle.ledger.specs.declared.event.Event.TheVariants.{Node, NodeGone, Withheld, Stands, Unread, Gone}
 use Rattle.live.specs.declared.field.Field.{Field}
@@ -17,7 +17,7 @@ use Rattle.live.specs.declared.field.Field.TheVariants as fields
 use Rattle.live.specs.declared.meaning.Meaning.{Meaning}
 use Rattle.live.specs.declared.meaning.Meaning.TheVariants.{Tells, Pending, Aside, Tick, Cycle, Explain, Dump, Nothing, Faulty}
 use Rattle.live.specs.Field.{key}
-use Rattle.live.specs.Order.{moment_at, order, text_at, uid_at}
+use Rattle.live.specs.Order.{moment_at, order, text_at, told_in, uid_at}
 
 -- what a line orders, or its first fault
 abbrev pub of_order : Result Event Field → Meaning
@@ -36,17 +36,6 @@ abbrev pub of_explain : Result Name Field → Meaning
 of_explain (Ok uid) = Explain uid
 of_explain (Err field) = Faulty field
 
--- by its word
-abbrev pub of_op : Site → Data → Result (List ℕ) Field → Meaning
-of_op site json (Ok op) =
-    if bytes_eq op (codes "cycle") then Cycle
-    else if bytes_eq op (codes "tick") then of_moment (moment_at json)
-    else if bytes_eq op (codes "aside") then of_aside (uid_at json)
-    else if bytes_eq op (codes "explain") then of_explain (uid_at json)
-    else if bytes_eq op (codes "dump") then Dump
-    else of_order (order site json op)
-of_op site json (Err field) = Faulty field
-
 -- an object of the API
 abbrev pub of_object : Heard → Meaning
 of_object (heard_as.Event (NodeSet version node)) = Tells (Node version node)
@@ -57,6 +46,26 @@ of_object (heard_as.Event (PodGone version uid)) = Tells (Gone uid)
 of_object (heard_as.Withheld version uid) = Tells (Withheld version uid)
 of_object heard_as.Nothing = Nothing
 of_object heard_as.Unread = Tells Unread
+
+-- an object of the API with labels beside its own
+abbrev pub of_told : Site → Result (Data × Data) Field → Meaning
+of_told site (Ok (event, labels)) = of_object (heard (with_labels labels site) event)
+of_told site (Err field) = Faulty field
+
+-- by its word
+abbrev pub of_word : Site → Data → (op : List ℕ) → Meaning
+of_word site json op =
+    if bytes_eq op (codes "cycle") then Cycle
+    else if bytes_eq op (codes "tick") then of_moment (moment_at json)
+    else if bytes_eq op (codes "aside") then of_aside (uid_at json)
+    else if bytes_eq op (codes "explain") then of_explain (uid_at json)
+    else if bytes_eq op (codes "dump") then Dump
+    else of_order (order site json op)
+
+abbrev pub of_op : Site → Data → Result (List ℕ) Field → Meaning
+of_op site json (Ok op) =
+    if bytes_eq op (codes "told") then of_told site (told_in json) else of_word site json op
+of_op site json (Err field) = Faulty field
 
 -- an order says what it orders; any other object is the API's
 unfoldable pub is_order : Data → Bool
@@ -76,9 +85,17 @@ meaning site line = of_value site (value_in line)
 abbrev pub behind : (names : List ℕ) → List ℕ
 behind names = if length names == 0 then [] else codes " [" ++ names ++ codes "]"
 
--- of an order nothing
+-- of an order nothing but of the object that it tells
+abbrev pub reasons_told : Site → Result (Data × Data) Field → List ℕ
+reasons_told site (Ok (event, labels)) = behind (names_of (hearing (with_labels labels site) event))
+reasons_told site (Err field) = []
+
+abbrev pub order_reasons : Site → Data → Result (List ℕ) Field → List ℕ
+order_reasons site json (Ok op) = if bytes_eq op (codes "told") then reasons_told site (told_in json) else []
+order_reasons site json (Err field) = []
+
 abbrev pub reasons_of : Site → Result Data NoValue → List ℕ
-reasons_of site (Ok json) = if is_order json then [] else behind (names_of (hearing site json))
+reasons_of site (Ok json) = if is_order json then order_reasons site json (text_at fields.Op json) else behind (names_of (hearing site json))
 reasons_of site (Err why) = behind (names_of (none_heard why))
 
 unfoldable pub reasons : Site → (line : List ℕ) → List ℕ

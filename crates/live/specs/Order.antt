@@ -1,9 +1,9 @@
 -- What an order tells a ledger or asks of it, or the field in which its first fault stands.
-use Rattle.std.specs.Prelude.{ℕ, ◌&&◌, List, codes, bytes_eq, nat_le, Option, Some, None, Result, Ok, Err, option_and_then, if◌then◌else◌}
+use Rattle.std.specs.Prelude.{ℕ, ◌&&◌, List, codes, bytes_eq, nat_le, Option, Some, None, Result, Ok, Err, is_some, option_and_then, if◌then◌else◌}
 use Rattle.std.specs.Option.{ok_or}
 use Rattle.serde_json.specs.Data.{Data}
 use Rattle.serde_json.specs.Data as values
-use Rattle.serde_json.specs.Find.{get, as_str, as_number, as_u64}
+use Rattle.serde_json.specs.Find.{get, as_str, as_number, as_object, as_u64}
 use Rattle.quant.specs.Name.{is_name}
 use Rattle.quant.specs.declared.event.Event.TheVariants.{NodeSet, NodeGone, PodPending, PodBound, PodGone}
 use Rattle.quant.specs.declared.amount.Moment.{Moment}
@@ -160,6 +160,22 @@ plain_order json op =
 -- what a line orders by this word: of the ledger alone
 unfoldable pub order : Site → Data → (op : List ℕ) → Result Event Field
 order site json op = if bytes_eq op (codes "read") then read_in site json else plain_order json op
+
+-- ---- an object with labels beside its own
+
+-- labels, as an object of JSON
+abbrev pub some_labels : Data → Result Data Field
+some_labels value = if is_some (as_object value) then Ok value else Err fields.Labels
+
+unfoldable pub labels_at : Data → Result Data Field
+labels_at json = ok_or (get (key fields.Labels) json) fields.Labels >>= some_labels
+
+-- the object, or the event of the watch, and the labels beside its own
+unfoldable pub told_in : Data → Result (Data × Data) Field
+told_in json = do
+  event ← ok_or (get (key fields.Event) json) fields.Event
+  labels ← labels_at json
+  Ok (event, labels)
 
 -- ---- of the desk
 

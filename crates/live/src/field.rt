@@ -21,6 +21,10 @@ pub enum Field {
     Gave,
     /// The moment.
     At,
+    /// An object, or an event of the watch.
+    Event,
+    /// The labels that are told beside those of an object.
+    Labels,
 }
 
 impl Field {
@@ -37,6 +41,8 @@ impl Field {
             Field::Is => "is",
             Field::Gave => "gave",
             Field::At => "at",
+            Field::Event => "event",
+            Field::Labels => "labels",
         }
     }
 }

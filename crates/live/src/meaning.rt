@@ -1,14 +1,14 @@
 //! What a line tells of a cluster, or asks.
-ghost use Rattle.std.specs.Prelude.{◌≡◌, IfOk, Ok};
+ghost use Rattle.std.specs.Prelude.{◌≡◌, [], IfOk, Ok};
 ghost use Rattle.serde_json.specs.View.{view};
 ghost use Rattle.objects.specs.Site.{site_of};
 ghost use Rattle.quant.specs.declared.limits.TheConstants.{LATEST_MOMENT};
-ghost use Rattle.live.specs.Meaning.{behind, is_order, of_aside, of_explain, of_moment, of_object, of_op, of_order, of_value, meaning, reasons, reasons_of};
-ghost use Rattle.live.specs.Order.{moment_at, text_at, uid_at};
+ghost use Rattle.live.specs.Meaning.{behind, is_order, of_aside, of_explain, of_moment, of_object, of_op, of_order, of_told, of_value, of_word, meaning, order_reasons, reasons, reasons_of, reasons_told};
+ghost use Rattle.live.specs.Order.{moment_at, text_at, told_in, uid_at};
 ghost use Rattle.live.specs.declared.field.Field.TheVariants as fields;
 
 use crate::field::Field;
-use crate::order::{moment_at, op_of, order, uid_at};
+use crate::order::{moment_at, op_of, order, told_in, uid_at};
 use ledger::Event;
 use objects::{Heard, Hearing, Site, hear, hear_none, value_in};
 use quant::{Event as Told, Moment, Name, SharedPod, Version};
@@ -117,28 +117,67 @@ fn of_value(alloc: Global, json: &Value, site: &Site<'_>) -> Result<Meant, Alloc
     ensures reasons { IfOk result (λ meant. meant.reasons.items ≡ reasons_of (site_of site.now) (Ok (view json.now))) }
 {
     if is_order(json) {
-        let meaning = of_op(alloc, json, site)?;
-        return Ok(Meant {
-            meaning,
-            reasons: Vec::new(alloc),
-        });
+        of_op(alloc, json, site)
+    } else {
+        of_hearing(alloc, hear(alloc, json, site)?)
     }
-    of_hearing(alloc, hear(alloc, json, site)?)
 }
 
 // What an order tells or asks.
-fn of_op(alloc: Global, json: &Value, site: &Site<'_>) -> Result<Meaning, AllocError>
-    ensures { IfOk result (λ meaning. meaning ≡ of_op (site_of site.now) (view json.now)
+fn of_op(alloc: Global, json: &Value, site: &Site<'_>) -> Result<Meant, AllocError>
+    ensures meaning { IfOk result (λ meant. meant.meaning ≡ of_op (site_of site.now) (view json.now)
+        (text_at fields.Op (view json.now))) }
+    ensures reasons { IfOk result (λ meant. meant.reasons.items ≡ order_reasons (site_of site.now) (view json.now)
         (text_at fields.Op (view json.now))) }
 {
     match op_of(json) {
-        Ok("cycle") => Ok(Meaning::Cycle),
-        Ok("tick") => Ok(of_moment(json)),
-        Ok("aside") => Ok(of_aside(json)),
-        Ok("explain") => Ok(of_explain(json)),
-        Ok("dump") => Ok(Meaning::Dump),
-        Ok(op) => Ok(of_order(order(alloc, json, op, site)?)),
-        Err(field) => Ok(Meaning::Faulty(field)),
+        Ok("told") => of_told(alloc, json, site),
+        Ok(op) => Ok(alone(alloc, of_word(alloc, json, op, site)?)),
+        Err(field) => Ok(alone(alloc, Meaning::Faulty(field))),
+    }
+}
+
+// What is meant, where there is nothing else to say.
+fn alone(alloc: Global, meaning: Meaning) -> Meant
+    ensures meaning { result.meaning ≡ meaning }
+    ensures reasons { result.reasons.items ≡ [] }
+{
+    Meant {
+        meaning,
+        reasons: Vec::new(alloc),
+    }
+}
+
+// What is told of an object with labels beside its own.
+fn of_told(alloc: Global, json: &Value, site: &Site<'_>) -> Result<Meant, AllocError>
+    ensures meaning { IfOk result (λ meant. meant.meaning ≡ of_told (site_of site.now) (told_in (view json.now))) }
+    ensures reasons { IfOk result (λ meant. meant.reasons.items
+        ≡ reasons_told (site_of site.now) (told_in (view json.now))) }
+{
+    match told_in(json) {
+        Ok((event, labels)) => {
+            let site = Site {
+                scheduler: site.scheduler,
+                labels: site.labels,
+                beside: Some(labels),
+            };
+            of_hearing(alloc, hear(alloc, event, &site)?)
+        }
+        Err(field) => Ok(alone(alloc, Meaning::Faulty(field))),
+    }
+}
+
+// What any other order tells or asks, by its word.
+fn of_word(alloc: Global, json: &Value, op: &str, site: &Site<'_>) -> Result<Meaning, AllocError>
+    ensures { IfOk result (λ meaning. meaning ≡ of_word (site_of site.now) (view json.now) op.now) }
+{
+    match op {
+        "cycle" => Ok(Meaning::Cycle),
+        "tick" => Ok(of_moment(json)),
+        "aside" => Ok(of_aside(json)),
+        "explain" => Ok(of_explain(json)),
+        "dump" => Ok(Meaning::Dump),
+        _ => Ok(of_order(order(alloc, json, op, site)?)),
     }
 }
 

@@ -4,7 +4,7 @@ ghost use Rattle.quant.specs.declared.limits.TheConstants.{LATEST_MOMENT};
 ghost use Rattle.live.specs.declared.field.Field.TheVariants as fields;
 ghost use Rattle.serde_json.specs.View.{view};
 ghost use Rattle.objects.specs.Site.{site_of};
-ghost use Rattle.live.specs.Order.{text_at, name_at, ticket_at, kind_at, outcome_at, said_by, said_of, list_in, listed_in, deaf_in, hears_in, bind_in, answer_in, if_it, bind_read, read_in, plain_order, order, moment_at, uid_at};
+ghost use Rattle.live.specs.Order.{text_at, name_at, ticket_at, kind_at, outcome_at, said_by, said_of, list_in, listed_in, deaf_in, hears_in, bind_in, answer_in, if_it, bind_read, read_in, plain_order, order, labels_at, told_in, moment_at, uid_at};
 ghost use Rattle.live.specs.inside.Reading.{Tells};
 
 use crate::field::Field;
@@ -243,6 +243,29 @@ pub(crate) fn order(
         return read_of(alloc, object, site);
     }
     Ok(plain_order(object, op))
+}
+
+// Labels, as an object of JSON.
+#[tactic(auto, unfolding(crate::specs::Order::labels_at))]
+fn labels_at(object: &Value) -> Result<&Value, Field>
+    ensures { Tells (λ labels. view labels.now) result (labels_at (view object.now)) }
+{
+    let labels = object.get(Field::Labels.key()).ok_or(Field::Labels)?;
+    if labels.as_object().is_some() {
+        Ok(labels)
+    } else {
+        Err(Field::Labels)
+    }
+}
+
+/// The object that an order tells, or the event of a watch, and the labels beside its own.
+#[tactic(auto, unfolding(crate::specs::Order::told_in))]
+pub(crate) fn told_in(object: &Value) -> Result<(&Value, &Value), Field>
+    ensures { Tells (λ told. (view told.0.now, view told.1.now)) result (told_in (view object.now)) }
+{
+    let event = object.get(Field::Event.key()).ok_or(Field::Event)?;
+    let labels = labels_at(object)?;
+    Ok((event, labels))
 }
 
 /// The word of an order.

@@ -11,7 +11,7 @@ use Rattle.objects.specs.inside.Telling.{as_told}
 
 -- what keeps a pod back that waits
 pub held_back : (how : Telling) (spec pod : Data) (out : List ℕ) (result : Result (Option Event) ObjectFault)
-    → ¬ (out ≡ []) → out ≡ kept_back how.site.scheduler spec pod
+    → ¬ (out ≡ []) → out ≡ kept_back how.site spec pod
     → Gives (as_told out) result (Ok (gone_if how kinds.Pod pod out))
     → Gives (as_told out) result (Ok (waiting_told how spec pod))
 unfolding waiting_told

@@ -1,5 +1,5 @@
 -- What the readers of arrays and objects need to know of what stands in them.
-use Rattle.std.proofs.Common.{◌≡◌, ℕ, suc, ◌==◌, true, not, List, [], ◌∷◌, length, Vec, BTreeMap, Global, String, refl, sym, ap, ◌∙◌, arith}
+use Rattle.std.proofs.Common.{◌≡◌, ℕ, suc, ◌==◌, true, not, List, [], ◌∷◌, length, Option, Some, None, is_some, option_map, Vec, BTreeMap, Global, String, refl, sym, ap, ◌∙◌, arith}
 use Rattle.std.proofs.lemmas.Bool.Decides.{nat_tests}
 use Rattle.serde_json.specs.Data.{array, object}
 use Rattle.serde_json.specs.View.{view, items_view, members_view}
@@ -8,6 +8,11 @@ use Rattle.serde_json.proofs.Views.{Entry, view-Array, view-Object}
 use Rattle.objects.specs.Containers.{count}
 use Rattle.objects.specs.Labels.{count_members}
 use Rattle.objects.specs.Reading.{is_something}
+
+-- something is there just where it was before each was changed
+pub some_of_map : {A B : Type 0} (f : A → B) (o : Option A) → is_some (option_map f o) ≡ is_some o
+some_of_map f None = refl
+some_of_map f (Some x) = refl
 
 -- an array has as many items as the list that holds them has elements
 pub count_of_items_view : (xs : List Value) → count (items_view xs) ≡ length xs

@@ -28,12 +28,12 @@ use Rattle.objects.specs.declared.request.Reckoned.TheVariants.{Placed, Standing
 use Rattle.objects.specs.declared.translation.TheConstants.{MAX_OBJECT}
 use Rattle.objects.specs.Quantity.{◌>>=◌}
 use Rattle.objects.specs.LeftOut.{shown, left_out, left_out_if, why_text, Fault, refused, fault_text, told_names, up_to_marks}
-use Rattle.objects.specs.Reading.{said, field, within, part_of, members_of, items_of, absent_or, is_given, spelled}
+use Rattle.objects.specs.Reading.{said, field, within, part_of, members_of, items_of, absent_or, is_given, has, spelled}
 use Rattle.objects.specs.PodRequest.{fault_of, more_left_out, is_held_read, held_left_out}
 use Rattle.objects.specs.PodRequest as pods
-use Rattle.objects.specs.Labels.{Kept, with_item, label_of, is_named, named_labels, unless_named, other_labels, count_members, all_labels, row_labels}
+use Rattle.objects.specs.Labels.{Kept, with_item, label_of, is_named, told_labels, named_labels, unless_named, other_labels, have_room, all_labels, row_labels}
 use Rattle.objects.specs.NodeRow.{node_parts, node_row}
-use Rattle.objects.specs.Demands.{each_item, array_gives, affinity, asks_spread, is_read_affinity, is_nothing, is_known, other_field, other_fields, fields_of, is_tied, volume, node_port, host_port, is_reckoned, other_resource, other_resources, object_gives, has, resources_of, container, containers, placement, demands, wishes}
+use Rattle.objects.specs.Demands.{each_item, array_gives, affinity, asks_spread, is_read_affinity, is_nothing, is_known, other_field, other_fields, fields_of, free, free_or_claimed, is_tied, volume, node_port, host_port, is_reckoned, other_resource, other_resources, object_gives, resources_of, container, containers, placement, demands, wishes}
 use Rattle.objects.specs.PodRow.{pod_parts, toleration_of, tolerations_of, pod_row}
 use Rattle.objects.specs.Site.{Site, Telling, telling}
 use Rattle.objects.specs.Told.{Told, saying, name_of, gone_by, gone_told, gone_if, row_told, scheduler_of, kept_back, waiting_by, waiting_told, placed_told, has_ended, node_name, by_node, pod_told, there_told, by_change, kind_told, kind_of, by_kind, object_told, change_of, is_bookmark, changed_told, event_told, value_told, is_blank, parsed, line_told, told_or_uncounted, told}
@@ -135,9 +135,9 @@ array_texts : (f : Data → List ℕ) (otherwise : List ℕ) → ((d : Data) →
 array_texts f otherwise h o value =
     absent_texts [] (λ v. absent_or otherwise (each_item f) (as_array v)) value none (λ v. absent_texts otherwise (each_item f) (as_array v) o (each f h))
 
-volume_texts : (d : Data) → AreTexts (volume d)
+volume_texts : (kinds : List (List ℕ)) (d : Data) → AreTexts (volume kinds d)
 unfolding volume
-volume_texts d = either (is_tied (as_object d)) (left_out (codes "volume ") (spelled (codes "name") d)) [] (one (codes "volume ") (spelled (codes "name") d) refl) none
+volume_texts kinds d = either (is_tied kinds (as_object d)) (left_out (codes "volume ") (spelled (codes "name") d)) [] (one (codes "volume ") (spelled (codes "name") d) refl) none
 
 node_port_texts : (n : Option ℕ) → AreTexts (node_port n)
 node_port_texts None = one (codes "host port ") [] refl
@@ -174,15 +174,15 @@ container_texts d =
 containers_texts : (key : List ℕ) (spec : Data) → AreTexts (containers key spec)
 containers_texts key spec = array_texts container [] container_texts none (field key spec)
 
-placement_texts : (spec : Data) → AreTexts (placement spec)
+placement_texts : (is_told : Bool) (spec : Data) → AreTexts (placement is_told spec)
 unfolding placement
-placement_texts spec =
+placement_texts is_told spec =
     both _ _
     (both _ _
     (both _ _
     (both _ _
-    (both _ _ (one_if (is_given (field (codes "nodeSelector") spec)) (codes "node selector") refl)
-    (one_if (is_given (affinity (codes "nodeAffinity") (codes "requiredDuringSchedulingIgnoredDuringExecution") spec)) (codes "required node affinity") refl))
+    (both _ _ (one_if (not is_told && is_given (field (codes "nodeSelector") spec)) (codes "node selector") refl)
+    (one_if (not is_told && is_given (affinity (codes "nodeAffinity") (codes "requiredDuringSchedulingIgnoredDuringExecution") spec)) (codes "required node affinity") refl))
     (one_if (is_given (affinity (codes "podAffinity") (codes "requiredDuringSchedulingIgnoredDuringExecution") spec)) (codes "required pod affinity") refl))
     (one_if (is_given (affinity (codes "podAntiAffinity") (codes "requiredDuringSchedulingIgnoredDuringExecution") spec)) (codes "required pod anti-affinity") refl))
     (one_if (not (is_read_affinity (field (codes "affinity") spec))) (codes "affinity") refl))
@@ -201,30 +201,30 @@ fields_texts : (found : Option Members) → AreTexts (fields_of found)
 fields_texts None = none
 fields_texts (Some found) = other_fields_texts found
 
-demands_texts : (spec : Data) → AreTexts (demands spec)
+demands_texts : (is_told : Bool) (spec : Data) → AreTexts (demands is_told spec)
 unfolding demands
-demands_texts spec =
+demands_texts is_told spec =
     both _ _
     (both _ _
     (both _ _
     (both _ _
     (both _ _
     (both _ _
-    (both _ _ (placement_texts spec)
+    (both _ _ (placement_texts is_told spec)
     (one_if (is_given (field (codes "schedulingGates") spec)) (codes "scheduling gates") refl))
     (one_if (is_given (field (codes "resourceClaims") spec)) (codes "resource claims") refl))
-    (array_texts volume (left_out (codes "volume ") []) volume_texts (one (codes "volume ") [] refl) (field (codes "volumes") spec)))
+    (array_texts (volume (cond is_told free_or_claimed free)) (left_out (codes "volume ") []) (volume_texts (cond is_told free_or_claimed free)) (one (codes "volume ") [] refl) (field (codes "volumes") spec)))
     (containers_texts (codes "containers") spec))
     (containers_texts (codes "initContainers") spec))
     (object_texts (has None) (field (codes "overhead") spec)))
     (fields_texts (as_object spec))
 
-wishes_texts : (spec : Data) → AreTexts (wishes spec)
+wishes_texts : (is_told : Bool) (spec : Data) → AreTexts (wishes is_told spec)
 unfolding wishes
-wishes_texts spec =
+wishes_texts is_told spec =
     both _ _
     (both _ _
-    (both _ _ (one_if (is_given (affinity (codes "nodeAffinity") (codes "preferredDuringSchedulingIgnoredDuringExecution") spec)) (codes "preferred node affinity") refl)
+    (both _ _ (one_if (not is_told && is_given (affinity (codes "nodeAffinity") (codes "preferredDuringSchedulingIgnoredDuringExecution") spec)) (codes "preferred node affinity") refl)
     (one_if (is_given (affinity (codes "podAffinity") (codes "preferredDuringSchedulingIgnoredDuringExecution") spec)) (codes "preferred pod affinity") refl))
     (one_if (is_given (affinity (codes "podAntiAffinity") (codes "preferredDuringSchedulingIgnoredDuringExecution") spec)) (codes "preferred pod anti-affinity") refl))
     (one_if (asks_spread true (field (codes "topologySpreadConstraints") spec)) (codes "preferred topology spread") refl)
@@ -254,13 +254,13 @@ if_texts : {A : Type 0} (b : Bool) (x y : Kept A) → AreTexts x.left_out → Ar
 if_texts true x y p q = p
 if_texts false x y p q = q
 
-other_labels_texts : (names : List ℕ) (kept : Kept (List Label)) (found : Members) → AreTexts kept.left_out → AreTexts (other_labels names kept found).left_out
+other_labels_texts : (site : Site) (kept : Kept (List Label)) (found : Members) → AreTexts kept.left_out → AreTexts (other_labels site kept found).left_out
 unfolding unless_named
-other_labels_texts names kept no_members h = h
-other_labels_texts names kept (member key value rest) h =
+other_labels_texts site kept no_members h = h
+other_labels_texts site kept (member key value rest) h =
     let found = label_of kept.item key value in
-    other_labels_texts names (unless_named names kept key value) rest
-    (if_texts (is_named names key) kept (with_item (codes "label ") key kept found) h (item_texts (codes "label ") key kept found refl h))
+    other_labels_texts site (unless_named site kept key value) rest
+    (if_texts (is_named site.labels key || has site.beside key) kept (with_item (codes "label ") key kept found) h (item_texts (codes "label ") key kept found refl h))
 
 tolerations_texts : (kept : Kept (List Toleration)) (found : Items) → AreTexts kept.left_out → AreTexts (tolerations_of kept found).left_out
 tolerations_texts kept no_items h = h
@@ -289,33 +289,35 @@ either_is : {B : Type 0} {P : B → Type 0} (b : Bool) (x y : Result B Fault) �
 either_is true x y p q = p
 either_is false x y p q = q
 
-labels_texts : (names left : List ℕ) (found : Members) → AreTexts left → OkIs (λ kept. AreTexts kept.left_out) (row_labels names left found)
+labels_texts : (site : Site) (left : List ℕ) (found : Members) → AreTexts left → OkIs (λ kept. AreTexts kept.left_out) (row_labels site left found)
 unfolding row_labels
-labels_texts names left found h =
-    either_is (nat_le (count_members found) MAX_LABELS || nat_le 1 (length names)) (all_labels names left found) (Err (refused TooMany (codes "labels")))
-    (bind_ok (named_labels names [] found) _ (λ first.
-    last_ok _ (other_labels_texts names (record { item = first; left_out = left }) found h)))
-    (record { is = tt })
+labels_texts site left found h =
+    bind_ok (members_of (codes "labels") site.beside) _ (λ beside.
+    either_is (have_room beside found || nat_le 1 (length site.labels)) (all_labels site left beside found) (Err (refused TooMany (codes "labels")))
+    (bind_ok (told_labels [] beside) _ (λ told.
+    bind_ok (named_labels site told found) _ (λ first.
+    last_ok _ (other_labels_texts site (record { item = first; left_out = left }) found h))))
+    (record { is = tt }))
 
-node_texts : (names : List ℕ) (json : Data) → OkIs (λ row. AreTexts row.left_out) (node_row names json)
+node_texts : (site : Site) (json : Data) → OkIs (λ row. AreTexts row.left_out) (node_row site json)
 unfolding node_row
-node_texts names json =
+node_texts site json =
     bind_ok (part_of (codes "metadata") json) _ (λ meta.
     bind_ok (node_parts meta json) _ (λ parts.
     bind_ok (members_of (codes "labels") (field (codes "labels") meta)) _ (λ found.
     bind_ok (members_of (codes "allocatable") (within (codes "status") (codes "allocatable") json)) _ (λ resources.
-    bind_with (row_labels names [] found) _ (labels_texts names [] found none)
+    bind_with (row_labels site [] found) _ (labels_texts site [] found none)
     (λ kept h. last_ok _ h)))))
 
-pod_texts : (names : List ℕ) (by_uid : Bool) (json : Data) → OkIs (λ row. AreTexts row.left_out) (pod_row names by_uid json)
+pod_texts : (site : Site) (by_uid : Bool) (json : Data) → OkIs (λ row. AreTexts row.left_out) (pod_row site by_uid json)
 unfolding pod_row
-pod_texts names by_uid json =
+pod_texts site by_uid json =
     bind_ok (part_of (codes "metadata") json) _ (λ meta.
     bind_ok (part_of (codes "spec") json) _ (λ spec.
     bind_ok (pod_parts by_uid meta spec json) _ (λ parts.
     bind_ok (members_of (codes "labels") (field (codes "labels") meta)) _ (λ found.
     bind_ok (items_of (codes "tolerations") (field (codes "tolerations") spec)) _ (λ tolerations.
-    bind_with (row_labels names (wishes spec) found) _ (labels_texts names (wishes spec) found (wishes_texts spec))
+    bind_with (row_labels site (wishes (is_some site.beside) spec) found) _ (labels_texts site (wishes (is_some site.beside) spec) found (wishes_texts (is_some site.beside) spec))
     (λ kept h. last_ok _ (tolerations_texts (record { item = []; left_out = kept.left_out }) tolerations h)))))))
 
 -- what is told
@@ -329,24 +331,24 @@ row_texts : {A : Type 0} (event : A → Event) (how : Telling) (kind : Kind) (js
 row_texts event how kind json (Ok row) h = h.is
 row_texts event how kind json (Err e) h = fault e
 
-kept_back_texts : (scheduler : List ℕ) (spec pod : Data) → AreTexts (kept_back scheduler spec pod)
+kept_back_texts : (site : Site) (spec pod : Data) → AreTexts (kept_back site spec pod)
 unfolding kept_back
-kept_back_texts scheduler spec pod =
+kept_back_texts site spec pod =
     both _ _
     (both _ _
-    (either (bytes_eq (scheduler_of spec) scheduler) [] (left_out (codes "it is for the scheduler ") (scheduler_of spec)) none
+    (either (bytes_eq (scheduler_of spec) site.scheduler) [] (left_out (codes "it is for the scheduler ") (scheduler_of spec)) none
     (one (codes "it is for the scheduler ") (scheduler_of spec) refl))
-    (demands_texts spec))
+    (demands_texts (is_some site.beside) spec))
     (one_if (is_some (within (codes "metadata") (codes "deletionTimestamp") pod)) (codes "it is being deleted") refl)
 
 waiting_by_texts : (how : Telling) (json : Data) (kept : List ℕ) → AreTexts kept → AreTexts (waiting_by how json kept).left_out
 waiting_by_texts how json [] h =
-    row_texts (PodPending how.version) how Pod json (pod_row how.site.labels how.by_uid json) (pod_texts how.site.labels how.by_uid json)
+    row_texts (PodPending how.version) how Pod json (pod_row how.site how.by_uid json) (pod_texts how.site how.by_uid json)
 waiting_by_texts how json (x ∷ more) h = h
 
 waiting_texts : (how : Telling) (spec pod : Data) → AreTexts (waiting_told how spec pod).left_out
 unfolding waiting_told
-waiting_texts how spec pod = waiting_by_texts how pod (kept_back how.site.scheduler spec pod) (kept_back_texts how.site.scheduler spec pod)
+waiting_texts how spec pod = waiting_by_texts how pod (kept_back how.site spec pod) (kept_back_texts how.site spec pod)
 
 abbrev OkTexts : Result Told Fault → Type 0
 OkTexts found = OkIs (λ t. AreTexts t.left_out) found
@@ -373,7 +375,7 @@ pod_told_texts how json =
     (bind_ok (part_of (codes "spec") json) _ (λ spec. bind_ok (node_name spec) _ (λ node. node_name_texts how spec json node)))
 
 there_texts : (how : Telling) (kind : Kind) (json : Data) → OkTexts (there_told how kind json)
-there_texts how Node json = last_ok _ (row_texts (NodeSet how.version) how Node json (node_row how.site.labels json) (node_texts how.site.labels json))
+there_texts how Node json = last_ok _ (row_texts (NodeSet how.version) how Node json (node_row how.site json) (node_texts how.site json))
 there_texts how Pod json = pod_told_texts how json
 
 change_texts : (change : Change) (gone there : Result Told Fault) → OkTexts gone → OkTexts there → OkTexts (by_change change gone there)

@@ -1,15 +1,16 @@
 -- What a pod asks for that no row tells: what it must have, without which it could be put where it
 -- mustn't be, and what it only wishes (the Kubernetes pages "Assigning Pods to Nodes", "Pod
 -- Topology Spread Constraints", "Pod Scheduling Readiness", "Dynamic Resource Allocation" and
--- "Volumes").
-use Rattle.std.specs.Prelude.{ℕ, ◌==◌, Bool, true, false, ◌&&◌, ◌||◌, not, List, [], ◌∷◌, ◌++◌, codes, decimal, bytes_eq, Option, Some, None, is_some, option_and_then, Result, Ok, Err, if◌then◌else◌}
+-- "Volumes"). What it asks of nodes' labels, and of volumes that it claims, may be told by labels
+-- beside its own.
+use Rattle.std.specs.Prelude.{ℕ, ◌==◌, Bool, true, false, ◌&&◌, ◌||◌, not, List, [], ◌∷◌, ◌++◌, codes, decimal, bytes_eq, Option, Some, None, option_and_then, Result, Ok, Err, if◌then◌else◌}
 use Rattle.std.specs.List.{list_any}
 use Rattle.serde_json.specs.Data.{Data, Items, no_items, item, Members, no_members, member}
-use Rattle.serde_json.specs.Find.{get, as_array, as_object, as_number, as_u64}
+use Rattle.serde_json.specs.Find.{as_array, as_object, as_number, as_u64}
 use Rattle.objects.specs.declared.quantity.Rounding.TheVariants.{Up}
 use Rattle.objects.specs.declared.resource.Resource.TheVariants.{Memory}
 use Rattle.objects.specs.LeftOut.{Fault, left_out, left_out_if}
-use Rattle.objects.specs.Reading.{said, field, within, absent_or, is_given, spelled}
+use Rattle.objects.specs.Reading.{said, field, within, absent_or, is_given, has, spelled}
 use Rattle.objects.specs.Amounts.{amount_of}
 
 -- the texts that the items of an array give, of which none is given by an absent one
@@ -72,11 +73,15 @@ free =
     codes "name" ∷ codes "configMap" ∷ codes "secret" ∷ codes "emptyDir" ∷ codes "hostPath" ∷ codes "projected"
     ∷ codes "downwardAPI" ∷ codes "csi" ∷ codes "nfs" ∷ codes "image" ∷ []
 
-abbrev pub is_tied : Option Members → Bool
-is_tied members = absent_or true (λ ms. not (has_only free ms)) members
+-- and those that are claimed
+unfoldable pub free_or_claimed : List (List ℕ)
+free_or_claimed = codes "persistentVolumeClaim" ∷ codes "ephemeral" ∷ free
 
-unfoldable pub volume : Data → List ℕ
-volume json = if is_tied (as_object json) then left_out (codes "volume ") (spelled (codes "name") json) else []
+abbrev pub is_tied : (kinds : List (List ℕ)) → Option Members → Bool
+is_tied kinds members = absent_or true (λ ms. not (has_only kinds ms)) members
+
+unfoldable pub volume : (kinds : List (List ℕ)) → Data → List ℕ
+volume kinds json = if is_tied kinds (as_object json) then left_out (codes "volume ") (spelled (codes "name") json) else []
 
 -- a port of the node itself, which 0 is not
 abbrev pub node_port : Option ℕ → List ℕ
@@ -109,10 +114,6 @@ other_resources is_named (member key value rest) = other_resource is_named key v
 abbrev pub object_gives : (is_named : List ℕ → Bool) → Option Data → List ℕ
 object_gives is_named value = absent_or [] (λ v. absent_or (left_out (codes "resources") []) (other_resources is_named) (as_object v)) value
 
--- whether a value has a member of this name
-abbrev pub has : Option Data → (key : List ℕ) → Bool
-has value key = is_some (option_and_then (get key) value)
-
 abbrev pub resources_of : Option Data → List ℕ
 resources_of None = []
 resources_of (Some resources) =
@@ -127,10 +128,10 @@ abbrev pub containers : (key : List ℕ) → Data → List ℕ
 containers key spec = array_gives container [] (field key spec)
 
 -- what a pod's spec must have of its node and of other pods
-unfoldable pub placement : Data → List ℕ
-placement spec =
-    left_out_if (is_given (field (codes "nodeSelector") spec)) (codes "node selector")
-    ++ left_out_if (is_given (affinity (codes "nodeAffinity") (codes "requiredDuringSchedulingIgnoredDuringExecution") spec)) (codes "required node affinity")
+unfoldable pub placement : (is_told : Bool) → Data → List ℕ
+placement is_told spec =
+    left_out_if (not is_told && is_given (field (codes "nodeSelector") spec)) (codes "node selector")
+    ++ left_out_if (not is_told && is_given (affinity (codes "nodeAffinity") (codes "requiredDuringSchedulingIgnoredDuringExecution") spec)) (codes "required node affinity")
     ++ left_out_if (is_given (affinity (codes "podAffinity") (codes "requiredDuringSchedulingIgnoredDuringExecution") spec)) (codes "required pod affinity")
     ++ left_out_if (is_given (affinity (codes "podAntiAffinity") (codes "requiredDuringSchedulingIgnoredDuringExecution") spec)) (codes "required pod anti-affinity")
     ++ left_out_if (not (is_read_affinity (field (codes "affinity") spec))) (codes "affinity")
@@ -165,22 +166,23 @@ other_fields (member key value rest) = other_field key value ++ other_fields res
 abbrev pub fields_of : Option Members → List ℕ
 fields_of members = absent_or [] other_fields members
 
--- what it must have
-unfoldable pub demands : Data → List ℕ
-demands spec =
-    placement spec
+-- what it must have, where what it asks of nodes' labels and of volumes that it claims is told, or
+-- isn't
+unfoldable pub demands : (is_told : Bool) → Data → List ℕ
+demands is_told spec =
+    placement is_told spec
     ++ left_out_if (is_given (field (codes "schedulingGates") spec)) (codes "scheduling gates")
     ++ left_out_if (is_given (field (codes "resourceClaims") spec)) (codes "resource claims")
-    ++ array_gives volume (left_out (codes "volume ") []) (field (codes "volumes") spec)
+    ++ array_gives (volume (if is_told then free_or_claimed else free)) (left_out (codes "volume ") []) (field (codes "volumes") spec)
     ++ containers (codes "containers") spec
     ++ containers (codes "initContainers") spec
     ++ object_gives (has None) (field (codes "overhead") spec)
     ++ fields_of (as_object spec)
 
 -- what it can do without
-unfoldable pub wishes : Data → List ℕ
-wishes spec =
-    left_out_if (is_given (affinity (codes "nodeAffinity") (codes "preferredDuringSchedulingIgnoredDuringExecution") spec)) (codes "preferred node affinity")
+unfoldable pub wishes : (is_told : Bool) → Data → List ℕ
+wishes is_told spec =
+    left_out_if (not is_told && is_given (affinity (codes "nodeAffinity") (codes "preferredDuringSchedulingIgnoredDuringExecution") spec)) (codes "preferred node affinity")
     ++ left_out_if (is_given (affinity (codes "podAffinity") (codes "preferredDuringSchedulingIgnoredDuringExecution") spec)) (codes "preferred pod affinity")
     ++ left_out_if (is_given (affinity (codes "podAntiAffinity") (codes "preferredDuringSchedulingIgnoredDuringExecution") spec)) (codes "preferred pod anti-affinity")
     ++ left_out_if (asks_spread true (field (codes "topologySpreadConstraints") spec)) (codes "preferred topology spread")

@@ -1,6 +1,7 @@
--- The labels that a row has of an object's: first those that the site's rules read, then the others
--- as far as there is room, both in the order of their keys.
-use Rattle.std.specs.Prelude.{ℕ, suc, ◌==◌, Bool, ◌&&◌, ◌||◌, List, [], ◌∷◌, ◌++◌, length, nat_le, nat_lt, bytes_eq, codes, Option, Some, None, option_and_then, Result, Ok, Err, if◌then◌else◌}
+-- The labels that a row has of an object: first those that are told beside its own, then of its own
+-- those that the site's rules read, then the others as far as there is room, each in the order of
+-- their keys. One of its own gives way to one that is told under its key.
+use Rattle.std.specs.Prelude.{ℕ, suc, ◌+◌, ◌==◌, Bool, not, ◌&&◌, ◌||◌, List, [], ◌∷◌, ◌++◌, length, nat_le, nat_lt, bytes_eq, codes, Option, Some, None, option_and_then, Result, Ok, Err, if◌then◌else◌}
 use Rattle.std.specs.List.{list_any, slice_split}
 use Rattle.serde_json.specs.Data.{Data, Members, no_members, member}
 use Rattle.serde_json.specs.Find.{as_str}
@@ -9,7 +10,9 @@ use Rattle.quant.specs.declared.objects.Label.{Label}
 use Rattle.objects.specs.declared.fault.Why.TheVariants.{BadName, TooMany}
 use Rattle.objects.specs.LeftOut.{Fault, left_out, refused}
 use Rattle.objects.specs.Quantity.{◌>>=◌}
+use Rattle.objects.specs.Reading.{members_of, has}
 use Rattle.objects.specs.Sayable.{says_label}
+use Rattle.objects.specs.Site.{Site}
 
 -- what is read of an object, and the names of what is left out
 pub record Kept (A : Type 0) : Type 0 where
@@ -35,36 +38,50 @@ is_comma byte = byte == 44
 unfoldable pub is_named : (names key : List ℕ) → Bool
 is_named names key = nat_le 1 (length names) && list_any (λ name. bytes_eq name key) (slice_split is_comma names)
 
--- the labels of an object's members that are named, behind others: each of them, or there is no row
+-- labels of an object's members, behind others: each of them, or there is no row
 abbrev pub behind : List Label → Option Label → Result (List Label) Fault
 behind before None = Err (refused BadName (codes "labels"))
 behind before (Some label) = Ok (before ++ label ∷ [])
 
-unfoldable pub if_named : (names : List ℕ) → List Label → (key : List ℕ) → Data → Result (List Label) Fault
-if_named names before key value = if is_named names key then behind before (label_of before key value) else Ok before
+-- all of those that are told beside its own
+abbrev pub told_labels : List Label → Members → Result (List Label) Fault
+told_labels before no_members = Ok before
+told_labels before (member key value rest) = behind before (label_of before key value) >>= λ more. told_labels more rest
 
-abbrev pub named_labels : (names : List ℕ) → List Label → Members → Result (List Label) Fault
-named_labels names before no_members = Ok before
-named_labels names before (member key value rest) = if_named names before key value >>= λ more. named_labels names more rest
+-- of its own those that are named
+unfoldable pub if_named : Site → List Label → (key : List ℕ) → Data → Result (List Label) Fault
+if_named site before key value = if is_named site.labels key && not (has site.beside key) then behind before (label_of before key value) else Ok before
+
+abbrev pub named_labels : Site → List Label → Members → Result (List Label) Fault
+named_labels site before no_members = Ok before
+named_labels site before (member key value rest) = if_named site before key value >>= λ more. named_labels site more rest
 
 -- those that aren't named, behind others
-unfoldable pub unless_named : (names : List ℕ) → Kept (List Label) → (key : List ℕ) → Data → Kept (List Label)
-unless_named names kept key value = if is_named names key then kept else with_item (codes "label ") key kept (label_of kept.item key value)
+unfoldable pub unless_named : Site → Kept (List Label) → (key : List ℕ) → Data → Kept (List Label)
+unless_named site kept key value =
+    if is_named site.labels key || has site.beside key then kept else with_item (codes "label ") key kept (label_of kept.item key value)
 
-abbrev pub other_labels : (names : List ℕ) → Kept (List Label) → Members → Kept (List Label)
-other_labels names kept no_members = kept
-other_labels names kept (member key value rest) = other_labels names (unless_named names kept key value) rest
+abbrev pub other_labels : Site → Kept (List Label) → Members → Kept (List Label)
+other_labels site kept no_members = kept
+other_labels site kept (member key value rest) = other_labels site (unless_named site kept key value) rest
 
 -- how many members there are
 abbrev pub count_members : Members → ℕ
 count_members no_members = 0
 count_members (member key value rest) = suc (count_members rest)
 
--- the labels of an object. Where it has more than a row and none are named, nobody knows which of
--- them count: there is no row then
-abbrev pub all_labels : (names left : List ℕ) → Members → Result (Kept (List Label)) Fault
-all_labels names left found = named_labels names [] found >>= λ first. Ok (other_labels names (record { item = first; left_out = left }) found)
+-- the labels of an object. Where there are more than a row has room for and none are named, nobody
+-- knows which of them count: there is no row then
+abbrev pub all_labels : Site → (left : List ℕ) → (beside found : Members) → Result (Kept (List Label)) Fault
+all_labels site left beside found = do
+  told ← told_labels [] beside
+  first ← named_labels site told found
+  Ok (other_labels site (record { item = first; left_out = left }) found)
 
-unfoldable pub row_labels : (names left : List ℕ) → Members → Result (Kept (List Label)) Fault
-row_labels names left found =
-    if nat_le (count_members found) MAX_LABELS || nat_le 1 (length names) then all_labels names left found else Err (refused TooMany (codes "labels"))
+abbrev pub have_room : (beside found : Members) → Bool
+have_room beside found = nat_le (count_members beside + count_members found) MAX_LABELS
+
+unfoldable pub row_labels : Site → (left : List ℕ) → (found : Members) → Result (Kept (List Label)) Fault
+row_labels site left found = do
+  beside ← members_of (codes "labels") site.beside
+  if have_room beside found || nat_le 1 (length site.labels) then all_labels site left beside found else Err (refused TooMany (codes "labels"))

@@ -16,6 +16,7 @@ use Rattle.objects.specs.Amounts.{allocatable}
 use Rattle.objects.specs.Containers.{count}
 use Rattle.objects.specs.Sayable.{says_taint}
 use Rattle.objects.specs.Labels.{Kept, row_labels}
+use Rattle.objects.specs.Site.{Site}
 
 -- a taint beside those before it
 abbrev pub a_taint : List Taint → Taint → Result Taint Fault
@@ -57,13 +58,13 @@ node_of parts labels = record {
   left_out = labels.left_out;
 }
 
--- the row of a node's object, in which the labels of these names come first. Of its other resources
+-- the row of a node's object, in which the labels that the site's rules read come first. Of its other resources
 -- nothing is said: a pod that asks for one isn't told
-unfoldable pub node_row : (names : List ℕ) → Data → Result (Kept Node) Fault
-node_row names json = do
+unfoldable pub node_row : Site → Data → Result (Kept Node) Fault
+node_row site json = do
   meta ← part_of (codes "metadata") json
   parts ← node_parts meta json
   found ← members_of (codes "labels") (field (codes "labels") meta)
   resources ← members_of (codes "allocatable") (within (codes "status") (codes "allocatable") json)
-  kept ← row_labels names [] found
+  kept ← row_labels site [] found
   Ok (node_of parts kept)

@@ -1,5 +1,5 @@
 -- The row that the object of a pod gives that waits for a place.
-use Rattle.std.specs.Prelude.{ℕ, ℤ, pos, negsuc, int_le, ◌&&◌, Bool, List, [], ◌++◌, length, nat_lt, codes, Option, Some, None, Result, Ok, Err, option_and_then, if◌then◌else◌}
+use Rattle.std.specs.Prelude.{ℕ, ℤ, pos, negsuc, int_le, ◌&&◌, Bool, List, [], ◌++◌, length, nat_lt, codes, Option, Some, None, Result, Ok, Err, is_some, option_and_then, if◌then◌else◌}
 use Rattle.serde_json.specs.Data.{Data, Items, no_items, item}
 use Rattle.serde_json.specs.Find.{as_number, as_i64, as_str}
 use Rattle.quant.specs.Name.{is_name}
@@ -20,6 +20,7 @@ use Rattle.objects.specs.Sayable.{says_toleration}
 use Rattle.objects.specs.LeftOut.{Fault, refused}
 use Rattle.objects.specs.Labels.{Kept, with_item, row_labels}
 use Rattle.objects.specs.Demands.{wishes}
+use Rattle.objects.specs.Site.{Site}
 
 -- how a script calls a pod: by its namespace and name with a slash between them, where that is a
 -- name of a script and its uid isn't asked for, and by its uid otherwise
@@ -95,14 +96,14 @@ pod_of parts labels tolerations = record {
   left_out = tolerations.left_out;
 }
 
--- the row of a pod's object, in which the labels of these names come first, and what it leaves out
+-- the row of a pod's object, in which the labels that the site's rules read come first, and what it leaves out
 -- behind what the pod can do without: its labels are read before its tolerations
-unfoldable pub pod_row : (names : List ℕ) → (by_uid : Bool) → Data → Result (Kept Pod) Fault
-pod_row names by_uid json = do
+unfoldable pub pod_row : Site → (by_uid : Bool) → Data → Result (Kept Pod) Fault
+pod_row site by_uid json = do
   meta ← part_of (codes "metadata") json
   spec ← part_of (codes "spec") json
   parts ← pod_parts by_uid meta spec json
   found ← members_of (codes "labels") (field (codes "labels") meta)
   tolerations ← items_of (codes "tolerations") (field (codes "tolerations") spec)
-  kept ← row_labels names (wishes spec) found
+  kept ← row_labels site (wishes (is_some site.beside) spec) found
   Ok (pod_of parts kept.item (tolerations_of (record { item = []; left_out = kept.left_out }) tolerations))

@@ -78,3 +78,7 @@ is_something value = true
 
 abbrev pub is_given : Option Data → Bool
 is_given value = absent_or false is_something value
+
+-- whether a value has a member of this name
+abbrev pub has : Option Data → (key : List ℕ) → Bool
+has value key = is_some (option_and_then (get key) value)

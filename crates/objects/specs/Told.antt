@@ -81,17 +81,17 @@ scheduler_of spec = if is_some (field (codes "schedulerName") spec) then spelled
 abbrev pub other_scheduler : (scheduler named : List ℕ) → List ℕ
 other_scheduler scheduler named = if bytes_eq named scheduler then [] else left_out (codes "it is for the scheduler ") named
 
-unfoldable pub kept_back : (scheduler : List ℕ) → (spec pod : Data) → List ℕ
-kept_back scheduler spec pod =
-    other_scheduler scheduler (scheduler_of spec) ++ demands spec
+unfoldable pub kept_back : Site → (spec pod : Data) → List ℕ
+kept_back site spec pod =
+    other_scheduler site.scheduler (scheduler_of spec) ++ demands (is_some site.beside) spec
     ++ left_out_if (is_some (within (codes "metadata") (codes "deletionTimestamp") pod)) (codes "it is being deleted")
 
 abbrev pub waiting_by : Telling → Data → (kept_back : List ℕ) → Told
-waiting_by how json [] = row_told (PodPending how.version) how Pod json (pod_row how.site.labels how.by_uid json)
+waiting_by how json [] = row_told (PodPending how.version) how Pod json (pod_row how.site how.by_uid json)
 waiting_by how json (x ∷ more) = gone_if how Pod json (x ∷ more)
 
 unfoldable pub waiting_told : Telling → (spec pod : Data) → Told
-waiting_told how spec pod = waiting_by how pod (kept_back how.site.scheduler spec pod)
+waiting_told how spec pod = waiting_by how pod (kept_back how.site spec pod)
 
 -- a pod that stands on a node is always counted: where no line can call it by a name, there is no
 -- going on
@@ -134,7 +134,7 @@ pod_told how json =
 
 -- an object of this kind, by what has come of it
 abbrev pub there_told : Telling → Kind → Data → Result Told Fault
-there_told how Node json = Ok (row_told (NodeSet how.version) how Node json (node_row how.site.labels json))
+there_told how Node json = Ok (row_told (NodeSet how.version) how Node json (node_row how.site json))
 there_told how Pod json = pod_told how json
 
 abbrev pub by_change : {A : Type 0} → Change → (gone there : A) → A

@@ -1,17 +1,17 @@
 //! What a pod asks for that no row tells: what it must have, and what it only wishes.
-ghost use Rattle.std.specs.Prelude.{◌≡◌, ◌++◌, ℕ, not, List, map, codes, None, IfOk, option_map};
+ghost use Rattle.std.specs.Prelude.{◌≡◌, ◌++◌, ◌&&◌, ℕ, not, List, [], map, codes, None, IfOk, option_map, if◌then◌else◌};
 ghost use Rattle.serde_json.specs.Data.{Data};
 ghost use Rattle.serde_json.specs.Find.{as_object};
 ghost use Rattle.serde_json.specs.View.{view, items_view, members_view};
-ghost use Rattle.objects.specs.Demands.{each_item, array_gives, affinity, is_wished, has_spread, asks_spread, is_one_of, has_only, are_parts_if, is_read_kind, has_kinds, is_read_affinity, is_tied, volume, node_port, host_port, is_nothing, other_resources, object_gives, has, other_resource, resources_of, container, is_known, other_field, other_fields, fields_of, placement, demands, wishes};
-ghost use Rattle.objects.specs.Reading.{said, field, is_given};
-ghost use Rattle.objects.specs.LeftOut.{left_out_if};
+ghost use Rattle.objects.specs.Demands.{each_item, array_gives, affinity, is_wished, has_spread, asks_spread, is_one_of, has_only, are_parts_if, is_read_kind, has_kinds, is_read_affinity, free, free_or_claimed, is_tied, volume, node_port, host_port, is_nothing, other_resources, object_gives, other_resource, resources_of, container, is_known, other_field, other_fields, fields_of, placement, demands, wishes};
+ghost use Rattle.objects.specs.Reading.{said, field, is_given, has};
+ghost use Rattle.objects.specs.LeftOut.{left_out, left_out_if};
 ghost use Rattle.objects.specs.inside.Otherwise.{otherwise};
 
 use crate::amounts::amount_of;
 use crate::left_out::{put_left_out, put_left_out_if};
 use crate::quantity::Rounding;
-use crate::reading::{field, is_given, spelled, within};
+use crate::reading::{field, has, is_given, spelled, within};
 use crate::resource::Resource;
 use itoa::Buffer;
 use serde_json::{Map, Value};
@@ -28,6 +28,22 @@ const PARTS: [&str; 2] = [
 
 // A volume's name, and the kinds of volumes that tie a pod to no node.
 const FREE: [&str; 10] = [
+    "name",
+    "configMap",
+    "secret",
+    "emptyDir",
+    "hostPath",
+    "projected",
+    "downwardAPI",
+    "csi",
+    "nfs",
+    "image",
+];
+
+// These, and the kinds of volumes that are claimed.
+const FREE_OR_CLAIMED: [&str; 12] = [
+    "persistentVolumeClaim",
+    "ephemeral",
     "name",
     "configMap",
     "secret",
@@ -86,15 +102,16 @@ const KNOWN: [&str; 41] = [
     "serviceAccountName",
 ];
 
-// Puts the names of what a pod's spec must have.
+// Puts the names of what a pod's spec must have, where what it asks of nodes' labels and of volumes
+// that it claims is told, or isn't.
 #[tactic(auto, unfolding(crate::specs::Demands::demands))]
-pub(crate) fn put_demands(out: &mut Vec<u8>, spec: &Value) -> Result<(), AllocError>
-    ensures { IfOk result (λ _. out.new.items ≡ out.old.items ++ demands (view spec.now)) }
+pub(crate) fn put_demands(out: &mut Vec<u8>, spec: &Value, is_told: bool) -> Result<(), AllocError>
+    ensures { IfOk result (λ _. out.new.items ≡ out.old.items ++ demands is_told (view spec.now)) }
 {
-    put_placement(out, spec)?;
+    put_placement(out, spec, is_told)?;
     put_given(out, spec, "schedulingGates", "scheduling gates")?;
     put_given(out, spec, "resourceClaims", "resource claims")?;
-    put_list::<Volume>(out, spec, "volumes", Some("volume "))?;
+    put_volumes(out, spec, is_told)?;
     put_list::<Container>(out, spec, "containers", None)?;
     put_list::<Container>(out, spec, "initContainers", None)?;
     put_overhead(out, spec)?;
@@ -103,12 +120,12 @@ pub(crate) fn put_demands(out: &mut Vec<u8>, spec: &Value) -> Result<(), AllocEr
 
 // Puts the names of what it must have of its node and of other pods.
 #[tactic(auto, unfolding(crate::specs::Demands::placement))]
-fn put_placement(out: &mut Vec<u8>, spec: &Value) -> Result<(), AllocError>
-    ensures { IfOk result (λ _. out.new.items ≡ out.old.items ++ placement (view spec.now)) }
+fn put_placement(out: &mut Vec<u8>, spec: &Value, is_told: bool) -> Result<(), AllocError>
+    ensures { IfOk result (λ _. out.new.items ≡ out.old.items ++ placement is_told (view spec.now)) }
 {
     let part = "requiredDuringSchedulingIgnoredDuringExecution";
-    put_given(out, spec, "nodeSelector", "node selector")?;
-    put_affinity(out, spec, "nodeAffinity", part, "required node affinity")?;
+    put_unless_told(out, spec, is_told, "nodeSelector", "node selector")?;
+    put_node_affinity(out, spec, is_told, part, "required node affinity")?;
     put_affinity(out, spec, "podAffinity", part, "required pod affinity")?;
     put_affinity(
         out,
@@ -123,11 +140,11 @@ fn put_placement(out: &mut Vec<u8>, spec: &Value) -> Result<(), AllocError>
 
 // Puts the names of what it can do without.
 #[tactic(auto, unfolding(crate::specs::Demands::wishes))]
-pub(crate) fn put_wishes(out: &mut Vec<u8>, spec: &Value) -> Result<(), AllocError>
-    ensures { IfOk result (λ _. out.new.items ≡ out.old.items ++ wishes (view spec.now)) }
+pub(crate) fn put_wishes(out: &mut Vec<u8>, spec: &Value, is_told: bool) -> Result<(), AllocError>
+    ensures { IfOk result (λ _. out.new.items ≡ out.old.items ++ wishes is_told (view spec.now)) }
 {
     let part = "preferredDuringSchedulingIgnoredDuringExecution";
-    put_affinity(out, spec, "nodeAffinity", part, "preferred node affinity")?;
+    put_node_affinity(out, spec, is_told, part, "preferred node affinity")?;
     put_affinity(out, spec, "podAffinity", part, "preferred pod affinity")?;
     put_affinity(
         out,
@@ -137,6 +154,50 @@ pub(crate) fn put_wishes(out: &mut Vec<u8>, spec: &Value) -> Result<(), AllocErr
         "preferred pod anti-affinity",
     )?;
     put_spread(out, spec, true, "preferred topology spread")
+}
+
+// Puts a name where something stands in a field that isn't told.
+fn put_unless_told(
+    out: &mut Vec<u8>,
+    spec: &Value,
+    is_told: bool,
+    key: &str,
+    what: &str,
+) -> Result<(), AllocError>
+    ensures { IfOk result (λ _. out.new.items ≡ out.old.items
+        ++ left_out_if (not is_told && is_given (field key.now (view spec.now))) what.now) }
+{
+    let is_asked = !is_told && is_given(field(spec, key));
+    put_left_out_if(out, is_asked, what)
+}
+
+// Puts a name where something stands in this part of a node affinity that isn't told.
+fn put_node_affinity(
+    out: &mut Vec<u8>,
+    spec: &Value,
+    is_told: bool,
+    part: &str,
+    what: &str,
+) -> Result<(), AllocError>
+    ensures { IfOk result (λ _. out.new.items ≡ out.old.items
+        ++ left_out_if (not is_told && is_given (affinity (codes "nodeAffinity") part.now (view spec.now))) what.now) }
+{
+    let is_asked = !is_told && is_given(affinity(spec, "nodeAffinity", part));
+    put_left_out_if(out, is_asked, what)
+}
+
+// Puts the names of the volumes that tie a pod to a node, but for those that are claimed, where
+// their places are told.
+fn put_volumes(out: &mut Vec<u8>, spec: &Value, is_told: bool) -> Result<(), AllocError>
+    ensures { IfOk result (λ _. out.new.items ≡ out.old.items
+        ++ array_gives (volume (if is_told then free_or_claimed else free)) (left_out (codes "volume ") [])
+        (field (codes "volumes") (view spec.now))) }
+{
+    if is_told {
+        put_list::<UnclaimedVolume>(out, spec, "volumes", Some("volume "))
+    } else {
+        put_list::<Volume>(out, spec, "volumes", Some("volume "))
+    }
 }
 
 // Puts a name where something stands in a field.
@@ -341,27 +402,47 @@ fn is_one_of(names: &[&str], key: &str) -> bool
 struct Volume;
 
 impl Listed for Volume {
-    ghost names = { volume };
+    ghost names = { volume free };
 
     #[tactic(auto, unfolding(crate::specs::Demands::volume))]
     fn put(out: &mut Vec<u8>, item: &Value) -> Result<(), AllocError> {
-        if is_tied(item) {
-            put_left_out(out, "volume ", spelled(item, "name").as_bytes())
-        } else {
-            Ok(())
-        }
+        let kinds: [&str; 10] = FREE;
+        put_volume(out, item, kinds.as_slice())
     }
 }
 
-// Whether a volume may tie a pod to a node.
-fn is_tied(volume: &Value) -> bool
-    ensures { result ≡ is_tied (as_object (view volume.now)) }
+// A volume, where the places of those that are claimed are told.
+struct UnclaimedVolume;
+
+impl Listed for UnclaimedVolume {
+    ghost names = { volume free_or_claimed };
+
+    #[tactic(auto, unfolding(crate::specs::Demands::volume))]
+    fn put(out: &mut Vec<u8>, item: &Value) -> Result<(), AllocError> {
+        let kinds: [&str; 12] = FREE_OR_CLAIMED;
+        put_volume(out, item, kinds.as_slice())
+    }
+}
+
+// Puts the name of a volume that may tie a pod to a node, as one of other kinds than these may.
+#[tactic(auto, unfolding(crate::specs::Demands::volume))]
+fn put_volume(out: &mut Vec<u8>, item: &Value, kinds: &[&str]) -> Result<(), AllocError>
+    ensures { IfOk result (λ _. out.new.items
+        ≡ out.old.items ++ volume (map (λ kind. kind.now) kinds.now) (view item.now)) }
+{
+    if is_tied(item, kinds) {
+        put_left_out(out, "volume ", spelled(item, "name").as_bytes())
+    } else {
+        Ok(())
+    }
+}
+
+// Whether a volume is of another kind than these.
+fn is_tied(volume: &Value, kinds: &[&str]) -> bool
+    ensures { result ≡ is_tied (map (λ kind. kind.now) kinds.now) (as_object (view volume.now)) }
 {
     match volume.as_object() {
-        Some(members) => {
-            let free: [&str; 10] = FREE;
-            !has_only(members, free.as_slice())
-        }
+        Some(members) => !has_only(members, kinds),
         None => true,
     }
 }
@@ -480,16 +561,6 @@ fn is_nothing(value: &Value) -> bool
     match amount_of(Some(value), Resource::Memory, Rounding::Up) {
         Ok(amount) => amount == 0,
         Err(_) => false,
-    }
-}
-
-// Whether a value has a member of this name.
-fn has(value: Option<&Value>, key: &str) -> bool
-    ensures { result ≡ has (option_map (λ v. view v.now) value.entry) key.now }
-{
-    match value {
-        Some(value) => value.get(key).is_some(),
-        None => false,
     }
 }
 

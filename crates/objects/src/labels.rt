@@ -1,8 +1,10 @@
 //! The labels that a row has of an object's.
-ghost use Rattle.std.specs.Prelude.{◌≡◌, ◌<◌, ◌≤◌, true, codes, [], length, bytes_eq, IfOk, OnOk, IfSome, OnSome, option_map};
+ghost use Rattle.std.specs.Prelude.{◌≡◌, ◌+◌, ◌<◌, ◌≤◌, true, codes, [], length, nat_le, bytes_eq, IfOk, OnOk, IfSome, OnSome, option_map};
 ghost use Rattle.std.specs.List.{list_any, slice_split};
 ghost use Rattle.serde_json.specs.View.{view, members_view};
-ghost use Rattle.objects.specs.Labels.{fitting, label_of, is_comma, is_named, if_named, named_labels, with_item, unless_named, other_labels, row_labels};
+ghost use Rattle.quant.specs.declared.limits.TheConstants.{MAX_LABELS};
+ghost use Rattle.objects.specs.Labels.{fitting, label_of, behind, count_members, is_comma, is_named, told_labels, if_named, named_labels, with_item, unless_named, other_labels, all_labels, row_labels};
+ghost use Rattle.objects.specs.Site.{site_of};
 ghost use Rattle.objects.specs.inside.Answers.{Gives};
 ghost use Rattle.objects.specs.Sayable.{says_label};
 ghost use Rattle.objects.specs.inside.Events.{each_beside};
@@ -10,89 +12,111 @@ ghost use Rattle.objects.specs.inside.Members.{members_or_none, kept};
 
 use crate::fault::{ObjectFault, Why};
 use crate::left_out::put_left_out;
+use crate::reading::{has, members_of};
+use crate::site::Site;
 use manifest::has_key;
 use quant::{AtMost, Label, MAX_LABELS, Name, Text};
 use serde_json::{Map, Value};
 use std::alloc::{AllocError, Global};
 
-// The labels of an object's members, which may be absent: those that are named first. Puts the names
-// of those that are left out.
+// The labels of an object, whose members may be absent: first those that are told beside its own.
+// Puts the names of those that are left out.
 #[tactic(auto, unfolding(crate::specs::Labels::row_labels))]
 pub(crate) fn labels_of(
     alloc: Global,
     out: &mut Vec<u8>,
     found: Option<&Map<String, Value>>,
-    names: &str,
+    site: &Site<'_>,
 ) -> Result<AtMost<Label, MAX_LABELS>, ObjectFault>
-    ensures value { Gives (λ labels. kept labels out.new.items) result (row_labels names.now out.old.items
+    ensures value { Gives (λ labels. kept labels out.new.items) result (row_labels (site_of site.now) out.old.items
         (members_or_none (option_map (λ m. members_view m.now.entries) found.entry))) }
     ensures sayable { IfOk result (λ labels. each_beside says_label [] labels ≡ true) }
     ensures few { IfOk result (λ labels. length labels ≤ 32) }
 {
     let mut labels = AtMost::new(alloc);
-    if let Some(members) = found {
-        take_labels(&mut labels, out, members, names)?;
+    let beside = members_of(site.beside, "labels")?;
+    let (told, own) = (count(beside), count(found));
+    if !have_room(told, own) && site.labels.is_empty() {
+        return Err(ObjectFault::Refused(Why::TooMany, "labels"));
     }
+    labels.reserve(told.min(MAX_LABELS))?;
+    labels.reserve(own.min(MAX_LABELS))?;
+    take_all(&mut labels, out, beside, found, site)?;
     Ok(labels)
 }
 
-// Fills an empty row with the labels of an object's members.
-#[tactic(auto, unfolding(crate::specs::Labels::row_labels), using(crate::proofs::Items::count_of_members_view))]
-fn take_labels(
+// How many members there are.
+#[tactic(auto, using(crate::proofs::Items::count_of_members_view))]
+fn count(members: Option<&Map<String, Value>>) -> usize
+    ensures { result ≡ count_members (members_or_none (option_map (λ m. members_view m.now.entries) members.entry)) }
+{
+    match members {
+        Some(members) => members.len(),
+        None => 0,
+    }
+}
+
+// Whether a row has room for so many labels beside so many of an object's own.
+fn have_room(beside: usize, own: usize) -> bool
+    ensures { result ≡ nat_le (beside + own) MAX_LABELS }
+{
+    beside <= MAX_LABELS && own <= MAX_LABELS - beside
+}
+
+// Fills an empty row with labels, first those that are told beside an object's own.
+fn take_all(
     labels: &mut AtMost<Label, MAX_LABELS>,
     out: &mut Vec<u8>,
-    members: &Map<String, Value>,
-    names: &str,
+    beside: Option<&Map<String, Value>>,
+    found: Option<&Map<String, Value>>,
+    site: &Site<'_>,
 ) -> Result<(), ObjectFault>
     requires { labels.old ≡ [] }
-    ensures value { Gives (λ _. kept labels.new out.new.items) result
-        (row_labels names.now out.old.items (members_view members.now.entries)) }
+    ensures value { Gives (λ _. kept labels.new out.new.items) result (all_labels (site_of site.now) out.old.items
+        (members_or_none (option_map (λ m. members_view m.now.entries) beside.entry))
+        (members_or_none (option_map (λ m. members_view m.now.entries) found.entry))) }
     ensures sayable { OnOk result (each_beside says_label [] labels.new ≡ true) }
     ensures few { OnOk result (length labels.new ≤ 32) }
 {
-    if members.len() > MAX_LABELS && names.is_empty() {
-        return Err(ObjectFault::Refused(Why::TooMany, "labels"));
+    if let Some(members) = beside {
+        take_told(labels, members)?;
     }
-    labels.reserve(members.len().min(MAX_LABELS))?;
-    take_named(labels, members, names)?;
-    take_others(labels, out, members, names)?;
+    if let Some(members) = found {
+        take_named(labels, members, site)?;
+        take_others(labels, out, members, site)?;
+    }
     Ok(())
 }
 
-// Takes the labels of an object's members that are named, behind others.
-fn take_named(
+// Takes the labels that are told beside an object's own, behind others.
+fn take_told(
     labels: &mut AtMost<Label, MAX_LABELS>,
     members: &Map<String, Value>,
-    names: &str,
 ) -> Result<(), ObjectFault>
-    ensures value { Gives (λ _. labels.new) result
-        (named_labels names.now labels.old (members_view members.now.entries)) }
+    ensures value { Gives (λ _. labels.new) result (told_labels labels.old (members_view members.now.entries)) }
     ensures sayable { each_beside says_label [] labels.old ≡ true
         → OnOk result (each_beside says_label [] labels.new ≡ true) }
     ensures few { length labels.old ≤ 32 → OnOk result (length labels.new ≤ 32) }
 {
     for (key, value) in members.iter() {
-        take_if_named(labels, key.as_str(), value, names)?;
+        take_behind(labels, key.as_str(), value)?;
     }
     Ok(())
 }
 
-// Takes a label behind others, where it is named.
-#[tactic(auto, unfolding(crate::specs::Labels::if_named), using(crate::proofs::Beside::label_beside))]
-fn take_if_named(
+// Takes a label behind others.
+#[tactic(auto, using(crate::proofs::Beside::label_beside))]
+fn take_behind(
     labels: &mut AtMost<Label, MAX_LABELS>,
     key: &str,
     value: &Value,
-    names: &str,
 ) -> Result<(), ObjectFault>
-    ensures value { Gives (λ _. labels.new) result (if_named names.now labels.old key.now (view value.now)) }
+    ensures value { Gives (λ _. labels.new) result
+        (behind labels.old (label_of labels.old key.now (view value.now))) }
     ensures sayable { each_beside says_label [] labels.old ≡ true
         → OnOk result (each_beside says_label [] labels.new ≡ true) }
     ensures few { length labels.old ≤ 32 → OnOk result (length labels.new ≤ 32) }
 {
-    if !is_named(names, key) {
-        return Ok(());
-    }
     match label_of(labels.as_slice(), key, value) {
         Some(label) => {
             labels.push(label)?;
@@ -102,22 +126,61 @@ fn take_if_named(
     }
 }
 
-// Takes the labels of an object's members that aren't named, behind others, and puts the names of
-// those that are left out.
+// Takes of an object's own labels those that are named, behind others.
+fn take_named(
+    labels: &mut AtMost<Label, MAX_LABELS>,
+    members: &Map<String, Value>,
+    site: &Site<'_>,
+) -> Result<(), ObjectFault>
+    ensures value { Gives (λ _. labels.new) result
+        (named_labels (site_of site.now) labels.old (members_view members.now.entries)) }
+    ensures sayable { each_beside says_label [] labels.old ≡ true
+        → OnOk result (each_beside says_label [] labels.new ≡ true) }
+    ensures few { length labels.old ≤ 32 → OnOk result (length labels.new ≤ 32) }
+{
+    for (key, value) in members.iter() {
+        take_if_named(labels, key.as_str(), value, site)?;
+    }
+    Ok(())
+}
+
+// Takes a label behind others, where it is named.
+#[tactic(auto, unfolding(crate::specs::Labels::if_named))]
+fn take_if_named(
+    labels: &mut AtMost<Label, MAX_LABELS>,
+    key: &str,
+    value: &Value,
+    site: &Site<'_>,
+) -> Result<(), ObjectFault>
+    ensures value { Gives (λ _. labels.new) result
+        (if_named (site_of site.now) labels.old key.now (view value.now)) }
+    ensures sayable { each_beside says_label [] labels.old ≡ true
+        → OnOk result (each_beside says_label [] labels.new ≡ true) }
+    ensures few { length labels.old ≤ 32 → OnOk result (length labels.new ≤ 32) }
+{
+    if is_named(site.labels, key) && !has(site.beside, key) {
+        take_behind(labels, key, value)
+    } else {
+        Ok(())
+    }
+}
+
+// Takes of an object's own labels those that aren't named, behind others, as far as there is room.
+// Puts the names of those that are left out.
 fn take_others(
     labels: &mut AtMost<Label, MAX_LABELS>,
     out: &mut Vec<u8>,
     members: &Map<String, Value>,
-    names: &str,
+    site: &Site<'_>,
 ) -> Result<(), AllocError>
-    ensures value { IfOk result (λ _. other_labels names.now (kept labels.old out.old.items)
+    ensures value { IfOk result (λ _. other_labels (site_of site.now) (kept labels.old out.old.items)
         (members_view members.now.entries) ≡ kept labels.new out.new.items) }
     ensures sayable { each_beside says_label [] labels.old ≡ true
         → OnOk result (each_beside says_label [] labels.new ≡ true) }
     ensures few { length labels.old ≤ 32 → OnOk result (length labels.new ≤ 32) }
 {
     for (key, value) in members.iter() {
-        take_unless_named(labels, out, key.as_str(), value, names)?;
+        take_unless_named(labels, out, key.as_str(), value, site)?;
     }
     Ok(())
 }
@@ -129,15 +192,15 @@ fn take_unless_named(
     out: &mut Vec<u8>,
     key: &str,
     value: &Value,
-    names: &str,
+    site: &Site<'_>,
 ) -> Result<(), AllocError>
-    ensures value { IfOk result (λ _. unless_named names.now (kept labels.old out.old.items) key.now
+    ensures value { IfOk result (λ _. unless_named (site_of site.now) (kept labels.old out.old.items) key.now
         (view value.now) ≡ kept labels.new out.new.items) }
     ensures sayable { each_beside says_label [] labels.old ≡ true
         → OnOk result (each_beside says_label [] labels.new ≡ true) }
     ensures few { length labels.old ≤ 32 → OnOk result (length labels.new ≤ 32) }
 {
-    if is_named(names, key) {
+    if is_named(site.labels, key) || has(site.beside, key) {
         return Ok(());
     }
     take_label(labels, out, key, value)

@@ -4,11 +4,13 @@ ghost use Rattle.serde_json.specs.View.{view};
 ghost use Rattle.objects.specs.inside.Answers.{Gives};
 ghost use Rattle.objects.specs.inside.Events.{IsNodeRow};
 ghost use Rattle.objects.specs.NodeRow.{node_parts, node_row};
+ghost use Rattle.objects.specs.Site.{site_of};
 
 use crate::amounts::allocatable;
 use crate::fault::ObjectFault;
 use crate::labels::labels_of;
 use crate::reading::{flag_of, members_at, members_of, name_at, part_of, within};
+use crate::site::Site;
 use crate::taints::fill_taints;
 use quant::{AtMost, Node};
 use serde_json::Value;
@@ -34,24 +36,24 @@ fn node_alone(alloc: Global, meta: &Value, json: &Value) -> Result<Node, ObjectF
     Ok(node)
 }
 
-// The row of a node's object, in which the labels of these names come first, and beside it the
-// names of what it leaves out, unless a fault comes first.
+// The row of a node's object, in which the labels that the site's rules read come first, and beside
+// it the names of what it leaves out, unless a fault comes first.
 #[tactic(auto, unfolding(crate::specs::NodeRow::node_row))]
 pub(crate) fn node_row(
     alloc: Global,
     json: &Value,
-    names: &str,
+    site: &Site<'_>,
     out: &mut Vec<u8>,
 ) -> Result<Node, ObjectFault>
     requires { out.old.items ≡ [] }
     ensures value { Gives (λ node. record { item = node; left_out = out.new.items }) result
-        (node_row names.now (view json.now)) }
+        (node_row (site_of site.now) (view json.now)) }
     ensures sayable { IfOk result IsNodeRow }
 {
     let meta = part_of(json, "metadata")?;
     let mut node = node_alone(alloc, meta, json)?;
     let labels = members_at(meta, "labels")?;
     members_of(within(json, "status", "allocatable"), "allocatable")?;
-    node.labels = labels_of(alloc, out, labels, names)?;
+    node.labels = labels_of(alloc, out, labels, site)?;
     Ok(node)
 }

@@ -5,6 +5,7 @@ ghost use Rattle.serde_json.specs.Find.{as_number, as_i64};
 ghost use Rattle.serde_json.specs.View.{view};
 ghost use Rattle.objects.specs.inside.Answers.{Gives, Answers};
 ghost use Rattle.objects.specs.PodRow.{pod_name, a_priority, priority, pod_row};
+ghost use Rattle.objects.specs.Site.{site_of};
 ghost use Rattle.objects.specs.inside.Events.{IsPodRow};
 
 use crate::demands::put_wishes;
@@ -12,25 +13,26 @@ use crate::fault::{ObjectFault, Why};
 use crate::labels::labels_of;
 use crate::reading::{field, items_at, members_at, name_at, part_of, text_at, text_or};
 use crate::request::{Reckoned, request};
+use crate::site::{Site, has_beside};
 use crate::tolerations::tolerations_in;
 use arrayvec::ArrayVec;
 use quant::{MAX_NAME, Name, Pod};
 use serde_json::Value;
 use std::alloc::Global;
 
-// The row of a pod's object, in which the labels of these names come first, and beside it the names
-// of what it leaves out, unless a fault comes first.
+// The row of a pod's object, in which the labels that the site's rules read come first, and beside it
+// the names of what it leaves out, unless a fault comes first.
 #[tactic(auto, unfolding(crate::specs::PodRow::pod_row, crate::specs::PodRow::pod_parts))]
 pub(crate) fn pod_row(
     alloc: Global,
     json: &Value,
-    names: &str,
+    site: &Site<'_>,
     by_uid: bool,
     out: &mut Vec<u8>,
 ) -> Result<Pod, ObjectFault>
     requires { out.old.items ≡ [] }
     ensures value { Gives (λ pod. record { item = pod; left_out = out.new.items }) result
-        (pod_row names.now by_uid (view json.now)) }
+        (pod_row (site_of site.now) by_uid (view json.now)) }
     ensures sayable { IfOk result IsPodRow }
 {
     let meta = part_of(json, "metadata")?;
@@ -40,8 +42,8 @@ pub(crate) fn pod_row(
     let request = request(alloc, json, spec, Reckoned::Waiting)?;
     let labels = members_at(meta, "labels")?;
     let tolerations = items_at(spec, "tolerations")?;
-    put_wishes(out, spec)?;
-    let labels = labels_of(alloc, out, labels, names)?;
+    put_wishes(out, spec, has_beside(site))?;
+    let labels = labels_of(alloc, out, labels, site)?;
     let tolerations = tolerations_in(alloc, out, tolerations)?;
     Ok(Pod {
         uid,

@@ -2,7 +2,7 @@
 ghost use Rattle.std.specs.Prelude.{◌≡◌, option_map, option_and_then};
 ghost use Rattle.serde_json.specs.Find.{as_str};
 ghost use Rattle.serde_json.specs.View.{view, items_view, members_view};
-ghost use Rattle.objects.specs.Reading.{field, within, part_of, text_at, text_or, name_at, flag_of, members_of, items_of, spelled, is_something, is_given};
+ghost use Rattle.objects.specs.Reading.{field, within, part_of, text_at, text_or, name_at, flag_of, members_of, items_of, spelled, is_something, is_given, has};
 ghost use Rattle.objects.specs.inside.Answers.{Gives, Answers, Tells};
 ghost use Rattle.objects.specs.inside.Members.{members_or_none};
 
@@ -150,6 +150,16 @@ pub(crate) fn spelled<'a>(object: &'a Value, key: &str) -> &'a str
     match text_in(object, key) {
         Some(text) => text,
         None => "",
+    }
+}
+
+// Whether a value has a member of this name.
+pub(crate) fn has(value: Option<&Value>, key: &str) -> bool
+    ensures { result ≡ has (option_map (λ v. view v.now) value.entry) key.now }
+{
+    match value {
+        Some(value) => value.get(key).is_some(),
+        None => false,
     }
 }
 

@@ -23,7 +23,7 @@ use crate::node_row::node_row;
 use crate::pod_row::{pod_name, pod_row};
 use crate::reading::{field, name_at, part_of, spelled, text_or, within};
 use crate::request::{Reckoned, put_held_left_out, put_more_left_out, request};
-use crate::site::{Site, Telling};
+use crate::site::{Site, Telling, has_beside};
 use crate::translation::MAX_OBJECT;
 use quant::{Event, Name, SharedNode, SharedPod, Version};
 use serde_json::Value;
@@ -134,7 +134,7 @@ fn node_told(
     ensures value { Gives (as_told out.new.items) result (there_told (how_told how.now) kinds.Node (view json.now)) }
     ensures said { IfOk result IsSaid }
 {
-    match node_row(alloc, json, how.site.labels, out) {
+    match node_row(alloc, json, &how.site, out) {
         Ok(node) => {
             let node = SharedNode::new(alloc, node)?;
             Ok(Some(Event::NodeSet {
@@ -164,7 +164,7 @@ fn waiting_told(
         (Ok (waiting_told (how_told how.now) (view spec.now) (view pod.now))) }
     ensures said { IfOk result IsSaid }
 {
-    put_kept_back(out, spec, pod, how.site.scheduler)?;
+    put_kept_back(out, spec, pod, &how.site)?;
     if out.is_empty() {
         waiting_row(alloc, out, pod, how)
     } else {
@@ -184,10 +184,10 @@ fn waiting_row(
     requires version { IsVersion how.now.version }
     ensures value { Gives (as_told out.new.items) result
         (Ok (row_told (PodPending how.now.version) (how_told how.now) kinds.Pod (view json.now)
-        (pod_row how.now.site.labels.now how.now.by_uid (view json.now)))) }
+        (pod_row (site_of how.now.site) how.now.by_uid (view json.now)))) }
     ensures said { IfOk result IsSaid }
 {
-    match pod_row(alloc, json, how.site.labels, how.by_uid, out) {
+    match pod_row(alloc, json, &how.site, how.by_uid, out) {
         Ok(pod) => {
             let pod = SharedPod::new(alloc, pod)?;
             Ok(Some(Event::PodPending {
@@ -208,13 +208,13 @@ fn put_kept_back(
     out: &mut Vec<u8>,
     spec: &Value,
     pod: &Value,
-    scheduler: &str,
+    site: &Site<'_>,
 ) -> Result<(), AllocError>
     requires { out.old.items ≡ [] }
-    ensures { IfOk result (λ _. out.new.items ≡ kept_back scheduler.now (view spec.now) (view pod.now)) }
+    ensures { IfOk result (λ _. out.new.items ≡ kept_back (site_of site.now) (view spec.now) (view pod.now)) }
 {
-    put_other_scheduler(out, spec, scheduler)?;
-    put_demands(out, spec)?;
+    put_other_scheduler(out, spec, site.scheduler)?;
+    put_demands(out, spec, has_beside(site))?;
     let is_deleted = within(pod, "metadata", "deletionTimestamp").is_some();
     put_left_out_if(out, is_deleted, "it is being deleted")
 }

@@ -59,7 +59,7 @@ IsDone (Some (explain workers specs)) fault Unkeyed files source out err ended =
 IsDone (Some (check file)) fault Unkeyed files source out err ended = IsFileCheck file files source out err ended
 IsDone (Some (storm cycles binders flaky specs)) fault Unkeyed files source out err ended = IsPlannedStorm cycles binders specs Unkeyed files source out err ended
 IsDone (Some (translate scheduler labels by_uid answers)) fault Unkeyed files source out err ended =
-    IsTranslation (record { site = record { scheduler = scheduler; labels = labels }; by_uid = by_uid; answers = answers }) files source out err ended
+    IsTranslation (record { site = record { scheduler = scheduler; labels = labels; beside = None }; by_uid = by_uid; answers = answers }) files source out err ended
 IsDone (Some (live scheduler labels workers specs)) fault Unkeyed files source out err ended =
     IsPlannedLive (read_for scheduler labels) specs Unkeyed files source out err ended
 IsDone (Some version) fault Unkeyed files source out err ended = IsVersionTold files source out err ended

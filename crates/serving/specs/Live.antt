@@ -1,5 +1,5 @@
 -- What it promises to decide of a cluster by a site's plugins, by its exit status.
-use Rattle.std.specs.Prelude.{◌≡◌, ◌≢◌, ◌⊎◌, ℕ, List}
+use Rattle.std.specs.Prelude.{◌≡◌, ◌≢◌, ◌⊎◌, ℕ, List, None}
 use Rattle.objects.specs.Site.{Site}
 use Rattle.plugin.specs.Kit.{IsKitOf, Ready, rules_of}
 use Rattle.plugin.specs.Plugins.{Configured}
@@ -16,7 +16,7 @@ use Rattle.site.specs.Site.{AreFromFiles, ArePlugins, WhyNoModules, WhyNoSite, n
 
 -- what is read of objects: pods of this scheduler wait, and the labels of these keys come first
 abbrev pub read_for : (scheduler labels : List ℕ) → Site
-read_for scheduler labels = record { scheduler = scheduler; labels = labels }
+read_for scheduler labels = record { scheduler = scheduler; labels = labels; beside = None }
 
 -- nothing was begun: this fault is told, with its status, and nothing is read or written
 pub record IsUnbegun (fault : Fault) (source out err : DeviceUse) (ended : ℕ) : Type 0 where

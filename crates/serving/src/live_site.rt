@@ -153,6 +153,7 @@ fn serve_site<T: Wait + Threads + Copy + Send + Sync + 'static, R: Source, W: Si
     let site = Site {
         scheduler: plan.scheduler,
         labels: plan.labels,
+        beside: None,
     };
     live_with_kits(
         rt,

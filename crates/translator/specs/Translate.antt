@@ -28,7 +28,7 @@ pub record Manner : Type 0 where
 -- the manner that a plan asks for
 abbrev pub manner_of : TranslatePlan → Manner
 manner_of plan = record {
-  site = record { scheduler = plan.scheduler.now; labels = plan.labels.now };
+  site = record { scheduler = plan.scheduler.now; labels = plan.labels.now; beside = None };
   by_uid = plan.by_uid;
   answers = plan.answers;
 }

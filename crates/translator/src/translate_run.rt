@@ -126,6 +126,7 @@ fn translation_under(
     let site = Site {
         scheduler: plan.scheduler,
         labels: plan.labels,
+        beside: None,
     };
     let Ok(translation) = translate(alloc, line, &site, plan.by_uid, Version(version)) else {
         return Err(Fault::Run(RunFault::NoMemory));

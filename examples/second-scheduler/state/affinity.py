@@ -251,9 +251,13 @@ class NodeLabels:
         """`is_asked`: pods may ask for some."""
         self.settings, self.named, self.is_asked, self.asking, self.changes = [*settings], named, is_asked, dict[str, set[str]](), 0
 
-    def are_chosen(self, has: Mapping[str, str]) -> bool:
-        """Whether it is said here which of a node's labels are told. (Of the others the program tells as many as there is room for.)"""
+    def are_told(self, has: Mapping[str, str]) -> bool:
+        """Whether labels are told beside a node's own."""
         return bool(self.settings) or (self.is_asked and len(has) > LABELS)
+
+    def beside(self, has: Mapping[str, str]) -> dict[str, str]:
+        """Those that are told beside a node's own: the settings, and in front of its others those that waiting pods ask for."""
+        return {**dict(self.settings), **{it: has[it] for it in self.asking if it in has}}
 
     def take(self, uid: str, keys: frozenset[str]) -> str | None:
         """Keeps these labels for a pod, or says why there is no room for them. A label that nobody asks for any more stays until

@@ -100,12 +100,12 @@ class Desk(Nodes):
             LOG.error("%s", why)
             self.telling.warn(about, "ListDifference", why)
 
-    def node_answered(self, it: NodeHeard, left_out: tuple[str, ...], said: Said) -> None:
+    def node_answered(self, it: NodeHeard, said: Said) -> None:
         if it.is_due and "node" not in self.full:
             self.look_missed(f"node {it.name}", about_node(it.name, it.uid), said)
         if said.word is Word.FULL:
             self.has_no_room("node")
-        super().node_answered(it, left_out, said)
+        super().node_answered(it, said)
 
     def node_went(self, _: Said) -> None:
         super().node_went(_)
@@ -211,7 +211,6 @@ class Desk(Nodes):
         if why:
             self.leave_alone(pod, heard, why)
             return
-        self.note(f"pod {pod}", True, heard.left_out)
         self.waiting.add(pod, it.line, heard, time.monotonic())
 
     def hear_again(self, pod: Pod, it: PodHeard, heard: Waits) -> None:
@@ -271,8 +270,7 @@ class Desk(Nodes):
             if pod in self.alone:
                 del self.alone[pod]
                 self.telling.done(pod.uid)
-            if said.left_out:
-                self.note(f"pod {pod}", True, said.left_out)
+            self.note(f"pod {pod}", True, (*wait.heard.left_out, *said.left_out))
 
     def withheld(self, pod: Pod, wait: Wait, why: tuple[str, ...]) -> None:
         """It is none to place, as it was told."""

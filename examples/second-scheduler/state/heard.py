@@ -1,8 +1,8 @@
 # SPDX-License-Identifier: Apache-2.0
 """What is heard of an object: the line that `wsched live` is told, and what the client itself goes by.
 
-The line has the object as it came, but where that is too long to be read, or says less than it has to: an item of a list says no kind, and
-what a pod asks of nodes' labels, or a site's settings are, is told to rules by labels.
+The line has the object as it came, but where that is too long to be read, or says less than it has to, as an item of a list, which says no kind.
+What a pod asks of nodes' labels, and what a site's settings are, is told to rules by labels beside the object's own.
 """
 from __future__ import annotations
 
@@ -20,7 +20,7 @@ from state.share import Share
 ENDED = ("Succeeded", "Failed")
 # The most bytes of an object that is told, so that a line has room for it and an order around it: one
 # of more than 2 MiB isn't read, may be a pod on a node, and shuts the ledger.
-LONGEST = 2**21 - 4096
+LONGEST = 2**21 - 8192
 # Thousandths of a core, and bytes: more than any node has, as which that counts which can't be known
 # to be less.
 EVERYTHING = 2**30, 2**44
@@ -34,7 +34,7 @@ spell_in_ascii = json.JSONEncoder(separators=(",", ":"), check_circular=False).e
 
 
 class NodeHeard(NamedTuple):
-    """`mark` is one number for all that matters of the node; `labelled` is what is told of it but for its labels, where those are chosen here."""
+    """`mark` is one number for all that matters of the node; `labels` are its own, and `is_labelled` says that others are told beside them."""
 
     event: str
     name: str
@@ -44,7 +44,7 @@ class NodeHeard(NamedTuple):
     # whether a watch that has come so far has told of it as it is
     is_due: bool = False
     labels: Json = {}
-    labelled: Json | None = None
+    is_labelled: bool = False
 
 
 class Waits(NamedTuple):
@@ -57,7 +57,7 @@ class Waits(NamedTuple):
     mark: int
     # the reason and the message of its condition PodScheduled, where that is False
     unscheduled: tuple[str, str] | None
-    # the labels of nodes that it asks for; what was left out of its line, and why it has none, where
+    # the labels of nodes that it asks for; what isn't told of those, and why nothing of it is, where
     # that is known here
     keys: frozenset[str] = frozenset()
     left_out: tuple[str, ...] = ()
@@ -114,6 +114,11 @@ def item_line(event: str, kind: str, item: Item) -> bytes:
     return f'{{"type":"{event}","object":{{{its}{item.text[1:]}}}\n'.encode()
 
 
+def beside(line: bytes, labels: Json) -> bytes:
+    """What a line tells, with these labels beside the object's own."""
+    return b'{"op":"told","event":' + line.rstrip(b"\n") + b',"labels":' + spell(labels).encode() + b"}\n"
+
+
 def is_due(meta: Json, came: int) -> bool:
     """Whether a watch that has come to this version has told of the object as it is."""
     version = meta.get("resourceVersion") or ""
@@ -134,20 +139,14 @@ def node_heard(event: str, node: Json, line: bytes, labels: NodeLabels, came: in
         line = event_line(event, {**told, "metadata": {**short["metadata"], "labels": has}})
         # (one that can't be read isn't used)
         line = line if len(line) <= LONGEST else event_line("DELETED", short)
-    return NodeHeard(event, name, meta.get("uid") or name, line, mark, is_due(meta, came), has, told if labels.are_chosen(has) else None)
+    return NodeHeard(event, name, meta.get("uid") or name, line, mark, is_due(meta, came), has, labels.are_told(has))
 
 
-def node_line(it: NodeHeard, labels: NodeLabels) -> tuple[bytes | None, tuple[str, ...]]:
-    """Its line as it is to be told now, and what gave way: of many labels those stay that are asked for. None, and why, where one would give way that
-    a rule may read."""
-    if it.labelled is None or it.event == "DELETED":
-        return it.line, ()
-    own = sorted([key, value] for key, value in it.labels.items() if KEY.fullmatch(key))
-    if why := labels.why_not([key for key, _ in own]):
-        return None, (why,)
-    kept, gone = labels.kept(own)
-    meta = {**it.labelled["metadata"], "labels": dict((label[0], label[1]) for label in kept)}
-    return event_line(it.event, {**it.labelled, "metadata": meta}), tuple(gone)
+def node_line(it: NodeHeard, labels: NodeLabels) -> bytes | str:
+    """Its line as it is to be told now: of many labels those stay that are asked for. Or why there is none: one would give way that a rule may read."""
+    if not it.is_labelled or it.event == "DELETED":
+        return it.line
+    return labels.why_not([key for key in it.labels if KEY.fullmatch(key)]) or beside(it.line, labels.beside(it.labels))
 
 
 def node_gone(name: str) -> bytes:
@@ -181,17 +180,18 @@ class Reader:
         if (spec.get("schedulerName") or "default-scheduler") != self.scheduler:
             return PodHeard(event, *who, "", within(event, pod, line), False, False, due)
         asks = affinity.asked(pod, self.there) if self.there else Asked()
-        own = with_labels(pod, asks, self.named)
-        is_asked = self.there is not None and (asks.entries or asks_of_nodes(pod))
-        return PodHeard(event, *who, "", asked_line(event, pod, own) if is_asked else within(event, pod, line), False, False, due, waits=waits_of(pod, own))
+        told = within(event, pod, line)
+        if self.there is not None and asks_of_nodes(pod):
+            told = beside(told, dict(asks.entries))
+        return PodHeard(event, *who, "", told, False, False, due, waits=waits_of(pod, with_labels(pod, asks, self.named).asks))
 
 
-def waits_of(pod: Json, own: Own) -> Waits:
-    meta, spec, asks = pod["metadata"], pod["spec"], own.asks
+def waits_of(pod: Json, asks: Asked) -> Waits:
+    meta, spec = pod["metadata"], pod["spec"]
     is_leaving = bool(meta.get("deletionTimestamp"))
     mark = hash(spell([spec, meta.get("labels"), is_leaving, asks.entries, asks.why]))
     priority = spec.get("priority") or 0
-    return Waits(priority, created_at(meta), is_leaving, mark, unscheduled(pod), asks.keys, (*asks.left_out, *own.gone), asks.why)
+    return Waits(priority, created_at(meta), is_leaving, mark, unscheduled(pod), asks.keys, asks.left_out, asks.why)
 
 
 def with_labels(pod: Json, asks: Asked, named: Named) -> Own:
@@ -217,14 +217,6 @@ def within(event: str, pod: Json, line: bytes) -> bytes:
     return told if len(told) <= LONGEST else event_line(event, stand_in(pod))
 
 
-def asked_line(event: str, pod: Json, own: Own) -> bytes:
-    """A pod whose labels tell a rule what it asks of nodes' labels, and where its volumes are, in place of itself."""
-    thing = cut(affinity.without(pod))
-    thing["metadata"] = {**thing["metadata"], "labels": {**dict(own.asks.entries), **own.labels}}
-    told = event_line(event, thing)
-    return told if len(told) <= LONGEST else event_line(event, stand_in(pod))
-
-
 def named_by(pod: Json) -> Json:
     return {key: pod["metadata"][key] for key in OF_POD if key in pod["metadata"]}
 
@@ -240,15 +232,17 @@ def without(thing: Any, keys: frozenset[str]) -> Any:
 
 
 def cut(pod: Json) -> Json:
-    """A pod without its labels and annotations, who manages its fields, and what its containers run. One that has a node has its volumes, and each has
-    one of its own name, with the token of its account."""
-    spec = without(pod["spec"], frozenset(["volumes"] if pod["spec"].get("nodeName") else []))
+    """A pod without its annotations, who manages its fields, and what its containers run. One that has a node has its volumes, and each has one of its
+    own name, with the token of its account; of another the labels may be read."""
+    has_node = bool(pod["spec"].get("nodeName"))
+    spec = without(pod["spec"], frozenset(["volumes"] if has_node else []))
+    labels = {} if has_node else {"labels": pod["metadata"].get("labels")}
     if isinstance(spec.get("volumes"), list):
         spec["volumes"] = [it for it in spec["volumes"] if "projected" not in it]
     for some in CONTAINERS:
         if isinstance(spec.get(some), list):
             spec[some] = [without(it, OF_CONTAINERS) for it in spec[some]]
-    return {**pod, "kind": "Pod", "metadata": named_by(pod), "spec": spec}
+    return {**pod, "kind": "Pod", "metadata": {**named_by(pod), **labels}, "spec": spec}
 
 
 MOST = [{"name": "c", "resources": {"requests": {"cpu": f"{EVERYTHING[0]}m", "memory": str(EVERYTHING[1])}}}]

@@ -54,15 +54,15 @@ class Nodes:
         self.tell_node(it)
 
     def tell_node(self, it: NodeHeard) -> None:
-        line, left_out = node_line(it, self.labels)
-        if line is None:
+        line = node_line(it, self.labels)
+        if isinstance(line, str):
             self.core.say(node_gone(it.name), self.node_went)
             self.dont_use(it, self.unsaid)
-            self.note(f"node {it.name}", False, left_out)
+            self.note(f"node {it.name}", False, (line,))
         else:
-            self.core.say(line, functools.partial(self.node_answered, it, left_out))
+            self.core.say(line, functools.partial(self.node_answered, it))
 
-    def node_answered(self, it: NodeHeard, left_out: tuple[str, ...], said: Said) -> None:
+    def node_answered(self, it: NodeHeard, said: Said) -> None:
         self.has_work = True
         if said.word is Word.FULL:
             if it.name not in self.aside:
@@ -78,7 +78,7 @@ class Nodes:
             self.forget_aside(it.name)
             self.nodes[it.name] = it
             self.waiting.moves += 1
-            self.note(f"node {it.name}", True, (*said.left_out, *left_out))
+            self.note(f"node {it.name}", True, said.left_out)
 
     def node_went(self, _: Said) -> None:
         self.has_work = True
@@ -110,7 +110,7 @@ class Nodes:
     def tell_labels(self) -> None:
         """Tells the nodes again that have other labels now, since others are asked for. (Its row of one version is told once: so it goes first.)"""
         for it in [*self.nodes.values(), *self.unsaid.values()]:
-            if it.labelled is not None:
+            if it.is_labelled:
                 self.changed.add(it.name)
                 self.core.say(node_gone(it.name), self.node_went)
                 self.tell_node(it)

@@ -1,6 +1,7 @@
 use Rattle.std.proofs.Common.{◌≡◌, ◌++◌, option_map}
 use Rattle.serde_json.specs.View.{view, members_view}
-use Rattle.objects.specs.Demands.{other_resources, has}
+use Rattle.objects.specs.Demands.{other_resources}
+use Rattle.objects.specs.Reading.{has}
 use Rattle.objects.proofs.demands.put_other_resources.Given as goal
 
 abbrev pub invariant-loop-key : goal.invariant-loop-key
