@@ -26,21 +26,7 @@ const PARTS: [&str; 2] = [
     "preferredDuringSchedulingIgnoredDuringExecution",
 ];
 
-// A volume's name, and the kinds of volumes that tie a pod to no node.
-const FREE: [&str; 10] = [
-    "name",
-    "configMap",
-    "secret",
-    "emptyDir",
-    "hostPath",
-    "projected",
-    "downwardAPI",
-    "csi",
-    "nfs",
-    "image",
-];
-
-// These, and the kinds of volumes that are claimed.
+// The kinds of volumes that are claimed, a volume's name, and the kinds that tie a pod to no node.
 const FREE_OR_CLAIMED: [&str; 12] = [
     "persistentVolumeClaim",
     "ephemeral",
@@ -55,6 +41,9 @@ const FREE_OR_CLAIMED: [&str; 12] = [
     "nfs",
     "image",
 ];
+
+// So many of these are claimed.
+const CLAIMED: usize = 2;
 
 // The fields of a spec that are told or looked at, and those that tie a pod to no node: how its
 // processes run, how they are known on the network, and in whose name and before whom.
@@ -406,8 +395,8 @@ impl Listed for Volume {
 
     #[tactic(auto, unfolding(crate::specs::Demands::volume))]
     fn put(out: &mut Vec<u8>, item: &Value) -> Result<(), AllocError> {
-        let kinds: [&str; 10] = FREE;
-        put_volume(out, item, kinds.as_slice())
+        let kinds: [&str; 12] = FREE_OR_CLAIMED;
+        put_volume(out, item, &kinds.as_slice()[CLAIMED..])
     }
 }
 
