@@ -1,3 +1,4 @@
 pub mod Parsed
 pub mod Items
 pub mod Spelled
+pub mod RowParts

@@ -5,3 +5,4 @@ pub mod Reading
 pub mod Item
 pub mod Rows
 pub mod Line
+pub mod inside

@@ -1,9 +1,10 @@
 //! The lines of a script: each is one JSON object that spells one command, or has a first fault.
 //!
 //! `read_line` is the door. Behind it `line` has the fields of each operation in their order, and
-//! `members` reads one field; a field that is an array fills its row in place by `item`, and
-//! `label`, `taint`, `toleration` and `container` say what one item is. What is read is defined in
-//! `specs/Line.antt`, in the same order, over the value that the reader of JSON makes of a line.
+//! `members` reads one field, and `row` what of a node's or a pod's row stands together; a field
+//! that is an array fills its row in place by `item`, and `label`, `taint`, `toleration` and
+//! `container` say what one item is. What is read is defined in `specs/Line.antt`, in the same
+//! order, over the value that the reader of JSON makes of a line.
 #![tactic(auto)]
 
 mod command;
@@ -17,6 +18,7 @@ mod line;
 mod members;
 mod operation;
 mod reading;
+mod row;
 mod taint;
 mod toleration;
 

@@ -8,14 +8,11 @@ use crate::command::{Command, Question};
 use crate::container::request_within;
 use crate::fault::LineFault;
 use crate::field::Field;
-use crate::item::{fill_at, fill_at_or_leave};
 use crate::members::{cpu_at, flag_at, memory_at, name_at, natural_at, signed_at, text_at};
 use crate::operation::Operation;
 use crate::reading::parse;
-use quant::{
-    AtMost, Event, LATEST_MOMENT, MAX_CONTAINERS, MAX_INIT_CONTAINERS, MAX_PLACED, MAX_TICKET,
-    MAX_VERSION, Moment, Node, Pod, Request, Res, SharedNode, SharedPod, Ticket, Version, request,
-};
+use crate::row::{allocatable_of, asked_of, node_with, pod_with};
+use quant::{Event, LATEST_MOMENT, MAX_TICKET, MAX_VERSION, Moment, SharedPod, Ticket, Version};
 use serde_json::Value;
 use std::alloc::Global;
 
@@ -103,31 +100,15 @@ fn command_of(alloc: Global, object: &Value) -> Result<Command, LineFault>
 }
 
 // The node that an object tells of.
-#[tactic(auto, unfolding(crate::specs::Line::node_in))]
+#[tactic(auto, using(crate::proofs::RowParts::node_parts))]
 fn node_of(alloc: Global, object: &Value) -> Result<Command, LineFault>
     ensures value { Answers result (node_in (view object.now)) }
     ensures timely { IfOk result IsTimely }
 {
     let version = version_at(object)?;
     let name = name_at(object, Field::Name)?;
-    let cpu = cpu_at(object)?;
-    let mem = memory_at(object)?;
-    let pods = natural_at(object, Field::Pods, 0, MAX_PLACED as u64)?;
-    let mut node = Node {
-        name,
-        allocatable: Res {
-            cpu,
-            mem,
-            pods: pods as u32,
-        },
-        labels: AtMost::new(alloc),
-        taints: AtMost::new(alloc),
-        unschedulable: false,
-    };
-    fill_at_or_leave(&mut node.labels, object, Field::Labels)?;
-    fill_at_or_leave(&mut node.taints, object, Field::Taints)?;
-    node.unschedulable = flag_at(object, Field::Unschedulable)?;
-    let node = SharedNode::new(alloc, node).map_err(|_| LineFault::NoMemory)?;
+    let allocatable = allocatable_of(object)?;
+    let node = node_with(alloc, object, name, allocatable)?;
     Ok(Command::Event(Event::NodeSet { version, node }))
 }
 
@@ -164,31 +145,14 @@ fn judge_of(alloc: Global, object: &Value) -> Result<Command, LineFault>
 }
 
 // The version and the pod's row of an object.
-#[tactic(auto, unfolding(crate::specs::Line::row_in))]
 fn row_of(alloc: Global, object: &Value) -> Result<(Version, SharedPod), LineFault>
     ensures { Answers result (row_in (view object.now)) }
 {
     let version = version_at(object)?;
     let uid = name_at(object, Field::Uid)?;
     let priority = signed_at(object, Field::Priority)?;
-    let mut containers: AtMost<Request, MAX_CONTAINERS> = AtMost::new(alloc);
-    fill_at(&mut containers, object, Field::Containers)?;
-    let mut init: AtMost<Request, MAX_INIT_CONTAINERS> = AtMost::new(alloc);
-    fill_at_or_leave(&mut init, object, Field::Init)?;
-    // The row is filled where it stands, and what it asks is known last.
-    let mut pod = Pod {
-        uid,
-        priority,
-        request: Request::default(),
-        labels: AtMost::new(alloc),
-        tolerations: AtMost::new(alloc),
-    };
-    fill_at_or_leave(&mut pod.labels, object, Field::Labels)?;
-    fill_at_or_leave(&mut pod.tolerations, object, Field::Tolerations)?;
-    pod.request = request(containers.as_slice(), init.as_slice()).map_err(|_| LineFault::Quantity(
-        Field::Containers,
-    ))?;
-    let pod = SharedPod::new(alloc, pod).map_err(|_| LineFault::NoMemory)?;
+    let asked = asked_of(alloc, object)?;
+    let pod = pod_with(alloc, object, uid, priority, asked)?;
     Ok((version, pod))
 }
 

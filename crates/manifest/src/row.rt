@@ -1,0 +1,92 @@
+//! The rows of nodes and pods, part by part.
+ghost use Rattle.serde_json.specs.View.{view};
+ghost use Rattle.manifest.specs.Reading.{Answers};
+ghost use Rattle.manifest.specs.inside.Row.{allocatable_in, node_with, asked_in, pod_with};
+
+use crate::fault::LineFault;
+use crate::field::Field;
+use crate::item::{fill_at, fill_at_or_leave};
+use crate::members::{cpu_at, flag_at, memory_at, natural_at};
+use quant::{
+    AtMost, MAX_CONTAINERS, MAX_INIT_CONTAINERS, MAX_PLACED, Name, Node, Pod, QuantFault, Request,
+    Res, SharedNode, SharedPod, request,
+};
+use serde_json::Value;
+use std::alloc::Global;
+
+// What a node has.
+#[tactic(auto, unfolding(crate::specs::inside::Row::allocatable_in))]
+pub(crate) fn allocatable_of(object: &Value) -> Result<Res, LineFault>
+    ensures { Answers result (allocatable_in (view object.now)) }
+{
+    let cpu = cpu_at(object)?;
+    let mem = memory_at(object)?;
+    let pods = natural_at(object, Field::Pods, 0, MAX_PLACED as u64)?;
+    Ok(Res {
+        cpu,
+        mem,
+        pods: pods as u32,
+    })
+}
+
+// A node's row, of which the fields in front are known.
+#[tactic(auto, unfolding(crate::specs::inside::Row::node_with))]
+pub(crate) fn node_with(
+    alloc: Global,
+    object: &Value,
+    name: Name,
+    allocatable: Res,
+) -> Result<SharedNode, LineFault>
+    ensures { Answers result (node_with name allocatable (view object.now)) }
+{
+    let mut node = Node {
+        name,
+        allocatable,
+        labels: AtMost::new(alloc),
+        taints: AtMost::new(alloc),
+        unschedulable: false,
+    };
+    fill_at_or_leave(&mut node.labels, object, Field::Labels)?;
+    fill_at_or_leave(&mut node.taints, object, Field::Taints)?;
+    node.unschedulable = flag_at(object, Field::Unschedulable)?;
+    SharedNode::new(alloc, node).map_err(|_| LineFault::NoMemory)
+}
+
+// What all containers of a pod ask, or that it is too much, which is told last of a row.
+#[tactic(auto, unfolding(crate::specs::inside::Row::asked_in))]
+pub(crate) fn asked_of(
+    alloc: Global,
+    object: &Value,
+) -> Result<Result<Request, QuantFault>, LineFault>
+    ensures { Answers result (asked_in (view object.now)) }
+{
+    let mut containers: AtMost<Request, MAX_CONTAINERS> = AtMost::new(alloc);
+    fill_at(&mut containers, object, Field::Containers)?;
+    let mut init: AtMost<Request, MAX_INIT_CONTAINERS> = AtMost::new(alloc);
+    fill_at_or_leave(&mut init, object, Field::Init)?;
+    Ok(request(containers.as_slice(), init.as_slice()))
+}
+
+// A pod's row, of which the fields in front are known.
+#[tactic(auto, unfolding(crate::specs::inside::Row::pod_with))]
+pub(crate) fn pod_with(
+    alloc: Global,
+    object: &Value,
+    uid: Name,
+    priority: i32,
+    asked: Result<Request, QuantFault>,
+) -> Result<SharedPod, LineFault>
+    ensures { Answers result (pod_with uid priority asked (view object.now)) }
+{
+    let mut pod = Pod {
+        uid,
+        priority,
+        request: Request::default(),
+        labels: AtMost::new(alloc),
+        tolerations: AtMost::new(alloc),
+    };
+    fill_at_or_leave(&mut pod.labels, object, Field::Labels)?;
+    fill_at_or_leave(&mut pod.tolerations, object, Field::Tolerations)?;
+    pod.request = asked.map_err(|_| LineFault::Quantity(Field::Containers))?;
+    SharedPod::new(alloc, pod).map_err(|_| LineFault::NoMemory)
+}
