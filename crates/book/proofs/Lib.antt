@@ -4,5 +4,6 @@ pub mod RowLemmas
 pub mod TableLemmas
 pub mod SumLemmas
 pub mod TotalLemmas
+pub mod Earliest
 pub mod FinishLemmas
 pub mod Beside
