@@ -15,6 +15,7 @@ pub mod CallCounts
 pub mod Beginnings
 pub mod Adding
 pub mod Sharing
+pub mod Publishing
 pub mod Answering
 pub mod Alone
 pub mod NodesStay

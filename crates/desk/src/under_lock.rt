@@ -106,6 +106,7 @@ fn add_order<J: Naming, R: Wait>(
 }
 
 // Publishes the calls that are to be published. It waits where a row can have no further owner.
+#[tactic(auto, using(crate::proofs::Publishing::next_stands))]
 fn publish_orders<J: Naming, R: Wait>(
     rt: &R,
     writer: Writer<Board, Order, (), BoardRule<J>>,
