@@ -71,3 +71,4 @@ pub mod Widening
 pub mod Invocations
 pub mod Keeping
 pub mod SameTypes
+pub mod NotesThere
