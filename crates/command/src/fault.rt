@@ -2,16 +2,15 @@
 ghost use Rattle.std.specs.Prelude.{◌≡◌};
 ghost use Rattle.command.specs.Fault.{number_of, name_of};
 
+use std::fmt;
 use thiserror::Error;
 
 /// Why the program's words were refused.
 #[derive(Clone, Copy, Debug, Error)]
 pub enum WordFault {
     /// The words ask for nothing that the program does.
-    #[error("{} {}", self.number(), self.name())]
     BadWords,
     /// No memory was left to read them.
-    #[error("{} {}", self.number(), self.name())]
     NoMemory,
 }
 
@@ -34,5 +33,11 @@ impl WordFault {
             WordFault::BadWords => "BadWords",
             WordFault::NoMemory => "NoMemory",
         }
+    }
+}
+
+impl fmt::Display for WordFault {
+    fn fmt<W: fmt::Write>(&self, f: &mut fmt::Formatter<W>) -> fmt::Result {
+        write!(f, "{} {}", self.number(), self.name())
     }
 }

@@ -13,19 +13,17 @@ ghost use Rattle.leb.specs.Reading.{reading, last_at};
 ghost use Rattle.leb.specs.inside.Reading.{sign_of, value_of, Gives, GivesLast};
 
 pub use laws::one_number;
+use std::fmt;
 use thiserror::Error;
 
 /// Why bytes spell no number.
 #[derive(Clone, Copy, PartialEq, Eq, Debug, Error)]
 pub enum LebFault {
     /// The bytes end inside the number.
-    #[error("{} {}", self.number(), self.name())]
     Truncated,
     /// As many bytes as the number may have say that another follows.
-    #[error("{} {}", self.number(), self.name())]
     TooLong,
     /// The unused bits of the last byte aren't zeros, or copies of the sign.
-    #[error("{} {}", self.number(), self.name())]
     BadLastByte,
 }
 
@@ -50,6 +48,12 @@ impl LebFault {
             LebFault::TooLong => "TooLong",
             LebFault::BadLastByte => "BadLastByte",
         }
+    }
+}
+
+impl fmt::Display for LebFault {
+    fn fmt<W: fmt::Write>(&self, f: &mut fmt::Formatter<W>) -> fmt::Result {
+        write!(f, "{} {}", self.number(), self.name())
     }
 }
 

@@ -3,25 +3,21 @@ ghost use Rattle.std.specs.Prelude.{◌≡◌, Some, None, option_map};
 ghost use Rattle.manifest.specs.Fault.{number_of, name_of, field_of};
 
 use crate::field::Field;
+use std::fmt;
 use thiserror::Error;
 
 /// The first fault of a line.
 #[derive(Clone, Copy, Debug, Error)]
 pub enum LineFault {
     /// The line is not JSON, or nests too deep.
-    #[error("NotJson")]
     NotJson,
     /// The field is missing or of another type, its text is no name, or the operation is unknown.
-    #[error("BadField")]
     BadField(Field),
     /// The field's text is no amount, or the amount is too large.
-    #[error("Quantity")]
     Quantity(Field),
     /// The field's number is outside its range. Of `op`: the line is too long.
-    #[error("OverLimit")]
     OverLimit(Field),
     /// No memory was left to read the line.
-    #[error("NoMemory")]
     NoMemory,
 }
 
@@ -61,5 +57,11 @@ impl LineFault {
                 { Some(field) }
             LineFault::NotJson | LineFault::NoMemory => None,
         }
+    }
+}
+
+impl fmt::Display for LineFault {
+    fn fmt<W: fmt::Write>(&self, f: &mut fmt::Formatter<W>) -> fmt::Result {
+        write!(f, "{}", self.name())
     }
 }

@@ -3,6 +3,7 @@ ghost use Rattle.std.specs.Prelude.{◌≡◌, codes};
 ghost use Rattle.plugin.specs.Refused.{number_of, name_of};
 
 use quant::Name;
+use std::fmt;
 use thiserror::Error;
 use whost::InstanceFault;
 
@@ -10,13 +11,10 @@ use whost::InstanceFault;
 #[derive(Clone, Copy, Debug, Error)]
 pub enum AddFault {
     /// One of this name is configured already.
-    #[error("{} {}", self.number(), self.name())]
     Twice,
     /// As many are configured as may be. None of them has this name.
-    #[error("{} {}", self.number(), self.name())]
     Full,
     /// Memory ran out.
-    #[error("{} {}", self.number(), self.name())]
     NoMemory,
 }
 
@@ -52,5 +50,11 @@ impl AddFault {
             AddFault::Full => "Full",
             AddFault::NoMemory => "NoMemory",
         }
+    }
+}
+
+impl fmt::Display for AddFault {
+    fn fmt<W: fmt::Write>(&self, f: &mut fmt::Formatter<W>) -> fmt::Result {
+        write!(f, "{} {}", self.number(), self.name())
     }
 }

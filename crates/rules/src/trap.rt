@@ -1,37 +1,28 @@
 //! Why a rule is cut off.
 ghost use Rattle.std.specs.Prelude.{◌≡◌};
 
+use std::fmt;
 use thiserror::Error;
 
 /// Why a rule is cut off, where it is a module's function (WebAssembly Core 1.0, 4.4, where an
 /// instruction "traps").
 #[derive(Clone, Copy, PartialEq, Eq, Debug, Error)]
 pub enum Trap {
-    #[error("{}", self.name())]
     Unreachable = 1,
-    #[error("{}", self.name())]
     DivideByZero = 2,
-    #[error("{}", self.name())]
     IntegerOverflow = 3,
-    #[error("{}", self.name())]
     MemoryOutOfBounds = 4,
     /// A place past the end of the table.
-    #[error("{}", self.name())]
     UndefinedElement = 5,
     /// A place of the table that has no function.
-    #[error("{}", self.name())]
     UninitializedElement = 6,
     /// A function of the table of another type than the one that is wanted.
-    #[error("{}", self.name())]
     SignatureMismatch = 7,
     /// More than 256 frames at once.
-    #[error("{}", self.name())]
     CallDepth = 8,
     /// A record doesn't fit into the memory from where it is wanted.
-    #[error("{}", self.name())]
     HostOutOfBounds = 9,
     /// A host function is called whose record isn't given.
-    #[error("{}", self.name())]
     NoRecord = 10,
 }
 
@@ -61,5 +52,11 @@ impl Trap {
             Trap::HostOutOfBounds => "HostOutOfBounds",
             Trap::NoRecord => "NoRecord",
         }
+    }
+}
+
+impl fmt::Display for Trap {
+    fn fmt<W: fmt::Write>(&self, f: &mut fmt::Formatter<W>) -> fmt::Result {
+        write!(f, "{}", self.name())
     }
 }

@@ -6,25 +6,21 @@ ghost use Rattle.streams.specs.declared.fault.RunFault.TheVariants as faults;
 use desk::{NoMemory, NoPlace};
 use manifest::LineFault;
 use std::alloc::AllocError;
+use std::fmt;
 use thiserror::Error;
 
 /// Why a run ended early.
 #[derive(Clone, Copy, Debug, Error)]
 pub enum RunFault {
     /// The line of this number, counted from 1, is the script's first faulty one, by this fault.
-    #[error("line {0}: {1}")]
     Line(u64, LineFault),
     /// No memory was left.
-    #[error("{} {}", self.number(), self.name())]
     NoMemory,
     /// A read of the script failed.
-    #[error("{} {}", self.number(), self.name())]
     Read,
     /// A write of the output failed.
-    #[error("{} {}", self.number(), self.name())]
     Write,
     /// The desk had no pass left.
-    #[error("{} {}", self.number(), self.name())]
     NoPlace,
 }
 
@@ -52,6 +48,15 @@ impl RunFault {
             RunFault::Read => "Read",
             RunFault::Write => "Write",
             RunFault::NoPlace => "NoPlace",
+        }
+    }
+}
+
+impl fmt::Display for RunFault {
+    fn fmt<W: fmt::Write>(&self, f: &mut fmt::Formatter<W>) -> fmt::Result {
+        match self {
+            RunFault::Line(number, fault) => write!(f, "line {number}: {fault}"),
+            _ => write!(f, "{} {}", self.number(), self.name()),
         }
     }
 }

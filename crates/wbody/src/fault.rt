@@ -3,6 +3,7 @@
 ghost use Rattle.std.specs.Prelude.{◌≡◌, codes};
 ghost use Rattle.wbody.specs.Fault.{number_of, name_of};
 
+use std::fmt;
 use thiserror::Error;
 
 /// What is wrong with a module that the bytes spell.
@@ -12,22 +13,17 @@ pub enum TypeFault {
     /// is broken. An index counts the imported functions first; `type_body` tells that among the
     /// bodies. The place is that of the first instruction at which the body's bytes up to there
     /// have no typing: of a missing `else` the `end`; 0 for a rule.
-    #[error("{} {}", self.number(), self.name())]
     Untyped {
         function: Option<usize>,
         place: usize,
     },
     /// An import that no module may have.
-    #[error("{} {}", self.number(), self.name())]
     BadImport,
     /// An export `filter` or `score` of another type, or neither of them.
-    #[error("{} {}", self.number(), self.name())]
     BadExport,
     /// More locals, operands, globals, pages or elements than there may be.
-    #[error("{} {}", self.number(), self.name())]
     OverLimit,
     /// Memory ran out.
-    #[error("{} {}", self.number(), self.name())]
     NoMemory,
 }
 
@@ -56,5 +52,11 @@ impl TypeFault {
             TypeFault::OverLimit => "OverLimit",
             TypeFault::NoMemory => "NoMemory",
         }
+    }
+}
+
+impl fmt::Display for TypeFault {
+    fn fmt<W: fmt::Write>(&self, f: &mut fmt::Formatter<W>) -> fmt::Result {
+        write!(f, "{} {}", self.number(), self.name())
     }
 }

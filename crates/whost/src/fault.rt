@@ -2,6 +2,7 @@
 ghost use Rattle.std.specs.Prelude.{◌≡◌, codes};
 ghost use Rattle.whost.specs.Refused.{number_of, name_of};
 
+use std::fmt;
 use thiserror::Error;
 use wmach::Trap;
 
@@ -9,19 +10,14 @@ use wmach::Trap;
 #[derive(Clone, Copy, PartialEq, Eq, Debug, Error)]
 pub enum InstanceFault {
     /// A data segment passes the end of the memory. All element segments are in bounds.
-    #[error("{} {}", self.number(), self.name())]
     DataOutOfBounds,
     /// An element segment passes the end of the table.
-    #[error("{} {}", self.number(), self.name())]
     ElementOutOfBounds,
     /// The start function is cut off.
-    #[error("{} {} {}", self.number(), self.name(), .0)]
     StartTrap(Trap),
     /// The start function needs more fuel.
-    #[error("{} {}", self.number(), self.name())]
     StartExhausted,
     /// Memory ran out.
-    #[error("{} {}", self.number(), self.name())]
     NoMemory,
 }
 
@@ -49,6 +45,15 @@ impl InstanceFault {
             InstanceFault::StartTrap(_) => "StartTrap",
             InstanceFault::StartExhausted => "StartExhausted",
             InstanceFault::NoMemory => "NoMemory",
+        }
+    }
+}
+
+impl fmt::Display for InstanceFault {
+    fn fmt<W: fmt::Write>(&self, f: &mut fmt::Formatter<W>) -> fmt::Result {
+        match self {
+            InstanceFault::StartTrap(trap) => write!(f, "{} {} {trap}", self.number(), self.name()),
+            _ => write!(f, "{} {}", self.number(), self.name()),
         }
     }
 }
