@@ -1,7 +1,12 @@
-use Rattle.std.proofs.Common.{◌≡◌, List, map, refl, ap, sym, subst, ◌∙◌}
+use Rattle.std.proofs.Common.{◌≡◌, List, Option, map, refl, ap, sym, subst, ◌∙◌}
+use Rattle.std.specs.Prelude.{IfSome}
 use Rattle.std.specs.Arc.{arc_value}
 use Rattle.std.specs.Global.{Vec}
+use Rattle.desk.specs.declared.pass.Last.{Last}
 use Rattle.desk.specs.declared.snapshot.Row.{Row}
+use Rattle.desk.specs.Caller.{Caller}
+use Rattle.desk.specs.History.{Call, HasCallsOf}
+use Rattle.desk.specs.inside.LastLook.{WereShown}
 use Rattle.desk.specs.inside.Board.{Board}
 use Rattle.desk.specs.Shared.{Pass}
 use Rattle.desk.specs.Shown.{shown}
@@ -34,3 +39,23 @@ invariant_of-self-2 g c =
       c.self.invariant.1,
       (just_shown g.J.Naming.book g.J.Naming.limits c.args.board.now c.requires.stands c.again.result (arc_value c.in_ok-rows.rows).items _ prefix c.in_ok-rows.ensures c.no_totals.ensures, subst (λ (l : List Row). AreKept (map shown l) c.seek-sought.new.self.classes.items) (c.deref-2.ensures.value ∙ ap (λ (v : Vec Row). v.items) c.deref.ensures) c.seek-sought.ensures.kept),
     )
+
+pub returns-clause-err : goal.returns-clause-err
+returns-clause-err g c = tt
+
+-- what was shown last is as it was kept
+pub rows_again-rows-requires-clause-last : goal.rows_again-rows-requires-clause-last
+rows_again-rows-requires-clause-last g c =
+    subst (λ (o : Option Last). IfSome o (λ last. WereShown g.J.Naming.book g.J.Naming.limits last.prefix (arc_value last.rows).items last.since.items
+    × AreKept (map shown (arc_value last.rows).items) last.kept.classes.items)) (sym c.take.ensures.value) c.self.invariant.2
+
+-- the published history has just the pass's own calls of it
+pub see-requires-clause-own : goal.see-requires-clause-own
+see-requires-clause-own g c =
+    let own = (c.if-not-may_go_on.ensures refl).own in
+    subst (λ (l : List Call). HasCallsOf (record { number = c.self.inside.number; calls = c.self.inside.calls }) l) (sym (ap (λ (y : Board). y.prefix.list) c.board.view_is))
+    (subst (λ (p : Caller). HasCallsOf p c.args.board.now.prefix.list) (sym (ap (λ (q : Pass). q.caller) c.self.view_is)) own)
+
+pub see-requires-clause-book : goal.see-requires-clause-book
+see-requires-clause-book g c =
+    ap (λ (y : Board). y.prefix.book) c.board.view_is ∙ ap (λ (y : Board). y.prefix.book) c.requires.stands.is ∙ c.requires.stands.stands.book_is
