@@ -224,8 +224,7 @@ impl<J: Naming> UnderLock<J> {
             return Err(NoMemory);
         }
         self.make_room()?;
-        let ready = self.prepare(head, handed, pass, step)?;
-        Ok(ready)
+        self.prepare(head, handed, pass, step)
     }
 
     // What has to be there before the step.
