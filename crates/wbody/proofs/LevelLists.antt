@@ -1,5 +1,5 @@
 -- Lists of open blocks, the innermost last, and what is kept of results.
-use Rattle.std.proofs.Common.{◌≡◌, List, [], ◌∷◌, ◌++◌, ◌-◌, ◌<◌, None, length, Result, Ok, Err, OnOk, reverse, refl, sym, ap, ◌∙◌, arith}
+use Rattle.std.proofs.Common.{◌≡◌, List, [], ◌∷◌, ◌++◌, ◌-◌, ◌<◌, None, length, Result, Ok, Err, IfOk, OnOk, reverse, refl, sym, ap, ◌∙◌, arith}
 use Rattle.std.specs.Prelude.{slice_get}
 use Rattle.std.proofs.lemmas.Option.{slice_get-get_or}
 use Rattle.std.proofs.lemmas.List.{reverse-append}
@@ -20,6 +20,10 @@ on_ok_3 (Err e) p q x f = tt
 pub on_ok_4 : {T E P Q R S U : Type 0} (r : Result T E) → OnOk r P → OnOk r Q → OnOk r R → OnOk r S → (P → Q → R → S → U) → OnOk r U
 on_ok_4 (Ok v) p q x y f = f p q x y
 on_ok_4 (Err e) p q x y f = tt
+
+pub if_ok : {T E : Type 0} {P Q : T → Type 0} (r : Result T E) → IfOk r P → ((v : T) → P v → Q v) → IfOk r Q
+if_ok (Ok v) p f = f v p
+if_ok (Err e) p f = tt
 
 pub empty_of : {A : Type 0} (xs : List A) → slice_get xs (length xs - 1) ≡ None → xs ≡ []
 empty_of [] e = refl

@@ -27,3 +27,4 @@ pub mod TrailLists
 pub mod KindForms
 pub mod PlainWords
 pub mod StepWords
+pub mod OverWords

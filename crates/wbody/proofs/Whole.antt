@@ -28,6 +28,7 @@ use Rattle.wbody.specs.Typing.{Typed}
 use Rattle.wbody.specs.BodyTyped.{BodyTyped, NoTyping}
 use Rattle.wbody.specs.Scope.{IsFunctionImport}
 use Rattle.wbody.specs.inside.Steps.{IsBase, IsPassed}
+use Rattle.wbody.specs.inside.ScopeMade.{ScopeIs}
 
 -- the function at a place
 functions_at : (sigs : List ℕ) (cs : List Code) (k s : ℕ) (x : Code) → slice_get sigs k ≡ Some s → slice_get cs k ≡ Some x → slice_get (functions_with sigs cs) k ≡ Some (function_with s x)
@@ -48,18 +49,6 @@ types_of types (a ∷ sigs) (b ∷ cs) e = ap (λ l. slice_get types a ∷ l) (t
 kinds_of : (bytes : List ℕ) (gs : List GlobalVariable) → map (λ (g : GlobalSyntax). g.kind) (map (global_in bytes) gs) ≡ map (λ (g : GlobalVariable). g.kind) gs
 kinds_of bytes [] = refl
 kinds_of bytes (g ∷ gs) = ap (λ l. g.kind ∷ l) (kinds_of bytes gs)
-
--- a scope is made of the tables
-pub record ScopeIs (t : Tables) (type : FunctionType) (code : FunctionCode) (s : Scope) : Type 0 where
-  pub types : s.types.now ≡ t.types.items
-  pub imports : s.imports.now ≡ t.imports.items
-  pub signatures : s.signatures.now ≡ t.signatures.items
-  pub globals : s.globals.now ≡ t.globals.items
-  pub has_table : s.has_table ≡ is_there t.tables.items
-  pub has_memory : s.has_memory ≡ is_there t.memories.items
-  pub parameters : s.parameters.now ≡ type.parameters.items
-  pub locals : s.locals.now ≡ code.locals.items
-  pub result : s.result ≡ type.result
 
 -- a body's code is where its place says
 pub code_stands : (bytes : List ℕ) (t : Tables) (k : ℕ) (code : FunctionCode) → TablesStand bytes t → k < length t.codes.items → code ≡ get_or t.codes.items k code → IsCode bytes code

@@ -10,3 +10,5 @@ pub mod Trail
 pub mod Kinds
 pub mod Words
 pub mod Noted
+pub mod ScopeMade
+pub mod Over

@@ -124,7 +124,7 @@ pub fn moves<'a>(
 }
 
 // The types that the instructions of a body name by an index, and where each run of locals ends.
-#[derive(Drop)]
+#[derive(Clone, Copy)]
 pub struct Scope<'a> {
     pub types: &'a [FunctionType],
     pub imports: &'a [Import],
