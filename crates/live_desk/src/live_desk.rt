@@ -625,8 +625,9 @@ fn tables(
     ensures ledger { IfOk result (λ made. made.0 ≡ ledger_opening limits known) }
     ensures offered { IfOk result (λ made. made.1 ≡ replicate limits.queued None) }
 {
-    let ledger = Ledger::new(alloc, keys, limits, known)?;
+    // (of the two the ledger takes longer to drop)
     let offered = NameTable::new(alloc, keys, limits.queued)?;
+    let ledger = Ledger::new(alloc, keys, limits, known)?;
     Ok((ledger, offered))
 }
 
