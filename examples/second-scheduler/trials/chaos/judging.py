@@ -70,9 +70,13 @@ class Clock:
         return not is_own
 
     def known(self, kind: str, sent: float) -> float:
-        """Up to when every change of a kind could be known when a bind was sent."""
-        late = [since - 0.5 for since, ends in self.late[kind][-200:] if since <= sent < ends + MAY]
-        return min([sent - MAY, *late])
+        """Up to when every change of a kind could be known when a bind was sent. What is kept back anew before it was told stays untold."""
+        late = self.late[kind][-200:]
+        began = [since for since, ends in late if since <= sent < ends + MAY]
+        first = min(began, default=sent)
+        while earlier := [since for since, ends in late if since < first <= ends]:
+            first = min(earlier)
+        return min(sent - MAY, first - 0.5) if began else sent - MAY
 
 
 class Judge:
