@@ -39,8 +39,7 @@ pub(crate) fn labels_of(
     if !have_room(told, own) && site.labels.is_empty() {
         return Err(ObjectFault::Refused(Why::TooMany, "labels"));
     }
-    labels.reserve(told.min(MAX_LABELS))?;
-    labels.reserve(own.min(MAX_LABELS))?;
+    labels.reserve(told.saturating_add(own).min(MAX_LABELS))?;
     take_all(&mut labels, out, beside, found, site)?;
     Ok(labels)
 }
