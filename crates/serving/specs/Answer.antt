@@ -13,15 +13,8 @@ use Rattle.site.specs.Planned.{FilesUse, IsPlannedRun}
 use Rattle.site.specs.Run.{TellsFailures, TellsFault, told_of}
 use Rattle.site.specs.Site.{AreFromFiles, UnreadPlugin}
 use Rattle.serving.specs.Live.{IsPlannedLive, read_for}
-use Rattle.serving.specs.Storm.{IsSiteStorm}
+use Rattle.storm_site.specs.Storm.{IsPlannedStorm}
 use Rattle.site.specs.Version.{TellsVersion}
-
--- A storm by the plugins that the words configure, as a run is planned, but that it has read its
--- script before there is a place.
-pub record IsPlannedStorm (cycles binders : ℕ) (specs : List SpecSyntax) (Unkeyed : Type 0) (files : FilesUse) (source out err : DeviceUse) (ended : ℕ) : Type 0 where
-  pub storm : IsSiteStorm (AreFromFiles files.contents specs) specs cycles binders source out err ended
-  pub failures : TellsFailures ⊤ Unkeyed (UnreadPlugin specs files.failures_old files.failures_new) source out err ended
-  pub files_told : ended ≢ 4 → files.failures_new ≡ files.failures_old
 
 -- a check of the module in this file ended with this status, and the source is as it was
 pub record IsFileCheck (file : List ℕ) (files : FilesUse) (source out err : DeviceUse) (ended : ℕ) : Type 0 where

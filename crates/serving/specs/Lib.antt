@@ -1,4 +1,2 @@
 pub mod Answer
 pub mod Live
-pub mod Storm
-pub mod inside

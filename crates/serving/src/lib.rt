@@ -2,15 +2,12 @@
 //! are handed in.
 //!
 //! - `program`: what is done from the words to the status: a run and a check by `site`, a storm by
-//!   `storm_run`, a translation by `translator`, and what `live` answers by `live_site`.
-//! - `storm_run`: a storm by a site's plugins; `stand_in`: binders that stand in for a cluster.
+//!   `storm_site`, a translation by `translator`, and what `live` answers by `live_site`.
 //! - `live_site`: a cluster that is decided of by a site's plugins.
 #![tactic(auto)]
 
 mod live_site;
 mod program;
-mod stand_in;
-mod storm_run;
 
 pub use fault_line::{
     Cause, Fault, FileFault, LineUncounted, PluginUnread, Refusal, excerpt_of, report,
@@ -20,5 +17,4 @@ pub use site::{
     Files, Folder, Input, Output, Unaccepted, Verdict, accepted_in, check_file, check_module,
     decided_by_calls, modules_in, one_site_output, run_with_kits, serve, site_kits, verdict_on,
 };
-pub use stand_in::StandIn;
-pub use storm_run::serve_storm;
+pub use storm_site::{StandIn, serve_storm};

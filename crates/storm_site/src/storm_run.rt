@@ -4,10 +4,9 @@ ghost use Rattle.streams.specs.Device.{use_of};
 ghost use Rattle.command.specs.Within.{IsStormPlan};
 ghost use Rattle.command.specs.Words.{syntax_of};
 ghost use Rattle.site.specs.Planned.{files_of};
-ghost use Rattle.serving.specs.Answer.{IsPlannedStorm};
 ghost use Rattle.site.specs.Run.{TellsFailures};
-ghost use Rattle.serving.specs.Storm.{IsSiteStorm};
-ghost use Rattle.serving.specs.inside.Storm.{audit_status};
+ghost use Rattle.storm_site.specs.Storm.{IsPlannedStorm, IsSiteStorm};
+ghost use Rattle.storm_site.specs.inside.Storm.{audit_status};
 
 use crate::stand_in::storm_by;
 use command::StormPlan;
@@ -93,7 +92,7 @@ fn deciders_of(alloc: Global, kits: Vec<KitRules>) -> Result<Vec<OneKit<KitRules
 /// Reads the plugins' files and makes a storm of a script by them, as `serve_storm` does. That a
 /// file can't be read is told with the name of its plugin. That there are no keys, since the system
 /// gave no random bytes, is told as a failed read. The script isn't read then.
-pub(crate) fn storm_plan<T: Wait + Threads + Sync, F: Files, R: Source, W: Sink, E: Sink>(
+pub fn storm_plan<T: Wait + Threads + Sync, F: Files, R: Source, W: Sink, E: Sink>(
     rt: &T,
     alloc: Global,
     keys: Option<RandomState>,

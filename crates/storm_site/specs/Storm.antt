@@ -1,5 +1,5 @@
 -- What a storm of a site's script promises, by its exit status.
-use Rattle.std.specs.Prelude.{◌≡◌, ◌⊎◌, ℕ, List, Option, Some, IfSome, Bool, true, false}
+use Rattle.std.specs.Prelude.{◌≡◌, ◌≢◌, ◌⊎◌, ⊤, ℕ, List, Option, Some, IfSome, Bool, true, false}
 use Rattle.std.specs.Io.KnownBytes.{Appends}
 use Rattle.plugin.specs.Kit.{Ready, rules_of}
 use Rattle.manifest.specs.declared.fault.LineFault.{LineFault}
@@ -10,8 +10,9 @@ use Rattle.storm.specs.Storm.{StormsScript}
 use Rattle.command.specs.Words.{SpecSyntax}
 use Rattle.fault_line.specs.declared.fault.Fault.{Fault}
 use Rattle.fault_line.specs.declared.fault.Fault.TheVariants.{Run}
-use Rattle.site.specs.Run.{TellsFault}
-use Rattle.site.specs.Site.{AreSiteKits, SiteRefused}
+use Rattle.site.specs.Planned.{FilesUse}
+use Rattle.site.specs.Run.{TellsFailures, TellsFault}
+use Rattle.site.specs.Site.{AreFromFiles, AreSiteKits, SiteRefused, UnreadPlugin}
 
 -- By kits of a site's plugins, one a cycle thread, a storm of the script's steps came to this
 -- answer, and of what tells it so much was written. Where the source tells its bytes, no line of
@@ -44,3 +45,10 @@ pub record IsSiteStorm (AreGiven : List (List ℕ) → Type 0) (specs : List Spe
   pub quiet : ended ≡ 3 → out.IsUntouched
   pub unwritten : ended ≡ 4 → out.IsUntouched
       ⊎ (TellsFault err (Run run_fault.Write) × (answer : Bool) × SiteStorms AreGiven specs cycles binders source (AppendsFront out.old out.new) answer)
+
+-- A storm by the plugins that the words configure, as a run is planned, but that it has read its
+-- script before there is a place.
+pub record IsPlannedStorm (cycles binders : ℕ) (specs : List SpecSyntax) (Unkeyed : Type 0) (files : FilesUse) (source out err : DeviceUse) (ended : ℕ) : Type 0 where
+  pub storm : IsSiteStorm (AreFromFiles files.contents specs) specs cycles binders source out err ended
+  pub failures : TellsFailures ⊤ Unkeyed (UnreadPlugin specs files.failures_old files.failures_new) source out err ended
+  pub files_told : ended ≢ 4 → files.failures_new ≡ files.failures_old

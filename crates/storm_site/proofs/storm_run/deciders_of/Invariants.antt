@@ -1,5 +1,5 @@
 use Rattle.std.proofs.Common.{◌≡◌, [], ◌∷◌, map}
-use Rattle.serving.proofs.storm_run.deciders_of.Given as goal
+use Rattle.storm_site.proofs.storm_run.deciders_of.Given as goal
 
 -- there is one for each kit so far
 abbrev pub invariant-loop-kit : goal.invariant-loop-kit

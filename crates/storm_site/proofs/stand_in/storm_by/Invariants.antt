@@ -1,5 +1,5 @@
 use Rattle.std.proofs.Common.{◌-◌, ◌≤◌, vec_len}
-use Rattle.serving.proofs.stand_in.storm_by.Given as goal
+use Rattle.storm_site.proofs.stand_in.storm_by.Given as goal
 
 -- so many binders at most
 abbrev pub invariant-loop-stand_in : goal.invariant-loop-stand_in

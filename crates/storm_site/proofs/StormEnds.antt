@@ -19,8 +19,8 @@ use Rattle.fault_line.specs.declared.fault.Fault.TheVariants.{Run}
 use Rattle.fault_line.specs.Fault.{status_of}
 use Rattle.site.specs.Run.{TellsFailures, TellsFault}
 use Rattle.site.specs.Site.{AreSiteKits, SiteRefused, WhyNoSite}
-use Rattle.serving.specs.Storm.{IsSiteStorm, SiteStorms, StormFaulty}
-use Rattle.serving.specs.inside.Storm.{audit_status}
+use Rattle.storm_site.specs.Storm.{IsSiteStorm, SiteStorms, StormFaulty}
+use Rattle.storm_site.specs.inside.Storm.{audit_status}
 use Rattle.site.proofs.Ends.{Besides, site_status}
 
 -- ---- deciders with one kit each, and their kits

@@ -3,9 +3,9 @@ ghost use Rattle.std.specs.Prelude.{◌≡◌, [], IfOk, Ok};
 ghost use Rattle.serde_json.specs.View.{view};
 ghost use Rattle.objects.specs.Site.{site_of};
 ghost use Rattle.quant.specs.declared.limits.TheConstants.{LATEST_MOMENT};
-ghost use Rattle.live.specs.Meaning.{behind, is_order, of_aside, of_explain, of_moment, of_object, of_op, of_order, of_told, of_value, of_word, meaning, order_reasons, reasons, reasons_of, reasons_told};
-ghost use Rattle.live.specs.Order.{moment_at, text_at, told_in, uid_at};
-ghost use Rattle.live.specs.declared.field.Field.TheVariants as fields;
+ghost use Rattle.live_lines.specs.Meaning.{behind, is_order, of_aside, of_explain, of_moment, of_object, of_op, of_order, of_told, of_value, of_word, meaning, order_reasons, reasons, reasons_of, reasons_told};
+ghost use Rattle.live_lines.specs.Order.{moment_at, text_at, told_in, uid_at};
+ghost use Rattle.live_lines.specs.declared.field.Field.TheVariants as fields;
 
 use crate::field::Field;
 use crate::order::{moment_at, op_of, order, told_in, uid_at};
@@ -17,7 +17,7 @@ use std::alloc::{AllocError, Global};
 
 /// What a line tells of a cluster, or asks.
 #[derive(Drop)]
-pub(crate) enum Meaning {
+pub enum Meaning {
     /// It tells a ledger this, or asks it.
     Tells(Event),
     /// A pod waits, as of this version, with this row.
@@ -40,7 +40,7 @@ pub(crate) enum Meaning {
 
 /// What a line tells of a cluster, or asks, and what of its object isn't told.
 #[derive(Drop)]
-pub(crate) struct Meant {
+pub struct Meant {
     /// What it tells or asks.
     pub meaning: Meaning,
     /// What is left out of an object, as it stands behind the word that answers it.
@@ -226,7 +226,7 @@ fn of_explain(json: &Value) -> Meaning
 ///
 /// Errors: `AllocError`, which may come in place of any answer.
 #[tactic(auto, unfolding(crate::specs::Meaning::meaning, crate::specs::Meaning::reasons))]
-pub(crate) fn meaning_of(alloc: Global, line: &[u8], site: &Site<'_>) -> Result<Meant, AllocError>
+pub fn meaning_of(alloc: Global, line: &[u8], site: &Site<'_>) -> Result<Meant, AllocError>
     ensures meaning { IfOk result (λ meant. meant.meaning ≡ meaning (site_of site.now) line.now) }
     ensures reasons { IfOk result (λ meant. meant.reasons.items ≡ reasons (site_of site.now) line.now) }
 {

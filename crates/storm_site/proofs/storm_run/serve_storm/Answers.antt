@@ -4,8 +4,8 @@ use Rattle.streams.specs.Device.{use_of}
 use Rattle.streams.specs.declared.fault.RunFault.TheVariants.{NoMemory}
 use Rattle.fault_line.specs.declared.fault.Fault.TheVariants.{Run}
 use Rattle.site.proofs.Ends.{no_site_told, told}
-use Rattle.serving.proofs.StormEnds.{audited, audit_told, besides_storm, no_storm_site, storm_cut_short, storm_not_begun}
-use Rattle.serving.proofs.storm_run.serve_storm.Goals as goal
+use Rattle.storm_site.proofs.StormEnds.{audited, audit_told, besides_storm, no_storm_site, storm_cut_short, storm_not_begun}
+use Rattle.storm_site.proofs.storm_run.serve_storm.Goals as goal
 
 -- ---- there are no kits of the plugins
 

@@ -1,5 +1,5 @@
 use Rattle.std.proofs.Common.{◌≡◌, length, arith}
-use Rattle.serving.proofs.stand_in.storm_by.Goals as goal
+use Rattle.storm_site.proofs.stand_in.storm_by.Goals as goal
 
 pub returns : goal.returns
 returns g c =

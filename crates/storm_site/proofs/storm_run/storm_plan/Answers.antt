@@ -5,8 +5,8 @@ use Rattle.fault_line.specs.declared.fault.Fault.TheVariants.{Run}
 use Rattle.site.specs.Site.{AreFromFiles}
 use Rattle.site.proofs.Ends.{failures_given, modules_status, no_file_failed, no_modules_told, told}
 use Rattle.site.proofs.Sites.{many_modules}
-use Rattle.serving.proofs.StormEnds.{storm_given, storm_not_begun}
-use Rattle.serving.proofs.storm_run.storm_plan.Goals as goal
+use Rattle.storm_site.proofs.StormEnds.{storm_given, storm_not_begun}
+use Rattle.storm_site.proofs.storm_run.storm_plan.Goals as goal
 
 -- ---- there are no keys
 
