@@ -1,5 +1,5 @@
 //! A kit of a pool beside the first, and the worker that judges with it.
-ghost use Rattle.std.specs.Prelude.{◌≡◌, ◌+◌, ◌≤◌, length};
+ghost use Rattle.std.specs.Prelude.{◌≡◌, ◌+◌, ◌≤◌, length, IfSome};
 ghost use Rattle.std.specs.Bool.{IsTrue};
 ghost use Rattle.std.specs.Arc.{arc_value};
 ghost use Rattle.choose.specs.Choice.{AreVerdicts};
@@ -131,11 +131,7 @@ impl<J: Site, K: Rules + Drop> Helper<J, K> {
             return false;
         }
         self.is_out = false;
-        let Some(hand) = self.hand.as_mut() else {
-            return false;
-        };
-        let Some(done) = hand.receive(rt) else {
-            self.hand = None;
+        let Some(done) = receive_or_forget(rt, &mut self.hand) else {
             return false;
         };
         let is_this = take_verdicts(&done, order, piece, verdicts);
@@ -183,17 +179,35 @@ impl<J: Site, K: Rules + Drop> Helper<J, K> {
         judge_said(order, gate, piece, home, verdicts);
     }
 
-    /// Waits until the worker is gone.
-    pub fn end<R: Wait>(self, rt: &R) {
-        let Helper {
-            hand,
-            kit: _,
-            room: _,
-            is_out: _,
-        } = self;
-        if let Some(hand) = hand {
+    // Waits until the worker is gone.
+    fn end<R: Wait>(&mut self, rt: &R) {
+        if let Some(hand) = self.hand.take() {
             hand.end(rt);
         }
+    }
+}
+
+// Waits for a piece that the worker has judged, if there is a worker. One that is gone is no more.
+fn receive_or_forget<J: Site, K: Rules + Drop, R: Wait>(
+    rt: &R,
+    hand: &mut Option<Hand<J, K>>,
+) -> Option<Done<J, K>>
+    ensures { IfSome result (λ done. SpeaksFor J.Says (K.answers done.kit)) }
+{
+    let Some(there) = hand.as_mut() else {
+        return None;
+    };
+    if let Some(done) = there.receive(rt) {
+        return Some(done);
+    }
+    *hand = None;
+    None
+}
+
+/// Waits until all workers are gone.
+pub fn end_all<J: Site, K: Rules + Drop, R: Wait>(rt: &R, helpers: &mut [Helper<J, K>]) {
+    for helper in helpers {
+        helper.end(rt);
     }
 }
 

@@ -12,7 +12,7 @@ ghost use Rattle.fleet.specs.Speaking.{SpeaksFor};
 
 use crate::cost::{Cost, noted, spent_by, worth_waking};
 use crate::fleet::MAX_KITS;
-use crate::lent_kit::{Helper, collect, judge_said, send_all};
+use crate::lent_kit::{Helper, collect, end_all, judge_said, send_all};
 use choose::{
     Decider, Decision, NoMemory, UNJUDGED, Verdict, choose_alone, decide, judge, rule_on,
 };
@@ -144,14 +144,12 @@ impl<J: Site, K: Rules + Drop, G: Gate + Drop> Pool<J, K, G> {
             alloc: _,
             gate: _,
             home: _,
-            helpers,
+            mut helpers,
             history: _,
             verdicts: _,
             cost: _,
         } = self;
-        for helper in helpers {
-            helper.end(rt);
-        }
+        end_all(rt, helpers.as_mut_slice());
     }
 }
 
@@ -206,14 +204,34 @@ where
     let mut kits = kits;
     let mut helpers = Vec::new(alloc);
     helpers.reserve(kits.len())?;
-    for _ in 0..kits.len() {
-        if let Some(kit) = kits.pop() {
-            if helpers.push(Helper::start(rt, alloc, kit, gate)).is_err() {
-                return Err(NoMemory);
-            }
+    start_each(rt, alloc, &mut kits, gate, &mut helpers)?;
+    Ok(helpers)
+}
+
+// Adds a kit with a worker for each of these kits.
+fn start_each<
+    J: Site + Send + Sync + 'static,
+    K: Rules + Drop + Send + 'static,
+    G: Gate + Drop + Send + Sync + 'static,
+    R: Threads + Wait + Copy + Send + 'static,
+>(
+    rt: R,
+    alloc: Global,
+    kits: &mut Vec<K>,
+    gate: &Arc<G>,
+    helpers: &mut Vec<Helper<J, K>>,
+) -> Result<(), NoMemory>
+where
+    K::Notes: Send + 'static,
+    requires { All (λ kit. SpeaksFor J.Says (K.answers kit)) kits.old.items }
+    ensures { vec_len helpers.new ≤ vec_len helpers.old + vec_len kits.old }
+{
+    while let Some(kit) = kits.pop() {
+        if helpers.push(Helper::start(rt, alloc, kit, gate)).is_err() {
+            return Err(NoMemory);
         }
     }
-    Ok(helpers)
+    Ok(())
 }
 
 // Where a pod goes, by the first kit and so many of the others, or all of them where there aren't so
@@ -248,16 +266,10 @@ fn decide_with<J: Site, K: Rules + Drop, G: Gate, R: Wait>(
         pod: pod.share()?,
         pieces: many + 1,
     };
-    let order = match history.add(asked) {
-        Ok(order) => order,
-        Err(asked) => {
-            return Ok(choose_here(&asked.snapshot, &asked.pod, gate, home, verdicts));
-        }
-    };
-    let Ok(order) = Arc::new(alloc, order) else {
-        return Err(NoMemory);
-    };
-    Ok(choose_there(rt, alloc, &order, gate, home, helpers, many, verdicts))
+    match history.add(asked) {
+        Ok(order) => choose_there(rt, alloc, order, gate, home, helpers, many, verdicts),
+        Err(asked) => Ok(choose_here(&asked.snapshot, &asked.pod, gate, home, verdicts)),
+    }
 }
 
 // The choice with the first kit alone.
@@ -281,34 +293,36 @@ fn choose_here<K: Rules, G: Gate>(
     decide(rows, verdicts)
 }
 
-// The choice with the first kit and so many others: the first piece is judged here while those of
-// the others are under way.
+// The choice with the first kit and so many others, where there is memory to share what is asked: the
+// first piece is judged here while those of the others are under way.
 fn choose_there<J: Site, K: Rules + Drop, G: Gate, R: Wait>(
     rt: &R,
     alloc: Global,
-    order: &Arc<Order<J>>,
+    order: Order<J>,
     gate: &G,
     home: &mut K,
     helpers: &mut [Helper<J, K>],
     many: usize,
     verdicts: &mut [Verdict],
-) -> Decision
+) -> Result<Decision, NoMemory>
     requires some { 0 < many }
     requires few { many < 64 }
     requires there { many ≤ length helpers.old }
-    requires pieces { (arc_value order.now).pieces ≡ many + 1 }
-    requires places { length verdicts.old ≡ length (arc_value order.now).snapshot }
+    requires pieces { order.pieces ≡ many + 1 }
+    requires places { length verdicts.old ≡ length order.snapshot }
     requires speaks { SpeaksFor J.Says (K.answers home.old) }
-    ensures chosen { let asked = arc_value order.now in Choice (K.answers home.old) asked.snapshot asked.pod result }
-    ensures judged { let asked = arc_value order.now in
-        AreVerdicts (K.answers home.old) asked.pod asked.snapshot verdicts.new }
+    ensures chosen { IfOk result (Choice (K.answers home.old) order.snapshot order.pod) }
+    ensures judged { OnOk result (AreVerdicts (K.answers home.old) order.pod order.snapshot verdicts.new) }
     ensures stays { home.new ≡ home.old }
     ensures length { length helpers.new ≡ length helpers.old }
 {
+    let Ok(order) = Arc::new(alloc, order) else {
+        return Err(NoMemory);
+    };
     let (woken, _asleep) = helpers.split_at_mut(many);
-    send_all(rt, alloc, order, woken);
-    judge_and_collect(rt, &**order, gate, home, woken, verdicts);
-    decide(order.asked().snapshot.rows(), verdicts)
+    send_all(rt, alloc, &order, woken);
+    judge_and_collect(rt, &*order, gate, home, woken, verdicts);
+    Ok(decide(order.asked().snapshot.rows(), verdicts))
 }
 
 // The verdicts on all nodes, where all pieces but the first are under way, or are to be judged here

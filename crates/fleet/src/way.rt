@@ -48,7 +48,6 @@ impl Split<()> for Twin {
 }
 
 /// The end at which messages are sent.
-#[derive(Drop)]
 pub struct Outbox<T: Drop, H: Holds<T>> {
     sender: RuledSender<T, (), Each<H>>,
     seat: Pass<T, ()>,
@@ -56,11 +55,28 @@ pub struct Outbox<T: Drop, H: Holds<T>> {
 }
 
 /// The end at which they are received.
-#[derive(Drop)]
 pub struct Inbox<T: Drop, H: Holds<T>> {
     receiver: RuledReceiver<T, (), Each<H>>,
     seat: Pass<T, ()>,
     ghost seated: { IsSeatAt (receives_on receiver) seat },
+}
+
+// The ends' drops do what a derive would. But a derived one stands anew, part by part, wherever an
+// end may be let go, and these are called there.
+impl<T: Drop, H: Holds<T>> Drop for Outbox<T, H> {
+    fn drop(self) {
+        let Self { sender, seat } = self;
+        drop(sender);
+        drop(seat);
+    }
+}
+
+impl<T: Drop, H: Holds<T>> Drop for Inbox<T, H> {
+    fn drop(self) {
+        let Self { receiver, seat } = self;
+        drop(receiver);
+        drop(seat);
+    }
 }
 
 /// Both ends of a new way.
@@ -99,5 +115,14 @@ impl<T: Drop, H: Holds<T>> Inbox<T, H> {
         ensures { IfSome result (λ message. H.of message) }
     {
         self.receiver.recv_as::<Each<H>, R>(rt, &mut self.seat).ok()
+    }
+
+    /// Waits until nobody can send any more. What comes until then is let go.
+    pub fn outlast<R: Wait>(&mut self, rt: &R) {
+        for _ in rt.forever() {
+            if self.receive(rt).is_none() {
+                return;
+            }
+        }
     }
 }

@@ -29,24 +29,54 @@ impl<J: Site, K: Rules + Drop> Holds<Done<J, K>> for OfPool<J> {
 }
 
 /// A pool's ends of the ways to a worker and back.
-#[derive(Drop)]
 pub struct Hand<J: Site, K: Rules + Drop> {
     jobs: Outbox<Job<J, K>, OfPool<J>>,
     results: Inbox<Done<J, K>, OfPool<J>>,
 }
 
+/// A worker's ends of them.
+struct Bench<J: Site, K: Rules + Drop> {
+    jobs: Inbox<Job<J, K>, OfPool<J>>,
+    results: Outbox<Done<J, K>, OfPool<J>>,
+}
+
+// (written out, as those of each end are)
+impl<J: Site, K: Rules + Drop> Drop for Hand<J, K> {
+    fn drop(self) {
+        let Self { jobs, results } = self;
+        drop(jobs);
+        drop(results);
+    }
+}
+
+impl<J: Site, K: Rules + Drop> Drop for Bench<J, K> {
+    fn drop(self) {
+        let Self { jobs, results } = self;
+        drop(jobs);
+        // It is given up last: by that it shows that the worker is gone.
+        drop(results);
+    }
+}
+
+// Makes both ways.
+fn ways<J: Site, K: Rules + Drop>(alloc: Global) -> Result<(Hand<J, K>, Bench<J, K>), AllocError> {
+    let (jobs, inbox) = way::<Job<J, K>, OfPool<J>>(alloc)?;
+    let (outbox, results) = way::<Done<J, K>, OfPool<J>>(alloc)?;
+    let hand = Hand { jobs, results };
+    let bench = Bench {
+        jobs: inbox,
+        results: outbox,
+    };
+    Ok((hand, bench))
+}
+
 // Judges the pieces that come.
-fn work<J: Site, K: Rules + Drop, G: Gate, R: Wait>(
-    rt: &R,
-    gate: &G,
-    jobs: &mut Inbox<Job<J, K>, OfPool<J>>,
-    results: &mut Outbox<Done<J, K>, OfPool<J>>,
-) {
+fn work<J: Site, K: Rules + Drop, G: Gate, R: Wait>(rt: &R, gate: &G, bench: &mut Bench<J, K>) {
     for _ in rt.forever() {
-        let Some(job) = jobs.receive(rt) else {
+        let Some(job) = bench.jobs.receive(rt) else {
             return;
         };
-        if results.send(rt, judge_job(gate, job)).is_err() {
+        if bench.results.send(rt, judge_job(gate, job)).is_err() {
             return;
         }
     }
@@ -66,16 +96,14 @@ impl<J: Site, K: Rules + Drop> Hand<J, K> {
         K: Send + 'static,
         K::Notes: Send + 'static,
     {
-        let (jobs, inbox) = way::<Job<J, K>, OfPool<J>>(alloc)?;
-        let (outbox, results) = way::<Done<J, K>, OfPool<J>>(alloc)?;
+        let (hand, bench) = ways(alloc)?;
         // It isn't joined: that it is gone shows by its end of the results, which it gives up last.
         let _detached = thread::spawn(&rt, move || {
-            let mut outbox = outbox;
-            let mut inbox = inbox;
+            let mut bench = bench;
             let gate = gate;
-            work::<J, K, G, R>(&rt, &*gate, &mut inbox, &mut outbox)
+            work::<J, K, G, R>(&rt, &*gate, &mut bench)
         })?;
-        Ok(Hand { jobs, results })
+        Ok(hand)
     }
 
     /// Sends a piece to the worker.
@@ -99,10 +127,6 @@ impl<J: Site, K: Rules + Drop> Hand<J, K> {
     pub fn end<R: Wait>(self, rt: &R) {
         let Hand { jobs, mut results } = self;
         drop(jobs);
-        for _ in rt.forever() {
-            if results.receive(rt).is_none() {
-                return;
-            }
-        }
+        results.outlast(rt);
     }
 }

@@ -1,4 +1,4 @@
-use Rattle.std.proofs.Common.{◌≡◌, List, ◌∙◌, subst}
+use Rattle.std.proofs.Common.{◌≡◌, List, IfOk, OnOk, subst}
 use Rattle.quant.specs.declared.objects.Pod.{Pod}
 use Rattle.desk.specs.Shown.{Shown}
 use Rattle.choose.specs.Choice.{Choice, AreVerdicts}
@@ -21,15 +21,15 @@ returns-in-Err-clause-judged g c =
     as_given (λ nodes pod. AreVerdicts kit pod nodes made) _ _ _ _ c.snapshot.view_is c.in_ok-share.ensures
     (subst (λ a. AreVerdicts kit a.pod a.snapshot made) c.in-Err.ensures.full c.choose_here-in-Err.ensures.judged)
 
-pub returns-clause-chosen : goal.returns-clause-chosen
-returns-clause-chosen g c =
+pub returns-in-Ok-clause-chosen : goal.returns-in-Ok-clause-chosen
+returns-in-Ok-clause-chosen g c =
     let kit = g.K.Rules.answers c.args.home.now in
-    as_given (λ nodes pod. Choice kit nodes pod c.choose_there.result) _ _ _ _ c.snapshot.view_is c.in_ok-share.ensures
-    (subst (λ a. Choice kit a.snapshot a.pod c.choose_there.result) (c.in-Ok-new.ensures.ok ∙ c.in-Ok.ensures.added) c.choose_there.ensures.chosen)
+    as_given (λ nodes pod. IfOk c.choose_there.result (Choice kit nodes pod)) _ _ _ _ c.snapshot.view_is c.in_ok-share.ensures
+    (subst (λ a. IfOk c.choose_there.result (Choice kit a.snapshot a.pod)) c.in-Ok.ensures.added c.choose_there.ensures.chosen)
 
-pub returns-clause-judged : goal.returns-clause-judged
-returns-clause-judged g c =
+pub returns-in-Ok-clause-judged : goal.returns-in-Ok-clause-judged
+returns-in-Ok-clause-judged g c =
     let kit = g.K.Rules.answers c.args.home.now in
     let made = c.choose_there.new.verdicts in
-    as_given (λ nodes pod. AreVerdicts kit pod nodes made) _ _ _ _ c.snapshot.view_is c.in_ok-share.ensures
-    (subst (λ a. AreVerdicts kit a.pod a.snapshot made) (c.in-Ok-new.ensures.ok ∙ c.in-Ok.ensures.added) c.choose_there.ensures.judged)
+    as_given (λ nodes pod. OnOk c.choose_there.result (AreVerdicts kit pod nodes made)) _ _ _ _ c.snapshot.view_is c.in_ok-share.ensures
+    (subst (λ a. OnOk c.choose_there.result (AreVerdicts kit a.pod a.snapshot made)) c.in-Ok.ensures.added c.choose_there.ensures.judged)

@@ -3,4 +3,4 @@ use Rattle.fleet.proofs.lent_kit.Helper.take_back.Goals as goal
 
 pub returns-clause-are : goal.returns-clause-are
 returns-clause-are g c = λ yes.
-    are_said g.J.Site.Says (g.K.Rules.answers c.in-Some-receive.done.kit) c.args.order.now.pod c.in-Some-receive.ensures _ _ (c.take_verdicts-is_this.ensures.are yes)
+    are_said g.J.Site.Says (g.K.Rules.answers c.in-Some.done.kit) c.args.order.now.pod c.in-Some.ensures _ _ (c.take_verdicts-is_this.ensures.are yes)
