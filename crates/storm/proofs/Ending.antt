@@ -1,7 +1,6 @@
 -- From what the workers of a storm did to what a storm promises.
-use Rattle.std.proofs.Common.{◌≡◌, ◌≢◌, ℕ, ◌+◌, ◌<◌, ◌↔◌, Bool, false, List, [], ◌∷◌, length, slice_index_or, Some, Result, Ok, Err, IfOk, IfErr, IfSome, OnErr, ◌⊎◌, inl, inr, refl, sym, ap, subst, ◌∙◌, arith}
+use Rattle.std.proofs.Common.{◌≡◌, ◌≢◌, ℕ, ◌+◌, ◌<◌, ◌↔◌, Bool, List, [], ◌∷◌, length, Some, Result, Ok, Err, IfOk, IfErr, IfSome, OnErr, ◌⊎◌, inl, inr, refl, sym, ap, subst, ◌∙◌, arith}
 use Rattle.std.specs.Bool.{IsTrue}
-use Rattle.std.specs.List.{All}
 use Rattle.std.specs.Io.KnownBytes.{Appends}
 use Rattle.manifest.specs.declared.fault.LineFault.{LineFault}
 use Rattle.book.specs.Cluster.{Cluster}
@@ -18,11 +17,10 @@ use Rattle.streams.specs.declared.fault.RunFault.TheVariants.{Line, NoMemory, Re
 use Rattle.streams.specs.Device.{DeviceUse, AppendsFront}
 use Rattle.crew.specs.declared.worker.Worker.{Worker}
 use Rattle.crew.specs.Made.{BeginsWith, newcomer}
-use Rattle.crew.specs.Crew.{Each, IsDumped, enlisted}
-use Rattle.storm.specs.inside.Stages.{HasFed, HasReported, HasScheduled, IsIdle}
+use Rattle.crew.specs.Crew.{enlisted}
 use Rattle.watch_script.specs.Script.{first_storm_fault}
 use Rattle.storm.specs.Storm.{IsStorm, IsAudit, Storms, AreOfScript, IsStormRun, desk_for, storm_text}
-use Rattle.storm.specs.inside.Ending.{IsWorked, HasEnded, IsStormOf}
+use Rattle.storm.specs.inside.Ending.{IsWorked, HasEnded, IsClosedAndTold, IsStormOf}
 use Rattle.crew.proofs.Going.{begins_trans, goes_begins}
 use Rattle.storm.proofs.Closing.{closing, closing_looked}
 use Rattle.crew.proofs.Enlisting.{enlisted_length}
@@ -59,32 +57,6 @@ module _ {J D B Kit : Type 0} (answers : Kit → RuleSet) (kits : D → List Kit
       let w5 = subst (λ x. IsWorked {J = J} answers kits x fed (newcomer (many deciders binders)) (enlisted 0 (tt ∷ tt ∷ [])) (enlisted 2 deciders) (enlisted (2 + length deciders) binders) counts rows clerk') desk_is w4 in
       subst (λ x. HasEnded (λ d. rules_of answers (kits d)) deciders (length binders) x fed counts rows clerk') (sym desk_is) (begun some w5)
 
--- ---- what the workers did
-
--- workers and a dump, told of lists that are equal to those that they were handed out as
-pub worked : {J D B Kit : Type 0} (answers : Kit → RuleSet) (kits : D → List Kit) (desk : Desk) (fed : List Step) (clerk clerk' : Pass) (counts : Counts) (rows : List Shown)
-    (f f0 f1 : List (Worker J (Unit {0}))) (c c0 c1 : List (Worker J D)) (r r0 r1 : List (Worker J B)) → f0 ≡ f → c0 ≡ c → r0 ≡ r
-    → Each (HasFed fed) f0 f1 → Each (HasScheduled answers kits desk) c0 c1
-    → ((d : Worker J D) → (slice_index_or c1 0 d).failed ≡ false → IsIdle answers kits desk f1 (slice_index_or c0 0 d) (slice_index_or c1 0 d)) → Each HasReported r0 r1
-    → All (λ w. w.failed ≡ false) f1 → All (λ w. w.failed ≡ false) c1 → All (λ w. w.failed ≡ false) r1 → IsDumped desk clerk f1 c1 r1 counts rows clerk'
-    → IsWorked answers kits desk fed clerk f c r counts rows clerk'
-worked {J} answers kits desk fed clerk clerk' counts rows f f0 f1 c c0 c1 r r0 r1 f_is c_is r_is told turned idle reported all_told all_turned all_reported dumped =
-    subst (λ x. IsWorked {J = J} answers kits desk fed clerk x c r counts rows clerk') f_is
-    (subst (λ x. IsWorked {J = J} answers kits desk fed clerk f0 x r counts rows clerk') c_is
-    (subst (λ x. IsWorked {J = J} answers kits desk fed clerk f0 c0 x counts rows clerk') r_is (record {
-      feeders' = f1;
-      cyclers' = c1;
-      reporters' = r1;
-      told = told;
-      turned = turned;
-      idle = idle;
-      reported = reported;
-      all_told = all_told;
-      all_turned = all_turned;
-      all_reported = all_reported;
-      dumped = dumped;
-    })))
-
 -- ---- the audit
 
 -- the answer to an audit of the book of a desk that was closed by a pass which knew what was looked
@@ -108,32 +80,27 @@ storms rules deciders binders desk fed counts rows clerk last book answer Wrote 
     record { rows = rows; counts = counts; storm = both.0; audit = both.1; wrote = wrote }
 
 -- A desk was closed that a storm had ended on, and what was dumped was audited by its book and told.
-pub told_storm : {D : Type 0} (rules : D → RuleSet) (deciders : List D) (binders : ℕ) (desk : Desk) (fed : List Step) (counts : Counts) (rows : List Shown) (clerk last : Pass) (book : Cluster) (sink : DeviceUse) (result : Result Bool RunFault)
-    → HasEnded rules deciders binders desk fed counts rows clerk → Closed desk clerk last book
-    → IfOk result (λ answer. IsTrue answer ↔ ShowsSums rows book.places) → IfOk result (λ answer. Appends sink.old sink.new (storm_text rows counts answer))
-    → (result ≡ Err Write → (answer : Bool) × (IsTrue answer ↔ ShowsSums rows book.places) × AppendsFront sink.old sink.new (storm_text rows counts answer))
-    → OnErr result (result ≢ Err Write → sink.IsUntouched) → IfErr result (λ e. (e ≡ NoMemory) ⊎ (e ≡ Write))
-    → (result ≡ Err Write → sink.failures_old < sink.failures_new) → (result ≢ Err Write → sink.failures_new ≡ sink.failures_old)
-    → IsStormOf rules deciders binders fed sink result
-told_storm rules deciders binders desk fed counts rows clerk last book sink (Ok answer) over closed says wrote front quiet faults write write_told = record {
-  storm = storms rules deciders binders desk fed counts rows clerk last book answer (Appends sink.old sink.new) over closed says wrote;
+pub told_storm : {D : Type 0} (rules : D → RuleSet) (deciders : List D) (binders : ℕ) (desk : Desk) (fed : List Step) (counts : Counts) (rows : List Shown) (clerk last : Pass) (sink : DeviceUse) (result : Result Bool RunFault)
+    → HasEnded rules deciders binders desk fed counts rows clerk → IsClosedAndTold desk clerk last counts rows sink result → IsStormOf rules deciders binders fed sink result
+told_storm rules deciders binders desk fed counts rows clerk last sink (Ok answer) over told = record {
+  storm = storms rules deciders binders desk fed counts rows clerk last told.book answer (Appends sink.old sink.new) over told.closed told.says told.wrote;
   front = λ is. cc;
   quiet = tt;
   faults = tt;
-  write = write;
-  write_told = write_told;
+  write = told.write;
+  write_told = told.write_told;
 }
-told_storm rules deciders binders desk fed counts rows clerk last book sink (Err e) over closed says wrote front quiet faults write write_told = record {
+told_storm rules deciders binders desk fed counts rows clerk last sink (Err e) over told = record {
   storm = tt;
-  front = λ failed. let told = front failed in
-      (told.0, storms rules deciders binders desk fed counts rows clerk last book told.0 (AppendsFront sink.old sink.new) over closed told.1 told.2);
-  quiet = quiet;
-  faults = elim faults [
+  front = λ failed. let front = told.front failed in
+      (front.0, storms rules deciders binders desk fed counts rows clerk last told.book front.0 (AppendsFront sink.old sink.new) over told.closed front.1 front.2);
+  quiet = told.quiet;
+  faults = elim told.faults [
     | inl none ↦ inl none
     | inr failed ↦ inr (inr failed)
   ];
-  write = write;
-  write_told = write_told;
+  write = told.write;
+  write_told = told.write_told;
 }
 
 -- ---- the run

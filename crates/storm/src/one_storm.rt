@@ -11,7 +11,7 @@ ghost use Rattle.streams.specs.Greatest.{limits};
 ghost use Rattle.streams.specs.Device.{use_of, AppendsFront};
 ghost use Rattle.crew.specs.Made.{newcomer};
 ghost use Rattle.crew.specs.Crew.{ArePassesOf, enlisted};
-ghost use Rattle.storm.specs.inside.Ending.{IsWorked, HasEnded, IsStormOf};
+ghost use Rattle.storm.specs.inside.Ending.{IsWorked, HasEnded, IsClosedAndTold, IsStormOf};
 ghost use Rattle.storm.specs.Storm.{IsStormRun, storm_text};
 
 use crate::stages::{Stage, work};
@@ -88,34 +88,37 @@ fn work_and_dump<
     alloc: Global,
     desk: &Desk<J>,
     steps: &[Step],
-    hands: &mut Hands<J, D>,
+    feeders: &mut [Worker<J, ()>],
+    cyclers: &mut [Worker<J, D>],
+    reporters: &mut [Worker<J, Box<dyn Binder + Send>>],
+    clerk: &mut Pass<J>,
 ) -> Result<(Counts, Snapshot), RunFault>
     requires timely { All IsTimely steps.now }
-    requires some { 0 < length hands.old.cyclers.items }
-    requires some_feeder { 0 < length hands.old.feeders.items }
-    requires feeders { ArePassesOf desk.now hands.old.feeders.items }
-    requires cyclers { ArePassesOf desk.now hands.old.cyclers.items }
-    requires reporters { ArePassesOf desk.now hands.old.reporters.items }
-    requires clerk { IsPassOf hands.old.clerk desk.now }
-    ensures worked { IfOk result (λ dump. IsWorked D.Kit.answers D.kits desk.now steps.now hands.old.clerk
-        hands.old.feeders.items hands.old.cyclers.items hands.old.reporters.items dump.0 dump.1 hands.new.clerk) }
+    requires some { 0 < length cyclers.old }
+    requires some_feeder { 0 < length feeders.old }
+    requires feeders { ArePassesOf desk.now feeders.old }
+    requires cyclers { ArePassesOf desk.now cyclers.old }
+    requires reporters { ArePassesOf desk.now reporters.old }
+    requires clerk { IsPassOf clerk.old desk.now }
+    ensures worked { IfOk result (λ dump. IsWorked D.Kit.answers D.kits desk.now steps.now clerk.old feeders.old
+        cyclers.old reporters.old dump.0 dump.1 clerk.new) }
     ensures faults { IfErr result (λ e. e ≡ RunFault.NoMemory) }
 {
-    let (sender, jobs) = unbounded(alloc)?;
-    let bell = Bell::new();
-    let stage = Stage {
-        desk,
-        bell: &bell,
-        steps,
-    };
-    let feeders = hands.feeders.as_mut_slice();
-    let cyclers = hands.cyclers.as_mut_slice();
-    let reporters = hands.reporters.as_mut_slice();
-    work(&stage, rt, &jobs, sender, feeders, cyclers, reporters);
+    {
+        // The jobs and the bell are let go before the dump.
+        let (sender, jobs) = unbounded(alloc)?;
+        let bell = Bell::new();
+        let stage = Stage {
+            desk,
+            bell: &bell,
+            steps,
+        };
+        work(&stage, rt, &jobs, sender, feeders, cyclers, reporters);
+    }
     if !all_done(feeders) || !all_done(cyclers) || !all_done(reporters) {
         return Err(RunFault::NoMemory);
     }
-    let dump = take_dump(rt, desk, &mut hands.clerk, feeders, cyclers, reporters)?;
+    let dump = take_dump(rt, desk, clerk, feeders, cyclers, reporters)?;
     Ok(dump)
 }
 
@@ -142,7 +145,16 @@ fn storm_to_dump<
     ensures faults { IfErr result (λ e. (e ≡ RunFault.NoMemory) ⊎ (e ≡ RunFault.NoPlace)) }
 {
     let mut hands = hand_out(alloc, desk, deciders, binders)?;
-    let (counts, shown) = work_and_dump(rt, alloc, desk, steps, &mut hands)?;
+    let (counts, shown) = work_and_dump(
+        rt,
+        alloc,
+        desk,
+        steps,
+        hands.feeders.as_mut_slice(),
+        hands.cyclers.as_mut_slice(),
+        hands.reporters.as_mut_slice(),
+        &mut hands.clerk,
+    )?;
     Ok((hands.clerk, counts, shown))
 }
 
@@ -216,6 +228,26 @@ fn audit_and_tell<R: Threads + Sync, W: Sink>(
     Ok(is_right)
 }
 
+// Closes the desk of a storm, and audits and writes what was dumped of it. The book is let go here,
+// where nothing else is owned.
+fn close_and_tell<J: Naming, R: Threads + Wait + Sync, W: Sink>(
+    rt: &R,
+    alloc: Global,
+    desk: Desk<J>,
+    clerk: &mut Pass<J>,
+    counts: Counts,
+    shown: &Snapshot,
+    sink: &mut W,
+) -> Result<bool, RunFault>
+    requires of { IsPassOf clerk.old desk }
+    requires writes { W.failure_count sink.old < 10 ^ 18 }
+    ensures { IsClosedAndTold desk clerk.old clerk.new counts shown.now
+        (use_of W.written W.failure_count sink.old sink.new) result }
+{
+    let book = desk.close(rt, clerk);
+    audit_and_tell(rt, alloc, shown, counts, &book, sink)
+}
+
 // A storm of these steps on a new desk, which it ends.
 fn storm_on<
     J: Naming + Send + Sync,
@@ -250,8 +282,7 @@ fn storm_on<
             Err(fault)
         }
         Ok((mut clerk, counts, shown)) => {
-            let book = desk.close(rt, &mut clerk);
-            audit_and_tell(rt, alloc, &shown, counts, &book, sink)
+            close_and_tell(rt, alloc, desk, &mut clerk, counts, &shown, sink)
         }
     }
 }

@@ -28,6 +28,5 @@ returns-in-Err g c = record {
 -- the desk was closed, audited and told of
 pub returns-in-Ok : goal.returns-in-Ok
 returns-in-Ok g c =
-    told_storm (λ d. rules_of g.D.Kit.Rules.answers (g.D.Decider.kits d)) c.args.deciders.items (length c.args.binders.items) _ c.args.steps.now _ _ _ _ _ _ _
-    c.in-Ok.ensures.ended c.close-book.ensures c.audit_and_tell.ensures.says c.audit_and_tell.ensures.wrote c.audit_and_tell.ensures.front
-    c.audit_and_tell.ensures.quiet c.audit_and_tell.ensures.faults c.audit_and_tell.ensures.write c.audit_and_tell.ensures.write_told
+    told_storm (λ d. rules_of g.D.Kit.Rules.answers (g.D.Decider.kits d)) c.args.deciders.items (length c.args.binders.items) _ c.args.steps.now _ _ _ _ _ _
+    c.in-Ok.ensures.ended c.close_and_tell.ensures

@@ -1,21 +1,33 @@
-use Rattle.storm.specs.inside.Stages.{HasReported}
+use Rattle.storm.specs.inside.Stages.{HasFed, HasReported, HasScheduled}
 use Rattle.storm.proofs.Staging.{still_passes}
-use Rattle.storm.proofs.Ending.{worked}
 use Rattle.storm.proofs.one_storm.work_and_dump.Goals as goal
 
--- the reporters' passes are still of this desk
+-- ---- all passes are still of this desk
+
+pub take_dump-requires-clause-feeders : goal.take_dump-requires-clause-feeders
+take_dump-requires-clause-feeders g c =
+    still_passes c.args.desk.now (HasFed c.args.steps.now) (λ w w' fed. fed.number) c.args.feeders.now c.work.new.feeders c.requires.feeders c.work.ensures.fed
+
+pub take_dump-requires-clause-cyclers : goal.take_dump-requires-clause-cyclers
+take_dump-requires-clause-cyclers g c =
+    still_passes c.args.desk.now (HasScheduled g.D.Kit.Rules.answers g.D.Decider.kits c.args.desk.now) (λ w w' turned. turned.number) c.args.cyclers.now c.work.new.cyclers c.requires.cyclers c.work.ensures.turned
+
 pub take_dump-requires-clause-reporters : goal.take_dump-requires-clause-reporters
 take_dump-requires-clause-reporters g c =
-    still_passes c.args.desk.now HasReported (λ w w' reported. reported.number) c.args.hands.now.reporters.items c.work.new.reporters c.requires.reporters
-    (rw c.as_mut_slice-reporters.ensures.value at c.work.ensures.reported)
+    still_passes c.args.desk.now HasReported (λ w w' reported. reported.number) c.args.reporters.now c.work.new.reporters c.requires.reporters c.work.ensures.reported
 
 -- all worked, and were dumped
 pub returns-clause-worked : goal.returns-clause-worked
-returns-clause-worked g c =
-    worked g.D.Kit.Rules.answers g.D.Decider.kits c.args.desk.now c.args.steps.now c.args.hands.now.clerk c.take_dump.new.clerk c.in_ok-dump.dump.0 c.in_ok-dump.dump.1
-    c.args.hands.now.feeders.items c.as_mut_slice-feeders.result.now c.work.new.feeders
-    c.args.hands.now.cyclers.items c.as_mut_slice-cyclers.result.now c.work.new.cyclers
-    c.args.hands.now.reporters.items c.as_mut_slice-reporters.result.now c.work.new.reporters
-    c.as_mut_slice-feeders.ensures.value c.as_mut_slice-cyclers.ensures.value c.as_mut_slice-reporters.ensures.value
-    c.work.ensures.fed c.work.ensures.turned c.work.ensures.idle c.work.ensures.reported
-    (c.all_done.ensures.0 c.if-not-all_done.false) (c.all_done-else-not-all_done.ensures.0 c.if-not-all_done-2.false) (c.all_done-else-not-all_done-2.ensures.0 c.if-not-all_done-3.false) c.in_ok-dump.ensures.dumped
+returns-clause-worked g c = record {
+  feeders' = c.work.new.feeders;
+  cyclers' = c.work.new.cyclers;
+  reporters' = c.work.new.reporters;
+  told = c.work.ensures.fed;
+  turned = c.work.ensures.turned;
+  idle = c.work.ensures.idle;
+  reported = c.work.ensures.reported;
+  all_told = c.all_done.ensures.0 c.if-not-all_done.false;
+  all_turned = c.all_done-else-not-all_done.ensures.0 c.if-not-all_done-2.false;
+  all_reported = c.all_done-else-not-all_done-2.ensures.0 c.if-not-all_done-3.false;
+  dumped = c.in_ok-dump.ensures.dumped;
+}
