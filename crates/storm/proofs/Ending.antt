@@ -1,5 +1,5 @@
 -- From what the workers of a storm did to what a storm promises.
-use Rattle.std.proofs.Common.{◌≡◌, ◌≢◌, ℕ, ◌+◌, ◌<◌, ◌↔◌, Bool, List, [], ◌∷◌, length, Some, Result, Ok, Err, IfOk, IfErr, IfSome, OnErr, ◌⊎◌, inl, inr, refl, sym, ap, subst, ◌∙◌, arith}
+use Rattle.std.proofs.Common.{◌≡◌, ◌≢◌, ℕ, ◌+◌, ◌<◌, ◌↔◌, Bool, List, [], ◌∷◌, length, Result, Ok, Err, IfOk, IfErr, OnErr, ◌⊎◌, inl, inr, refl, sym, subst, ◌∙◌, arith}
 use Rattle.std.specs.Bool.{IsTrue}
 use Rattle.std.specs.Io.KnownBytes.{Appends}
 use Rattle.manifest.specs.declared.fault.LineFault.{LineFault}
@@ -18,7 +18,6 @@ use Rattle.streams.specs.Device.{DeviceUse, AppendsFront}
 use Rattle.crew.specs.declared.worker.Worker.{Worker}
 use Rattle.crew.specs.Made.{BeginsWith, newcomer}
 use Rattle.crew.specs.Crew.{enlisted}
-use Rattle.watch_script.specs.Script.{first_storm_fault}
 use Rattle.storm.specs.Storm.{IsStorm, IsAudit, Storms, AreOfScript, IsStormRun, desk_for, storm_text}
 use Rattle.storm.specs.inside.Ending.{IsWorked, HasEnded, IsClosedAndTold, IsStormOf}
 use Rattle.crew.proofs.Going.{begins_trans, goes_begins}
@@ -149,31 +148,3 @@ run_of rules deciders binders source sink steps (Err e) read reads storm front q
   read_told = λ _. reads;
   write_told = write_told;
 }
-
--- at a fault that is passed on, what is told of it is as it was
-pub passed_on : {P : Type 0} (r : Result Bool RunFault) (t : Result (Unit {0}) RunFault) (e : RunFault) → r ≡ Err e → t ≡ Err e → (t ≢ Err Write → P) → r ≢ Err Write → P
-passed_on r t e is other says more = says (λ eq. let same : e ≡ Write = cc in more (is ∙ ap Err same))
-
-pub passed_on_err : {P : Type 0} (r : Result Bool RunFault) (t : Result (Unit {0}) RunFault) (e : RunFault) → r ≡ Err e → t ≡ Err e → (t ≢ Err Write → P) → OnErr r (r ≢ Err Write → P)
-passed_on_err (Ok answer) t e is other says = tt
-passed_on_err (Err f) t e is other says = passed_on (Err f) t e is other says
-
--- and so is what was written before it
-pub written_before : {P : Type 0} (r : Result Bool RunFault) (t : Result (Unit {0}) RunFault) (e : RunFault) → r ≡ Err e → t ≡ Err e → (t ≡ Err Write → P) → r ≡ Err Write → P
-written_before r t e is other says failed = says (other ∙ ap Err (one_fault e Write r is failed))
-
--- a script that was not read whole
-pub run_unread : {D : Type 0} (rules : D → RuleSet) (deciders : List D) (binders : ℕ) (source sink : DeviceUse) (result : Result Bool RunFault) (e : RunFault) → result ≡ Err e
-    → ((number : ℕ) (fault : LineFault) → e ≡ Line number fault → IfSome source.old (λ script. first_storm_fault script ≡ Some (number, fault)))
-    → (e ≡ Read → source.failures_old < source.failures_new) → (e ≢ Read → source.failures_new ≡ source.failures_old) → e ≢ Write
-    → sink.IsUntouched → sink.failures_new ≡ sink.failures_old → IsStormRun rules deciders binders source sink result
-run_unread rules deciders binders source sink result e is line read read_told no_write untouched writes = subst (IsStormRun rules deciders binders source sink) (sym is) (record {
-  done = tt;
-  front = λ eq. absurd (no_write (one_fault e Write (Err e) refl eq));
-  line = λ number fault eq. line number fault (one_fault e (Line number fault) (Err e) refl eq);
-  quiet = λ _. untouched;
-  read = λ eq. read (one_fault e Read (Err e) refl eq);
-  write = λ eq. absurd (no_write (one_fault e Write (Err e) refl eq));
-  read_told = λ other. read_told (λ eq. other (ap Err eq));
-  write_told = λ _. writes;
-})

@@ -23,6 +23,15 @@ module _ {J T : Type 0} (desk : Desk) (P : Worker J T → Worker J T → Type 0)
       let lt0 : i < length ws = subst (λ n. i < n) each.0 lt in
       subst (λ n. n < desk.handed) (sym (keeps (slice_index_or ws i d) (slice_index_or ws' i d) (each.1 i d lt0))) (of i d lt0)
 
+-- of what workers left this holds, told of under another name
+pub left : {J T : Type 0} (P : Worker J T → Worker J T → Type 0) (ws ws1 ws' : List (Worker J T)) → ws1 ≡ ws' → Each P ws ws1 → Each P ws ws'
+left {J} {T} P ws ws1 ws' same each = subst (λ (x : List (Worker J T)). Each P ws x) same each
+
+module _ {J T : Type 0} (desk : Desk) (P : Worker J T → Worker J T → Type 0) (keeps : (w w' : Worker J T) → P w w' → w'.pass.caller.number ≡ w.pass.caller.number) (ws ws1 ws' : List (Worker J T)) where
+  -- so their passes stay of the desk
+  pub left_passes : ArePassesOf desk ws → ws1 ≡ ws' → Each P ws ws1 → ArePassesOf desk ws'
+  left_passes of same each = still_passes desk P keeps ws ws' of (left P ws ws1 ws' same each)
+
 -- ---- feeders that are met
 
 module _ {J : Type 0} (desk : Desk) (fed : List Step) where

@@ -1,6 +1,13 @@
 use Rattle.std.proofs.Common.{◌<◌, sym, subst, rules}
-use Rattle.storm.proofs.Staging.{all_fed_met, all_scheduled, first_idle}
+use Rattle.storm.specs.inside.Stages.{HasFed}
+use Rattle.storm.proofs.Staging.{all_fed_met, all_scheduled, first_idle, left_passes}
 use Rattle.storm.proofs.stages.schedule.Goals as goal
+
+-- the feeders' passes are still of this desk
+pub finish-requires-clause-feeders : goal.finish-requires-clause-feeders
+finish-requires-clause-feeders g c κs within =
+    left_passes c.args.stage.now.desk.now (HasFed c.args.stage.now.steps.now) (λ w w' fed. fed.number) c.args.feeders.now c.join_mut.new.g.2.now _
+    c.requires.feeders (search rules) c.join_mut.ensures.1.met.1
 
 -- the feeders were met when they had ended
 pub returns-clause-fed : goal.returns-clause-fed
