@@ -1,5 +1,5 @@
 use Rattle.std.proofs.Common.{◌≡◌, ℕ, ◌+◌, ◌-◌, length, arith, sym, subst}
-use Rattle.pieces.specs.Pieces.{places_of, nodes_of}
+use Rattle.pieces.specs.Pieces.{places_of, nodes_of, ArePieces}
 use Rattle.fleet.specs.Speaking.{SpeaksFor}
 use Rattle.fleet.specs.inside.Speaking.{AreSaid}
 use Rattle.pieces.proofs.Cutting.{back_pieces, front_within}
@@ -49,3 +49,9 @@ returns-clause-are g t c =
     said_of_both g.J.Site.Says asked.pod asked.snapshot asked.pieces c.args.first many c.fill-2.new.verdicts c.collect.new.verdicts
     (omega (arith, c.requires.pieces.some, c.requires.pieces.there)) (omega (arith, c.requires.pieces.some)) c.fill-2.ensures.are
     (subst (λ n. AreSaid g.J.Site.Says asked.pod (nodes_of asked.snapshot asked.pieces (c.args.first + 1) n) c.collect.new.verdicts) kits c.collect.ensures.are)
+
+-- the only helper's piece is all of them
+pub fill-requires-clause-pieces : goal.fill-requires-clause-pieces
+fill-requires-clause-pieces g t c =
+    let asked = c.args.order.now in
+    subst (λ n. ArePieces (length asked.snapshot) asked.pieces c.args.first n (length c.args.verdicts.now)) (omega arith) c.requires.pieces

@@ -1,4 +1,4 @@
-use Rattle.std.proofs.Common.{◌∙◌, ap, subst}
+use Rattle.std.proofs.Common.{◌∙◌, ap, arith, subst}
 use Rattle.std.specs.Arc.{arc_value}
 use Rattle.choose.specs.Choice.{AreVerdicts, Choice}
 use Rattle.fleet.proofs.Collecting.{choice_is}
@@ -17,3 +17,8 @@ returns-clause-chosen g c =
 pub returns-clause-judged : goal.returns-clause-judged
 returns-clause-judged g c =
     subst (λ a. AreVerdicts (g.K.Rules.answers c.args.home.now) a.pod a.snapshot c.judge_and_collect.new.verdicts) (c.deref.ensures ∙ c.in-Ok.ensures.ok) c.judge_and_collect.ensures.are
+
+pub send_all-requires-clause-pieces : goal.send_all-requires-clause-pieces
+send_all-requires-clause-pieces g c =
+    let same = ap (λ a. a.pieces) c.in-Ok.ensures.ok in
+    omega (arith, same, c.requires.pieces, c.split_at_mut-woken.ensures.front_len)

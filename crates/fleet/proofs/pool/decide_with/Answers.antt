@@ -1,4 +1,4 @@
-use Rattle.std.proofs.Common.{◌≡◌, List, IfOk, OnOk, subst}
+use Rattle.std.proofs.Common.{◌≡◌, List, length, IfOk, OnOk, sym, ◌∙◌, ap, subst}
 use Rattle.quant.specs.declared.objects.Pod.{Pod}
 use Rattle.desk.specs.Shown.{Shown}
 use Rattle.choose.specs.Choice.{Choice, AreVerdicts}
@@ -33,3 +33,9 @@ returns-in-Ok-clause-judged g c =
     let made = c.choose_there.new.verdicts in
     as_given (λ nodes pod. OnOk c.choose_there.result (AreVerdicts kit pod nodes made)) _ _ _ _ c.snapshot.view_is c.in_ok-share.ensures
     (subst (λ a. OnOk c.choose_there.result (AreVerdicts kit a.pod a.snapshot made)) c.in-Ok.ensures.added c.choose_there.ensures.judged)
+
+pub choose_there-requires-clause-pieces : goal.choose_there-requires-clause-pieces
+choose_there-requires-clause-pieces g c = ap (λ a. a.pieces) c.in-Ok.ensures.added
+
+pub choose_there-requires-clause-places : goal.choose_there-requires-clause-places
+choose_there-requires-clause-places g c = c.requires.places ∙ sym (ap length c.snapshot.view_is) ∙ sym (ap (λ a. length a.snapshot) c.in-Ok.ensures.added)
