@@ -11,19 +11,20 @@ use Rattle.desk.specs.declared.step.Step.TheVariants.{Forget, Pop}
 use Rattle.cycle.specs.declared.one_cycle.Cycled.{Cycled}
 use Rattle.cycle.specs.CycleAlone.{AfterPopAlone, IsCycleAlone}
 use Rattle.ledger.specs.declared.event.Answer.{Answer}
-use Rattle.ledger.specs.declared.event.Answer.TheVariants.{Told, Old, Full, Granted, Shut, NotWaiting, Refused, Read}
-use Rattle.ledger.specs.declared.event.Event.TheVariants.{Bind, ListEnds, Waits}
-use Rattle.ledger.specs.declared.event.Kind.{Kind}
-use Rattle.ledger.specs.Hearing.{unnamed}
+use Rattle.ledger.specs.declared.event.Answer.TheVariants.{Told, Old, Full, Granted, Shut, NotWaiting, Refused, Read as IsToRead}
+use Rattle.ledger.specs.declared.event.Event.{Event}
+use Rattle.ledger.specs.declared.event.Event.TheVariants.{ListBegins, ListEnds, Deaf, Hears, Node, NodeGone, Waits, Withheld, Stands, Unread, Gone, Rested, Bind, Answered, Read}
 use Rattle.ledger.specs.State.{is_open}
 use Rattle.ledger.specs.Told.{IsTold}
 use Rattle.live_desk.specs.declared.live_desk.Taken.TheVariants.{Answers, LeftOut}
 use Rattle.live_desk.specs.declared.turn.Turn.{Turn}
 use Rattle.live_desk.specs.declared.turn.Turn.TheVariants as turns
 use Rattle.live_desk.specs.State.{Live, offer, steps, with_ticket}
-use Rattle.live_desk.specs.Telling.{IsPending, IsTaken, is_newest, left_out, offered_if, pending, taken_by, takes, told_if, with_ledger}
+use Rattle.live_desk.specs.Telling.{IsPending, IsTaken, is_newest, names_of, offered_if, pending, taken_by, takes, told, told_if, with_ledger}
 use Rattle.live_desk.specs.Turns.{IsAsked, IsDecided, IsTurn, IsTurnIf, Leads, asked_by, turned, with_desk}
-use Rattle.live_desk.proofs.OnlyDesk.{leave_out}
+use Rattle.live_desk.specs.declared.change.Change.{Change}
+use Rattle.live_desk.specs.inside.Change.{change_of, changed}
+use Rattle.live_desk.proofs.OnlyDesk.{tell_if}
 
 -- ---- a choice
 
@@ -56,7 +57,7 @@ module _ (s mid after : Live) (uid node : Name) (total : ℕ) (ticket : Ticket) 
   denied Shut other told mid_is is = given_up Shut told mid_is is refl
   denied NotWaiting other told mid_is is = given_up NotWaiting told mid_is is refl
   denied (Refused why) other told mid_is is = given_up (Refused why) told mid_is is refl
-  denied Read other told mid_is is = given_up Read told mid_is is refl
+  denied IsToRead other told mid_is is = given_up IsToRead told mid_is is refl
 
 -- ---- a cycle
 
@@ -98,14 +99,41 @@ module _ (s mid after : Live) (version : Version) (pod : Pod) (answer : Answer) 
     is = ap (pending (Answers answer)) (is ∙ mid_is) ∙ ap (λ b. offered_if b answer (with_ledger s mid.ledger) pod) (sym older);
   }
 
--- ---- a list that ended
+-- ---- an event
 
-pub ended : (s mid after : Live) (kind : Kind) (answer : Answer) (names : List Name) → IsTold s.ledger (ListEnds kind) answer mid.ledger → mid ≡ with_ledger s mid.ledger
-    → takes answer ≡ true → names ≡ unnamed s.ledger kind → after ≡ left_out mid kind names → IsTaken s (ListEnds kind) answer after
-ended s mid after kind answer names told mid_is took names_are is =
-    let kept = ap (λ (x : Live). x.ledger) is ∙ (leave_out mid kind names).ledger in
-    let from : mid ≡ with_ledger s after.ledger = mid_is ∙ ap (with_ledger s) (sym kept) in (
-      subst (λ known. IsTold s.ledger (ListEnds kind) answer known) (sym kept) told,
-      is ∙ ((λ i. left_out (from i) kind (names_are i))
-          ∙ ap (λ b. told_if b (with_ledger s after.ledger) (ListEnds kind) (unnamed s.ledger kind)) (sym took)),
-    )
+-- what the desk is told of it is what is changed
+told_changed : (s : Live) (event : Event) (names : List Name) → told s event names ≡ changed s (change_of event) names
+told_changed s (ListEnds kind) names = refl
+told_changed s (Node version node) names = refl
+told_changed s (NodeGone name) names = refl
+told_changed s (Withheld version uid) names = refl
+told_changed s (Stands version uid node request) names = refl
+told_changed s (Gone uid) names = refl
+told_changed s (Read uid ticket said) names = refl
+told_changed s (ListBegins kind) names = refl
+told_changed s (Deaf kind) names = refl
+told_changed s (Hears kind) names = refl
+told_changed s (Waits version uid request) names = refl
+told_changed s Unread names = refl
+told_changed s Rested names = refl
+told_changed s (Bind uid node) names = refl
+told_changed s (Answered uid ticket outcome) names = refl
+
+module _ (s mid after : Live) (event : Event) (answer : Answer) (tells : IsTold s.ledger event answer mid.ledger) (mid_is : mid ≡ with_ledger s mid.ledger) where
+  -- the ledger took it, and the desk was told
+  pub taken : (change : Change) (names : List Name) → takes answer ≡ true → names ≡ names_of s.ledger event → change ≡ change_of event
+      → after ≡ changed mid change names → IsTaken s event answer after
+  taken change names took names_are change_is is =
+      let now : after ≡ told mid event (names_of s.ledger event) =
+      is ∙ ((λ i. changed mid (change_is i) (names_are i)) ∙ sym (told_changed mid event (names_of s.ledger event))) in
+      let kept : after.ledger ≡ mid.ledger = ap (λ (x : Live). x.ledger) now ∙ (tell_if true mid event (names_of s.ledger event)).ledger in
+      let from : mid ≡ with_ledger s after.ledger = mid_is ∙ ap (with_ledger s) (sym kept) in (
+        subst (λ known. IsTold s.ledger event answer known) (sym kept) tells,
+        now ∙ ((λ i. told (from i) event (names_of s.ledger event))
+            ∙ ap (λ b. told_if b (with_ledger s after.ledger) event (names_of s.ledger event)) (sym took)),
+      )
+
+  -- it didn't take it
+  pub not_taken : takes answer ≡ false → after ≡ mid → IsTaken s event answer after
+  not_taken left same = subst (λ x. IsTaken s event answer x) (sym same)
+      (tells, mid_is ∙ ap (λ b. told_if b (with_ledger s mid.ledger) event (names_of s.ledger event)) (sym left))

@@ -10,6 +10,7 @@
 //!   are the same.
 #![tactic(auto)]
 
+mod change;
 mod laws;
 mod live_desk;
 mod offered;

@@ -5,19 +5,19 @@ ghost use Rattle.quant.specs.declared.limits.TheConstants.{LATEST_MOMENT};
 ghost use Rattle.desk.specs.Caller as caller;
 ghost use Rattle.desk.specs.Machine as machine;
 ghost use Rattle.desk.specs.declared.step.Step.TheVariants.{Count, Tick};
-ghost use Rattle.ledger.specs.declared.event.Event.TheVariants as events;
 ghost use Rattle.ledger.specs.State.{opening as ledger_opening};
-ghost use Rattle.ledger.specs.Hearing.{unnamed};
 ghost use Rattle.ledger.specs.Told.{IsTold};
 ghost use Rattle.live_desk.specs.declared.live_desk.Taken.TheVariants.{Answers, LeftOut};
 ghost use Rattle.live_desk.specs.State.{given_back, node_gone, node_set, numbered, offer, offer_new, opening, pod_bound, pod_gone, steps, ticket_of, to_place, version_of, with_ticket, without};
-ghost use Rattle.live_desk.specs.Telling.{IsPending, IsTaken, all_gone, bound_of, is_newest, left_out, place_of, put_aside, settled, takes, with_ledger};
+ghost use Rattle.live_desk.specs.Telling.{IsPending, IsTaken, all_gone, bound_of, if_unknown, is_newest, left_out, names_of, put_aside, settled, takes, with_ledger};
+ghost use Rattle.live_desk.specs.inside.Change.{changed};
 
+use crate::change::{Change, change_of};
 use crate::offered::Offered;
 use crate::same_pod::{is_same_pod, is_same_request};
 use cycle::LoneDesk;
 use desk::{Blank, Limits, Naming, NoMemory, Reply, Snapshot, Step};
-use ledger::{Answer, Event, Kind, Known, Ledger, Said, Stage};
+use ledger::{Answer, Event, Kind, Known, Ledger, Stage};
 use name_table::NameTable;
 use quant::{Event as Watched, Moment, Name, Pod, Request, SharedNode, SharedPod, Ticket, Version};
 use std::alloc::{AllocError, Global};
@@ -98,22 +98,34 @@ impl<J: Naming> LiveDesk<J> {
     pub fn end<R: Wait>(self, rt: &R) {
         let LiveDesk {
             desk,
-            ledger: _,
-            offered: _,
+            ledger,
+            offered,
             told: _,
         } = self;
+        // (dropped by calls, since what is left of a value taken apart is dear to drop)
+        drop(ledger);
+        drop(offered);
         desk.end(rt);
     }
 
     // ---- what the desk is told
 
-    // The desk takes a step.
-    pub(crate) fn step<R: Wait>(&mut self, rt: &R, step: Step) -> Result<Reply, NoMemory>
+    // The desk takes a step, and answers it.
+    fn answer_step<R: Wait>(&mut self, rt: &R, step: Step) -> Result<Reply, NoMemory>
         requires { caller.IsTimely step }
         ensures reply { IfOk result (λ reply. reply ≡ machine.reply self.old.desk 0 step) }
         ensures after { OnOk result (self.new ≡ steps self.old step) }
     {
         self.desk.apply(rt, step)
+    }
+
+    // The desk takes a step, whatever it answers.
+    pub(crate) fn step<R: Wait>(&mut self, rt: &R, step: Step) -> Result<(), NoMemory>
+        requires { caller.IsTimely step }
+        ensures { OnOk result (self.new ≡ steps self.old step) }
+    {
+        self.answer_step(rt, step)?;
+        Ok(())
     }
 
     // The number of the next event that the desk is told.
@@ -130,8 +142,7 @@ impl<J: Naming> LiveDesk<J> {
         ensures { OnOk result (self.new ≡ node_set self.old node) }
     {
         let version = self.next_version();
-        self.step(rt, Step::Event(Watched::NodeSet { version, node }))?;
-        Ok(())
+        self.step(rt, Step::Event(Watched::NodeSet { version, node }))
     }
 
     // A node is gone.
@@ -139,8 +150,7 @@ impl<J: Naming> LiveDesk<J> {
         ensures { OnOk result (self.new ≡ node_gone self.old name) }
     {
         let version = self.next_version();
-        self.step(rt, Step::Event(Watched::NodeGone { version, name }))?;
-        Ok(())
+        self.step(rt, Step::Event(Watched::NodeGone { version, name }))
     }
 
     // A pod isn't to be placed, and takes nothing.
@@ -150,8 +160,7 @@ impl<J: Naming> LiveDesk<J> {
     {
         self.withdraw(&uid);
         let version = self.next_version();
-        self.step(rt, Step::Event(Watched::PodGone { version, uid }))?;
-        Ok(())
+        self.step(rt, Step::Event(Watched::PodGone { version, uid }))
     }
 
     // A pod stands on a node, and takes so much there.
@@ -172,8 +181,7 @@ impl<J: Naming> LiveDesk<J> {
             node,
             request,
         };
-        self.step(rt, Step::Event(bound))?;
-        Ok(())
+        self.step(rt, Step::Event(bound))
     }
 
     // A pod isn't one to place any more.
@@ -195,7 +203,7 @@ impl<J: Naming> LiveDesk<J> {
         }
         let row = pod.share()?;
         let version = self.next_version();
-        let reply = self.step(rt, Step::Event(Watched::PodPending { version, pod }))?;
+        let reply = self.answer_step(rt, Step::Event(Watched::PodPending { version, pod }))?;
         if let Reply::Refused(_) = reply {
             return Ok(false);
         }
@@ -233,8 +241,7 @@ impl<J: Naming> LiveDesk<J> {
             return self.drop_pod(rt, uid);
         };
         self.set_ticket(&uid, None)?;
-        self.step(rt, Step::Forget { uid, ticket })?;
-        Ok(())
+        self.step(rt, Step::Forget { uid, ticket })
     }
 
     // What names the desk's choice of a pod's place, where a bind of it was asked for.
@@ -269,47 +276,27 @@ impl<J: Naming> LiveDesk<J> {
     pub fn tell<R: Wait>(&mut self, rt: &R, alloc: Global, event: Event) -> Result<Answer, NoMemory>
         ensures { IfOk result (λ answer. IsTaken self.old event answer self.new) }
     {
+        let names = self.names_of(alloc, &event)?;
+        let change = change_of(&event)?;
+        let answer = self.alone(event);
+        if !takes(answer) {
+            return Ok(answer);
+        }
+        self.change(rt, change, &names)?;
+        Ok(answer)
+    }
+
+    // The names that a list leaves out which ends by an event.
+    fn names_of(&self, alloc: Global, event: &Event) -> Result<Vec<Name>, NoMemory>
+        ensures { IfOk result (λ names. names.items ≡ names_of self.now.ledger event.now) }
+    {
         match event {
-            Event::ListEnds(kind) => self.list_ends(rt, alloc, kind),
-            Event::Node { version, node } => self.node(rt, version, node),
-            Event::NodeGone { name } => self.node_goes(rt, name),
-            Event::Withheld { version, uid } => self.withheld(rt, version, uid),
-            Event::Stands {
-                version,
-                uid,
-                node,
-                request,
-            } => self.stands(rt, version, uid, node, request),
-            Event::Gone { uid } => self.goes(rt, uid),
-            Event::Read { uid, ticket, said } => self.read(rt, uid, ticket, said),
-            Event::ListBegins(kind) => Ok(self.alone(Event::ListBegins(kind))),
-            Event::Deaf(kind) => Ok(self.alone(Event::Deaf(kind))),
-            Event::Hears(kind) => Ok(self.alone(Event::Hears(kind))),
-            Event::Waits {
-                version,
-                uid,
-                request,
-            } => Ok(self.alone(Event::Waits {
-                version,
-                uid,
-                request,
-            })),
-            Event::Unread => Ok(self.alone(Event::Unread)),
-            Event::Rested => Ok(self.alone(Event::Rested)),
-            Event::Bind { uid, node } => self.bind(rt, uid, node),
-            Event::Answered {
-                uid,
-                ticket,
-                outcome,
-            } => Ok(self.alone(Event::Answered {
-                uid,
-                ticket,
-                outcome,
-            })),
+            Event::ListEnds(kind) => self.ledger.unnamed(alloc, *kind),
+            _ => Ok(Vec::new(alloc)),
         }
     }
 
-    // The ledger takes an event of which the desk is told nothing.
+    // The ledger takes an event.
     pub(crate) fn alone(&mut self, event: Event) -> Answer
         ensures told { IsTold self.old.ledger event result self.new.ledger }
         ensures desk { self.new ≡ with_ledger self.old self.new.ledger }
@@ -317,24 +304,39 @@ impl<J: Naming> LiveDesk<J> {
         self.ledger.tell(event)
     }
 
-    // A list ended: what it left out goes.
-    fn list_ends<R: Wait>(&mut self, rt: &R, alloc: Global, kind: Kind) -> Result<Answer, NoMemory>
-        ensures { IfOk result (λ answer. IsTaken self.old (events.ListEnds kind) answer self.new) }
+    // The desk is told what became of an event that the ledger took, where these are the names that a
+    // list left out.
+    fn change<R: Wait>(&mut self, rt: &R, change: Change, names: &[Name]) -> Result<(), NoMemory>
+        ensures { OnOk result (self.new ≡ changed self.old change names.now) }
     {
-        let names = self.ledger.unnamed(alloc, kind)?;
-        self.end_list(rt, kind, &names)
-    }
-
-    // A list ended that left out these names.
-    fn end_list<R: Wait>(&mut self, rt: &R, kind: Kind, names: &[Name]) -> Result<Answer, NoMemory>
-        requires { names.now ≡ unnamed self.old.ledger kind }
-        ensures { IfOk result (λ answer. IsTaken self.old (events.ListEnds kind) answer self.new) }
-    {
-        let answer = self.alone(Event::ListEnds(kind));
-        if takes(answer) {
-            self.leave_out(rt, kind, names)?;
+        match change {
+            Change::Nothing => {}
+            Change::LeftOut(kind) => {
+                self.leave_out(rt, kind, names)?;
+            }
+            Change::NodeSet(node) => {
+                self.set_node(rt, node)?;
+            }
+            Change::NodeGone(name) => {
+                self.drop_node(rt, name)?;
+            }
+            Change::Withheld(uid) => {
+                self.drop_unknown(rt, uid)?;
+            }
+            Change::PodBound(uid, node, request) => {
+                self.bind_pod(rt, uid, node, request)?;
+            }
+            Change::PodGone(uid) => {
+                self.drop_pod(rt, uid)?;
+            }
+            Change::Asked(pod, there) => {
+                self.count_bound(rt, pod, there)?;
+            }
+            Change::Settled(uid, place) => {
+                self.settle(rt, uid, place)?;
+            }
         }
-        Ok(answer)
+        Ok(())
     }
 
     // The nodes or pods of these names go.
@@ -367,93 +369,14 @@ impl<J: Naming> LiveDesk<J> {
         Ok(())
     }
 
-    // A node is there.
-    fn node<R: Wait>(
-        &mut self,
-        rt: &R,
-        version: Version,
-        node: SharedNode,
-    ) -> Result<Answer, NoMemory>
-        ensures { IfOk result (λ answer. IsTaken self.old (events.Node version node) answer self.new) }
+    // A pod isn't to be bound: it goes, unless the ledger knows it still.
+    fn drop_unknown<R: Wait>(&mut self, rt: &R, uid: Name) -> Result<(), NoMemory>
+        ensures { OnOk result (self.new ≡ if_unknown self.old uid (fin.get self.old.ledger.pods uid)) }
     {
-        let row = node.share()?;
-        let answer = self.alone(Event::Node { version, node });
-        if takes(answer) {
-            self.set_node(rt, row)?;
+        if self.ledger.known(&uid).is_some() {
+            return Ok(());
         }
-        Ok(answer)
-    }
-
-    // A node is gone.
-    fn node_goes<R: Wait>(&mut self, rt: &R, name: Name) -> Result<Answer, NoMemory>
-        ensures { IfOk result (λ answer. IsTaken self.old (events.NodeGone name) answer self.new) }
-    {
-        let gone = name.copied();
-        let answer = self.alone(Event::NodeGone { name });
-        if takes(answer) {
-            self.drop_node(rt, gone)?;
-        }
-        Ok(answer)
-    }
-
-    // A pod has no node, and isn't to be bound.
-    fn withheld<R: Wait>(&mut self, rt: &R, version: Version, uid: Name) -> Result<Answer, NoMemory>
-        ensures { IfOk result (λ answer. IsTaken self.old (events.Withheld version uid) answer self.new) }
-    {
-        let pod = uid.copied();
-        let answer = self.alone(Event::Withheld { version, uid });
-        if takes(answer) && self.ledger.known(&pod).is_none() {
-            self.drop_pod(rt, pod)?;
-        }
-        Ok(answer)
-    }
-
-    // A pod has a node.
-    fn stands<R: Wait>(
-        &mut self,
-        rt: &R,
-        version: Version,
-        uid: Name,
-        node: Name,
-        request: Request,
-    ) -> Result<Answer, NoMemory>
-        ensures { IfOk result (λ answer. IsTaken self.old (events.Stands version uid node request) answer self.new) }
-    {
-        let (pod, there) = (uid.copied(), node.copied());
-        let answer = self.alone(Event::Stands {
-            version,
-            uid,
-            node,
-            request,
-        });
-        if takes(answer) {
-            self.bind_pod(rt, pod, there, request)?;
-        }
-        Ok(answer)
-    }
-
-    // A pod is gone, or takes nothing any more.
-    fn goes<R: Wait>(&mut self, rt: &R, uid: Name) -> Result<Answer, NoMemory>
-        ensures { IfOk result (λ answer. IsTaken self.old (events.Gone uid) answer self.new) }
-    {
-        let pod = uid.copied();
-        let answer = self.alone(Event::Gone { uid });
-        if takes(answer) {
-            self.drop_pod(rt, pod)?;
-        }
-        Ok(answer)
-    }
-
-    // May this pod be bound to this node, which another than the desk chose?
-    fn bind<R: Wait>(&mut self, rt: &R, uid: Name, node: Name) -> Result<Answer, NoMemory>
-        ensures { IfOk result (λ answer. IsTaken self.old (events.Bind uid node) answer self.new) }
-    {
-        let (pod, there) = (uid.copied(), node.copied());
-        let answer = self.alone(Event::Bind { uid, node });
-        if takes(answer) {
-            self.count_bound(rt, pod, there)?;
-        }
-        Ok(answer)
+        self.drop_pod(rt, uid)
     }
 
     // A bind may be asked for that the desk didn't choose: its pod counts where it may come to
@@ -470,25 +393,6 @@ impl<J: Naming> LiveDesk<J> {
             ) => self.bind_pod(rt, uid, node, request),
             _ => Ok(()),
         }
-    }
-
-    // What a read said of a pod whose bind is in doubt.
-    fn read<R: Wait>(
-        &mut self,
-        rt: &R,
-        uid: Name,
-        ticket: Ticket,
-        said: Said,
-    ) -> Result<Answer, NoMemory>
-        ensures { IfOk result (λ answer. IsTaken self.old (events.Read uid ticket said) answer self.new) }
-    {
-        let pod = uid.copied();
-        let place = place_in(&said);
-        let answer = self.alone(Event::Read { uid, ticket, said });
-        if takes(answer) {
-            self.settle(rt, pod, place)?;
-        }
-        Ok(answer)
     }
 
     // A read settled a pod's bind: where it was read to stand, if it stands, it does so at this
@@ -576,7 +480,7 @@ impl<J: Naming> LiveDesk<J> {
         ensures reply { IfOk result (λ reply. reply ≡ machine.reply self.old.desk 0 (Tick now)) }
         ensures after { OnOk result (self.new ≡ steps self.old (Tick now)) }
     {
-        self.step(rt, Step::Tick(now))
+        self.answer_step(rt, Step::Tick(now))
     }
 
     // ---- what is asked of it
@@ -610,7 +514,7 @@ impl<J: Naming> LiveDesk<J> {
         ensures reply { IfOk result (λ reply. reply ≡ machine.reply self.old.desk 0 Count) }
         ensures after { OnOk result (self.new ≡ steps self.old Count) }
     {
-        self.step(rt, Step::Count)
+        self.answer_step(rt, Step::Count)
     }
 }
 
@@ -647,14 +551,4 @@ fn takes(answer: Answer) -> bool
     ensures { result ≡ takes answer }
 {
     matches!(answer, Answer::Told | Answer::Granted(_))
-}
-
-// Where a pod was read to stand.
-fn place_in(said: &Said) -> Option<(Name, Request)>
-    ensures { result ≡ place_of said.now }
-{
-    match said {
-        Said::Stands { node, request, .. } => Some((node.copied(), *request)),
-        Said::Waits | Said::Gone => None,
-    }
 }

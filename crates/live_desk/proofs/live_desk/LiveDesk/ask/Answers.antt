@@ -9,5 +9,5 @@ returns-in-Granted g c =
 pub returns : goal.returns
 returns g c =
     let told = rw (c.copied-pod.ensures, c.copied-there.ensures) at c.alone-answer.ensures.told in
-    let given_up = rw c.copied-pod-2.ensures at c.in_ok-step.ensures.after in
+    let given_up = rw c.copied-pod-2.ensures at c.in_ok-step.ensures in
     denied _ _ _ _ _ _ _ _ c.in_default.not-Granted told c.alone-answer.ensures.desk given_up

@@ -1,0 +1,15 @@
+use Rattle.std.proofs.Common.{◌≡◌, true, false, refl, rules}
+use Rattle.live_desk.specs.Telling.{takes}
+use Rattle.live_desk.proofs.Asking.{not_taken, taken}
+use Rattle.live_desk.proofs.live_desk.LiveDesk.tell.Goals as goal
+
+pub returns-then-not-takes : goal.returns-then-not-takes
+returns-then-not-takes g c =
+    let left : takes c.alone-answer.result ≡ false = search rules in
+    not_taken _ _ _ _ _ c.alone-answer.ensures.told c.alone-answer.ensures.desk left refl
+
+pub returns : goal.returns
+returns g c =
+    let took : takes c.alone-answer.result ≡ true = search rules in
+    let names = rw c.deref.ensures.value at c.in_ok-change-2.ensures in
+    taken _ _ _ _ _ c.alone-answer.ensures.told c.alone-answer.ensures.desk _ _ took c.in_ok-names.ensures c.in_ok-change.ensures names
