@@ -1,5 +1,5 @@
 //! A desk, and the ledger that it asks.
-ghost use Rattle.std.specs.Prelude.{◌≡◌, ◌⊎◌, ◌≤◌, None, OnOk, IfOk, IfErr, if◌then◌else◌, replicate};
+ghost use Rattle.std.specs.Prelude.{◌≡◌, ◌⊎◌, ◌≤◌, None, OnOk, IfOk, IfErr, replicate};
 ghost use Rattle.std.specs.FinMap as fin;
 ghost use Rattle.quant.specs.declared.limits.TheConstants.{LATEST_MOMENT};
 ghost use Rattle.desk.specs.Caller as caller;
@@ -7,9 +7,8 @@ ghost use Rattle.desk.specs.Machine as machine;
 ghost use Rattle.desk.specs.declared.step.Step.TheVariants.{Count, Tick};
 ghost use Rattle.ledger.specs.State.{opening as ledger_opening};
 ghost use Rattle.ledger.specs.Told.{IsTold};
-ghost use Rattle.live_desk.specs.declared.live_desk.Taken.TheVariants.{Answers, LeftOut};
 ghost use Rattle.live_desk.specs.State.{given_back, node_gone, node_set, numbered, offer, offer_new, opening, pod_bound, pod_gone, steps, ticket_of, to_place, version_of, with_ticket, without};
-ghost use Rattle.live_desk.specs.Telling.{IsPending, IsTaken, all_gone, bound_of, if_unknown, is_newest, left_out, names_of, put_aside, settled, takes, with_ledger};
+ghost use Rattle.live_desk.specs.Telling.{IsPending, IsTaken, bound_of, if_unknown, is_newest, left_out, names_of, put_aside, settled, takes, with_ledger};
 ghost use Rattle.live_desk.specs.inside.Change.{changed};
 
 use crate::change::{Change, change_of};
@@ -310,61 +309,33 @@ impl<J: Naming> LiveDesk<J> {
         ensures { OnOk result (self.new ≡ changed self.old change names.now) }
     {
         match change {
-            Change::Nothing => {}
+            Change::Nothing => Ok(()),
             Change::LeftOut(kind) => {
                 self.leave_out(rt, kind, names)?;
+                Ok(())
             }
-            Change::NodeSet(node) => {
-                self.set_node(rt, node)?;
-            }
-            Change::NodeGone(name) => {
-                self.drop_node(rt, name)?;
-            }
-            Change::Withheld(uid) => {
-                self.drop_unknown(rt, uid)?;
-            }
-            Change::PodBound(uid, node, request) => {
-                self.bind_pod(rt, uid, node, request)?;
-            }
-            Change::PodGone(uid) => {
-                self.drop_pod(rt, uid)?;
-            }
+            Change::NodeSet(node) => self.set_node(rt, node),
+            Change::NodeGone(name) => self.drop_node(rt, name),
+            Change::Withheld(uid) => self.drop_unknown(rt, uid),
+            Change::PodBound(uid, node, request) => self.bind_pod(rt, uid, node, request),
+            Change::PodGone(uid) => self.drop_pod(rt, uid),
             Change::Asked(pod, there) => {
                 self.count_bound(rt, pod, there)?;
+                Ok(())
             }
-            Change::Settled(uid, place) => {
-                self.settle(rt, uid, place)?;
-            }
+            Change::Settled(uid, place) => self.settle(rt, uid, place),
         }
-        Ok(())
     }
 
     // The nodes or pods of these names go.
     fn leave_out<R: Wait>(&mut self, rt: &R, kind: Kind, names: &[Name]) -> Result<(), NoMemory>
         ensures { OnOk result (self.new ≡ left_out self.old kind names.now) }
     {
-        match kind {
-            Kind::Nodes => self.drop_nodes(rt, names),
-            Kind::Pods => self.drop_pods(rt, names),
-        }
-    }
-
-    // The nodes of these names go.
-    fn drop_nodes<R: Wait>(&mut self, rt: &R, names: &[Name]) -> Result<(), NoMemory>
-        ensures { OnOk result (self.new ≡ all_gone self.old node_gone names.now) }
-    {
         for name in names {
-            self.drop_node(rt, name.copied())?;
-        }
-        Ok(())
-    }
-
-    // The pods of these uids go.
-    fn drop_pods<R: Wait>(&mut self, rt: &R, uids: &[Name]) -> Result<(), NoMemory>
-        ensures { OnOk result (self.new ≡ all_gone self.old pod_gone uids.now) }
-    {
-        for uid in uids {
-            self.drop_pod(rt, uid.copied())?;
+            match kind {
+                Kind::Nodes => self.drop_node(rt, name.copied())?,
+                Kind::Pods => self.drop_pod(rt, name.copied())?,
+            }
         }
         Ok(())
     }
@@ -435,8 +406,10 @@ impl<J: Naming> LiveDesk<J> {
         if !self.is_newest(version, &pod) {
             return Ok(Taken::Answers(answer));
         }
-        let is_there = self.offer(rt, pod)?;
-        Ok(taken_by(answer, is_there))
+        if !self.offer(rt, pod)? {
+            return Ok(Taken::LeftOut);
+        }
+        Ok(Taken::Answers(answer))
     }
 
     // Whether this is the newest that was told of a pod that waits, and asks for what it was told to
@@ -533,17 +506,6 @@ fn tables(
     let offered = NameTable::new(alloc, keys, limits.queued)?;
     let ledger = Ledger::new(alloc, keys, limits, known)?;
     Ok((ledger, offered))
-}
-
-// What is answered of a pod that the desk has to place, or hasn't.
-fn taken_by(answer: Answer, is_there: bool) -> Taken
-    ensures { result ≡ (if is_there then Answers answer else LeftOut) }
-{
-    if is_there {
-        Taken::Answers(answer)
-    } else {
-        Taken::LeftOut
-    }
 }
 
 // Whether what was told was taken, or a bind may be asked for.
