@@ -224,7 +224,7 @@ fn cycled_text(alloc: Global, named: &[NamedRule], came: &Cycled) -> Result<Vec<
 }
 
 // That the ledger doesn't allow a bind.
-#[tactic(auto, unfolding(crate::specs::Answer::turn_text))]
+#[tactic(auto, unfolding(crate::specs::Answer::turn_text, crate::specs::Answer::answer_text))]
 fn denied_text(
     alloc: Global,
     uid: &Name,
@@ -233,14 +233,14 @@ fn denied_text(
 ) -> Result<Vec<u8>, AllocError>
     ensures { IfOk result (λ text. text.items ≡ turn_text [] (turns.Denied uid.now node.now answer)) }
 {
-    let why = answer_text(alloc, answer)?;
     let mut text = Vec::new(alloc);
     text.extend_from_slice(b"denied ")?;
     text.extend_from_slice(uid.as_bytes())?;
     text.extend_from_slice(b" on ")?;
     text.extend_from_slice(node.as_bytes())?;
     text.extend_from_slice(b" ")?;
-    text.extend_from_slice(&why)?;
+    push_word(&mut text, answer)?;
+    text.extend_from_slice(b"\n")?;
     Ok(text)
 }
 

@@ -134,10 +134,10 @@ fn lines_with_room<J: Naming, T: Wait + Threads + Sync, D: Decider, R: Source, W
         (use_of R.remaining R.failure_count source.old source.new)
         (use_of W.written W.failure_count out.old out.new) result }
 {
-    let mut waits = Vec::new(alloc);
     let mut line = Vec::with_capacity(alloc, MAX_KEPT)?;
     let mut reader = LineReader::new(alloc)?;
-    answer_lines(
+    let mut waits = Vec::new(alloc);
+    let done = answer_lines(
         rt,
         alloc,
         site,
@@ -149,7 +149,10 @@ fn lines_with_room<J: Naming, T: Wait + Threads + Sync, D: Decider, R: Source, W
         &mut waits,
         source,
         out,
-    )
+    );
+    // (dropped by a call, whose proof stands elsewhere)
+    drop(reader);
+    done
 }
 
 // Answers the lines of a source by a desk and a ledger to which nothing was told, with a reader of
@@ -199,7 +202,9 @@ fn flush_if<W: Sink>(due: bool, waits: &mut Vec<u8>, out: &mut W) -> Result<(), 
     if !due {
         return Ok(());
     }
-    write_all(out, waits).map_err(|_| RunFault::Write)?;
+    if write_all(out, waits).is_err() {
+        return Err(RunFault::Write);
+    }
     waits.clear();
     Ok(())
 }

@@ -31,7 +31,10 @@ fn name_at(object: &Value, field: Field) -> Result<Name, Field>
     ensures { result ≡ name_at field (view object.now) }
 {
     let text = text_at(object, field)?;
-    Name::new(text.as_bytes()).map_err(|_| field)
+    match Name::new(text.as_bytes()) {
+        Ok(name) => Ok(name),
+        Err(_) => Err(field),
+    }
 }
 
 // The ticket of a bind.
