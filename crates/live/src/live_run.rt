@@ -1,5 +1,5 @@
 //! A cluster that is told line by line, and decided of, with the answers written.
-ghost use Rattle.std.specs.Prelude.{◌≡◌, ◌⊎◌, ◌^◌, ◌<◌, ◌++◌, [], vec_len, None, Some, IsTrue, IfOk, IfErr, OnOk, OnErr};
+ghost use Rattle.std.specs.Prelude.{◌≡◌, ◌⊎◌, ◌^◌, ◌<◌, ◌++◌, [], vec_len, None, Some, Ok, IsTrue, IfOk, IfErr, OnOk, OnErr};
 ghost use Rattle.std.specs.Io.KnownBytes.{Appends};
 ghost use Rattle.streams.specs.Device.{AppendsFront, use_of};
 ghost use Rattle.streams.specs.Greatest.{limits};
@@ -29,7 +29,7 @@ use live_lines::{Meaning, Meant, meaning_of};
 use objects::{MAX_OBJECT, Site};
 use output_lines::NamedRule;
 use quant::{Name, SharedPod};
-use std::alloc::Global;
+use std::alloc::{AllocError, Global};
 use std::hash::RandomState;
 use std::marker::Brand;
 use std::sync::Wait;
@@ -274,29 +274,37 @@ fn answer_meant<J: Naming, T: Wait + Threads + Sync, D: Decider>(
         Meaning::Tells(event) => {
             let is_withheld = is_withheld(&event);
             let answer = live.tell(rt, alloc, event)?;
-            Ok(told_text(alloc, is_withheld, answer, reasons)?)
+            spelled(told_text(alloc, is_withheld, answer, reasons))
         }
         Meaning::Pending(version, pod) => {
             let taken = live.pending(rt, version, pod)?;
-            Ok(taken_text(alloc, taken, reasons)?)
+            spelled(taken_text(alloc, taken, reasons))
         }
         Meaning::Aside(uid) => {
             let was_there = live.put_aside(rt, uid)?;
-            Ok(aside_text(alloc, was_there)?)
+            spelled(aside_text(alloc, was_there))
         }
         Meaning::Tick(now) => {
             let reply = live.tick(rt, now)?;
-            Ok(tick_text(alloc, reply)?)
+            spelled(tick_text(alloc, reply))
         }
         Meaning::Cycle => {
             let turn = live.cycle(rt, decider)?;
-            Ok(turn_text(alloc, named, turn)?)
+            spelled(turn_text(alloc, named, turn))
         }
         Meaning::Explain(uid) => explain(rt, alloc, named, decider, live, &uid),
         Meaning::Dump => dump(rt, alloc, live),
-        Meaning::Nothing => Ok(nothing_text(alloc, reasons)?),
-        Meaning::Faulty(field) => Ok(faulty_text(alloc, field)?),
+        Meaning::Nothing => spelled(nothing_text(alloc, reasons)),
+        Meaning::Faulty(field) => spelled(faulty_text(alloc, field)),
     }
+}
+
+// A text, where there was memory for it.
+fn spelled(text: Result<Vec<u8>, AllocError>) -> Result<Vec<u8>, RunFault>
+    ensures text { IfOk result (λ it. text ≡ Ok it) }
+    ensures refused { IfErr result (λ fault. fault ≡ run_fault.NoMemory) }
+{
+    Ok(text?)
 }
 
 // What is said of each node for a pod, where it is to be placed. That changes nothing.
@@ -316,7 +324,7 @@ fn explain<J: Naming, T: Wait + Threads + Sync, D: Decider>(
 {
     match live.to_place(uid)? {
         Some(pod) => explain_pod(rt, alloc, named, decider, live, &pod, uid),
-        None => Ok(answer_text(alloc, Answer::NotWaiting)?),
+        None => spelled(answer_text(alloc, Answer::NotWaiting)),
     }
 }
 
@@ -355,5 +363,5 @@ fn dump<J: Naming, T: Wait>(
 {
     let nodes = live.look()?;
     let reply = live.count(rt)?;
-    Ok(dump_text(alloc, &nodes, reply)?)
+    spelled(dump_text(alloc, &nodes, reply))
 }
