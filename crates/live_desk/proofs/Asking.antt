@@ -1,13 +1,18 @@
 -- What becomes of a choice, by the ledger's answer, and of a pod that waits.
-use Rattle.std.proofs.Common.{◌≡◌, ◌≢◌, ◌∙◌, ℕ, Bool, true, false, List, Option, Some, if◌then◌else◌, refl, sym, subst, ap}
-use Rattle.std.specs.FinMap.{get}
+use Rattle.std.proofs.Common.{◌≡◌, ◌≢◌, ◌∙◌, ℕ, Bool, true, false, List, Option, Some, None, if◌then◌else◌, refl, sym, subst, ap}
+use Rattle.std.specs.FinMap.{get, insert}
 use Rattle.quant.specs.declared.name.Name.{Name}
 use Rattle.quant.specs.declared.objects.Pod.{Pod}
 use Rattle.quant.specs.declared.version.Ticket.{Ticket}
 use Rattle.quant.specs.declared.version.Version.{Version}
 use Rattle.rules.specs.RuleSet.{RuleSet}
+use Rattle.quant.specs.declared.event.Event.TheVariants.{PodPending}
+use Rattle.book.specs.declared.refusal.Refusal.{Refusal}
+use Rattle.desk.specs.Machine as machine
 use Rattle.desk.specs.Machine.{State, after, first_pod}
-use Rattle.desk.specs.declared.step.Step.TheVariants.{Forget, Pop}
+use Rattle.desk.specs.declared.step.Reply.{Reply}
+use Rattle.desk.specs.declared.step.Reply.TheVariants as replies
+use Rattle.desk.specs.declared.step.Step.TheVariants.{Event as TellsEvent, Forget, Pop}
 use Rattle.cycle.specs.declared.one_cycle.Cycled.{Cycled}
 use Rattle.cycle.specs.CycleAlone.{AfterPopAlone, IsCycleAlone}
 use Rattle.ledger.specs.declared.event.Answer.{Answer}
@@ -19,7 +24,7 @@ use Rattle.ledger.specs.Told.{IsTold}
 use Rattle.live_desk.specs.declared.live_desk.Taken.TheVariants.{Answers, LeftOut}
 use Rattle.live_desk.specs.declared.turn.Turn.{Turn}
 use Rattle.live_desk.specs.declared.turn.Turn.TheVariants as turns
-use Rattle.live_desk.specs.State.{Live, offer, steps, with_ticket}
+use Rattle.live_desk.specs.State.{Live, has_room, numbered, offer, offer_new, offered_by, pending as asks, steps, tells, version_of, with_ticket}
 use Rattle.live_desk.specs.Telling.{IsPending, IsTaken, is_newest, names_of, offered_if, pending, taken_by, takes, told, told_if, with_ledger}
 use Rattle.live_desk.specs.Turns.{IsAsked, IsDecided, IsTurn, IsTurnIf, Leads, asked_by, turned, with_desk}
 use Rattle.live_desk.specs.declared.change.Change.{Change}
@@ -137,3 +142,33 @@ module _ (s mid after : Live) (event : Event) (answer : Answer) (tells : IsTold 
   pub not_taken : takes answer ≡ false → after ≡ mid → IsTaken s event answer after
   not_taken left same = subst (λ x. IsTaken s event answer x) (sym same)
       (tells, mid_is ∙ ap (λ b. told_if b (with_ledger s mid.ledger) event (names_of s.ledger event)) (sym left))
+
+-- ---- a pod to place
+
+there_by : (reply : Reply) (s : Live) (pod : Pod) → ((why : Refusal) → reply ≢ replies.Refused why)
+    → record { is_there = true; state = record s { offered = insert s.offered pod.uid (record { pod = pod; ticket = None }) } } ≡ offered_by reply s pod
+there_by (replies.Refused why) s pod other = absurd (other why refl)
+there_by replies.Done s pod other = refl
+there_by replies.Idle s pod other = refl
+there_by (replies.Popped popped) s pod other = refl
+there_by (replies.Ticket ticket) s pod other = refl
+there_by (replies.Counts counts) s pod other = refl
+
+module _ (s mid after : Live) (version : Version) (pod : Pod) (reply : Reply) (room : has_room s ≡ true) (mid_is : mid ≡ numbered s) (version_is : version ≡ version_of mid)
+    (reply_is : reply ≡ machine.reply mid.desk 0 (TellsEvent (PodPending version pod))) (after_is : after ≡ steps mid (TellsEvent (PodPending version pod))) where
+  new_by : offered_by reply after pod ≡ offer_new s pod
+  new_by =
+      let asked : version ≡ version_of (numbered s) = version_is ∙ ap version_of mid_is in
+      let replied : reply ≡ machine.reply s.desk 0 (asks s pod) = reply_is ∙ (λ i. machine.reply (mid_is i).desk 0 (TellsEvent (PodPending (asked i) pod))) in
+      let told : after ≡ tells s (λ version. PodPending version pod) = after_is ∙ (λ i. steps (mid_is i) (TellsEvent (PodPending (asked i) pod))) in
+      (λ i. offered_by (replied i) (told i) pod)
+      ∙ ap (λ b. if b then offered_by (machine.reply s.desk 0 (asks s pod)) (tells s (λ version. PodPending version pod)) pod else record { is_there = false; state = s }) (sym room)
+
+  -- the desk refused it
+  pub refused : (why : Refusal) → reply ≡ replies.Refused why → record { is_there = false; state = after } ≡ offer_new s pod
+  refused why is = ap (λ r. offered_by r after pod) (sym is) ∙ new_by
+
+  -- it has it to place
+  pub accepted : (last : Live) → ((why : Refusal) → reply ≢ replies.Refused why) → last ≡ record after { offered = insert after.offered pod.uid (record { pod = pod; ticket = None }) }
+      → record { is_there = true; state = last } ≡ offer_new s pod
+  accepted last other is = ap (λ x. record { is_there = true; state = x }) is ∙ (there_by reply after pod other ∙ new_by)
