@@ -1,6 +1,6 @@
 //! The state of a desk, and each step on it. It has one owner: what passes share it by is a lock,
 //! and a board for looks.
-ghost use Rattle.std.specs.Prelude.{◌≡◌, ◌≤◌, ◌<◌, ◌+◌, ℕ, map, IfOk, IfSome, IsErr, IsSome, MatchResult, slice_index};
+ghost use Rattle.std.specs.Prelude.{◌≡◌, ◌≢◌, ◌≤◌, ◌<◌, ◌+◌, ℕ, map, IfOk, IfSome, IsErr, IsSome, MatchResult, slice_index};
 ghost use Rattle.std.specs.Bool.{IsTrue};
 ghost use Rattle.book.specs.Expiry.{any_expired, without_expired};
 ghost use Rattle.desk.specs.Machine.{after_expiry};
@@ -63,14 +63,20 @@ impl Core {
         ensures { IfOk result (λ core. core ≡ new_core limits) }
     {
         let book = Book::new(alloc, keys, limits)?;
-        let queue = Queue::new(alloc, keys, limits.queued)?;
-        Ok(Core {
-            alloc,
-            book,
-            queue,
-            clock: Moment(0),
-            calls: [0; MAX_PASSES],
-        })
+        match Queue::new(alloc, keys, limits.queued) {
+            Ok(queue) => Ok(Core {
+                alloc,
+                book,
+                queue,
+                clock: Moment(0),
+                calls: [0; MAX_PASSES],
+            }),
+            Err(failed) => {
+                // (dropped by a call, whose proof stands elsewhere)
+                drop(book);
+                Err(NoMemory::from(failed))
+            }
+        }
     }
 
     // A node's row is set, and there is a move.
@@ -258,24 +264,43 @@ impl Core {
     {
         match step {
             Step::Pop => self.pop(pass, first),
-            Step::Event(Event::NodeSet { version, node }) => said(self.set_node(version, node)),
-            Step::Event(Event::NodeGone { version, name }) => said(self.drop_node(version, &name)),
-            Step::Event(Event::PodPending { version, pod }) => said(self.add_pod(version, pod)),
-            Step::Event(
-                Event::PodBound {
-                    version,
-                    uid,
-                    node,
-                    request,
-                },
-            ) => said(self.bind_pod(version, uid, node, request)),
-            Step::Event(Event::PodGone { version, uid }) => said(self.drop_pod(version, &uid)),
-            Step::Assume { uid, node } => said(self.assume(pass, uid, node)),
-            Step::BindDone { uid, ticket } => said(self.finish_bind(&uid, ticket)),
-            Step::Forget { uid, ticket } => said(self.forget(&uid, ticket)),
-            Step::Fail { uid, how } => said(self.fail(pass, uid, how)),
-            Step::Tick(now) => said(self.tick(now)),
-            Step::Count => Reply::Counts(self.counts()),
+            other => said(self.take_step(pass, other)),
+        }
+    }
+
+    // Does a step for a pass that hands out no pod, or refuses it. No call is counted.
+    fn take_step(&mut self, pass: usize, asked: Step) -> Result<Reply, Refusal>
+        requires timely { IsTimely asked }
+        requires other { asked ≢ Step.Pop }
+        ensures { IsDone self.old (step self.old.state pass asked) result self.new }
+    {
+        match asked {
+            Step::Event(event) => self.take_event(event),
+            Step::Assume { uid, node } => self.assume(pass, uid, node),
+            Step::BindDone { uid, ticket } => self.finish_bind(&uid, ticket),
+            Step::Forget { uid, ticket } => self.forget(&uid, ticket),
+            Step::Fail { uid, how } => self.fail(pass, uid, how),
+            Step::Tick(now) => self.tick(now),
+            Step::Count => Ok(Reply::Counts(self.counts())),
+            Step::Pop => unreachable!(),
+        }
+    }
+
+    // Takes what the watch tells, or refuses it.
+    fn take_event(&mut self, event: Event) -> Result<Reply, Refusal>
+        ensures { IsDone self.old (step self.old.state 0 (Step.Event event)) result self.new }
+    {
+        match event {
+            Event::NodeSet { version, node } => self.set_node(version, node),
+            Event::NodeGone { version, name } => self.drop_node(version, &name),
+            Event::PodPending { version, pod } => self.add_pod(version, pod),
+            Event::PodBound {
+                version,
+                uid,
+                node,
+                request,
+            } => self.bind_pod(version, uid, node, request),
+            Event::PodGone { version, uid } => self.drop_pod(version, &uid),
         }
     }
 
