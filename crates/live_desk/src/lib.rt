@@ -4,8 +4,8 @@
 //! and says which bind may be asked for. The desk decides, by what the ledger took: a line that the
 //! ledger finds old, or has no room for, is none for the desk either.
 //!
-//! - `live_desk` has both, and what of the one is told the other; `turn` is a cycle, whose choice is
-//!   asked of the ledger before anyone is told of it.
+//! - `live_desk` has both, and `change` is what of the one is told the other; `turn` is a cycle, whose
+//!   choice is asked of the ledger before anyone is told of it.
 //! - `offered` is which pods the desk has to place, and by which rows; `same_pod` says when two rows
 //!   are the same.
 #![tactic(auto)]
