@@ -10,7 +10,8 @@ pub mod Lines
 pub mod Added
 pub mod Lengths
 pub mod Parsed
-pub mod Beside
+pub mod OkIs
+pub mod Sayings
 pub mod OneLine
 pub mod Requests
 pub mod Standing

@@ -1,4 +1,4 @@
--- What is left out is named in texts of JSON.
+-- What is left out is named in texts of JSON, and a line can say what is told.
 use Rattle.std.proofs.Common.{◌≡◌, ℕ, zero, suc, ◌+◌, ◌*◌, ◌≤◌, ◌==◌, nat_le, nat_lt, Bool, true, false, cond, ◌||◌, not, ◌&&◌, List, [], ◌∷◌, ◌++◌, take, drop, codes, decimal, length, bytes_eq, is_some, flat_map, Option, Some, None, option_and_then, Result, Ok, Err, IfOk, refl, sym, ap, ◌∙◌, arith, append-nil, append_assoc, length-append, leb-true, lit≤}
 use Rattle.std.proofs.lemmas.Bool.{and_parts, and_from, le-leb}
 use Rattle.std.proofs.lemmas.List.{length-take, length-drop}
@@ -14,7 +14,6 @@ use Rattle.quant.specs.declared.version.Version.{Version}
 use Rattle.quant.specs.declared.amount.Request.{Request}
 use Rattle.quant.specs.declared.event.Event.{Event}
 use Rattle.quant.specs.declared.event.Event.TheVariants.{NodeSet, PodPending}
-use Rattle.quant.specs.declared.limits.TheConstants.{MAX_LABELS}
 use Rattle.quant.specs.declared.objects.Label.{Label}
 use Rattle.quant.specs.declared.taint.Toleration.{Toleration}
 use Rattle.objects.specs.declared.change.Change.{Change}
@@ -36,7 +35,12 @@ use Rattle.objects.specs.NodeRow.{node_parts, node_row}
 use Rattle.objects.specs.Demands.{each_item, array_gives, affinity, asks_spread, is_read_affinity, is_nothing, is_known, other_field, other_fields, fields_of, free, free_or_claimed, is_tied, volume, node_port, host_port, is_reckoned, other_resource, other_resources, object_gives, resources_of, container, containers, placement, demands, wishes}
 use Rattle.objects.specs.PodRow.{pod_parts, toleration_of, tolerations_of, pod_row}
 use Rattle.objects.specs.Site.{Site, Telling, telling}
-use Rattle.objects.specs.Told.{Told, saying, name_of, gone_by, gone_told, gone_if, row_told, scheduler_of, kept_back, waiting_by, waiting_told, placed_told, has_ended, node_name, by_node, pod_told, there_told, by_change, kind_told, kind_of, by_kind, object_told, change_of, is_bookmark, changed_told, event_told, value_told, is_blank, parsed, line_told, told_or_uncounted, told}
+use Rattle.objects.specs.Told.{Told, saying, name_of, gone, gone_by, gone_told, event_if, gone_if, row_told, scheduler_of, kept_back, waiting_by, waiting_told, placed_told, has_ended, node_name, by_node, pod_told, there_told, by_change, kind_told, kind_of, by_kind, object_told, change_of, is_bookmark, changed_told, event_told, value_told, is_blank, parsed, line_told, told_or_uncounted, told}
+use Rattle.objects.specs.Sayable.{IsVersion}
+use Rattle.objects.specs.inside.Events.{IsNodeRow, IsPodRow, IsSayable}
+use Rattle.objects.specs.inside.Said.{IsSaid}
+use Rattle.objects.proofs.OkIs.{OkIs, bind_ok, last_ok, no_ok, bind_with, either_is, tested}
+use Rattle.objects.proofs.Sayings.{name_of_said, node_row_said, pod_row_said}
 use Rattle.objects.specs.Shown.{stands_for_itself, in_marks, is_short, AreTexts, NamesAreTexts}
 
 -- what keeps texts texts
@@ -269,26 +273,6 @@ tolerations_texts kept (item d rest) h =
     let key = spelled (codes "key") d in
     tolerations_texts (with_item (codes "toleration of ") key kept found) rest (item_texts (codes "toleration of ") key kept found refl h)
 
--- what is read, where it is, passes
-record OkIs {B : Type 0} (P : B → Type 0) (r : Result B Fault) : Type 0 where
-  is : IfOk r P
-
-bind_ok : {A B : Type 0} {P : B → Type 0} (r : Result A Fault) (f : A → Result B Fault) → ((x : A) → OkIs P (f x)) → OkIs P (r >>= f)
-bind_ok (Ok x) f h = h x
-bind_ok (Err e) f h = record { is = tt }
-
-last_ok : {B : Type 0} {P : B → Type 0} (x : B) → P x → OkIs P (Ok x)
-last_ok x h = record { is = h }
-
-bind_with : {A B : Type 0} {Q : A → Type 0} {P : B → Type 0} (r : Result A Fault) (f : A → Result B Fault) → OkIs Q r
-    → ((x : A) → Q x → OkIs P (f x)) → OkIs P (r >>= f)
-bind_with (Ok x) f q h = h x q.is
-bind_with (Err e) f q h = record { is = tt }
-
-either_is : {B : Type 0} {P : B → Type 0} (b : Bool) (x y : Result B Fault) → OkIs P x → OkIs P y → OkIs P (cond b x y)
-either_is true x y p q = p
-either_is false x y p q = q
-
 labels_texts : (site : Site) (left : List ℕ) (found : Members) → AreTexts left → OkIs (λ kept. AreTexts kept.left_out) (row_labels site left found)
 unfolding row_labels
 labels_texts site left found h =
@@ -297,7 +281,7 @@ labels_texts site left found h =
     (bind_ok (told_labels [] beside) _ (λ told.
     bind_ok (named_labels site told found) _ (λ first.
     last_ok _ (other_labels_texts site (record { item = first; left_out = left }) found h))))
-    (record { is = tt }))
+    (no_ok (refused TooMany (codes "labels"))))
 
 node_texts : (site : Site) (json : Data) → OkIs (λ row. AreTexts row.left_out) (node_row site json)
 unfolding node_row
@@ -320,16 +304,41 @@ pod_texts site by_uid json =
     bind_with (row_labels site (wishes (is_some site.beside) spec) found) _ (labels_texts site (wishes (is_some site.beside) spec) found (wishes_texts (is_some site.beside) spec))
     (λ kept h. last_ok _ (tolerations_texts (record { item = []; left_out = kept.left_out }) tolerations h)))))))
 
--- what is told
+-- what is told is named in texts, and a line can say its event
 
-gone_texts : (kind : Kind) (version : Version) (name : Result (List ℕ) Fault) → AreTexts (gone_by kind version name).left_out
-gone_texts kind version (Ok name) = none
-gone_texts kind version (Err e) = fault e
+record IsFine (version : Version) (t : Told) : Type 0 where
+  names : AreTexts t.left_out
+  said : IsVersion version → IsSaid t.event
 
-row_texts : {A : Type 0} (event : A → Event) (how : Telling) (kind : Kind) (json : Data) (row : Result (Kept A) Fault)
-    → OkIs (λ r. AreTexts r.left_out) row → AreTexts (row_told event how kind json row).left_out
-row_texts event how kind json (Ok row) h = h.is
-row_texts event how kind json (Err e) h = fault e
+abbrev AreFine : Version → Result Told Fault → Type 0
+AreFine version found = OkIs (λ t. IsFine version t) found
+
+gone_sayable : (kind : Kind) (version : Version) (name : List ℕ) → is_name name ≡ true → IsVersion version → IsSayable (gone kind version name)
+gone_sayable Node version name h v = (v, h)
+gone_sayable Pod version name h v = (v, h)
+
+gone_fine : (kind : Kind) (version : Version) (name : Result (List ℕ) Fault) → OkIs (λ n. is_name n ≡ true) name → IsFine version (gone_by kind version name)
+gone_fine kind version (Ok name) h = record { names = none; said = gone_sayable kind version name h.is }
+gone_fine kind version (Err e) h = record { names = fault e; said = λ v. tt }
+
+event_if_said : (kind : Kind) (version : Version) (change : Change) (name : Result (List ℕ) Fault) → OkIs (λ n. is_name n ≡ true) name
+    → IsVersion version → IsSaid (event_if kind version change name)
+event_if_said kind version Changed (Ok name) h v = gone_sayable kind version name h.is v
+event_if_said kind version Changed (Err e) h v = tt
+event_if_said kind version There name h v = tt
+event_if_said kind version Gone name h v = tt
+
+gone_if_fine : (how : Telling) (kind : Kind) (json : Data) (left_out : List ℕ) → AreTexts left_out → IsFine how.version (gone_if how kind json left_out)
+gone_if_fine how kind json left_out texts = record {
+  names = texts;
+  said = event_if_said kind how.version how.change (name_of kind how.by_uid json) (name_of_said kind how.by_uid json);
+}
+
+row_fine : {A : Type 0} (P : A → Type 0) (event : A → Event) (how : Telling) (kind : Kind) (json : Data) (row : Result (Kept A) Fault)
+    → ((x : A) → P x → IsVersion how.version → IsSayable (event x)) → OkIs (λ r. P r.item) row → OkIs (λ r. AreTexts r.left_out) row
+    → IsFine how.version (row_told event how kind json row)
+row_fine P event how kind json (Ok row) sayable passes texts = record { names = texts.is; said = sayable row.item passes.is }
+row_fine P event how kind json (Err e) sayable passes texts = gone_if_fine how kind json (fault_text e) (fault e)
 
 kept_back_texts : (site : Site) (spec pod : Data) → AreTexts (kept_back site spec pod)
 unfolding kept_back
@@ -341,87 +350,99 @@ kept_back_texts site spec pod =
     (demands_texts (is_some site.beside) spec))
     (one_if (is_some (within (codes "metadata") (codes "deletionTimestamp") pod)) (codes "it is being deleted") refl)
 
-waiting_by_texts : (how : Telling) (json : Data) (kept : List ℕ) → AreTexts kept → AreTexts (waiting_by how json kept).left_out
-waiting_by_texts how json [] h =
-    row_texts (PodPending how.version) how Pod json (pod_row how.site how.by_uid json) (pod_texts how.site how.by_uid json)
-waiting_by_texts how json (x ∷ more) h = h
+waiting_by_fine : (how : Telling) (json : Data) (kept : List ℕ) → AreTexts kept → IsFine how.version (waiting_by how json kept)
+waiting_by_fine how json [] h =
+    row_fine IsPodRow (PodPending how.version) how Pod json (pod_row how.site how.by_uid json) (λ pod row v. (v, row))
+    (pod_row_said how.site how.by_uid json) (pod_texts how.site how.by_uid json)
+waiting_by_fine how json (x ∷ more) h = gone_if_fine how Pod json (x ∷ more) h
 
-waiting_texts : (how : Telling) (spec pod : Data) → AreTexts (waiting_told how spec pod).left_out
+waiting_fine : (how : Telling) (spec pod : Data) → IsFine how.version (waiting_told how spec pod)
 unfolding waiting_told
-waiting_texts how spec pod = waiting_by_texts how pod (kept_back how.site spec pod) (kept_back_texts how.site spec pod)
+waiting_fine how spec pod = waiting_by_fine how pod (kept_back how.site spec pod) (kept_back_texts how.site spec pod)
 
-abbrev OkTexts : Result Told Fault → Type 0
-OkTexts found = OkIs (λ t. AreTexts t.left_out) found
-
-placed_texts : (how : Telling) (node : List ℕ) (spec pod : Data) → OkTexts (placed_told how node spec pod)
+placed_fine : (how : Telling) (node : List ℕ) (spec pod : Data) → is_name node ≡ true → AreFine how.version (placed_told how node spec pod)
 unfolding placed_told
-placed_texts how node spec pod =
-    bind_ok (name_of Pod how.by_uid pod) _ (λ uid. bind_ok (pods.request Standing pod spec) _ (λ request.
-    last_ok _ (both (more_left_out pod spec ++ held_left_out pod spec) _
-    (both (more_left_out pod spec) (held_left_out pod spec) (more_texts pod spec) (held_texts pod spec))
-    (one_if (is_given (affinity (codes "podAntiAffinity") (codes "requiredDuringSchedulingIgnoredDuringExecution") spec)) (codes "required pod anti-affinity") refl))))
+placed_fine how node spec pod named =
+    bind_with (name_of Pod how.by_uid pod) _ (name_of_said Pod how.by_uid pod) (λ uid u.
+    bind_ok (pods.request Standing pod spec) _ (λ request.
+    last_ok _ (record {
+      names = both (more_left_out pod spec ++ held_left_out pod spec) _
+      (both (more_left_out pod spec) (held_left_out pod spec) (more_texts pod spec) (held_texts pod spec))
+      (one_if (is_given (affinity (codes "podAntiAffinity") (codes "requiredDuringSchedulingIgnoredDuringExecution") spec)) (codes "required pod anti-affinity") refl);
+      said = λ v. (v, u, named);
+    })))
 
-node_name_texts : (how : Telling) (spec pod : Data) (node : List ℕ) → OkTexts (by_node how spec pod node)
-node_name_texts how spec pod [] = last_ok _ (waiting_texts how spec pod)
-node_name_texts how spec pod (x ∷ more) =
+by_node_fine : (how : Telling) (spec pod : Data) (node : List ℕ) → AreFine how.version (by_node how spec pod node)
+by_node_fine how spec pod [] = last_ok _ (waiting_fine how spec pod)
+by_node_fine how spec pod (x ∷ more) =
     let node = x ∷ more in
-    either_is (is_name node) (placed_told how node spec pod) (Ok (gone_if how Pod pod (left_out (codes "node ") node)))
-    (placed_texts how node spec pod) (last_ok _ (one (codes "node ") node refl))
+    tested (is_name node) (placed_told how node spec pod) (Ok (gone_if how Pod pod (left_out (codes "node ") node)))
+    (λ named. placed_fine how node spec pod named) (last_ok _ (gone_if_fine how Pod pod (left_out (codes "node ") node) (one (codes "node ") node refl)))
 
-pod_told_texts : (how : Telling) (json : Data) → OkTexts (pod_told how json)
+pod_told_fine : (how : Telling) (json : Data) → AreFine how.version (pod_told how json)
 unfolding pod_told
-pod_told_texts how json =
-    either_is (has_ended json) (Ok (gone_if how Pod json [])) _ (last_ok _ none)
-    (bind_ok (part_of (codes "spec") json) _ (λ spec. bind_ok (node_name spec) _ (λ node. node_name_texts how spec json node)))
+pod_told_fine how json =
+    either_is (has_ended json) (Ok (gone_if how Pod json [])) _ (last_ok _ (gone_if_fine how Pod json [] none))
+    (bind_ok (part_of (codes "spec") json) _ (λ spec. bind_ok (node_name spec) _ (λ node. by_node_fine how spec json node)))
 
-there_texts : (how : Telling) (kind : Kind) (json : Data) → OkTexts (there_told how kind json)
-there_texts how Node json = last_ok _ (row_texts (NodeSet how.version) how Node json (node_row how.site json) (node_texts how.site json))
-there_texts how Pod json = pod_told_texts how json
+there_fine : (how : Telling) (kind : Kind) (json : Data) → AreFine how.version (there_told how kind json)
+there_fine how Node json =
+    last_ok _ (row_fine IsNodeRow (NodeSet how.version) how Node json (node_row how.site json) (λ node row v. (v, row)) (node_row_said how.site json) (node_texts how.site json))
+there_fine how Pod json = pod_told_fine how json
 
-change_texts : (change : Change) (gone there : Result Told Fault) → OkTexts gone → OkTexts there → OkTexts (by_change change gone there)
-change_texts Gone gone there p q = p
-change_texts There gone there p q = q
-change_texts Changed gone there p q = q
+change_fine : (version : Version) (change : Change) (gone there : Result Told Fault) → AreFine version gone → AreFine version there
+    → AreFine version (by_change change gone there)
+change_fine version Gone gone there p q = p
+change_fine version There gone there p q = q
+change_fine version Changed gone there p q = q
 
-kind_texts : (how : Telling) (json : Data) (kind : Option Kind) → OkTexts (by_kind how json kind)
+by_kind_fine : (how : Telling) (json : Data) (kind : Option Kind) → AreFine how.version (by_kind how json kind)
 unfolding kind_told
-kind_texts how json (Some kind) =
-    change_texts how.change (Ok (gone_told how kind json)) (there_told how kind json)
-    (last_ok _ (gone_texts kind how.version (name_of kind how.by_uid json))) (there_texts how kind json)
-kind_texts how json None =
-    either_is (is_some (field (codes "items") json)) (Err (refused IsList [])) (Ok (saying None (left_out (codes "an object of the kind ") (spelled (codes "kind") json))))
-    (record { is = tt }) (last_ok _ (one (codes "an object of the kind ") (spelled (codes "kind") json) refl))
+by_kind_fine how json (Some kind) =
+    change_fine how.version how.change (Ok (gone_told how kind json)) (there_told how kind json)
+    (last_ok _ (gone_fine kind how.version (name_of kind how.by_uid json) (name_of_said kind how.by_uid json))) (there_fine how kind json)
+by_kind_fine how json None =
+    let other = left_out (codes "an object of the kind ") (spelled (codes "kind") json) in
+    either_is (is_some (field (codes "items") json)) (Err (refused IsList [])) (Ok (saying None other)) (no_ok (refused IsList []))
+    (last_ok _ (record { names = one (codes "an object of the kind ") (spelled (codes "kind") json) refl; said = λ v. tt }))
 
-object_told_texts : (how : Telling) (json : Data) → OkTexts (object_told how json)
+object_fine : (how : Telling) (json : Data) → AreFine how.version (object_told how json)
 unfolding object_told
-object_told_texts how json = bind_ok (kind_of json) (by_kind how json) (λ kind. kind_texts how json kind)
+object_fine how json = bind_ok (kind_of json) (by_kind how json) (λ kind. by_kind_fine how json kind)
 
-changed_texts : (how : Change → Telling) (type : List ℕ) (json : Data) (change : Option Change) → OkTexts (changed_told how type json change)
-changed_texts how type json None = either_is (is_bookmark type) (Ok (saying None [])) (Err (refused UnknownEvent [])) (last_ok _ none) (record { is = tt })
-changed_texts how type json (Some change) = object_told_texts (how change) json
+changed_fine : (site : Site) (by_uid : Bool) (version : Version) (type : List ℕ) (json : Data) (change : Option Change)
+    → AreFine version (changed_told (telling site by_uid version) type json change)
+changed_fine site by_uid version type json None =
+    either_is (is_bookmark type) (Ok (saying None [])) (Err (refused UnknownEvent [])) (last_ok _ (record { names = none; said = λ v. tt })) (no_ok (refused UnknownEvent []))
+changed_fine site by_uid version type json (Some change) = object_fine (telling site by_uid version change) json
 
-event_texts : (how : Change → Telling) (json : Data) (held : Option Data) → OkTexts (event_told how json held)
-event_texts how json None = object_told_texts (how There) json
-event_texts how json (Some held) = changed_texts how (spelled (codes "type") json) held (change_of (spelled (codes "type") json))
+event_fine : (site : Site) (by_uid : Bool) (version : Version) (json : Data) (held : Option Data) → AreFine version (event_told (telling site by_uid version) json held)
+event_fine site by_uid version json None = object_fine (telling site by_uid version There) json
+event_fine site by_uid version json (Some held) =
+    let type = spelled (codes "type") json in
+    changed_fine site by_uid version type held (change_of type)
 
-value_texts : (site : Site) (by_uid : Bool) (version : Version) (json : Data) → OkTexts (value_told site by_uid version json)
+value_fine : (site : Site) (by_uid : Bool) (version : Version) (json : Data) → AreFine version (value_told site by_uid version json)
 unfolding value_told
-value_texts site by_uid version json = event_texts (telling site by_uid version) json (field (codes "object") json)
+value_fine site by_uid version json = event_fine site by_uid version json (field (codes "object") json)
 
-line_texts : (site : Site) (by_uid : Bool) (version : Version) (line : List ℕ) → OkTexts (line_told site by_uid version line)
+line_fine : (site : Site) (by_uid : Bool) (version : Version) (line : List ℕ) → AreFine version (line_told site by_uid version line)
 unfolding line_told
-line_texts site by_uid version line =
-    either_is (not (nat_le (length line) MAX_OBJECT)) (Err (refused LongLine [])) _ (record { is = tt })
-    (either_is (is_blank line) (Ok (saying None (left_out (codes "no JSON") []))) _ (last_ok _ (one (codes "no JSON") [] refl))
-    (bind_ok (ok_or (parsed line) (refused NotJson [])) _ (λ json. value_texts site by_uid version json)))
+line_fine site by_uid version line =
+    either_is (not (nat_le (length line) MAX_OBJECT)) (Err (refused LongLine [])) _ (no_ok (refused LongLine []))
+    (either_is (is_blank line) (Ok (saying None (left_out (codes "no JSON") []))) _ (last_ok _ (record { names = one (codes "no JSON") [] refl; said = λ v. tt }))
+    (bind_ok (ok_or (parsed line) (refused NotJson [])) _ (λ json. value_fine site by_uid version json)))
 
-or_texts : (r : Result Told Fault) → OkTexts r → AreTexts (told_or_uncounted r).left_out
-or_texts (Ok t) h = h.is
-or_texts (Err e) h = fault e
+or_fine : (version : Version) (r : Result Told Fault) → AreFine version r → IsFine version (told_or_uncounted r)
+or_fine version (Ok t) h = h.is
+or_fine version (Err e) h = record { names = fault e; said = λ v. tt }
 
-all_texts : (site : Site) (by_uid : Bool) (version : Version) (line : List ℕ) → AreTexts (told site by_uid version line).left_out
+all_fine : (site : Site) (by_uid : Bool) (version : Version) (line : List ℕ) → IsFine version (told site by_uid version line)
 unfolding told
-all_texts site by_uid version line = or_texts (line_told site by_uid version line) (line_texts site by_uid version line)
+all_fine site by_uid version line = or_fine version (line_told site by_uid version line) (line_fine site by_uid version line)
+
+pub told_is_said : (site : Site) (by_uid : Bool) (version : Version) (line : List ℕ) → IsVersion version → IsSaid (told site by_uid version line).event
+told_is_said site by_uid version line = (all_fine site by_uid version line).said
 
 -- ---- the first of them
 
@@ -504,7 +525,7 @@ told_few names all =
     }
 
 pub names_are_texts : NamesAreTexts
-names_are_texts site by_uid version line = (told_few (told site by_uid version line).left_out (all_texts site by_uid version line)).are
+names_are_texts site by_uid version line = (told_few (told site by_uid version line).left_out (all_fine site by_uid version line).names).are
 
 -- ---- they are short
 
@@ -523,6 +544,6 @@ pub told_names_are_short : (site : Site) (by_uid : Bool) (version : Version) (li
     → items ≡ drop 2 (told_names (told site by_uid version line).left_out) → length items ≤ 100000
 told_names_are_short site by_uid version line items is =
     let names = told_names (told site by_uid version line).left_out in
-    let few = told_few (told site by_uid version line).left_out (all_texts site by_uid version line) in
+    let few = told_few (told site by_uid version line).left_out (all_fine site by_uid version line).names in
     let whole : length names ≡ length (flat_map in_marks few.are.texts) = ap length few.are.are in
     omega (arith, ap length is, length-drop 2 names, whole, texts_short few.are.texts few.are.short, few.few)

@@ -1,5 +1,5 @@
 //! What the API tells of nodes and pods, as of their own versions.
-ghost use Rattle.std.specs.Prelude.{◌≡◌, ◌<◌, ◌^◌, [], length, Ok, option_map, IfOk, IsTrue};
+ghost use Rattle.std.specs.Prelude.{◌≡◌, ◌<◌, [], length, Ok, option_map, IfOk, IsTrue};
 ghost use Rattle.std.specs.List.{list_all};
 ghost use Rattle.quant.specs.Amount.{is_digit, number};
 ghost use Rattle.serde_json.specs.View.{view};
@@ -9,7 +9,6 @@ ghost use Rattle.objects.specs.declared.heard.Heard.TheVariants as heard_as;
 ghost use Rattle.objects.specs.declared.heard.NoValue.TheVariants as no_values;
 ghost use Rattle.objects.specs.Told.{object_in};
 ghost use Rattle.objects.specs.inside.Answers.{Answers, Gives};
-ghost use Rattle.objects.specs.Sayable.{IsVersion};
 ghost use Rattle.objects.specs.Site.{site_of};
 
 use crate::change::Kind;
@@ -245,8 +244,7 @@ fn uid_of(object: &Value) -> Result<Name, ObjectFault>
 // An object's own version.
 #[tactic(auto, unfolding(crate::specs::Heard::version_in))]
 fn version_of(object: &Value) -> Result<Version, ObjectFault>
-    ensures value { Answers result (version_in (view object.now)) }
-    ensures version { IfOk result IsVersion }
+    ensures { Answers result (version_in (view object.now)) }
 {
     let meta = part_of(object, "metadata")?;
     let text = text_at(meta, "resourceVersion")?;
@@ -255,8 +253,7 @@ fn version_of(object: &Value) -> Result<Version, ObjectFault>
 
 // The version that a text spells.
 fn version_from(text: &[u8]) -> Result<Version, ObjectFault>
-    ensures value { Answers result (a_version text.now) }
-    ensures version { IfOk result IsVersion }
+    ensures { Answers result (a_version text.now) }
 {
     let fault = ObjectFault::Refused(Why::BadField, "resourceVersion");
     if text.is_empty() || text.len() > MAX_DIGITS || !are_digits(text) {
@@ -272,8 +269,7 @@ fn version_from(text: &[u8]) -> Result<Version, ObjectFault>
 fn version_number(digits: &[u8]) -> u64
     requires digits { IsTrue (list_all is_digit digits.now) }
     requires few { length digits.now < 19 }
-    ensures value { result ≡ number digits.now }
-    ensures most { result < 10 ^ 18 }
+    ensures { result ≡ number digits.now }
 {
     let mut value = 0;
     for digit in digits {

@@ -1,13 +1,11 @@
 //! The labels that a row has of an object's.
-ghost use Rattle.std.specs.Prelude.{◌≡◌, ◌+◌, ◌<◌, ◌≤◌, true, codes, [], length, nat_le, bytes_eq, IfOk, OnOk, IfSome, OnSome, option_map};
+ghost use Rattle.std.specs.Prelude.{◌≡◌, ◌+◌, ◌<◌, codes, [], length, nat_le, bytes_eq, IfOk, OnSome, option_map};
 ghost use Rattle.std.specs.List.{list_any, slice_split};
 ghost use Rattle.serde_json.specs.View.{view, members_view};
 ghost use Rattle.quant.specs.declared.limits.TheConstants.{MAX_LABELS};
 ghost use Rattle.objects.specs.Labels.{fitting, label_of, behind, count_members, is_comma, is_named, told_labels, if_named, named_labels, with_item, unless_named, other_labels, all_labels, row_labels};
 ghost use Rattle.objects.specs.Site.{site_of};
 ghost use Rattle.objects.specs.inside.Answers.{Gives};
-ghost use Rattle.objects.specs.Sayable.{says_label};
-ghost use Rattle.objects.specs.inside.Events.{each_beside};
 ghost use Rattle.objects.specs.inside.Members.{members_or_none, kept};
 
 use crate::fault::{ObjectFault, Why};
@@ -28,10 +26,8 @@ pub(crate) fn labels_of(
     found: Option<&Map<String, Value>>,
     site: &Site<'_>,
 ) -> Result<AtMost<Label, MAX_LABELS>, ObjectFault>
-    ensures value { Gives (λ labels. kept labels out.new.items) result (row_labels (site_of site.now) out.old.items
+    ensures { Gives (λ labels. kept labels out.new.items) result (row_labels (site_of site.now) out.old.items
         (members_or_none (option_map (λ m. members_view m.now.entries) found.entry))) }
-    ensures sayable { IfOk result (λ labels. each_beside says_label [] labels ≡ true) }
-    ensures few { IfOk result (λ labels. length labels ≤ 32) }
 {
     let mut labels = AtMost::new(alloc);
     let beside = members_of(site.beside, "labels")?;
@@ -71,11 +67,9 @@ fn take_all(
     site: &Site<'_>,
 ) -> Result<(), ObjectFault>
     requires { labels.old ≡ [] }
-    ensures value { Gives (λ _. kept labels.new out.new.items) result (all_labels (site_of site.now) out.old.items
+    ensures { Gives (λ _. kept labels.new out.new.items) result (all_labels (site_of site.now) out.old.items
         (members_or_none (option_map (λ m. members_view m.now.entries) beside.entry))
         (members_or_none (option_map (λ m. members_view m.now.entries) found.entry))) }
-    ensures sayable { OnOk result (each_beside says_label [] labels.new ≡ true) }
-    ensures few { OnOk result (length labels.new ≤ 32) }
 {
     if let Some(members) = beside {
         take_told(labels, members)?;
@@ -92,10 +86,7 @@ fn take_told(
     labels: &mut AtMost<Label, MAX_LABELS>,
     members: &Map<String, Value>,
 ) -> Result<(), ObjectFault>
-    ensures value { Gives (λ _. labels.new) result (told_labels labels.old (members_view members.now.entries)) }
-    ensures sayable { each_beside says_label [] labels.old ≡ true
-        → OnOk result (each_beside says_label [] labels.new ≡ true) }
-    ensures few { length labels.old ≤ 32 → OnOk result (length labels.new ≤ 32) }
+    ensures { Gives (λ _. labels.new) result (told_labels labels.old (members_view members.now.entries)) }
 {
     for (key, value) in members.iter() {
         take_behind(labels, key.as_str(), value)?;
@@ -104,17 +95,13 @@ fn take_told(
 }
 
 // Takes a label behind others.
-#[tactic(auto, using(crate::proofs::Beside::label_beside))]
 fn take_behind(
     labels: &mut AtMost<Label, MAX_LABELS>,
     key: &str,
     value: &Value,
 ) -> Result<(), ObjectFault>
-    ensures value { Gives (λ _. labels.new) result
+    ensures { Gives (λ _. labels.new) result
         (behind labels.old (label_of labels.old key.now (view value.now))) }
-    ensures sayable { each_beside says_label [] labels.old ≡ true
-        → OnOk result (each_beside says_label [] labels.new ≡ true) }
-    ensures few { length labels.old ≤ 32 → OnOk result (length labels.new ≤ 32) }
 {
     match label_of(labels.as_slice(), key, value) {
         Some(label) => {
@@ -131,11 +118,8 @@ fn take_named(
     members: &Map<String, Value>,
     site: &Site<'_>,
 ) -> Result<(), ObjectFault>
-    ensures value { Gives (λ _. labels.new) result
+    ensures { Gives (λ _. labels.new) result
         (named_labels (site_of site.now) labels.old (members_view members.now.entries)) }
-    ensures sayable { each_beside says_label [] labels.old ≡ true
-        → OnOk result (each_beside says_label [] labels.new ≡ true) }
-    ensures few { length labels.old ≤ 32 → OnOk result (length labels.new ≤ 32) }
 {
     for (key, value) in members.iter() {
         take_if_named(labels, key.as_str(), value, site)?;
@@ -151,11 +135,8 @@ fn take_if_named(
     value: &Value,
     site: &Site<'_>,
 ) -> Result<(), ObjectFault>
-    ensures value { Gives (λ _. labels.new) result
+    ensures { Gives (λ _. labels.new) result
         (if_named (site_of site.now) labels.old key.now (view value.now)) }
-    ensures sayable { each_beside says_label [] labels.old ≡ true
-        → OnOk result (each_beside says_label [] labels.new ≡ true) }
-    ensures few { length labels.old ≤ 32 → OnOk result (length labels.new ≤ 32) }
 {
     if is_named(site.labels, key) && !has(site.beside, key) {
         take_behind(labels, key, value)
@@ -172,11 +153,8 @@ fn take_others(
     members: &Map<String, Value>,
     site: &Site<'_>,
 ) -> Result<(), AllocError>
-    ensures value { IfOk result (λ _. other_labels (site_of site.now) (kept labels.old out.old.items)
+    ensures { IfOk result (λ _. other_labels (site_of site.now) (kept labels.old out.old.items)
         (members_view members.now.entries) ≡ kept labels.new out.new.items) }
-    ensures sayable { each_beside says_label [] labels.old ≡ true
-        → OnOk result (each_beside says_label [] labels.new ≡ true) }
-    ensures few { length labels.old ≤ 32 → OnOk result (length labels.new ≤ 32) }
 {
     for (key, value) in members.iter() {
         take_unless_named(labels, out, key.as_str(), value, site)?;
@@ -193,11 +171,8 @@ fn take_unless_named(
     value: &Value,
     site: &Site<'_>,
 ) -> Result<(), AllocError>
-    ensures value { IfOk result (λ _. unless_named (site_of site.now) (kept labels.old out.old.items) key.now
+    ensures { IfOk result (λ _. unless_named (site_of site.now) (kept labels.old out.old.items) key.now
         (view value.now) ≡ kept labels.new out.new.items) }
-    ensures sayable { each_beside says_label [] labels.old ≡ true
-        → OnOk result (each_beside says_label [] labels.new ≡ true) }
-    ensures few { length labels.old ≤ 32 → OnOk result (length labels.new ≤ 32) }
 {
     if is_named(site.labels, key) || has(site.beside, key) {
         return Ok(());
@@ -206,18 +181,14 @@ fn take_unless_named(
 }
 
 // Takes a label behind others, or puts the name of one that is left out.
-#[tactic(auto, using(crate::proofs::Beside::label_beside))]
 fn take_label(
     labels: &mut AtMost<Label, MAX_LABELS>,
     out: &mut Vec<u8>,
     key: &str,
     value: &Value,
 ) -> Result<(), AllocError>
-    ensures value { IfOk result (λ _. with_item (codes "label ") key.now (kept labels.old out.old.items)
+    ensures { IfOk result (λ _. with_item (codes "label ") key.now (kept labels.old out.old.items)
         (label_of labels.old key.now (view value.now)) ≡ kept labels.new out.new.items) }
-    ensures sayable { each_beside says_label [] labels.old ≡ true
-        → OnOk result (each_beside says_label [] labels.new ≡ true) }
-    ensures few { length labels.old ≤ 32 → OnOk result (length labels.new ≤ 32) }
 {
     match label_of(labels.as_slice(), key, value) {
         Some(label) => labels.push(label),
@@ -244,7 +215,6 @@ fn is_among(names: &str, key: &str) -> bool
 #[tactic(auto, unfolding(crate::specs::Labels::label_of))]
 fn label_of(before: &[Label], key: &str, value: &Value) -> Option<Label>
     ensures value { result ≡ label_of before.now key.now (view value.now) }
-    ensures sayable { IfSome result (λ label. says_label before.now label ≡ true) }
     ensures room { OnSome result (length before.now < 32) }
 {
     fitting(before, key, value.as_str()?)
@@ -254,7 +224,6 @@ fn label_of(before: &[Label], key: &str, value: &Value) -> Option<Label>
 #[tactic(auto, unfolding(crate::specs::Sayable::says_label))]
 fn fitting(before: &[Label], key: &str, value: &str) -> Option<Label>
     ensures value { result ≡ fitting before.now (record { key = key.now; value = value.now }) }
-    ensures sayable { IfSome result (λ label. says_label before.now label ≡ true) }
     ensures room { OnSome result (length before.now < 32) }
 {
     let key = Name::new(key.as_bytes()).ok()?;

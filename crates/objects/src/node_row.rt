@@ -2,7 +2,6 @@
 ghost use Rattle.std.specs.Prelude.{◌≡◌, [], IfOk};
 ghost use Rattle.serde_json.specs.View.{view};
 ghost use Rattle.objects.specs.inside.Answers.{Gives};
-ghost use Rattle.objects.specs.inside.Events.{IsNodeRow};
 ghost use Rattle.objects.specs.NodeRow.{node_parts, node_row};
 ghost use Rattle.objects.specs.Site.{site_of};
 
@@ -22,7 +21,6 @@ fn node_alone(alloc: Global, meta: &Value, json: &Value) -> Result<Node, ObjectF
     ensures value { Gives (λ node. (node.name, node.allocatable, node.taints, node.unschedulable)) result
         (node_parts (view meta.now) (view json.now)) }
     ensures bare { IfOk result (λ node. node.labels ≡ []) }
-    ensures sayable { IfOk result IsNodeRow }
 {
     let mut node = Node {
         name: name_at(meta, "name")?,
@@ -46,9 +44,8 @@ pub(crate) fn node_row(
     out: &mut Vec<u8>,
 ) -> Result<Node, ObjectFault>
     requires { out.old.items ≡ [] }
-    ensures value { Gives (λ node. record { item = node; left_out = out.new.items }) result
+    ensures { Gives (λ node. record { item = node; left_out = out.new.items }) result
         (node_row (site_of site.now) (view json.now)) }
-    ensures sayable { IfOk result IsNodeRow }
 {
     let meta = part_of(json, "metadata")?;
     let mut node = node_alone(alloc, meta, json)?;

@@ -1,12 +1,11 @@
 //! The row that the object of a pod gives that waits for a place.
-ghost use Rattle.std.specs.Prelude.{◌≡◌, ◌+◌, ◌<◌, ◌++◌, [], length, codes, Some, None, OnSome, IfNone, IfOk, option_and_then, if◌then◌else◌};
+ghost use Rattle.std.specs.Prelude.{◌≡◌, ◌+◌, ◌<◌, ◌++◌, [], length, codes, Some, None, OnSome, IfNone, option_and_then, if◌then◌else◌};
 ghost use Rattle.quant.specs.Name.{is_name};
 ghost use Rattle.serde_json.specs.Find.{as_number, as_i64};
 ghost use Rattle.serde_json.specs.View.{view};
 ghost use Rattle.objects.specs.inside.Answers.{Gives, Answers};
 ghost use Rattle.objects.specs.PodRow.{pod_name, a_priority, priority, pod_row};
 ghost use Rattle.objects.specs.Site.{site_of};
-ghost use Rattle.objects.specs.inside.Events.{IsPodRow};
 
 use crate::demands::put_wishes;
 use crate::fault::{ObjectFault, Why};
@@ -31,9 +30,8 @@ pub(crate) fn pod_row(
     out: &mut Vec<u8>,
 ) -> Result<Pod, ObjectFault>
     requires { out.old.items ≡ [] }
-    ensures value { Gives (λ pod. record { item = pod; left_out = out.new.items }) result
+    ensures { Gives (λ pod. record { item = pod; left_out = out.new.items }) result
         (pod_row (site_of site.now) by_uid (view json.now)) }
-    ensures sayable { IfOk result IsPodRow }
 {
     let meta = part_of(json, "metadata")?;
     let spec = part_of(json, "spec")?;

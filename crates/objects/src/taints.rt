@@ -1,14 +1,10 @@
 //! The taints of a node.
-ghost use Rattle.std.specs.Prelude.{◌≡◌, ◌+◌, ◌≤◌, ◌&&◌, true, [], length, bytes_eq, IfOk, OnOk, option_map};
-ghost use Rattle.std.specs.List.{list_any};
+ghost use Rattle.std.specs.Prelude.{◌≡◌, ◌+◌, ◌≤◌, [], length, option_map};
 ghost use Rattle.serde_json.specs.View.{view, items_view};
-ghost use Rattle.quant.specs.Effect.{same_effect};
 ghost use Rattle.manifest.specs.Rows.{effect_named};
 ghost use Rattle.objects.specs.inside.Answers.{Gives, Answers};
 ghost use Rattle.objects.specs.Reading.{each};
 ghost use Rattle.objects.specs.NodeRow.{a_taint, taint_of, taints};
-ghost use Rattle.objects.specs.Sayable.{says_taint};
-ghost use Rattle.objects.specs.inside.Events.{each_beside};
 
 use crate::fault::{ObjectFault, Why};
 use crate::reading::{items_of, text_at, text_or};
@@ -23,9 +19,7 @@ pub(crate) fn fill_taints(
     value: Option<&Value>,
 ) -> Result<(), ObjectFault>
     requires { row.old ≡ [] }
-    ensures value { Gives (λ _. row.new) result (taints (option_map (λ v. view v.now) value.entry)) }
-    ensures sayable { OnOk result (each_beside says_taint [] row.new ≡ true) }
-    ensures few { OnOk result (length row.new ≤ 8) }
+    ensures { Gives (λ _. row.new) result (taints (option_map (λ v. view v.now) value.entry)) }
 {
     let found = items_of(value, "taints")?;
     if found.len() > MAX_TAINTS {
@@ -36,13 +30,9 @@ pub(crate) fn fill_taints(
 }
 
 // Puts the taints of an array behind those of a row, each read beside those before it.
-#[tactic(auto, using(crate::proofs::Beside::taint_beside))]
 fn take_taints(row: &mut AtMost<Taint, MAX_TAINTS>, found: &[Value]) -> Result<(), ObjectFault>
     requires { length row.old + length found.now ≤ 8 }
-    ensures value { Gives (λ _. row.new) result (each taint_of row.old (items_view found.now)) }
-    ensures sayable { each_beside says_taint [] row.old ≡ true
-        → OnOk result (each_beside says_taint [] row.new ≡ true) }
-    ensures few { OnOk result (length row.new ≤ 8) }
+    ensures { Gives (λ _. row.new) result (each taint_of row.old (items_view found.now)) }
 {
     for item in found {
         let taint = taint_of(row.as_slice(), item)?;
@@ -54,8 +44,7 @@ fn take_taints(row: &mut AtMost<Taint, MAX_TAINTS>, found: &[Value]) -> Result<(
 // A taint beside those before it.
 #[tactic(auto, unfolding(crate::specs::NodeRow::taint_of))]
 fn taint_of(before: &[Taint], item: &Value) -> Result<Taint, ObjectFault>
-    ensures value { Answers result (taint_of before.now (view item.now)) }
-    ensures sayable { IfOk result (λ taint. says_taint before.now taint ≡ true) }
+    ensures { Answers result (taint_of before.now (view item.now)) }
 {
     let key = text_at(item, "key")?;
     let value = text_or(item, "value", "")?;
@@ -67,8 +56,7 @@ fn taint_of(before: &[Taint], item: &Value) -> Result<Taint, ObjectFault>
 // The taint of these parts beside those before it.
 #[tactic(auto, unfolding(crate::specs::Sayable::says_taint))]
 fn a_taint(before: &[Taint], key: &str, value: &str, effect: Effect) -> Result<Taint, ObjectFault>
-    ensures value { Answers result (a_taint before.now (record { key = key.now; value = value.now; effect = effect })) }
-    ensures sayable { IfOk result (λ taint. says_taint before.now taint ≡ true) }
+    ensures { Answers result (a_taint before.now (record { key = key.now; value = value.now; effect = effect })) }
 {
     let Ok(key) = Name::new(key.as_bytes()) else {
         return Err(ObjectFault::Refused(Why::BadName, "taints"));

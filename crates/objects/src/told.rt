@@ -8,11 +8,9 @@ ghost use Rattle.objects.specs.declared.change.Change.TheVariants as changes;
 ghost use Rattle.objects.specs.declared.fault.Why.TheVariants as whys;
 ghost use Rattle.objects.specs.LeftOut.{Fault, refused, fault_text};
 ghost use Rattle.objects.specs.PodRow.{pod_row};
-ghost use Rattle.objects.specs.Sayable.{IsVersion};
 ghost use Rattle.objects.specs.Site.{site_of, telling};
 ghost use Rattle.objects.specs.Told.{saying, name_in, name_of, gone, gone_told, event_if, gone_if, row_told, scheduler_of, other_scheduler, kept_back, waiting_told, bound_left_out, placed_told, bound_told, node_name, by_node, is_end, has_ended, pod_told, there_told, kind_told, core_kind, has_pod_shape, has_node_shape, kind_by_shape, kind_of, other_told, object_told, object_in, change_of, is_bookmark, value_told, is_space, is_blank, parsed, line_told};
 ghost use Rattle.objects.specs.inside.Answers.{Gives, Answers};
-ghost use Rattle.objects.specs.inside.Said.{IsSaid};
 ghost use Rattle.objects.specs.inside.Telling.{how_told, as_told};
 
 use crate::change::{Change, Kind};
@@ -57,10 +55,8 @@ fn gone_told(
     kind: Kind,
     how: &Telling<'_>,
 ) -> Result<Option<Event>, ObjectFault>
-    requires empty { out.old.items ≡ [] }
-    requires version { IsVersion how.now.version }
-    ensures value { Gives (as_told out.new.items) result (Ok (gone_told (how_told how.now) kind (view json.now))) }
-    ensures said { IfOk result IsSaid }
+    requires { out.old.items ≡ [] }
+    ensures { Gives (as_told out.new.items) result (Ok (gone_told (how_told how.now) kind (view json.now))) }
 {
     match name_of(json, kind, how.by_uid) {
         Ok(name) => Ok(Some(gone(kind, how.version, name))),
@@ -74,10 +70,8 @@ fn gone_told(
 
 // The event by which it is told that an object is gone which isn't told any more as it has become.
 fn gone_if(json: &Value, kind: Kind, how: &Telling<'_>) -> Result<Option<Event>, ObjectFault>
-    requires { IsVersion how.now.version }
-    ensures value { (left_out : List ℕ) → Gives (as_told left_out) result
+    ensures { (left_out : List ℕ) → Gives (as_told left_out) result
         (Ok (gone_if (how_told how.now) kind (view json.now) left_out)) }
-    ensures said { IfOk result IsSaid }
 {
     match how.change {
         Change::Changed => gone_by_name(name_of(json, kind, how.by_uid), kind, how.version),
@@ -91,10 +85,8 @@ fn gone_by_name(
     kind: Kind,
     version: Version,
 ) -> Result<Option<Event>, ObjectFault>
-    requires { IsVersion version }
-    ensures value { (meaning : Result (List ℕ) Fault) (left_out : List ℕ) → Answers name meaning
+    ensures { (meaning : Result (List ℕ) Fault) (left_out : List ℕ) → Answers name meaning
         → Gives (as_told left_out) result (Ok (saying (event_if kind version changes.Changed meaning) left_out)) }
-    ensures said { IfOk result IsSaid }
 {
     match name {
         Ok(name) => Ok(Some(gone(kind, version, name))),
@@ -112,10 +104,8 @@ fn fault_told(
     kind: Kind,
     how: &Telling<'_>,
 ) -> Result<Option<Event>, ObjectFault>
-    requires { IsVersion how.now.version }
-    ensures value { Gives (as_told out.new.items) result
+    ensures { Gives (as_told out.new.items) result
         (Ok (gone_if (how_told how.now) kind (view json.now) (fault_text (refused why fault.now)))) }
-    ensures said { IfOk result IsSaid }
 {
     out.clear();
     put_refused(out, why, fault)?;
@@ -129,10 +119,8 @@ fn node_told(
     json: &Value,
     how: &Telling<'_>,
 ) -> Result<Option<Event>, ObjectFault>
-    requires empty { out.old.items ≡ [] }
-    requires version { IsVersion how.now.version }
-    ensures value { Gives (as_told out.new.items) result (there_told (how_told how.now) kinds.Node (view json.now)) }
-    ensures said { IfOk result IsSaid }
+    requires { out.old.items ≡ [] }
+    ensures { Gives (as_told out.new.items) result (there_told (how_told how.now) kinds.Node (view json.now)) }
 {
     match node_row(alloc, json, &how.site, out) {
         Ok(node) => {
@@ -158,11 +146,9 @@ fn waiting_told(
     pod: &Value,
     how: &Telling<'_>,
 ) -> Result<Option<Event>, ObjectFault>
-    requires empty { out.old.items ≡ [] }
-    requires version { IsVersion how.now.version }
-    ensures value { Gives (as_told out.new.items) result
+    requires { out.old.items ≡ [] }
+    ensures { Gives (as_told out.new.items) result
         (Ok (waiting_told (how_told how.now) (view spec.now) (view pod.now))) }
-    ensures said { IfOk result IsSaid }
 {
     put_kept_back(out, spec, pod, &how.site)?;
     if out.is_empty() {
@@ -180,12 +166,10 @@ fn waiting_row(
     json: &Value,
     how: &Telling<'_>,
 ) -> Result<Option<Event>, ObjectFault>
-    requires empty { out.old.items ≡ [] }
-    requires version { IsVersion how.now.version }
-    ensures value { Gives (as_told out.new.items) result
+    requires { out.old.items ≡ [] }
+    ensures { Gives (as_told out.new.items) result
         (Ok (row_told (PodPending how.now.version) (how_told how.now) kinds.Pod (view json.now)
         (pod_row (site_of how.now.site) how.now.by_uid (view json.now)))) }
-    ensures said { IfOk result IsSaid }
 {
     match pod_row(alloc, json, &how.site, how.by_uid, out) {
         Ok(pod) => {
@@ -251,11 +235,9 @@ fn bound_told(
     pod: &Value,
     how: &Telling<'_>,
 ) -> Result<Option<Event>, ObjectFault>
-    requires empty { out.old.items ≡ [] }
-    requires version { IsVersion how.now.version }
-    ensures value { Gives (as_told out.new.items) result
+    requires { out.old.items ≡ [] }
+    ensures { Gives (as_told out.new.items) result
         (bound_told (how_told how.now) node.now (view spec.now) (view pod.now)) }
-    ensures said { IfOk result IsSaid }
 {
     match Name::new(node.as_bytes()) {
         Ok(name) => placed_told(alloc, out, name, spec, pod, how),
@@ -276,11 +258,9 @@ fn placed_told(
     pod: &Value,
     how: &Telling<'_>,
 ) -> Result<Option<Event>, ObjectFault>
-    requires empty { out.old.items ≡ [] }
-    requires version { IsVersion how.now.version }
-    ensures value { Gives (as_told out.new.items) result
+    requires { out.old.items ≡ [] }
+    ensures { Gives (as_told out.new.items) result
         (placed_told (how_told how.now) node (view spec.now) (view pod.now)) }
-    ensures said { IfOk result IsSaid }
 {
     let uid = name_of(pod, Kind::Pod, how.by_uid)?;
     let request = request(alloc, pod, spec, Reckoned::Standing)?;
@@ -342,10 +322,8 @@ fn pod_told(
     json: &Value,
     how: &Telling<'_>,
 ) -> Result<Option<Event>, ObjectFault>
-    requires empty { out.old.items ≡ [] }
-    requires version { IsVersion how.now.version }
-    ensures value { Gives (as_told out.new.items) result (pod_told (how_told how.now) (view json.now)) }
-    ensures said { IfOk result IsSaid }
+    requires { out.old.items ≡ [] }
+    ensures { Gives (as_told out.new.items) result (pod_told (how_told how.now) (view json.now)) }
 {
     if has_ended(json) {
         return gone_if(json, Kind::Pod, how);
@@ -379,10 +357,8 @@ fn kind_told(
     kind: Kind,
     how: &Telling<'_>,
 ) -> Result<Option<Event>, ObjectFault>
-    requires empty { out.old.items ≡ [] }
-    requires version { IsVersion how.now.version }
-    ensures value { Gives (as_told out.new.items) result (kind_told (how_told how.now) kind (view json.now)) }
-    ensures said { IfOk result IsSaid }
+    requires { out.old.items ≡ [] }
+    ensures { Gives (as_told out.new.items) result (kind_told (how_told how.now) kind (view json.now)) }
 {
     match how.change {
         Change::Gone => gone_told(out, json, kind, how),
@@ -398,10 +374,8 @@ fn there_told(
     kind: Kind,
     how: &Telling<'_>,
 ) -> Result<Option<Event>, ObjectFault>
-    requires empty { out.old.items ≡ [] }
-    requires version { IsVersion how.now.version }
-    ensures value { Gives (as_told out.new.items) result (there_told (how_told how.now) kind (view json.now)) }
-    ensures said { IfOk result IsSaid }
+    requires { out.old.items ≡ [] }
+    ensures { Gives (as_told out.new.items) result (there_told (how_told how.now) kind (view json.now)) }
 {
     match kind {
         Kind::Node => node_told(alloc, out, json, how),
@@ -482,9 +456,8 @@ pub(crate) fn kind_of(json: &Value) -> Result<Option<Kind>, ObjectFault>
 
 // What is told of an object of another kind: a list may hold pods.
 fn other_told(out: &mut Vec<u8>, json: &Value) -> Result<Option<Event>, ObjectFault>
-    requires empty { out.old.items ≡ [] }
-    ensures value { Gives (as_told out.new.items) result (other_told (view json.now)) }
-    ensures said { IfOk result IsSaid }
+    requires { out.old.items ≡ [] }
+    ensures { Gives (as_told out.new.items) result (other_told (view json.now)) }
 {
     if field(json, "items").is_some() {
         return Err(ObjectFault::Refused(Why::IsList, ""));
@@ -502,10 +475,8 @@ fn object_told(
     json: &Value,
     how: &Telling<'_>,
 ) -> Result<Option<Event>, ObjectFault>
-    requires empty { out.old.items ≡ [] }
-    requires version { IsVersion how.now.version }
-    ensures value { Gives (as_told out.new.items) result (object_told (how_told how.now) (view json.now)) }
-    ensures said { IfOk result IsSaid }
+    requires { out.old.items ≡ [] }
+    ensures { Gives (as_told out.new.items) result (object_told (how_told how.now) (view json.now)) }
 {
     match kind_of(json)? {
         Some(kind) => kind_told(alloc, out, json, kind, how),
@@ -538,9 +509,8 @@ fn change_of(kind: &str) -> Option<Change>
 
 // What is told by an event that says nothing of an object: a bookmark tells nothing.
 fn no_change(kind: &str) -> Result<Option<Event>, ObjectFault>
-    ensures value { Gives (as_told []) result
+    ensures { Gives (as_told []) result
         (if is_bookmark kind.now then Ok (saying None []) else Err (refused whys.UnknownEvent [])) }
-    ensures said { IfOk result IsSaid }
 {
     if kind == "BOOKMARK" {
         Ok(None)
@@ -559,10 +529,8 @@ pub(crate) fn value_told(
     by_uid: bool,
     version: Version,
 ) -> Result<Option<Event>, ObjectFault>
-    requires empty { out.old.items ≡ [] }
-    requires version { IsVersion version }
-    ensures value { Gives (as_told out.new.items) result (value_told (site_of site.now) by_uid version (view json.now)) }
-    ensures said { IfOk result IsSaid }
+    requires { out.old.items ≡ [] }
+    ensures { Gives (as_told out.new.items) result (value_told (site_of site.now) by_uid version (view json.now)) }
 {
     let mut how = Telling {
         site: *site,
@@ -591,10 +559,8 @@ pub(crate) fn line_told(
     by_uid: bool,
     version: Version,
 ) -> Result<Option<Event>, ObjectFault>
-    requires empty { out.old.items ≡ [] }
-    requires version { IsVersion version }
-    ensures value { Gives (as_told out.new.items) result (line_told (site_of site.now) by_uid version line.now) }
-    ensures said { IfOk result IsSaid }
+    requires { out.old.items ≡ [] }
+    ensures { Gives (as_told out.new.items) result (line_told (site_of site.now) by_uid version line.now) }
 {
     if line.len() > MAX_OBJECT {
         return Err(ObjectFault::Refused(Why::LongLine, ""));

@@ -1,12 +1,10 @@
 //! The tolerations that a row has of a pod's.
-ghost use Rattle.std.specs.Prelude.{◌≡◌, ◌<◌, ◌≤◌, true, codes, [], length, IfOk, OnOk, IfSome, OnSome, option_map};
+ghost use Rattle.std.specs.Prelude.{◌≡◌, ◌<◌, codes, [], length, IfOk, OnSome, option_map};
 ghost use Rattle.serde_json.specs.View.{view, items_view};
 ghost use Rattle.objects.specs.Reading.{spelled};
 ghost use Rattle.objects.specs.Reading.{field};
 ghost use Rattle.objects.specs.Labels.{with_item};
 ghost use Rattle.objects.specs.PodRow.{text_if, fitting, toleration_of, tolerations_of};
-ghost use Rattle.objects.specs.Sayable.{says_toleration};
-ghost use Rattle.objects.specs.inside.Events.{each_beside};
 ghost use Rattle.objects.specs.inside.Members.{kept};
 
 use crate::left_out::put_left_out;
@@ -22,10 +20,8 @@ pub(crate) fn tolerations_in(
     out: &mut Vec<u8>,
     found: &[Value],
 ) -> Result<AtMost<Toleration, MAX_TOLERATIONS>, AllocError>
-    ensures value { IfOk result (λ tolerations. tolerations_of (kept [] out.old.items) (items_view found.now)
+    ensures { IfOk result (λ tolerations. tolerations_of (kept [] out.old.items) (items_view found.now)
         ≡ kept tolerations out.new.items) }
-    ensures sayable { IfOk result (λ tolerations. each_beside says_toleration [] tolerations ≡ true) }
-    ensures few { IfOk result (λ tolerations. length tolerations ≤ 16) }
 {
     let mut tolerations = AtMost::new(alloc);
     tolerations.reserve(found.len().min(MAX_TOLERATIONS))?;
@@ -40,11 +36,8 @@ fn take_tolerations(
     out: &mut Vec<u8>,
     found: &[Value],
 ) -> Result<(), AllocError>
-    ensures value { IfOk result (λ _. tolerations_of (kept tolerations.old out.old.items) (items_view found.now)
+    ensures { IfOk result (λ _. tolerations_of (kept tolerations.old out.old.items) (items_view found.now)
         ≡ kept tolerations.new out.new.items) }
-    ensures sayable { each_beside says_toleration [] tolerations.old ≡ true
-        → OnOk result (each_beside says_toleration [] tolerations.new ≡ true) }
-    ensures few { length tolerations.old ≤ 16 → OnOk result (length tolerations.new ≤ 16) }
 {
     for item in found {
         take_toleration(tolerations, out, item)?;
@@ -53,18 +46,14 @@ fn take_tolerations(
 }
 
 // Takes a toleration behind others, or puts the name of one that is left out.
-#[tactic(auto, using(crate::proofs::Beside::toleration_beside))]
 fn take_toleration(
     tolerations: &mut AtMost<Toleration, MAX_TOLERATIONS>,
     out: &mut Vec<u8>,
     item: &Value,
 ) -> Result<(), AllocError>
-    ensures value { IfOk result (λ _. with_item (codes "toleration of ") (spelled (codes "key") (view item.now))
+    ensures { IfOk result (λ _. with_item (codes "toleration of ") (spelled (codes "key") (view item.now))
         (kept tolerations.old out.old.items) (toleration_of tolerations.old (view item.now))
         ≡ kept tolerations.new out.new.items) }
-    ensures sayable { each_beside says_toleration [] tolerations.old ≡ true
-        → OnOk result (each_beside says_toleration [] tolerations.new ≡ true) }
-    ensures few { length tolerations.old ≤ 16 → OnOk result (length tolerations.new ≤ 16) }
 {
     match toleration_of(tolerations.as_slice(), item) {
         Some(toleration) => tolerations.push(toleration),
@@ -76,7 +65,6 @@ fn take_toleration(
 #[tactic(auto, unfolding(crate::specs::PodRow::toleration_of))]
 fn toleration_of(before: &[Toleration], item: &Value) -> Option<Toleration>
     ensures value { result ≡ toleration_of before.now (view item.now) }
-    ensures sayable { IfSome result (λ toleration. says_toleration before.now toleration ≡ true) }
     ensures room { OnSome result (length before.now < 16) }
 {
     let operator = operator_named(text_if(item, "operator")?)?;
@@ -108,7 +96,6 @@ fn fitting(
 ) -> Option<Toleration>
     ensures value { result ≡ fitting before.now
         (record { key = key.now; operator = operator; value = value.now; effect = effect }) }
-    ensures sayable { IfSome result (λ toleration. says_toleration before.now toleration ≡ true) }
     ensures room { OnSome result (length before.now < 16) }
 {
     let key = Text::new(key.as_bytes()).ok()?;

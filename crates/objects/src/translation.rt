@@ -95,11 +95,9 @@ fn told(
     by_uid: bool,
     version: Version,
 ) -> Result<(Option<Event>, bool), AllocError>
-    requires empty { out.old.items ≡ [] }
-    requires version { IsVersion version }
-    ensures value { IfOk result (λ found. told (site_of site.now) by_uid version line.now
+    requires { out.old.items ≡ [] }
+    ensures { IfOk result (λ found. told (site_of site.now) by_uid version line.now
         ≡ record { event = found.0; left_out = out.new.items; uncounted = found.1 }) }
-    ensures said { IfOk result (λ found. IsSaid found.0) }
 {
     match line_told(alloc, out, line, site, by_uid, version) {
         Ok(event) => Ok((event, false)),

@@ -26,9 +26,3 @@ loop-digit-preserved c =
       value = omega (arith, number_more c.args.digits.now c.loop-digit.digit-index c.loop-digit-test.true);
       small = digit_more c.loop-digit.value c.from.result c.loop-digit.digit-index c.loop-digit.invariant.small (omega arith);
     }
-
-pub returns-clause-most : goal.returns-clause-most
-returns-clause-most c =
-    let most : 10 ^ c.loop-digit.digit-index ≤ 10 ^ 18 = pow-le-pow_right {n = 10} (omega arith) (let j : c.loop-digit.digit-index ≤ 18 = omega (arith, c.requires.few) in j) in
-    let small = c.loop-digit.invariant.small in
-    omega (arith, most, small)

@@ -1,16 +1,11 @@
-use Rattle.std.proofs.Common.{◌≡◌, ◌≤◌, true, [], length}
+use Rattle.std.proofs.Common.{◌≡◌}
 use Rattle.serde_json.specs.View.{members_view}
 use Rattle.objects.specs.Labels.{other_labels}
-use Rattle.objects.specs.Sayable.{says_label}
 use Rattle.objects.specs.Site.{site_of}
-use Rattle.objects.specs.inside.Events.{each_beside}
 use Rattle.objects.specs.inside.Members.{kept}
 use Rattle.objects.proofs.labels.take_others.Given as goal
 
 abbrev pub invariant-loop-key : goal.invariant-loop-key
-invariant-loop-key l = record {
-  same : other_labels (site_of l.site) (kept l.initial.labels l.initial.out.items) (members_view l.members.entries)
-      ≡ other_labels (site_of l.site) (kept l.labels l.out.items) (members_view l.key-iterator);
-  sayable : each_beside says_label [] l.initial.labels ≡ true → each_beside says_label [] l.labels ≡ true;
-  few : length l.initial.labels ≤ 32 → length l.labels ≤ 32;
-}
+invariant-loop-key l =
+    other_labels (site_of l.site) (kept l.initial.labels l.initial.out.items) (members_view l.members.entries)
+    ≡ other_labels (site_of l.site) (kept l.labels l.out.items) (members_view l.key-iterator)

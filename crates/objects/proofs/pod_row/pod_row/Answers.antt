@@ -5,9 +5,9 @@ use Rattle.objects.specs.PodRow.{pod_row, pod_parts}
 use Rattle.objects.specs.Site.{site_of}
 use Rattle.objects.proofs.pod_row.pod_row.Goals as goal
 
-pub returns-clause-value : goal.returns-clause-value
+pub returns : goal.returns
 unfolding pod_row pod_parts
-returns-clause-value c =
+returns c =
     let same : to_z w32 (of_z w32 c.in_ok-priority.priority) ≡ c.in_ok-priority.priority = search (rules, to_z-of_z) in
     let told = is_some (site_of c.args.site.now).beside in
     let wished : c.put_wishes.new.out.items ≡ wishes told (view c.in_ok-spec.spec.now) =
@@ -22,17 +22,6 @@ returns-clause-value c =
       c.in_ok-labels.ensures,
       c.in_ok-tolerations.ensures,
       ← wished,
-      c.in_ok-labels-2.ensures.value,
-      c.in_ok-tolerations-2.ensures.value,
+      c.in_ok-labels-2.ensures,
+      c.in_ok-tolerations-2.ensures,
     ) refl
-
-pub returns-clause-sayable : goal.returns-clause-sayable
-returns-clause-sayable c = record {
-  uid = search rules;
-  low = search rules;
-  high = search rules;
-  few_labels = search rules;
-  labels = search rules;
-  few_tolerations = search rules;
-  tolerations = search rules;
-}

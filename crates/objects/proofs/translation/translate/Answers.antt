@@ -1,13 +1,18 @@
-use Rattle.std.proofs.Common.{◌≡◌, ◌∙◌, ap, sym, drop}
+use Rattle.std.proofs.Common.{◌≡◌, ◌∙◌, ap, sym, subst, drop}
 use Rattle.objects.specs.LeftOut.{told_names}
 use Rattle.objects.specs.Site.{site_of}
 use Rattle.objects.specs.Told.{Told, told}
-use Rattle.objects.proofs.Shown.{told_names_are_short}
+use Rattle.objects.specs.inside.Said.{IsSaid}
+use Rattle.objects.proofs.Shown.{told_names_are_short, told_is_said}
 use Rattle.objects.proofs.translation.translate.Goals as goal
 
 pub returns-clause-short : goal.returns-clause-short
 returns-clause-short c =
     let given = told (site_of c.args.site.now) c.args.by_uid c.args.version c.args.line.now in
-    let names : c.as_slice.result.now ≡ given.left_out = c.as_slice.ensures.value ∙ ap (λ (t : Told). t.left_out) (sym c.in_ok-event.ensures.value) in
+    let names : c.as_slice.result.now ≡ given.left_out = c.as_slice.ensures.value ∙ ap (λ (t : Told). t.left_out) (sym c.in_ok-event.ensures) in
     told_names_are_short (site_of c.args.site.now) c.args.by_uid c.args.version c.args.line.now c.in_ok-left_out.left_out.items
     (c.in_ok-left_out.ensures ∙ ap (λ n. drop 2 (told_names n)) names)
+
+pub spelled-requires : goal.spelled-requires
+spelled-requires c =
+    subst (λ (t : Told). IsSaid t.event) c.in_ok-event.ensures (told_is_said (site_of c.args.site.now) c.args.by_uid c.args.version c.args.line.now c.requires)
