@@ -15,29 +15,28 @@ use crate::site::Site;
 use manifest::has_key;
 use quant::{AtMost, Label, MAX_LABELS, Name, Text};
 use serde_json::{Map, Value};
-use std::alloc::{AllocError, Global};
+use std::alloc::AllocError;
 
-// The labels of an object, whose members may be absent: first those that are told beside its own.
-// Puts the names of those that are left out.
+// Fills an empty row with the labels of an object, whose members may be absent: first those that are
+// told beside its own. Puts the names of those that are left out.
 #[tactic(auto, unfolding(crate::specs::Labels::row_labels))]
-pub(crate) fn labels_of(
-    alloc: Global,
+pub(crate) fn fill_labels(
+    labels: &mut AtMost<Label, MAX_LABELS>,
     out: &mut Vec<u8>,
     found: Option<&Map<String, Value>>,
     site: &Site<'_>,
-) -> Result<AtMost<Label, MAX_LABELS>, ObjectFault>
-    ensures { Gives (λ labels. kept labels out.new.items) result (row_labels (site_of site.now) out.old.items
+) -> Result<(), ObjectFault>
+    requires { labels.old ≡ [] }
+    ensures { Gives (λ _. kept labels.new out.new.items) result (row_labels (site_of site.now) out.old.items
         (members_or_none (option_map (λ m. members_view m.now.entries) found.entry))) }
 {
-    let mut labels = AtMost::new(alloc);
     let beside = members_of(site.beside, "labels")?;
     let (told, own) = (count(beside), count(found));
     if !have_room(told, own) && site.labels.is_empty() {
         return Err(ObjectFault::Refused(Why::TooMany, "labels"));
     }
     labels.reserve(told.saturating_add(own).min(MAX_LABELS))?;
-    take_all(&mut labels, out, beside, found, site)?;
-    Ok(labels)
+    take_all(labels, out, beside, found, site)
 }
 
 // How many members there are.

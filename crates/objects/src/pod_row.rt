@@ -4,24 +4,80 @@ ghost use Rattle.quant.specs.Name.{is_name};
 ghost use Rattle.serde_json.specs.Find.{as_number, as_i64};
 ghost use Rattle.serde_json.specs.View.{view};
 ghost use Rattle.objects.specs.inside.Answers.{Gives, Answers};
-ghost use Rattle.objects.specs.PodRow.{pod_name, a_priority, priority, pod_row};
+ghost use Rattle.objects.specs.PodRow.{pod_name, a_priority, priority, pod_parts, pod_row};
 ghost use Rattle.objects.specs.Site.{site_of};
 
 use crate::demands::put_wishes;
 use crate::fault::{ObjectFault, Why};
-use crate::labels::labels_of;
+use crate::labels::fill_labels;
 use crate::reading::{field, items_at, members_at, name_at, part_of, text_at, text_or};
 use crate::request::{Reckoned, request};
 use crate::site::{Site, has_beside};
-use crate::tolerations::tolerations_in;
+use crate::tolerations::fill_tolerations;
 use arrayvec::ArrayVec;
-use quant::{MAX_NAME, Name, Pod};
+use quant::{
+    AtMost, Label, MAX_LABELS, MAX_NAME, MAX_TOLERATIONS, Name, Pod, Request, Toleration,
+};
 use serde_json::Value;
 use std::alloc::Global;
 
+// How a pod is called, its priority, and what it asks for.
+#[tactic(auto, unfolding(crate::specs::PodRow::pod_parts))]
+fn pod_parts(
+    alloc: Global,
+    meta: &Value,
+    spec: &Value,
+    json: &Value,
+    by_uid: bool,
+) -> Result<(Name, i32, Request), ObjectFault>
+    ensures { Answers result (pod_parts by_uid (view meta.now) (view spec.now) (view json.now)) }
+{
+    let uid = pod_name(meta, by_uid)?;
+    let priority = priority(spec)?;
+    let request = request(alloc, json, spec, Reckoned::Waiting)?;
+    Ok((uid, priority, request))
+}
+
+// Reads those parts of a pod's object, and puts its labels, of which those that the site's rules
+// read come first, and its tolerations into empty lists, unless a fault comes first. Puts the names
+// of what the row leaves out.
+#[tactic(auto, unfolding(crate::specs::PodRow::pod_row))]
+fn fill_row(
+    alloc: Global,
+    labels: &mut AtMost<Label, MAX_LABELS>,
+    tolerations: &mut AtMost<Toleration, MAX_TOLERATIONS>,
+    json: &Value,
+    site: &Site<'_>,
+    by_uid: bool,
+    out: &mut Vec<u8>,
+) -> Result<(Name, i32, Request), ObjectFault>
+    requires labels { labels.old ≡ [] }
+    requires tolerations { tolerations.old ≡ [] }
+    requires out { out.old.items ≡ [] }
+    ensures { Gives (λ parts. record {
+            item = record {
+                uid = parts.0;
+                priority = parts.1;
+                request = parts.2;
+                labels = labels.new;
+                tolerations = tolerations.new
+            };
+            left_out = out.new.items
+        }) result (pod_row (site_of site.now) by_uid (view json.now)) }
+{
+    let meta = part_of(json, "metadata")?;
+    let spec = part_of(json, "spec")?;
+    let parts = pod_parts(alloc, meta, spec, json, by_uid)?;
+    let found = members_at(meta, "labels")?;
+    let items = items_at(spec, "tolerations")?;
+    put_wishes(out, spec, has_beside(site))?;
+    fill_labels(labels, out, found, site)?;
+    fill_tolerations(tolerations, out, items)?;
+    Ok(parts)
+}
+
 // The row of a pod's object, in which the labels that the site's rules read come first, and beside it
 // the names of what it leaves out, unless a fault comes first.
-#[tactic(auto, unfolding(crate::specs::PodRow::pod_row, crate::specs::PodRow::pod_parts))]
 pub(crate) fn pod_row(
     alloc: Global,
     json: &Value,
@@ -33,16 +89,17 @@ pub(crate) fn pod_row(
     ensures { Gives (λ pod. record { item = pod; left_out = out.new.items }) result
         (pod_row (site_of site.now) by_uid (view json.now)) }
 {
-    let meta = part_of(json, "metadata")?;
-    let spec = part_of(json, "spec")?;
-    let uid = pod_name(meta, by_uid)?;
-    let priority = priority(spec)?;
-    let request = request(alloc, json, spec, Reckoned::Waiting)?;
-    let labels = members_at(meta, "labels")?;
-    let tolerations = items_at(spec, "tolerations")?;
-    put_wishes(out, spec, has_beside(site))?;
-    let labels = labels_of(alloc, out, labels, site)?;
-    let tolerations = tolerations_in(alloc, out, tolerations)?;
+    let mut labels = AtMost::new(alloc);
+    let mut tolerations = AtMost::new(alloc);
+    let (uid, priority, request) = fill_row(
+        alloc,
+        &mut labels,
+        &mut tolerations,
+        json,
+        site,
+        by_uid,
+        out,
+    )?;
     Ok(Pod {
         uid,
         priority,

@@ -12,21 +12,20 @@ use crate::reading::{field, spelled};
 use manifest::{effect_or_none, is_lawful, operator_named};
 use quant::{AtMost, Effect, MAX_TOLERATIONS, Operator, Text, Toleration};
 use serde_json::Value;
-use std::alloc::{AllocError, Global};
+use std::alloc::AllocError;
 
-// The tolerations of an array's items. Puts the names of those that are left out.
-pub(crate) fn tolerations_in(
-    alloc: Global,
+// Puts the tolerations of an array's items behind others, in memory that is taken once, and the names
+// of those that are left out.
+pub(crate) fn fill_tolerations(
+    tolerations: &mut AtMost<Toleration, MAX_TOLERATIONS>,
     out: &mut Vec<u8>,
     found: &[Value],
-) -> Result<AtMost<Toleration, MAX_TOLERATIONS>, AllocError>
-    ensures { IfOk result (λ tolerations. tolerations_of (kept [] out.old.items) (items_view found.now)
-        ≡ kept tolerations out.new.items) }
+) -> Result<(), AllocError>
+    ensures { IfOk result (λ _. tolerations_of (kept tolerations.old out.old.items) (items_view found.now)
+        ≡ kept tolerations.new out.new.items) }
 {
-    let mut tolerations = AtMost::new(alloc);
     tolerations.reserve(found.len().min(MAX_TOLERATIONS))?;
-    take_tolerations(&mut tolerations, out, found)?;
-    Ok(tolerations)
+    take_tolerations(tolerations, out, found)
 }
 
 // Takes the tolerations of an array's items behind others, and puts the names of those that are
