@@ -367,8 +367,8 @@ placed_fine how node spec pod named =
     bind_ok (pods.request Standing pod spec) _ (λ request.
     last_ok _ (record {
       names = both (more_left_out pod spec ++ held_left_out pod spec) _
-      (both (more_left_out pod spec) (held_left_out pod spec) (more_texts pod spec) (held_texts pod spec))
-      (one_if (is_given (affinity (codes "podAntiAffinity") (codes "requiredDuringSchedulingIgnoredDuringExecution") spec)) (codes "required pod anti-affinity") refl);
+          (both (more_left_out pod spec) (held_left_out pod spec) (more_texts pod spec) (held_texts pod spec))
+          (one_if (is_given (affinity (codes "podAntiAffinity") (codes "requiredDuringSchedulingIgnoredDuringExecution") spec)) (codes "required pod anti-affinity") refl);
       said = λ v. (v, u, named);
     })))
 

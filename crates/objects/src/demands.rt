@@ -343,8 +343,7 @@ fn has_kinds(members: &Map<String, Value>) -> bool
 fn is_read_kind(key: &str, value: &Value) -> bool
     ensures { result ≡ is_read_kind key.now (view value.now) }
 {
-    let kinds: [&str; 3] = KINDS;
-    is_one_of(kinds.as_slice(), key) && are_parts_if(value)
+    is_one_of(&KINDS, key) && are_parts_if(value)
 }
 
 // Whether a value has no member but the parts of an affinity.
@@ -355,10 +354,7 @@ fn are_parts_if(value: &Value) -> bool
         return true;
     }
     match value.as_object() {
-        Some(members) => {
-            let parts: [&str; 2] = PARTS;
-            has_only(members, parts.as_slice())
-        }
+        Some(members) => has_only(members, &PARTS),
         None => false,
     }
 }
@@ -393,10 +389,8 @@ struct Volume;
 impl Listed for Volume {
     ghost names = { volume free };
 
-    #[tactic(auto, unfolding(crate::specs::Demands::volume))]
     fn put(out: &mut Vec<u8>, item: &Value) -> Result<(), AllocError> {
-        let kinds: [&str; 12] = FREE_OR_CLAIMED;
-        put_volume(out, item, &kinds.as_slice()[CLAIMED..])
+        put_volume(out, item, &FREE_OR_CLAIMED[CLAIMED..])
     }
 }
 
@@ -406,10 +400,9 @@ struct UnclaimedVolume;
 impl Listed for UnclaimedVolume {
     ghost names = { volume free_or_claimed };
 
-    #[tactic(auto, unfolding(crate::specs::Demands::volume))]
+    #[tactic(auto, unfolding(crate::specs::Demands::free_or_claimed))]
     fn put(out: &mut Vec<u8>, item: &Value) -> Result<(), AllocError> {
-        let kinds: [&str; 12] = FREE_OR_CLAIMED;
-        put_volume(out, item, kinds.as_slice())
+        put_volume(out, item, &FREE_OR_CLAIMED)
     }
 }
 
@@ -600,6 +593,5 @@ fn put_other_field(out: &mut Vec<u8>, key: &str, value: &Value) -> Result<(), Al
 fn is_known(key: &str) -> bool
     ensures { result ≡ is_known key.now }
 {
-    let known: [&str; 41] = KNOWN;
-    is_one_of(known.as_slice(), key)
+    is_one_of(&KNOWN, key)
 }

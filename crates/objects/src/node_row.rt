@@ -48,15 +48,15 @@ fn fill_row(
     requires taints { taints.old ≡ [] }
     requires out { out.old.items ≡ [] }
     ensures { Gives (λ parts. record {
-            item = record {
-                name = parts.0;
-                allocatable = parts.1;
-                labels = labels.new;
-                taints = taints.new;
-                unschedulable = parts.2
-            };
-            left_out = out.new.items
-        }) result (node_row (site_of site.now) (view json.now)) }
+      item = record {
+        name = parts.0;
+        allocatable = parts.1;
+        labels = labels.new;
+        taints = taints.new;
+        unschedulable = parts.2;
+      };
+      left_out = out.new.items;
+    }) result (node_row (site_of site.now) (view json.now)) }
 {
     let meta = part_of(json, "metadata")?;
     let parts = node_parts(taints, meta, json)?;

@@ -15,9 +15,7 @@ use crate::request::{Reckoned, request};
 use crate::site::{Site, has_beside};
 use crate::tolerations::fill_tolerations;
 use arrayvec::ArrayVec;
-use quant::{
-    AtMost, Label, MAX_LABELS, MAX_NAME, MAX_TOLERATIONS, Name, Pod, Request, Toleration,
-};
+use quant::{AtMost, Label, MAX_LABELS, MAX_NAME, MAX_TOLERATIONS, Name, Pod, Request, Toleration};
 use serde_json::Value;
 use std::alloc::Global;
 
@@ -55,15 +53,15 @@ fn fill_row(
     requires tolerations { tolerations.old ≡ [] }
     requires out { out.old.items ≡ [] }
     ensures { Gives (λ parts. record {
-            item = record {
-                uid = parts.0;
-                priority = parts.1;
-                request = parts.2;
-                labels = labels.new;
-                tolerations = tolerations.new
-            };
-            left_out = out.new.items
-        }) result (pod_row (site_of site.now) by_uid (view json.now)) }
+      item = record {
+        uid = parts.0;
+        priority = parts.1;
+        request = parts.2;
+        labels = labels.new;
+        tolerations = tolerations.new;
+      };
+      left_out = out.new.items;
+    }) result (pod_row (site_of site.now) by_uid (view json.now)) }
 {
     let meta = part_of(json, "metadata")?;
     let spec = part_of(json, "spec")?;
