@@ -3,6 +3,7 @@ pub mod Places
 pub mod Passing
 pub mod Worth
 pub mod Items
+pub mod Each
 pub mod Peaks
 pub mod Spelled
 pub mod Rows

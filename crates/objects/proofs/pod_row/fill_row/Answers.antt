@@ -1,9 +1,17 @@
-use Rattle.std.proofs.Common.{refl, ◌≡◌, ◌∙◌, is_some}
+use Rattle.std.proofs.Common.{refl, rules, ◌≡◌, ◌∙◌, is_some}
 use Rattle.serde_json.specs.View.{view}
 use Rattle.objects.specs.Demands.{wishes}
 use Rattle.objects.specs.PodRow.{pod_row}
 use Rattle.objects.specs.Site.{site_of}
 use Rattle.objects.proofs.pod_row.fill_row.Goals as goal
+
+pub returns-in_err-fill_labels : goal.returns-in_err-fill_labels
+unfolding pod_row
+returns-in_err-fill_labels c =
+    let told = is_some (site_of c.args.site.now).beside in
+    let wished : c.put_wishes.new.out.items ≡ wishes told (view c.in_ok-spec.spec.now) =
+    c.in_ok-put_wishes.ensures ∙ rw (c.has_beside.ensures, c.requires.out) refl in
+    rw (c.in_ok-meta.ensures, c.in_ok-spec.ensures, c.in_ok-parts.ensures, c.in_ok-found.ensures, c.in_ok-items.ensures, ← wished) (search rules)
 
 pub returns : goal.returns
 unfolding pod_row

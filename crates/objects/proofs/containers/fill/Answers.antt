@@ -1,0 +1,16 @@
+use Rattle.std.proofs.Common.{arith, List, ◌∷◌, [], ◌∙◌, length-append}
+use Rattle.serde_json.specs.View.{items_view}
+use Rattle.objects.specs.Containers.{container}
+use Rattle.objects.specs.declared.containers.Container.{Container}
+use Rattle.objects.proofs.Each.{each_more}
+use Rattle.objects.proofs.containers.fill.Goals as goal
+
+pub loop-item-preserved : goal.loop-item-preserved
+loop-item-preserved c =
+    let f = λ (before : List Container). container c.args.stands c.args.key.now (items_view c.args.said.now) in
+    let put = c.in_ok-put_container.ensures in
+    let few = c.loop-item.invariant.few in
+    record {
+      few = rw (put, length-append c.loop-item.row.items (c.in_ok-next.next ∷ [])) (omega (arith, few));
+      same = rw put (c.loop-item.invariant.same ∙ each_more f c.args.found.now c.loop-item.item-index c.item-item.result c.loop-item.row.items c.in_ok-next.next c.loop-item-test.true c.item-item.is c.in_ok-next.ensures);
+    }
