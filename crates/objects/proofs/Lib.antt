@@ -1,6 +1,8 @@
 pub mod RatioLemmas
 pub mod Places
 pub mod Passing
+pub mod OkIs
+pub mod Suffixes
 pub mod Worth
 pub mod Items
 pub mod Each
@@ -11,7 +13,6 @@ pub mod Lines
 pub mod Added
 pub mod Lengths
 pub mod Parsed
-pub mod OkIs
 pub mod Sayings
 pub mod OneLine
 pub mod Requests

@@ -222,7 +222,7 @@ within_most : (rounding : Rounding) (most n : ℕ) → OkIs (λ k. k ≤ most) (
 within_most Up most n = tested (nat_le n most) (Ok n) (Err TooLarge) (λ h. last_ok n (leb-true n most h)) (no_ok TooLarge)
 within_most Down most n = last_ok (min most n) (omega arith)
 
-quantity_within : (rounding : Rounding) (places most : ℕ) (text : List ℕ) → OkIs (λ n. n ≤ most) (quantity rounding places most text)
+pub quantity_within : (rounding : Rounding) (places most : ℕ) (text : List ℕ) → OkIs (λ n. n ≤ most) (quantity rounding places most text)
 unfolding quantity
 quantity_within rounding places most text =
     let minus = has_minus text in

@@ -65,8 +65,7 @@ fn count_zeros(text: &[u8]) -> usize
 pub(crate) fn number_of(digits: &[u8]) -> usize
     requires digits { IsTrue (list_all is_digit digits.now) }
     requires few { length digits.now ≤ 2 }
-    ensures value { result ≡ number digits.now }
-    ensures bounded { result ≤ 99 }
+    ensures { result ≡ number digits.now }
 {
     match digits {
         [tens, ones] => usize::from(*tens - b'0') * 10 + usize::from(*ones - b'0'),

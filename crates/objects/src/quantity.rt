@@ -56,8 +56,7 @@ pub(crate) fn quantity(
 fn read(text: &[u8], rounding: Rounding, places: usize, most: u64) -> Result<u64, QuantityFault>
     requires places { places ≤ 3 }
     requires most { most < 10 ^ 15 }
-    ensures value { result ≡ quantity rounding places most text.now }
-    ensures bounded { IfOk result (λ amount. amount ≤ most) }
+    ensures { result ≡ quantity rounding places most text.now }
 {
     let (minus, unsigned) = split_sign(text);
     let (whole, rest) = split_digits(unsigned);
@@ -93,9 +92,7 @@ fn told_within(
     most: u64,
     amount: Result<u64, QuantityFault>,
 ) -> Result<u64, QuantityFault>
-    requires { IfOk amount (λ n. n ≤ most) }
-    ensures value { (n : ℕ) → amount ≡ at_most most n → result ≡ told_within rounding most n }
-    ensures bounded { IfOk result (λ n. n ≤ most) }
+    ensures { (n : ℕ) → amount ≡ at_most most n → result ≡ told_within rounding most n }
 {
     match rounding {
         Rounding::Up => amount,
@@ -120,8 +117,7 @@ fn amount(
     requires twos { suffix.twos ≤ 60 }
     requires places { places ≤ 3 }
     requires most { most < 10 ^ 15 }
-    ensures value { result ≡ at_most most (rounded rounding (worth places whole.now fraction.now suffix)) }
-    ensures bounded { IfOk result (λ amount. amount ≤ most) }
+    ensures { result ≡ at_most most (rounded rounding (worth places whole.now fraction.now suffix)) }
 {
     let units = 2u64.pow(suffix.twos);
     let up = suffix.tens + places;
@@ -135,8 +131,7 @@ fn amount(
 
 // So many units and a part of them together, where they are no more than they may be.
 fn total(number: u64, units: u64, part: u64, most: u64) -> Result<u64, QuantityFault>
-    ensures value { result ≡ at_most most (number * units + part) }
-    ensures bounded { IfOk result (λ amount. amount ≤ most) }
+    ensures { result ≡ at_most most (number * units + part) }
 {
     let Some(amount) = number.checked_mul(units) else {
         return Err(QuantityFault::TooLarge);

@@ -1,5 +1,5 @@
 //! What stands behind the digits of a quantity.
-ghost use Rattle.std.specs.Prelude.{◌≡◌, ◌≤◌, IfOk};
+ghost use Rattle.std.specs.Prelude.{◌≡◌};
 ghost use Rattle.objects.specs.Suffix.{suffix_named, exponent, exponent_digits, power_of_ten, power_of_two};
 
 use crate::digits::{behind_zeros, number_of, split_sign};
@@ -24,10 +24,7 @@ pub(crate) struct Suffix {
 // The suffix that a text is.
 #[tactic(auto, unfolding(crate::specs::Suffix::suffix_named))]
 pub(crate) fn suffix_named(text: &[u8]) -> Result<Suffix, QuantityFault>
-    ensures value { result ≡ suffix_named text.now }
-    ensures tens { IfOk result (λ suffix. suffix.tens ≤ 99) }
-    ensures tenths { IfOk result (λ suffix. suffix.tenths ≤ 99) }
-    ensures twos { IfOk result (λ suffix. suffix.twos ≤ 60) }
+    ensures { result ≡ suffix_named text.now }
 {
     match text {
         b"n" => Ok(power_of_ten(true, 9)),
@@ -54,10 +51,7 @@ pub(crate) fn suffix_named(text: &[u8]) -> Result<Suffix, QuantityFault>
 
 // The power of ten that the text behind `e` or `E` tells.
 fn read_exponent(text: &[u8]) -> Result<Suffix, QuantityFault>
-    ensures value { result ≡ exponent text.now }
-    ensures tens { IfOk result (λ suffix. suffix.tens ≤ 99) }
-    ensures tenths { IfOk result (λ suffix. suffix.tenths ≤ 99) }
-    ensures twos { IfOk result (λ suffix. suffix.twos ≤ 60) }
+    ensures { result ≡ exponent text.now }
 {
     let (below_one, digits) = split_sign(text);
     if digits.is_empty() || !are_digits(digits) {

@@ -3,9 +3,9 @@ use Rattle.std.proofs.Math.Nat.{pow-le-pow_right}
 use Rattle.objects.proofs.Worth.{amount_told}
 use Rattle.objects.proofs.quantity.amount.Goals as goal
 
-pub returns-clause-value : goal.returns-clause-value
-returns-clause-value c =
-    c.total.ensures.value
+pub returns : goal.returns
+returns c =
+    c.total.ensures
     ∙ amount_told c.args.rounding c.args.places c.args.most c.args.whole.now c.args.fraction.now c.args.suffix
     c.pow-units.result c.saturating_sub-in_front.result c.saturating_sub-behind.result
     c.number_in_front-number.result c.rounded_behind-part.result

@@ -1,0 +1,91 @@
+-- The powers of a suffix are small.
+use Rattle.std.proofs.Common.{◌≡◌, ℕ, ◌≤◌, Bool, true, false, nat_le, ◌&&◌, ◌||◌, List, [], ◌∷◌, take, drop, codes, length, bytes_eq, Result, Ok, Err, sym, ap, subst, ◌∙◌, arith, leb-true}
+use Rattle.std.proofs.lemmas.Bool.{and_parts}
+use Rattle.std.specs.List.{list_all, prefix_len}
+use Rattle.quant.specs.Amount.{is_digit, number}
+use Rattle.objects.specs.declared.fault.QuantityFault.{QuantityFault}
+use Rattle.objects.specs.declared.fault.QuantityFault.TheVariants.{NotAQuantity, FarExponent, Negative, TooLarge}
+use Rattle.objects.specs.declared.suffix.Suffix.{Suffix}
+use Rattle.objects.specs.Suffix.{power_of_ten, power_of_two, has_minus, after_sign, is_0, behind_zeros, exponent_number, exponent, suffix_named}
+use Rattle.objects.specs.Quantity.{of_nothing}
+use Rattle.objects.proofs.OkIs.{OkIs, last_ok, no_ok, either_is, tested}
+use Rattle.objects.proofs.Passing.{back_passes}
+
+pub record IsSmall (suffix : Suffix) : Type 0 where
+  pub tens : suffix.tens ≤ 99
+  pub tenths : suffix.tenths ≤ 99
+  pub twos : suffix.twos ≤ 60
+
+abbrev AreSmall : Result Suffix QuantityFault → Type 0
+AreSmall suffix = OkIs IsSmall suffix
+
+ten_small : (below_one : Bool) (n : ℕ) → n ≤ 99 → AreSmall (Ok (power_of_ten below_one n))
+ten_small true n h = last_ok (power_of_ten true n) (record { tens = omega arith; tenths = h; twos = omega arith })
+ten_small false n h = last_ok (power_of_ten false n) (record { tens = h; tenths = omega arith; twos = omega arith })
+
+two_small : (n : ℕ) → n ≤ 60 → AreSmall (Ok (power_of_two n))
+two_small n h = last_ok (power_of_two n) (record { tens = omega arith; tenths = omega arith; twos = h })
+
+-- two digits spell a number below a hundred
+digit_small : (digit : ℕ) → is_digit digit ≡ true → digit ≤ 57
+digit_small digit h = leb-true digit 57 (and_parts (nat_le 48 digit) (nat_le digit 57) h).1
+
+digits_small : (digits : List ℕ) → list_all is_digit digits ≡ true → length digits ≤ 2 → number digits ≤ 99
+digits_small [] h few = omega arith
+digits_small (a ∷ []) h few = omega (arith, digit_small a (and_parts (is_digit a) true h).0)
+digits_small (a ∷ b ∷ []) h few =
+    let parts = and_parts (is_digit a) (list_all is_digit (b ∷ [])) h in
+    omega (arith, digit_small a parts.0, digit_small b (and_parts (is_digit b) true parts.1).0)
+digits_small (a ∷ b ∷ c ∷ more) h few = absurd (omega (arith, few))
+
+number_small : (below_one : Bool) (digits : List ℕ) → list_all is_digit digits ≡ true → AreSmall (exponent_number below_one digits)
+number_small below_one digits h =
+    tested (nat_le (length digits) 2) (Ok (power_of_ten below_one (number digits))) (Err FarExponent)
+    (λ few. ten_small below_one (number digits) (digits_small digits h (leb-true (length digits) 2 few))) (no_ok FarExponent)
+
+exponent_small : (text : List ℕ) → AreSmall (exponent text)
+exponent_small text =
+    let digits = after_sign text in
+    tested (nat_le 1 (length digits) && list_all is_digit digits) (exponent_number (has_minus text) (behind_zeros digits)) (Err NotAQuantity)
+    (λ h. number_small (has_minus text) (behind_zeros digits) (back_passes is_digit (prefix_len is_0 digits) digits (and_parts (nat_le 1 (length digits)) (list_all is_digit digits) h).1))
+    (no_ok NotAQuantity)
+
+suffix_small : (text : List ℕ) → AreSmall (suffix_named text)
+unfolding suffix_named
+suffix_small text =
+    either_is (bytes_eq text (codes "n")) _ _ (ten_small true 9 (omega arith))
+    (either_is (bytes_eq text (codes "u")) _ _ (ten_small true 6 (omega arith))
+    (either_is (bytes_eq text (codes "m")) _ _ (ten_small true 3 (omega arith))
+    (either_is (bytes_eq text []) _ _ (ten_small false 0 (omega arith))
+    (either_is (bytes_eq text (codes "k")) _ _ (ten_small false 3 (omega arith))
+    (either_is (bytes_eq text (codes "M")) _ _ (ten_small false 6 (omega arith))
+    (either_is (bytes_eq text (codes "G")) _ _ (ten_small false 9 (omega arith))
+    (either_is (bytes_eq text (codes "T")) _ _ (ten_small false 12 (omega arith))
+    (either_is (bytes_eq text (codes "P")) _ _ (ten_small false 15 (omega arith))
+    (either_is (bytes_eq text (codes "E")) _ _ (ten_small false 18 (omega arith))
+    (either_is (bytes_eq text (codes "Ki")) _ _ (two_small 10 (omega arith))
+    (either_is (bytes_eq text (codes "Mi")) _ _ (two_small 20 (omega arith))
+    (either_is (bytes_eq text (codes "Gi")) _ _ (two_small 30 (omega arith))
+    (either_is (bytes_eq text (codes "Ti")) _ _ (two_small 40 (omega arith))
+    (either_is (bytes_eq text (codes "Pi")) _ _ (two_small 50 (omega arith))
+    (either_is (bytes_eq text (codes "Ei")) _ _ (two_small 60 (omega arith))
+    (either_is (bytes_eq (take 1 text) (codes "e") || bytes_eq (take 1 text) (codes "E")) _ _ (exponent_small (drop 1 text)) (no_ok NotAQuantity)))))))))))))))))
+
+-- where nothing is told, too
+of_nothing_small : (is_nothing : Bool) (suffix : Result Suffix QuantityFault) → AreSmall suffix → AreSmall (of_nothing is_nothing suffix)
+of_nothing_small true (Err FarExponent) h = ten_small false 0 (omega arith)
+of_nothing_small true (Err NotAQuantity) h = h
+of_nothing_small true (Err Negative) h = h
+of_nothing_small true (Err TooLarge) h = h
+of_nothing_small true (Ok suffix) h = h
+of_nothing_small false suffix h = h
+
+-- what was read
+was_small : (suffix : Result Suffix QuantityFault) (s : Suffix) → AreSmall suffix → suffix ≡ Ok s → IsSmall s
+was_small (Ok x) s h e = subst IsSmall (let same : x ≡ s = cc in same) h.is
+was_small (Err fault) s h e = absurd (cc)
+
+pub read_small : (is_nothing : Bool) (text : List ℕ) (named whole : Result Suffix QuantityFault) (s : Suffix)
+    → named ≡ suffix_named text → whole ≡ of_nothing is_nothing named → whole ≡ Ok s → IsSmall s
+read_small is_nothing text named whole s is told e =
+    was_small (of_nothing is_nothing (suffix_named text)) s (of_nothing_small is_nothing (suffix_named text) (suffix_small text)) (ap (of_nothing is_nothing) (sym is) ∙ sym told ∙ e)
