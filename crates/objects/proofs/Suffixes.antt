@@ -1,6 +1,7 @@
 -- The powers of a suffix are small.
-use Rattle.std.proofs.Common.{◌≡◌, ℕ, ◌≤◌, Bool, true, false, nat_le, ◌&&◌, ◌||◌, List, [], ◌∷◌, take, drop, codes, length, bytes_eq, Result, Ok, Err, sym, ap, subst, ◌∙◌, arith, leb-true}
+use Rattle.std.proofs.Common.{◌≡◌, ◌≢◌, ℕ, ◌<◌, ◌≤◌, Bool, true, false, nat_le, ◌&&◌, ◌||◌, List, [], ◌∷◌, take, drop, codes, length, get_or, bytes_eq, Result, Ok, Err, refl, sym, ap, subst, ◌∙◌, arith, leb-true, ne_eqb}
 use Rattle.std.proofs.lemmas.Bool.{and_parts}
+use Rattle.std.proofs.lemmas.Slice.Eq.{bytes_eq-Decides}
 use Rattle.std.specs.List.{list_all, prefix_len}
 use Rattle.quant.specs.Amount.{is_digit, number}
 use Rattle.objects.specs.declared.fault.QuantityFault.{QuantityFault}
@@ -89,3 +90,25 @@ pub read_small : (is_nothing : Bool) (text : List ℕ) (named whole : Result Suf
     → named ≡ suffix_named text → whole ≡ of_nothing is_nothing named → whole ≡ Ok s → IsSmall s
 read_small is_nothing text named whole s is told e =
     was_small (of_nothing is_nothing (suffix_named text)) s (of_nothing_small is_nothing (suffix_named text) (suffix_small text)) (ap (of_nothing is_nothing) (sym is) ∙ sym told ∙ e)
+
+-- ---- a longer text is none
+
+by_length : (xs ys : List ℕ) (b : Bool) → (b ≡ true → xs ≡ ys) → length ys < length xs → b ≡ false
+by_length xs ys true same h = absurd (omega (arith, h, ap length (same refl)))
+by_length xs ys false same h = refl
+
+differs : (xs ys : List ℕ) → length ys < length xs → bytes_eq xs ys ≡ false
+differs xs ys h = by_length xs ys (bytes_eq xs ys) (bytes_eq-Decides xs ys).0 h
+
+pub no_suffix : (text : List ℕ) → 3 ≤ length text → get_or text 0 0 ≢ 101 → get_or text 0 0 ≢ 69 → Err NotAQuantity ≡ suffix_named text
+unfolding suffix_named
+no_suffix [] long e big_e = absurd (omega (arith, long))
+no_suffix (x ∷ xs) long e big_e =
+    let text = x ∷ xs in
+    let one : (letter : ℕ) → bytes_eq text (letter ∷ []) ≡ false = λ letter. differs text (letter ∷ []) (omega (arith, long)) in
+    let two : (letter : ℕ) → bytes_eq text (letter ∷ 105 ∷ []) ≡ false = λ letter. differs text (letter ∷ 105 ∷ []) (omega (arith, long)) in
+    rw (
+      one 110, one 117, one 109, one 107, one 77, one 71, one 84, one 80, one 69,
+      two 75, two 77, two 71, two 84, two 80, two 69,
+      ne_eqb x 101 e, ne_eqb x 69 big_e,
+    ) refl
