@@ -251,7 +251,6 @@ fn put_list<T: Listed>(
 }
 
 // Puts the names that items give.
-#[tactic(auto, using(crate::proofs::Named::item_more, crate::proofs::Named::items_done))]
 fn put_items<T: Listed>(out: &mut Vec<u8>, found: &[Value]) -> Result<(), AllocError>
     ensures { IfOk result (λ _. out.new.items ≡ out.old.items ++ each_item T.names (items_view found.now)) }
 {

@@ -113,7 +113,6 @@ pub(crate) fn put_labels(writer: &mut Writer, labels: &[Label]) -> Result<(), Al
 }
 
 // Their items, and the end of the array.
-#[tactic(auto, using(crate::proofs::Added::label_more, crate::proofs::Added::labels_done))]
 fn end_labels(writer: &mut Writer, labels: &[Label]) -> Result<(), AllocError>
     ensures { Adds result writer.old writer.new (items_tokens (items_json label_json labels.now)) }
 {
@@ -147,7 +146,6 @@ pub(crate) fn put_taints(writer: &mut Writer, taints: &[Taint]) -> Result<(), Al
 }
 
 // Their items, and the end of the array.
-#[tactic(auto, using(crate::proofs::Added::taint_more, crate::proofs::Added::taints_done))]
 fn end_taints(writer: &mut Writer, taints: &[Taint]) -> Result<(), AllocError>
     ensures { Adds result writer.old writer.new (items_tokens (items_json taint_json taints.now)) }
 {
@@ -185,7 +183,6 @@ pub(crate) fn put_tolerations(
 }
 
 // Their items, and the end of the array.
-#[tactic(auto, using(crate::proofs::Added::toleration_more, crate::proofs::Added::tolerations_done))]
 fn end_tolerations(writer: &mut Writer, tolerations: &[Toleration]) -> Result<(), AllocError>
     ensures { Adds result writer.old writer.new (items_tokens (items_json toleration_json tolerations.now)) }
 {

@@ -60,7 +60,6 @@ pub struct Translation {
 /// others.
 ///
 /// Errors: `AllocError`, which may come in place of any other answer.
-#[tactic(auto, using(crate::proofs::Standing::every_line_is_counted, crate::proofs::Shown::told_names_are_short))]
 pub fn translate(
     alloc: Global,
     line: &[u8],
