@@ -1,12 +1,15 @@
 -- What is told of an object in place of a row.
-use Rattle.std.proofs.Common.{◌≡◌, ℕ, List, [], ◌∷◌, Option, Result, Ok, refl, sym}
+use Rattle.std.proofs.Common.{◌≡◌, ℕ, List, [], ◌∷◌, Option, Result, Ok, Err, refl, sym, ap}
 use Rattle.serde_json.specs.Data.{Data}
 use Rattle.quant.specs.declared.event.Event.{Event}
 use Rattle.objects.specs.declared.change.Kind.TheVariants as kinds
 use Rattle.objects.specs.declared.fault.ObjectFault.{ObjectFault}
+use Rattle.objects.specs.declared.fault.ObjectFault.TheVariants.{Refused, NoMemory}
+use Rattle.objects.specs.LeftOut.{Fault}
+use Rattle.objects.specs.Quantity.{◌>>=◌}
 use Rattle.objects.specs.Site.{Telling}
 use Rattle.objects.specs.Told.{gone_if, kept_back, waiting_told}
-use Rattle.objects.specs.inside.Answers.{Gives}
+use Rattle.objects.specs.inside.Answers.{Fails, Gives}
 use Rattle.objects.specs.inside.Telling.{as_told}
 
 -- what keeps a pod back that waits
@@ -17,3 +20,9 @@ pub held_back : (how : Telling) (spec pod : Data) (out : List ℕ) (result : Res
 unfolding waiting_told
 held_back how spec pod [] result some e h = absurd (some refl)
 held_back how spec pod (x ∷ more) result some e h = rw (sym e) h
+
+-- the fault of a reading is that of what is read behind it, too
+pub fault_first : {X Y Z : Type 0} (view : X → Z) (result : Result X ObjectFault) (e : ObjectFault) (r : Result Y Fault) (f : Y → Result Z Fault)
+    → result ≡ Err e → Fails e r → Gives view result (r >>= f)
+fault_first view result NoMemory r f is h = rw is tt
+fault_first view result (Refused why field) r f is h = rw is (ap (λ x. x >>= f) h)
