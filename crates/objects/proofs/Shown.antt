@@ -1,5 +1,5 @@
 -- What is left out is named in texts of JSON, and a line can say what is told.
-use Rattle.std.proofs.Common.{◌≡◌, ℕ, zero, suc, ◌+◌, ◌*◌, ◌≤◌, ◌==◌, nat_le, nat_lt, Bool, true, false, cond, ◌||◌, not, ◌&&◌, List, [], ◌∷◌, ◌++◌, take, drop, codes, decimal, length, bytes_eq, is_some, flat_map, Option, Some, None, option_and_then, Result, Ok, Err, IfOk, refl, sym, ap, ◌∙◌, arith, append-nil, append_assoc, length-append, leb-true, lit≤}
+use Rattle.std.proofs.Common.{◌≡◌, ℕ, zero, suc, ◌+◌, ◌*◌, ◌≤◌, ◌==◌, nat_le, nat_lt, Bool, true, false, cond, ◌||◌, not, ◌&&◌, List, [], ◌∷◌, ◌++◌, take, drop, codes, decimal, length, bytes_eq, is_some, flat_map, Option, Some, None, option_and_then, Result, Ok, Err, refl, sym, ap, ◌∙◌, arith, append-nil, append_assoc, length-append, leb-true, lit≤}
 use Rattle.std.proofs.lemmas.Bool.{and_parts, and_from, le-leb}
 use Rattle.std.proofs.lemmas.List.{length-take, length-drop}
 use Rattle.std.proofs.lemmas.Bool.Decides.{nat_tests}
@@ -25,7 +25,6 @@ use Rattle.objects.specs.declared.fault.Why.{Why}
 use Rattle.objects.specs.declared.fault.Why.TheVariants.{LongLine, NotJson, UnknownEvent, IsList, BadField, BadName, Quantity, TooMany, PodResources, TooLarge}
 use Rattle.objects.specs.declared.request.Reckoned.TheVariants.{Placed, Standing}
 use Rattle.objects.specs.declared.translation.TheConstants.{MAX_OBJECT}
-use Rattle.objects.specs.Quantity.{◌>>=◌}
 use Rattle.objects.specs.LeftOut.{shown, left_out, left_out_if, why_text, Fault, refused, fault_text, told_names, up_to_marks}
 use Rattle.objects.specs.Reading.{said, field, within, part_of, members_of, items_of, absent_or, is_given, has, spelled}
 use Rattle.objects.specs.PodRequest.{fault_of, more_left_out, is_held_read, held_left_out}

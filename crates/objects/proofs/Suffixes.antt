@@ -108,7 +108,21 @@ no_suffix (x ∷ xs) long e big_e =
     let one : (letter : ℕ) → bytes_eq text (letter ∷ []) ≡ false = λ letter. differs text (letter ∷ []) (omega (arith, long)) in
     let two : (letter : ℕ) → bytes_eq text (letter ∷ 105 ∷ []) ≡ false = λ letter. differs text (letter ∷ 105 ∷ []) (omega (arith, long)) in
     rw (
-      one 110, one 117, one 109, one 107, one 77, one 71, one 84, one 80, one 69,
-      two 75, two 77, two 71, two 84, two 80, two 69,
-      ne_eqb x 101 e, ne_eqb x 69 big_e,
+      one 110,
+      one 117,
+      one 109,
+      one 107,
+      one 77,
+      one 71,
+      one 84,
+      one 80,
+      one 69,
+      two 75,
+      two 77,
+      two 71,
+      two 84,
+      two 80,
+      two 69,
+      ne_eqb x 101 e,
+      ne_eqb x 69 big_e,
     ) refl

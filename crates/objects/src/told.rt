@@ -4,12 +4,11 @@ ghost use Rattle.serde_json.specs.View.{view};
 ghost use Rattle.serde_json.specs.Find.{as_array, as_object, as_str};
 ghost use Rattle.objects.specs.declared.change.Kind.TheVariants as kinds;
 ghost use Rattle.quant.specs.declared.event.Event.TheVariants.{PodPending};
-ghost use Rattle.objects.specs.declared.change.Change.TheVariants as changes;
 ghost use Rattle.objects.specs.declared.fault.Why.TheVariants as whys;
-ghost use Rattle.objects.specs.LeftOut.{Fault, refused, fault_text};
+ghost use Rattle.objects.specs.LeftOut.{refused, fault_text};
 ghost use Rattle.objects.specs.PodRow.{pod_row};
 ghost use Rattle.objects.specs.Site.{site_of, telling};
-ghost use Rattle.objects.specs.Told.{saying, name_in, name_of, gone, gone_told, event_if, gone_if, row_told, scheduler_of, other_scheduler, kept_back, waiting_told, bound_left_out, placed_told, bound_told, node_name, by_node, is_end, has_ended, pod_told, there_told, kind_told, core_kind, has_pod_shape, has_node_shape, kind_by_shape, kind_of, other_told, object_told, object_in, change_of, is_bookmark, value_told, is_space, is_blank, parsed, line_told};
+ghost use Rattle.objects.specs.Told.{saying, name_in, name_of, gone, gone_told, gone_if, row_told, scheduler_of, other_scheduler, kept_back, waiting_told, bound_left_out, placed_told, bound_told, node_name, by_node, is_end, has_ended, pod_told, there_told, kind_told, core_kind, has_pod_shape, has_node_shape, kind_by_shape, kind_of, other_told, object_told, object_in, change_of, is_bookmark, value_told, is_space, is_blank, parsed, line_told};
 ghost use Rattle.objects.specs.inside.Answers.{Gives, Answers};
 ghost use Rattle.objects.specs.inside.Telling.{how_told, as_told};
 
@@ -74,24 +73,12 @@ fn gone_if(json: &Value, kind: Kind, how: &Telling<'_>) -> Result<Option<Event>,
         (Ok (gone_if (how_told how.now) kind (view json.now) left_out)) }
 {
     match how.change {
-        Change::Changed => gone_by_name(name_of(json, kind, how.by_uid), kind, how.version),
+        Change::Changed => match name_of(json, kind, how.by_uid) {
+            Ok(name) => Ok(Some(gone(kind, how.version, name))),
+            Err(ObjectFault::NoMemory) => Err(ObjectFault::NoMemory),
+            Err(ObjectFault::Refused(_, _)) => Ok(None),
+        },
         Change::There | Change::Gone => Ok(None),
-    }
-}
-
-// That an object is gone, where it has a name.
-fn gone_by_name(
-    name: Result<Name, ObjectFault>,
-    kind: Kind,
-    version: Version,
-) -> Result<Option<Event>, ObjectFault>
-    ensures { (meaning : Result (List ℕ) Fault) (left_out : List ℕ) → Answers name meaning
-        → Gives (as_told left_out) result (Ok (saying (event_if kind version changes.Changed meaning) left_out)) }
-{
-    match name {
-        Ok(name) => Ok(Some(gone(kind, version, name))),
-        Err(ObjectFault::NoMemory) => Err(ObjectFault::NoMemory),
-        Err(ObjectFault::Refused(_, _)) => Ok(None),
     }
 }
 
@@ -362,24 +349,10 @@ fn kind_told(
 {
     match how.change {
         Change::Gone => gone_told(out, json, kind, how),
-        Change::There | Change::Changed => there_told(alloc, out, json, kind, how),
-    }
-}
-
-// What is told of an object that is there.
-fn there_told(
-    alloc: Global,
-    out: &mut Vec<u8>,
-    json: &Value,
-    kind: Kind,
-    how: &Telling<'_>,
-) -> Result<Option<Event>, ObjectFault>
-    requires { out.old.items ≡ [] }
-    ensures { Gives (as_told out.new.items) result (there_told (how_told how.now) kind (view json.now)) }
-{
-    match kind {
-        Kind::Node => node_told(alloc, out, json, how),
-        Kind::Pod => pod_told(alloc, out, json, how),
+        Change::There | Change::Changed => match kind {
+            Kind::Node => node_told(alloc, out, json, how),
+            Kind::Pod => pod_told(alloc, out, json, how),
+        },
     }
 }
 

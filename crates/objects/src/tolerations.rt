@@ -1,5 +1,5 @@
 //! The tolerations that a row has of a pod's.
-ghost use Rattle.std.specs.Prelude.{◌≡◌, ◌<◌, codes, [], length, IfOk, OnSome, option_map};
+ghost use Rattle.std.specs.Prelude.{◌≡◌, ◌<◌, codes, length, IfOk, OnSome, option_map};
 ghost use Rattle.serde_json.specs.View.{view, items_view};
 ghost use Rattle.objects.specs.Reading.{spelled};
 ghost use Rattle.objects.specs.Reading.{field};
@@ -25,19 +25,6 @@ pub(crate) fn fill_tolerations(
         ≡ kept tolerations.new out.new.items) }
 {
     tolerations.reserve(found.len().min(MAX_TOLERATIONS))?;
-    take_tolerations(tolerations, out, found)
-}
-
-// Takes the tolerations of an array's items behind others, and puts the names of those that are
-// left out.
-fn take_tolerations(
-    tolerations: &mut AtMost<Toleration, MAX_TOLERATIONS>,
-    out: &mut Vec<u8>,
-    found: &[Value],
-) -> Result<(), AllocError>
-    ensures { IfOk result (λ _. tolerations_of (kept tolerations.old out.old.items) (items_view found.now)
-        ≡ kept tolerations.new out.new.items) }
-{
     for item in found {
         take_toleration(tolerations, out, item)?;
     }

@@ -2,7 +2,7 @@ use Rattle.std.proofs.Common.{◌≡◌, drop}
 use Rattle.serde_json.specs.View.{items_view}
 use Rattle.objects.specs.PodRow.{tolerations_of}
 use Rattle.objects.specs.inside.Members.{kept}
-use Rattle.objects.proofs.tolerations.take_tolerations.Given as goal
+use Rattle.objects.proofs.tolerations.fill_tolerations.Given as goal
 
 abbrev pub invariant-loop-item : goal.invariant-loop-item
 invariant-loop-item l =
