@@ -17,8 +17,8 @@ use quant::{AtMost, Label, MAX_LABELS, Name, Text};
 use serde_json::{Map, Value};
 use std::alloc::AllocError;
 
-// Fills an empty row with the labels of an object, whose members may be absent: first those that are
-// told beside its own. Puts the names of those that are left out.
+// Fills an empty row with the labels of an object, whose members may be absent: first those that
+// are told beside its own. Puts the names of those that are left out.
 #[tactic(auto, unfolding(crate::specs::Labels::row_labels))]
 pub(crate) fn fill_labels(
     labels: &mut AtMost<Label, MAX_LABELS>,

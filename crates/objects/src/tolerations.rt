@@ -14,8 +14,8 @@ use quant::{AtMost, Effect, MAX_TOLERATIONS, Operator, Text, Toleration};
 use serde_json::Value;
 use std::alloc::AllocError;
 
-// Puts the tolerations of an array's items behind others, in memory that is taken once, and the names
-// of those that are left out.
+// Puts the tolerations of an array's items behind others, in memory that is taken once, and the
+// names of those that are left out.
 pub(crate) fn fill_tolerations(
     tolerations: &mut AtMost<Toleration, MAX_TOLERATIONS>,
     out: &mut Vec<u8>,
