@@ -15,9 +15,9 @@ import sys
 import tempfile
 from typing import IO, Iterator, NamedTuple, Sequence
 
-from state import affinity
 from tools.program import WSCHED, Untold
 from tools.steps import Json, Line, Steps, spell
+from state import affinity
 
 ONLY_SCRIPT = frozenset(["node", "gone", "pod", "bound", "deleted", "done", "forget", "judge"])
 # (ticks, cycles and dumps are of both)
