@@ -17,7 +17,7 @@ class Trap(Exception):
 
 Unary = Callable[[int], int]
 Binary = Callable[[int, int], int]
-W32, W64 = 2**32 - 1, 2**64 - 1
+MASK32, MASK64 = 2**32 - 1, 2**64 - 1
 
 
 def signed(value: int, width: int) -> int:
@@ -94,10 +94,10 @@ def _unary() -> Iterator[tuple[int, Unary]]:
         yield from ((first + k, it) for k, it in enumerate(_counts(width)))
     for opcode in (0x45, 0x50):
         yield opcode, lambda it: int(it == 0)
-    yield 0xa7, lambda it: it & W32
-    yield 0xac, _extended(32, W64)
+    yield 0xa7, lambda it: it & MASK32
+    yield 0xac, _extended(32, MASK64)
     yield 0xad, lambda it: it
-    for opcode, bits, mask in ((0xc0, 8, W32), (0xc1, 16, W32), (0xc2, 8, W64), (0xc3, 16, W64), (0xc4, 32, W64)):
+    for opcode, bits, mask in ((0xc0, 8, MASK32), (0xc1, 16, MASK32), (0xc2, 8, MASK64), (0xc3, 16, MASK64), (0xc4, 32, MASK64)):
         yield opcode, _extended(bits, mask)
 
 

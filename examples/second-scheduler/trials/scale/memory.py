@@ -3,7 +3,7 @@
 import json
 import os
 
-from trials.fixtures.site import Scheduler, Site, peak_of, seconds_of_line, wait_for
+from trials.fixtures.site import Scheduler, Site, children, peak_of, seconds_of_line, spent, wait_for
 from trials.fixtures.store import Bulk, Thing
 
 NODES = 100
@@ -77,7 +77,9 @@ def measured(site: Site, count: int, most: int) -> str:
     peak = it.peak()
     all_ = sum(peak.values())
     assert all_ <= most, f"{count} placed pods of {size} bytes take {all_} MiB ({peak}), and not {most} at most"
-    return f"{count} placed pods of {size} bytes: {all_} MiB at most ({peak}); the pod was bound {took:.1f} s later; load {os.getloadavg()[0]:.0f}"
+    seconds = f"processor time {spent(it.pid):.1f} s of the client, {sum(map(spent, children(it.pid))):.1f} of wsched"
+    ended = f"the pod was bound {took:.1f} s later; load {os.getloadavg()[0]:.0f}"
+    return f"{count} placed pods of {size} bytes: {all_} MiB at most ({peak}); {seconds}; {ended}"
 
 
 def memory(site: Site) -> str:
