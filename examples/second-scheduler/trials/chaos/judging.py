@@ -70,13 +70,16 @@ class Clock:
         return not is_own
 
     def known(self, kind: str, sent: float) -> float:
-        """Up to when every change of a kind could be known when a bind was sent. What is kept back anew before it was told stays untold."""
+        """Up to when every change of a kind could be known when a bind was sent. What is kept back anew before it was told stays untold, and so
+        does what happened while no watch was open, where that which tells of it is kept back from its beginning."""
         late = self.late[kind][-200:]
         began = [since for since, ends in late if since <= sent < ends + MAY]
-        first = min(began, default=sent)
+        if not began:
+            return sent - MAY
+        first = min(began)
         while earlier := [since for since, ends in late if since < first <= ends]:
             first = min(earlier)
-        return min(sent - MAY, first - 0.5) if began else sent - MAY
+        return min(sent - MAY, self.between.told_until(kind, first) - 0.5)
 
 
 class Judge:
