@@ -1,6 +1,6 @@
 -- What slots with free ones after them have, and what they are after one of them is given
 -- something.
-use Rattle.std.proofs.Common.{◌≡◌, ℕ, suc, ◌-◌, ◌+◌, ◌*◌, ◌<◌, ◌≤◌, [], ◌∷◌, ◌++◌, length, set, replicate, Option, None, sum_by, refl, sym, ap, ◌∙◌, inl, inr, arith, append_assoc}
+use Rattle.std.proofs.Common.{◌≡◌, ℕ, suc, ◌-◌, ◌+◌, ◌*◌, ◌<◌, ◌≤◌, [], ◌∷◌, ◌++◌, length, set, replicate, Option, None, IsSome, sum_by, refl, sym, ap, subst, ◌∙◌, inl, inr, arith, append_assoc}
 use Rattle.std.proofs.lemmas.Bool.{cases_lt}
 use Rattle.std.proofs.lemmas.List.Sums.{sum_by-append}
 use Rattle.std.proofs.lemmas.List.Folds.{sum_by-replicate}
@@ -8,6 +8,7 @@ use Rattle.std.proofs.lemmas.List.{length-set, length-append, length-replicate, 
 use Rattle.name_table.specs.declared.entry.Entry.{Entry}
 use Rattle.name_table.specs.Slots.{Slots, entry_in, with_free}
 use Rattle.name_table.specs.inside.Slots.{number_in}
+use Rattle.name_table.proofs.SlotLemmas.{some_within}
 
 module _ {X : Type 0} where
   -- so many free slots
@@ -28,6 +29,14 @@ module _ {X : Type 0} where
         | inl lt ↦ get_or_append_left s (free (room - length s)) None i lt
         | inr past ↦ get_or-append_right s (free (room - length s)) (length s) i None refl past ∙ nothing (room - length s) (i - length s) ∙ sym (get_or_past s i None past)
       ]
+
+  -- so the slots have what is written
+  pub written_entry : (s now : Slots X) (room i : ℕ) → with_free s room ≡ now → entry_in s i ≡ entry_in now i
+  written_entry s now room i is = sym (free_past s room i) ∙ ap (λ (z : Slots X). entry_in z i) is
+
+  -- and a slot that has an entry is written
+  pub written_within : (s now : Slots X) (room i : ℕ) → with_free s room ≡ now → IsSome (entry_in now i) → i < length s
+  written_within s now room i is some = some_within s i (subst (λ (o : Option (Entry X)). IsSome o) (sym (written_entry s now room i is)) some)
 
   -- as many as there is room for
   pub free_many : (s : Slots X) (room : ℕ) → length s ≤ room → length (with_free s room) ≡ room

@@ -4,9 +4,23 @@ use Rattle.std.proofs.lemmas.List.{length-replicate, get_or-replicate, length-se
 use Rattle.std.proofs.lemmas.List.FromFn.{length-range_with_len, get_or-range_with_len}
 use Rattle.std.specs.List.{range_with_len}
 use Rattle.name_table.specs.declared.chains.Chains.{Chains}
+use Rattle.name_table.specs.inside.Written.{Hung}
 use Rattle.name_table.specs.inside.Woven.{IsWoven}
 use Rattle.name_table.proofs.WovenLemmas.{woven_new}
 use Rattle.name_table.proofs.chains.Chains.new.Goals as goal
+
+pub set-requires : goal.set-requires
+set-requires c =
+    let many : length c.in_ok-heads.heads ≡ c.args.buckets + 1 = ap length c.in_ok-heads.ensures ∙ length-replicate (c.args.buckets + 1) c.args.room in
+    omega arith
+
+pub returns-clause-homes : goal.returns-clause-homes
+returns-clause-homes c = ap (λ (s : Hung). s.homes) c.in_ok-links.ensures
+
+pub returns-clause-heads : goal.returns-clause-heads
+returns-clause-heads c =
+    ap length c.set.ensures ∙ length-set c.in_ok-heads.heads c.args.buckets 0
+    ∙ ap length c.in_ok-heads.ensures ∙ length-replicate (c.args.buckets + 1) c.args.room
 
 pub returns-clause-woven : goal.returns-clause-woven
 returns-clause-woven c =
