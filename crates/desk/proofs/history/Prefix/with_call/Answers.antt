@@ -1,5 +1,6 @@
-use Rattle.std.proofs.Common.{◌≡◌, sym, ◌∙◌, ap, length}
-use Rattle.desk.specs.inside.Shared.{Prefix}
+use Rattle.std.proofs.Common.{◌≡◌, ◌==◌, true, [], ◌∷◌, ◌++◌, sym, ◌∙◌, ap, length}
+use Rattle.std.proofs.lemmas.Bool.{eq-eqb}
+use Rattle.desk.specs.inside.Shared.{Prefix, next_call, with_call}
 use Rattle.desk.proofs.Adding.{adds_moves}
 use Rattle.desk.proofs.history.Prefix.with_call.Goals as goal
 
@@ -18,3 +19,15 @@ compare_exchange-found-requires g c =
       offer.0,
       rw (ap (λ w. w.key) h, pen.1, offer.1, offer.3) (adds_moves c.again-seen.result.log _ c.self.inside.calls len),
     )
+
+-- and where it was made, the history has one call more
+pub returns : goal.returns
+returns g c =
+    let next = c.args.next.now in
+    let one = next_call next.desk.now.state next.pass next.number next.step.now in
+    let seen = c.again-seen.ensures in
+    let hit : (c.compare_exchange-found.result == c.self.inside.calls) ≡ true = eq-eqb _ _ c.if-found-calls.false in
+    let added : c.compare_exchange-found.new.seen.log ≡ c.again-seen.result.log ++ c.plain-offer.result.ask ∷ [] = rw hit at c.compare_exchange-found.ensures.7 in
+    let book : c.compare_exchange-found.new.seen.book ≡ c.self.inside.seen.book = c.compare_exchange-found.ensures.0 ∙ ap (λ s. s.book) seen in
+    let log : c.compare_exchange-found.new.seen.log ≡ c.self.inside.seen.log ++ one ∷ [] = added ∙ (λ t. (seen t).log ++ c.plain-offer.ensures.1 t ∷ []) in
+    (λ t. record { book = book t; list = log t }) ∙ ap (λ (p : Prefix). with_call p one) c.self.view_is

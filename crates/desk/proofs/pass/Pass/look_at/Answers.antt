@@ -1,4 +1,5 @@
 use Rattle.std.proofs.Common.{◌≡◌, List, Option, map, refl, ap, sym, subst, ◌∙◌}
+use Rattle.std.proofs.lemmas.Result.{IfOk-from_err}
 use Rattle.std.specs.Prelude.{IfSome}
 use Rattle.std.specs.Arc.{arc_value}
 use Rattle.std.specs.Global.{Vec}
@@ -9,7 +10,8 @@ use Rattle.desk.specs.History.{Call, HasCallsOf}
 use Rattle.desk.specs.inside.LastLook.{WereShown}
 use Rattle.desk.specs.inside.Board.{Board}
 use Rattle.desk.specs.Shared.{Pass}
-use Rattle.desk.specs.Shown.{shown}
+use Rattle.desk.specs.Shown.{Shown, shown}
+use Rattle.desk.specs.Worth.{IsSought}
 use Rattle.desk.specs.Order.{AreInOrder}
 use Rattle.desk.specs.inside.Kept.{AreKept}
 use Rattle.desk.proofs.LastLook.{just_shown}
@@ -59,3 +61,32 @@ see-requires-clause-own g c =
 pub see-requires-clause-book : goal.see-requires-clause-book
 see-requires-clause-book g c =
     ap (λ (y : Board). y.prefix.book) c.board.view_is ∙ ap (λ (y : Board). y.prefix.book) c.requires.stands.is ∙ c.requires.stands.stands.book_is
+
+pub rows_again-rows-requires-clause-stands : goal.rows_again-rows-requires-clause-stands
+rows_again-rows-requires-clause-stands g c = c.requires.stands
+
+pub show-requires : goal.show-requires
+show-requires g c = c.rows_again-rows.ensures.rows
+
+-- what is kept is what the rows are worth
+pub seek-sought-requires : goal.seek-sought-requires
+seek-sought-requires g c =
+    subst (λ (l : List Shown). AreKept l c.rows_again-rows.result.kept.classes.items) (sym (ap (map shown) (c.deref-2.ensures.value ∙ ap (λ (v : Vec Row). v.items) c.deref.ensures) ∙ c.in_ok-rows.ensures))
+    c.rows_again-rows.ensures.kept
+
+pub new-shown-requires-clause-sought : goal.new-shown-requires-clause-sought
+new-shown-requires-clause-sought g c =
+    subst (λ (l : List Row). IfSome c.seek-sought.result (IsSought (map shown l))) (c.deref-2.ensures.value ∙ ap (λ (v : Vec Row). v.items) (c.deref.ensures ∙ sym c.in_ok-clone.ensures.cases)) c.seek-sought.ensures.sought
+
+-- where there is no memory, nothing is kept
+pub invariant_of-self : goal.invariant_of-self
+invariant_of-self g c = (c.self.invariant.0, c.self.invariant.1, rw c.take.ensures.after tt)
+
+pub invariant_of-self-in_err-clone : goal.invariant_of-self-in_err-clone
+invariant_of-self-in_err-clone g c = (c.self.invariant.0, c.self.invariant.1, rw c.take.ensures.after tt)
+
+pub returns-in_err-rows-clause-looked : goal.returns-in_err-rows-clause-looked
+returns-in_err-rows-clause-looked g c = IfOk-from_err c.from_residual.result _ c.from_residual.ensures.0
+
+pub returns-in_err-clone-clause-looked : goal.returns-in_err-clone-clause-looked
+returns-in_err-clone-clause-looked g c = IfOk-from_err c.from_residual-in_err-clone.result _ c.from_residual-in_err-clone.ensures.0

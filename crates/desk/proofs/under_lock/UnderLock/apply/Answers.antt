@@ -1,7 +1,7 @@
-use Rattle.std.proofs.Common.{◌≡◌, ◌+◌, ◌++◌, ◌∷◌, [], sym, ap, ◌∙◌, refl, subst, slice_index}
+use Rattle.std.proofs.Common.{◌≡◌, ◌+◌, ◌++◌, ◌∷◌, [], sym, ap, ◌∙◌, refl, subst, slice_index, arith}
 use Rattle.std.specs.Prelude.{IfSome}
 use Rattle.desk.specs.Machine.{after, reply}
-use Rattle.desk.specs.inside.Board.{Writes}
+use Rattle.desk.specs.inside.Board.{IsSubject, Writes}
 use Rattle.desk.specs.inside.LastLook.{Changed}
 use Rattle.desk.specs.History.{HasCallsOf}
 use Rattle.desk.specs.inside.Caller.{handed_by}
@@ -78,3 +78,41 @@ returns-in-Ok-clause-applied g c =
     subst (IsApplied (record { limits = limits; handed = c.args.handed }) c.args.pass.now e c.take_call-held.result.1) (sym now)
     (subst (λ r. IsApplied (record { limits = limits; handed = c.args.handed }) c.args.pass.now e r (record { caller = record { number = p.number; calls = p.calls + 1 }; seen = x.prefix.list ++ next_call x.desk.state p.number (p.calls + 1) e ∷ [] })) (sym told)
     (applied_more book limits x ok.stands p.number p.calls e c.args.handed c.args.pass.now refl c.requires.of c.requires.handed ok.ahead))
+
+-- what a call asks of the pass and of its step
+pub take_call-held-requires-clause-number : goal.take_call-held-requires-clause-number
+take_call-held-requires-clause-number g c =
+    let of = c.requires.of in
+    let handed = c.requires.handed in
+    omega arith
+
+pub take_call-held-requires-clause-fits : goal.take_call-held-requires-clause-fits
+take_call-held-requires-clause-fits g c = c.in-Ok.ensures.left
+
+pub take_call-held-requires-clause-timely : goal.take_call-held-requires-clause-timely
+take_call-held-requires-clause-timely g c = c.requires.timely
+
+pub take_call-held-requires-clause-subject : goal.take_call-held-requires-clause-subject
+take_call-held-requires-clause-subject g c =
+    let ok = c.in-Ok.ensures in
+    subst (λ (x : Held). IsSubject x.desk.state.cluster c.args.step c.in-Ok.field-0.subject) (sym ok.same) ok.subject
+
+pub count-requires-clause-calls : goal.count-requires-clause-calls
+count-requires-clause-calls g c = c.in-Ok.ensures.left
+
+pub returns-in-Ok-clause-used_up : goal.returns-in-Ok-clause-used_up
+returns-in-Ok-clause-used_up g c = c.in-Ok.ensures.used_up
+
+pub returns-in-Err-clause-same : goal.returns-in-Err-clause-same
+returns-in-Err-clause-same g c = c.get_ready.ensures.same
+
+-- the history before the call, and the one after it, are of this desk
+pub count-requires-clause-before : goal.count-requires-clause-before
+count-requires-clause-before g c =
+    let ok = c.in-Ok.ensures in
+    ap (λ (p : Prefix). p.book) c.again-before.ensures ∙ ap (λ (x : Held). x.prefix.book) (c.held.view_is ∙ ok.same) ∙ ok.stands.book_is
+
+pub count-requires-clause-book : goal.count-requires-clause-book
+count-requires-clause-book g c =
+    let ok = c.in-Ok.ensures in
+    ap (λ (p : Prefix). p.book) (c.again-seen.ensures ∙ ok.prefix) ∙ ok.stands.book_is

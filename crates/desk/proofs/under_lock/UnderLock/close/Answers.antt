@@ -1,7 +1,11 @@
-use Rattle.std.proofs.Common.{sym, subst, true≢false, ◌∙◌}
+use Rattle.std.proofs.Common.{sym, ap, subst, true≢false, ◌∙◌}
 use Rattle.std.specs.Prelude.{IsSome}
+use Rattle.book.specs.declared.limits.Limits.{Limits}
+use Rattle.desk.specs.Machine.{State, opening}
+use Rattle.desk.specs.History.{state_after}
 use Rattle.desk.specs.Shared.{IsAhead}
 use Rattle.desk.specs.inside.Board.{Board}
+use Rattle.desk.specs.inside.Caller.{Core}
 use Rattle.desk.specs.inside.Shared.{Held}
 use Rattle.desk.proofs.Sharing.{is_board}
 use Rattle.desk.proofs.under_lock.UnderLock.close.Goals as goal
@@ -25,3 +29,23 @@ see-requires-clause-own g c = elim c.match-next.branch [
       (w.may_go_on.ensures w.if-may_go_on.true) in
       ahead.own)
 ]
+
+-- and the book is what that history left
+pub returns : goal.returns
+returns g c =
+    let limits = g.J.Naming.limits in
+    let l = c.self.inside.prefix.list in
+    let stands = c.self.invariant.stands in
+    let ahead : IsAhead (record { limits = limits; handed = c.args.handed }) c.args.pass.now l = elim c.match-next.branch [
+      | in-None w ↦ absurd (true≢false (sym (subst (λ o. IsSome o) w.in-None.is c.next.ensures.steps)))
+      | in-Some+then-may_go_on w ↦ subst (λ (b : Board). IsAhead (record { limits = limits; handed = c.args.handed }) c.args.pass.now b.prefix.list) (w.published.ensures ∙ c.self.invariant.shown)
+          (w.may_go_on.ensures w.if-may_go_on.true)
+    ] in
+    record {
+      list = l;
+      ahead = ahead;
+      new = c.see.ensures;
+      book_is =
+          c.into_book.ensures ∙ ap (λ (d : Core). d.state.cluster) c.into_inner.ensures ∙ ap (λ (s : State). s.cluster) stands.leaves.state
+          ∙ ap (λ (n : Limits). (state_after (opening n) l).cluster) stands.limits_are;
+    }
