@@ -1,7 +1,10 @@
 -- Bytes begin with one word at most.
-use Rattle.std.proofs.Common.{◌≡◌, ℕ, ◌+◌, ◌<◌, ◌≤◌, List, [], ◌∷◌, ◌++◌, length, drop, get_or, Result, Ok, Err, pos, refl, ap, sym, subst, ◌∙◌, arith, length-append}
+use Rattle.std.proofs.Common.{◌≡◌, ◌≢◌, ℕ, ◌+◌, ◌<◌, ◌≤◌, List, [], ◌∷◌, ◌++◌, length, drop, get_or, Result, Ok, Err, pos, refl, ap, sym, subst, ◌∙◌, arith, length-append}
 use Rattle.leb.specs.Number.{unsigned}
 use Rattle.leb.proofs.Grammar.{one_spelling}
+use Rattle.wcode.specs.declared.value.ValueType.TheVariants.{I32, I64}
+use Rattle.wcode.specs.declared.value.BlockType.{BlockType}
+use Rattle.wcode.specs.declared.value.BlockType.TheVariants as blocks
 use Rattle.wcode.specs.declared.instruction.MemArg.{MemArg}
 use Rattle.leb.proofs.Digits.{at_place}
 use Rattle.std.proofs.Math.ListN.{drop_of_length-le}
@@ -13,7 +16,7 @@ use Rattle.wcode.specs.declared.instruction.Plain.TheVariants as plains
 use Rattle.wcode.specs.Opcodes.{form}
 use Rattle.wcode.specs.Shown.{Shows}
 use Rattle.wcode.specs.inside.Shown.{Reads}
-use Rattle.wcode.specs.Grammar.{Word, one, SpellsIndex, SpellsIndices, SpellsMemArg, SpellsLabels, SpellsForm, SpellsWord}
+use Rattle.wcode.specs.Grammar.{Word, one, SpellsIndex, SpellsIndices, SpellsBlockType, SpellsMemArg, SpellsLabels, SpellsForm, SpellsWord}
 
 pub index_once : (bytes : List ℕ) (n m : ℕ) (rest more : List ℕ) → SpellsIndex bytes n rest → SpellsIndex bytes m more → (n ≡ m) × (rest ≡ more)
 index_once bytes n m rest more h k =
@@ -45,6 +48,13 @@ indices_next bytes [] (m ∷ ms) more rest l h k = (m, k.0, subst (λ x. SpellsI
 indices_next bytes (n ∷ ns) (m ∷ ms) more rest l h k =
     let p = index_once bytes n m h.0 k.0 h.1 k.1 in
     indices_next h.0 ns ms more rest (omega arith) h.2 (subst (λ x. SpellsIndices x ms rest) (sym p.1) k.2)
+
+-- no type of a block at a byte that stands for none
+pub no_block_type : (bytes : List ℕ) (at : ℕ) → at < length bytes → get_or bytes at 0 ≢ 0x40 → get_or bytes at 0 ≢ 0x7F → get_or bytes at 0 ≢ 0x7E
+    → (t : BlockType) (rest : List ℕ) → SpellsBlockType (drop at bytes) t rest → ⊥
+no_block_type bytes at within a b c blocks.Empty rest h = let e = sym (at_place bytes at within) ∙ h in a cc
+no_block_type bytes at within a b c (blocks.Result I32) rest h = let e = sym (at_place bytes at within) ∙ h in b cc
+no_block_type bytes at within a b c (blocks.Result I64) rest h = let e = sym (at_place bytes at within) ∙ h in c cc
 
 -- no alignment and offset without an offset
 pub mem_arg_none : (bytes : List ℕ) (align : ℕ) (more : List ℕ) → SpellsIndex bytes align more → ((n : ℕ) (rest : List ℕ) → SpellsIndex more n rest → ⊥)

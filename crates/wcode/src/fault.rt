@@ -4,6 +4,7 @@ ghost use Rattle.std.specs.Prelude.{◌≡◌, codes};
 ghost use Rattle.wcode.specs.Fault.{kind_number, kind_name, number_of, name_of};
 ghost use Rattle.wcode.specs.inside.Fault.{whole};
 
+use std::fmt;
 use thiserror::Error;
 
 /// What is wrong with bytes that spell nothing.
@@ -86,13 +87,10 @@ pub enum OpFault {
 #[derive(Clone, Copy, PartialEq, Eq, Debug, Error)]
 pub enum BinFault {
     /// What is wrong, and the offset in the bytes of what can't be read.
-    #[error("{} {} {} {} at {place}", self.number(), self.name(), kind.number(), kind.name())]
     Malformed { kind: Kind, place: usize },
     /// A float instruction or type, which isn't in the profile.
-    #[error("{} {}", self.number(), self.name())]
     Float,
     /// Memory ran out.
-    #[error("{} {}", self.number(), self.name())]
     NoMemory,
 }
 
@@ -116,6 +114,18 @@ impl BinFault {
             BinFault::Malformed { .. } => "Malformed",
             BinFault::Float => "Float",
             BinFault::NoMemory => "NoMemory",
+        }
+    }
+}
+
+impl fmt::Display for BinFault {
+    fn fmt<W: fmt::Write>(&self, f: &mut fmt::Formatter<W>) -> fmt::Result {
+        write!(f, "{} {}", self.number(), self.name())?;
+        match self {
+            BinFault::Malformed { kind, place } => {
+                write!(f, " {} {} at {place}", kind.number(), kind.name())
+            }
+            _ => Ok(()),
         }
     }
 }
