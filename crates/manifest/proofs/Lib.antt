@@ -2,3 +2,4 @@ pub mod Parsed
 pub mod Items
 pub mod Spelled
 pub mod RowParts
+pub mod Timely

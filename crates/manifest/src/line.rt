@@ -66,8 +66,7 @@ pub fn read_line(alloc: Global, line: &[u8]) -> Result<Command, LineFault>
 // The command that a line spells, by the reader of JSON.
 #[tactic(auto, unfolding(crate::specs::Line::meaning))]
 fn read_object(alloc: Global, line: &[u8]) -> Result<Command, LineFault>
-    ensures value { Answers result (meaning line.now) }
-    ensures timely { IfOk result IsTimely }
+    ensures { Answers result (meaning line.now) }
 {
     if line.len() > MAX_LINE {
         return Err(LineFault::OverLimit(Field::Op));
@@ -79,8 +78,7 @@ fn read_object(alloc: Global, line: &[u8]) -> Result<Command, LineFault>
 // The command that an object spells.
 #[tactic(auto, unfolding(crate::specs::Line::command_in, crate::specs::Line::fields_of))]
 fn command_of(alloc: Global, object: &Value) -> Result<Command, LineFault>
-    ensures value { Answers result (command_in (view object.now)) }
-    ensures timely { IfOk result IsTimely }
+    ensures { Answers result (command_in (view object.now)) }
 {
     let op = text_at(object, Field::Op)?;
     let operation = Operation::named(op).ok_or(LineFault::BadField(Field::Op))?;
@@ -100,10 +98,8 @@ fn command_of(alloc: Global, object: &Value) -> Result<Command, LineFault>
 }
 
 // The node that an object tells of.
-#[tactic(auto, using(crate::proofs::RowParts::node_parts))]
 fn node_of(alloc: Global, object: &Value) -> Result<Command, LineFault>
-    ensures value { Answers result (node_in (view object.now)) }
-    ensures timely { IfOk result IsTimely }
+    ensures { Answers result (node_in (view object.now)) }
 {
     let version = version_at(object)?;
     let name = name_at(object, Field::Name)?;
@@ -115,8 +111,7 @@ fn node_of(alloc: Global, object: &Value) -> Result<Command, LineFault>
 // The node that an object says is gone.
 #[tactic(auto, unfolding(crate::specs::Line::gone_in))]
 fn gone_of(object: &Value) -> Result<Command, LineFault>
-    ensures value { Answers result (gone_in (view object.now)) }
-    ensures timely { IfOk result IsTimely }
+    ensures { Answers result (gone_in (view object.now)) }
 {
     let version = version_at(object)?;
     let name = name_at(object, Field::Name)?;
@@ -126,8 +121,7 @@ fn gone_of(object: &Value) -> Result<Command, LineFault>
 // The pod that an object tells of.
 #[tactic(auto, unfolding(crate::specs::Line::pod_in))]
 fn pod_of(alloc: Global, object: &Value) -> Result<Command, LineFault>
-    ensures value { Answers result (pod_in (view object.now)) }
-    ensures timely { IfOk result IsTimely }
+    ensures { Answers result (pod_in (view object.now)) }
 {
     let (version, pod) = row_of(alloc, object)?;
     Ok(Command::Event(Event::PodPending { version, pod }))
@@ -136,8 +130,7 @@ fn pod_of(alloc: Global, object: &Value) -> Result<Command, LineFault>
 // What an object asks of the rules.
 #[tactic(auto, unfolding(crate::specs::Line::judge_in))]
 fn judge_of(alloc: Global, object: &Value) -> Result<Command, LineFault>
-    ensures value { Answers result (judge_in (view object.now)) }
-    ensures timely { IfOk result IsTimely }
+    ensures { Answers result (judge_in (view object.now)) }
 {
     let (_version, pod) = row_of(alloc, object)?;
     let filters_alone = flag_at(object, Field::Filters)?;
@@ -159,8 +152,7 @@ fn row_of(alloc: Global, object: &Value) -> Result<(Version, SharedPod), LineFau
 // The place that an object tells of.
 #[tactic(auto, unfolding(crate::specs::Line::bound_in, crate::specs::Reading::request))]
 fn bound_of(object: &Value) -> Result<Command, LineFault>
-    ensures value { Answers result (bound_in (view object.now)) }
-    ensures timely { IfOk result IsTimely }
+    ensures { Answers result (bound_in (view object.now)) }
 {
     let version = version_at(object)?;
     let uid = name_at(object, Field::Uid)?;
@@ -178,8 +170,7 @@ fn bound_of(object: &Value) -> Result<Command, LineFault>
 // The pod that an object says is gone.
 #[tactic(auto, unfolding(crate::specs::Line::deleted_in))]
 fn deleted_of(object: &Value) -> Result<Command, LineFault>
-    ensures value { Answers result (deleted_in (view object.now)) }
-    ensures timely { IfOk result IsTimely }
+    ensures { Answers result (deleted_in (view object.now)) }
 {
     let version = version_at(object)?;
     let uid = name_at(object, Field::Uid)?;
@@ -189,8 +180,7 @@ fn deleted_of(object: &Value) -> Result<Command, LineFault>
 // The moment that an object tells of.
 #[tactic(auto, unfolding(crate::specs::Line::tick_in))]
 fn tick_of(object: &Value) -> Result<Command, LineFault>
-    ensures value { Answers result (tick_in (view object.now)) }
-    ensures timely { IfOk result IsTimely }
+    ensures { Answers result (tick_in (view object.now)) }
 {
     let moment = natural_at(object, Field::At, 0, LATEST_MOMENT)?;
     Ok(Command::Tick(Moment(moment)))
@@ -199,8 +189,7 @@ fn tick_of(object: &Value) -> Result<Command, LineFault>
 // The pod that an object says was bound.
 #[tactic(auto, unfolding(crate::specs::Line::done_in))]
 fn done_of(object: &Value) -> Result<Command, LineFault>
-    ensures value { Answers result (done_in (view object.now)) }
-    ensures timely { IfOk result IsTimely }
+    ensures { Answers result (done_in (view object.now)) }
 {
     let uid = name_at(object, Field::Uid)?;
     let ticket = ticket_at(object)?;
@@ -210,8 +199,7 @@ fn done_of(object: &Value) -> Result<Command, LineFault>
 // The pod that an object says could not be bound.
 #[tactic(auto, unfolding(crate::specs::Line::forget_in))]
 fn forget_of(object: &Value) -> Result<Command, LineFault>
-    ensures value { Answers result (forget_in (view object.now)) }
-    ensures timely { IfOk result IsTimely }
+    ensures { Answers result (forget_in (view object.now)) }
 {
     let uid = name_at(object, Field::Uid)?;
     let ticket = ticket_at(object)?;
