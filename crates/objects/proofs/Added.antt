@@ -1,5 +1,5 @@
 -- What the writer of an array's items has added to a line.
-use Rattle.std.proofs.Common.{◌≡◌, ℕ, suc, ◌+◌, ◌<◌, ◌≤◌, List, [], ◌∷◌, ◌++◌, length, get_or, drop, ap, sym, ◌∙◌, append_assoc, add-one}
+use Rattle.std.proofs.Common.{◌≡◌, ℕ, suc, ◌+◌, ◌<◌, ◌≤◌, List, [], ◌∷◌, ◌++◌, length, get_or, drop, ap, sym, ◌∙◌, append_assoc, add-one, Result, Ok, Err, OnOk}
 use Rattle.std.proofs.Math.Seq.{drop-cons}
 use Rattle.std.proofs.lemmas.List.{drop_all}
 use Rattle.json.specs.Json.{Json}
@@ -9,6 +9,11 @@ use Rattle.quant.specs.declared.objects.Label.{Label}
 use Rattle.quant.specs.declared.taint.Taint.{Taint}
 use Rattle.quant.specs.declared.taint.Toleration.{Toleration}
 use Rattle.objects.specs.inside.Line.{label_json, taint_json, toleration_json, items_json}
+
+-- what the last writer adds is known, unless memory ran out
+pub with_last : {E : Type 0} (r : Result (Unit {0}) E) (P Q : Type 0) → OnOk r P → (P → Q) → OnOk r Q
+with_last (Ok x) P Q told f = f told
+with_last (Err e) P Q told f = tt
 
 -- one item more of an array, and its end
 more_items : {A : Type 0} (f : A → Json) (xs : List A) (i : ℕ) (x : A) (old new : List Token) → i < length xs → x ≡ get_or xs i x → new ≡ old ++ json_tokens (f x)

@@ -57,8 +57,7 @@ fn put_head(writer: &mut Writer, op: &str, version: Version) -> Result<(), Alloc
 {
     writer.begin_object()?;
     put_text(writer, "op", op)?;
-    put_number(writer, "v", version.0)?;
-    Ok(())
+    put_number(writer, "v", version.0)
 }
 
 // Writes a node's row.
@@ -77,8 +76,7 @@ fn write_node(
     put_labels(writer, node.labels.as_slice())?;
     put_taints(writer, node.taints.as_slice())?;
     put_flag(writer, "unschedulable", node.unschedulable)?;
-    writer.end_object()?;
-    Ok(())
+    writer.end_object()
 }
 
 // Writes the row of a pod that waits.
@@ -96,8 +94,7 @@ fn write_pod(
     put_request(alloc, writer, &pod.request)?;
     put_labels(writer, pod.labels.as_slice())?;
     put_tolerations(writer, pod.tolerations.as_slice())?;
-    writer.end_object()?;
-    Ok(())
+    writer.end_object()
 }
 
 // Writes a pod's place.
@@ -116,8 +113,7 @@ fn write_bound(
     put_text(writer, "uid", uid.as_str())?;
     put_text(writer, "node", node.as_str())?;
     put_amounts(alloc, writer, request.cpu, request.mem)?;
-    writer.end_object()?;
-    Ok(())
+    writer.end_object()
 }
 
 // Writes that something is gone, by its name.
@@ -134,6 +130,5 @@ fn write_named(
 {
     put_head(writer, op, version)?;
     put_text(writer, field, name.as_str())?;
-    writer.end_object()?;
-    Ok(())
+    writer.end_object()
 }

@@ -15,8 +15,7 @@ pub(crate) fn put_text(writer: &mut Writer, name: &str, text: &str) -> Result<()
     ensures { Adds result writer.old writer.new (key name.now ∷ string text.now ∷ []) }
 {
     writer.key(name)?;
-    writer.string(text)?;
-    Ok(())
+    writer.string(text)
 }
 
 // A number.
@@ -24,8 +23,7 @@ pub(crate) fn put_number(writer: &mut Writer, name: &str, n: u64) -> Result<(), 
     ensures { Adds result writer.old writer.new (key name.now ∷ number (decimal n) ∷ []) }
 {
     writer.key(name)?;
-    writer.u64(n)?;
-    Ok(())
+    writer.u64(n)
 }
 
 // A pod's priority.
@@ -34,8 +32,7 @@ pub(crate) fn put_priority(writer: &mut Writer, pod: &Pod) -> Result<(), AllocEr
         (key (codes "priority") ∷ number (signed_decimal pod.now.priority) ∷ []) }
 {
     writer.key("priority")?;
-    writer.i64(i64::from(pod.priority))?;
-    Ok(())
+    writer.i64(i64::from(pod.priority))
 }
 
 // Yes or no.
@@ -43,8 +40,7 @@ pub(crate) fn put_flag(writer: &mut Writer, name: &str, flag: bool) -> Result<()
     ensures { Adds result writer.old writer.new (key name.now ∷ boolean flag ∷ []) }
 {
     writer.key(name)?;
-    writer.boolean(flag)?;
-    Ok(())
+    writer.boolean(flag)
 }
 
 // An amount of CPU and one of memory.
@@ -60,8 +56,7 @@ pub(crate) fn put_amounts(
     writer.key("cpu")?;
     put_cpu(alloc, writer, cpu)?;
     writer.key("mem")?;
-    put_memory(writer, mem)?;
-    Ok(())
+    put_memory(writer, mem)
 }
 
 // What a pod asks for, as the one container that asks for all of it.
@@ -79,8 +74,7 @@ pub(crate) fn put_request(
     put_cpu(alloc, writer, request.cpu)?;
     put_memory(writer, request.mem)?;
     writer.end_array()?;
-    writer.end_array()?;
-    Ok(())
+    writer.end_array()
 }
 
 // Thousandths of a core, as the API spells them.
@@ -89,16 +83,14 @@ fn put_cpu(alloc: Global, writer: &mut Writer, cpu: Cpu) -> Result<(), AllocErro
 {
     let thousandths = cpu.0;
     let text = format!(in alloc; "{thousandths}m")?;
-    writer.string(text.as_str())?;
-    Ok(())
+    writer.string(text.as_str())
 }
 
 // Bytes.
 fn put_memory(writer: &mut Writer, mem: Bytes) -> Result<(), AllocError>
     ensures { Adds result writer.old writer.new (string (memory_text mem) ∷ []) }
 {
-    writer.quoted_u64(mem.0)?;
-    Ok(())
+    writer.quoted_u64(mem.0)
 }
 
 // The labels of a row.
@@ -108,8 +100,7 @@ pub(crate) fn put_labels(writer: &mut Writer, labels: &[Label]) -> Result<(), Al
 {
     writer.key("labels")?;
     writer.begin_array()?;
-    end_labels(writer, labels)?;
-    Ok(())
+    end_labels(writer, labels)
 }
 
 // Their items, and the end of the array.
@@ -119,8 +110,7 @@ fn end_labels(writer: &mut Writer, labels: &[Label]) -> Result<(), AllocError>
     for label in labels {
         put_label(writer, label)?;
     }
-    writer.end_array()?;
-    Ok(())
+    writer.end_array()
 }
 
 // A label.
@@ -130,8 +120,7 @@ fn put_label(writer: &mut Writer, label: &Label) -> Result<(), AllocError>
     writer.begin_array()?;
     writer.string(label.key.as_str())?;
     writer.string(label.value.as_str())?;
-    writer.end_array()?;
-    Ok(())
+    writer.end_array()
 }
 
 // The taints of a node.
@@ -141,8 +130,7 @@ pub(crate) fn put_taints(writer: &mut Writer, taints: &[Taint]) -> Result<(), Al
 {
     writer.key("taints")?;
     writer.begin_array()?;
-    end_taints(writer, taints)?;
-    Ok(())
+    end_taints(writer, taints)
 }
 
 // Their items, and the end of the array.
@@ -152,8 +140,7 @@ fn end_taints(writer: &mut Writer, taints: &[Taint]) -> Result<(), AllocError>
     for taint in taints {
         put_taint(writer, taint)?;
     }
-    writer.end_array()?;
-    Ok(())
+    writer.end_array()
 }
 
 // A taint.
@@ -164,8 +151,7 @@ fn put_taint(writer: &mut Writer, taint: &Taint) -> Result<(), AllocError>
     writer.string(taint.key.as_str())?;
     writer.string(taint.value.as_str())?;
     writer.string(effect_text(taint.effect))?;
-    writer.end_array()?;
-    Ok(())
+    writer.end_array()
 }
 
 // The tolerations of a pod.
@@ -178,8 +164,7 @@ pub(crate) fn put_tolerations(
 {
     writer.key("tolerations")?;
     writer.begin_array()?;
-    end_tolerations(writer, tolerations)?;
-    Ok(())
+    end_tolerations(writer, tolerations)
 }
 
 // Their items, and the end of the array.
@@ -189,8 +174,7 @@ fn end_tolerations(writer: &mut Writer, tolerations: &[Toleration]) -> Result<()
     for toleration in tolerations {
         put_toleration(writer, toleration)?;
     }
-    writer.end_array()?;
-    Ok(())
+    writer.end_array()
 }
 
 // A toleration.
@@ -202,8 +186,7 @@ fn put_toleration(writer: &mut Writer, toleration: &Toleration) -> Result<(), Al
     writer.string(operator_text(toleration.operator))?;
     writer.string(toleration.value.as_str())?;
     writer.string(optional_effect_text(toleration.effect))?;
-    writer.end_array()?;
-    Ok(())
+    writer.end_array()
 }
 
 // The name of a taint's effect.

@@ -1,5 +1,6 @@
 use Rattle.std.proofs.Common.{refl, append_assoc}
+use Rattle.objects.proofs.Added.{with_last}
 use Rattle.objects.proofs.line_field.put_number.Goals as goal
 
 pub returns : goal.returns
-returns c = (rw (c.in_ok-u64.ensures.ok, c.in_ok-key.ensures.ok) (simp append_assoc), rw (c.in_ok-u64.ensures.room.0, c.in_ok-key.ensures.room.0) refl)
+returns c = with_last c.u64.result _ _ c.u64.ensures.ok (λ told. (rw (told, c.in_ok-key.ensures.ok) (simp append_assoc), rw (c.u64.ensures.room.0, c.in_ok-key.ensures.room.0) refl))
