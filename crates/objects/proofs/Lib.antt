@@ -22,6 +22,7 @@ pub mod Counted
 pub mod Moments
 pub mod Enough
 pub mod Parts
+pub mod Read
 pub mod More
 pub mod Named
 pub mod Names

@@ -502,7 +502,6 @@ fn put_members(
 }
 
 // Puts the resources beyond CPU and memory that others don't have already.
-#[tactic(auto, using(crate::proofs::Named::resource_more))]
 fn put_other_resources(
     out: &mut Vec<u8>,
     members: &Map<String, Value>,
@@ -565,7 +564,6 @@ fn put_fields(out: &mut Vec<u8>, spec: &Value) -> Result<(), AllocError>
 }
 
 // Puts those of an object's members that aren't known.
-#[tactic(auto, using(crate::proofs::Named::field_more))]
 fn put_other_fields(out: &mut Vec<u8>, members: &Map<String, Value>) -> Result<(), AllocError>
     ensures { IfOk result (λ _. out.new.items
         ≡ out.old.items ++ other_fields (members_view members.now.entries)) }
