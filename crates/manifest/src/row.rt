@@ -1,6 +1,7 @@
 //! The rows of nodes and pods, part by part.
 ghost use Rattle.serde_json.specs.View.{view};
-ghost use Rattle.manifest.specs.Reading.{Answers};
+ghost use Rattle.std.specs.Prelude.{◌≡◌, []};
+ghost use Rattle.manifest.specs.Reading.{Answers, Gives};
 ghost use Rattle.manifest.specs.inside.Row.{allocatable_in, node_with, asked_in, pod_with};
 
 use crate::fault::LineFault;
@@ -30,7 +31,6 @@ pub(crate) fn allocatable_of(object: &Value) -> Result<Res, LineFault>
 }
 
 // A node's row, of which the fields in front are known.
-#[tactic(auto, unfolding(crate::specs::inside::Row::node_with))]
 pub(crate) fn node_with(
     alloc: Global,
     object: &Value,
@@ -46,10 +46,21 @@ pub(crate) fn node_with(
         taints: AtMost::new(alloc),
         unschedulable: false,
     };
+    fill_node(&mut node, object)?;
+    SharedNode::new(alloc, node).map_err(|_| LineFault::NoMemory)
+}
+
+// Fills the rest of a node's row, by reference, so that one exit drops it.
+#[tactic(auto, unfolding(crate::specs::inside::Row::node_with))]
+fn fill_node(node: &mut Node, object: &Value) -> Result<(), LineFault>
+    requires labels { node.old.labels ≡ [] }
+    requires taints { node.old.taints ≡ [] }
+    ensures { Gives (λ _. node.new) result (node_with node.old.name node.old.allocatable (view object.now)) }
+{
     fill_at_or_leave(&mut node.labels, object, Field::Labels)?;
     fill_at_or_leave(&mut node.taints, object, Field::Taints)?;
     node.unschedulable = flag_at(object, Field::Unschedulable)?;
-    SharedNode::new(alloc, node).map_err(|_| LineFault::NoMemory)
+    Ok(())
 }
 
 // What all containers of a pod ask, or that it is too much, which is told last of a row.
@@ -68,7 +79,6 @@ pub(crate) fn asked_of(
 }
 
 // A pod's row, of which the fields in front are known.
-#[tactic(auto, unfolding(crate::specs::inside::Row::pod_with))]
 pub(crate) fn pod_with(
     alloc: Global,
     object: &Value,
@@ -85,8 +95,26 @@ pub(crate) fn pod_with(
         labels: AtMost::new(alloc),
         tolerations: AtMost::new(alloc),
     };
+    fill_pod(&mut pod, object, asked)?;
+    SharedPod::new(alloc, pod).map_err(|_| LineFault::NoMemory)
+}
+
+// Fills the rest of a pod's row, by reference, so that one exit drops it.
+#[tactic(auto, unfolding(crate::specs::inside::Row::pod_with))]
+fn fill_pod(
+    pod: &mut Pod,
+    object: &Value,
+    asked: Result<Request, QuantFault>,
+) -> Result<(), LineFault>
+    requires labels { pod.old.labels ≡ [] }
+    requires tolerations { pod.old.tolerations ≡ [] }
+    ensures { Gives (λ _. pod.new) result (pod_with pod.old.uid pod.old.priority asked (view object.now)) }
+{
     fill_at_or_leave(&mut pod.labels, object, Field::Labels)?;
     fill_at_or_leave(&mut pod.tolerations, object, Field::Tolerations)?;
-    pod.request = asked.map_err(|_| LineFault::Quantity(Field::Containers))?;
-    SharedPod::new(alloc, pod).map_err(|_| LineFault::NoMemory)
+    let Ok(request) = asked else {
+        return Err(LineFault::Quantity(Field::Containers));
+    };
+    pod.request = request;
+    Ok(())
 }

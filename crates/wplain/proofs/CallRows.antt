@@ -102,14 +102,11 @@ element_past_the_end : Row (through_table 4) table_store 0 100 (outcome.Trap tra
 element_past_the_end = row_of (through_table 4) table_store 0 100 (outcome.Trap traps.UndefinedElement 1) table_store 20 refl
 
 -- a function that calls itself: the 257th frame is one too many
-abbrev itself : Setting
-itself = module_with (nothing_to_i32 ∷ []) (record { signature = 0; locals = []; body = plain (Call 0) done } ∷ [])
+too_deep : Row (calls_itself_in 0) no_table 0 256 (outcome.Trap traps.CallDepth 256) no_table
+too_deep = record { is = too_deep_in_blocks 0 no_table 256 (omega arith) }
 
-too_deep : Row itself no_table 0 256 (outcome.Trap traps.CallDepth 256) no_table
-too_deep = row_of itself no_table 0 256 (outcome.Trap traps.CallDepth 256) no_table 1200 refl
-
-not_too_deep : Row itself no_table 0 255 (outcome.Exhausted 255) no_table
-not_too_deep = row_of itself no_table 0 255 (outcome.Exhausted 255) no_table 512 refl
+not_too_deep : Row (calls_itself_in 0) no_table 0 255 (outcome.Exhausted 255) no_table
+not_too_deep = row_of (calls_itself_in 0) no_table 0 255 (outcome.Exhausted 255) no_table 512 refl
 
 -- one that calls itself inside 256 blocks: each of the 256 frames costs its blocks and its call
 too_deep_behind_blocks : Row (calls_itself_in 256) no_table 0 1000000 (outcome.Trap traps.CallDepth 65792) no_table
